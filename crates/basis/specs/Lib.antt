@@ -1,0 +1,7 @@
+pub mod Choice
+pub mod Bounded
+pub mod Fold
+pub mod Pigeon
+pub mod Tab
+pub mod Ring
+pub mod Walk

@@ -1,0 +1,10 @@
+// The three counters of the network. They are never added or compared but by a stated rule.
+
+// Document 004's SLOT: a time slot, below the plan's slot count.
+pub struct Slot(pub u8);
+
+// Document 004's HUB: a count of routers booked, or passed, on a walk.
+pub struct Hub(pub u8);
+
+// Document 004's credit: how many packets a queue still takes; at the start its capacity.
+pub struct Credit(pub u8);

@@ -1,0 +1,4 @@
+pub mod Head
+pub mod Plan
+pub mod Rules
+pub mod Tables

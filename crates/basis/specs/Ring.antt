@@ -22,12 +22,12 @@ pub record Ring {X : Type 0} (Next : X → X → Type 0) : Type 0 where
 -- a ring stays one where each step is also a step of another relation
 pub ring-map : {X Y : Type 0} (R : X → X → Type 0) (T : Y → Y → Type 0) (f : X → Y) → ((x y : X) → R x y → T (f x) (f y)) → Ring R → Ring T
 ring-map R T f h r = record {
-    size = r .size;
-    node = λ i. f (r .node i);
-    some = r .some;
-    closed = ap f (r .closed);
-    linked = λ i l. h (r .node i) (r .node (suc i)) (r .linked i l);
-  }
+  size = r .size;
+  node = λ i. f (r .node i);
+  some = r .some;
+  closed = ap f (r .closed);
+  linked = λ i l. h (r .node i) (r .node (suc i)) (r .linked i l);
+}
 
 -- a step of a tested relation between numbers below n
 pub record Leads (n : ℕ) (feeds : ℕ → ℕ → Bool) (x y : ℕ) : Type 0 where
@@ -116,7 +116,7 @@ module _ (n : ℕ) (feeds : ℕ → ℕ → Bool) where
           let l = r .linked j m in
           live-more k (r .node j) (l .from)
           ∙ any-of n (λ y. feeds (r .node j) y && getD (live k) y false) (r .node (suc j)) (l .to)
-            (and-eq-true-iff (feeds (r .node j) (r .node (suc j))) (getD (live k) (r .node (suc j)) false) .1 (l .step, t))
+          (and-eq-true-iff (feeds (r .node j) (r .node (suc j))) (getD (live k) (r .node (suc j)) false) .1 (l .step, t))
 
       go : ((j : ℕ) → j ≤ r .size → getD (live k) (r .node j) false ≡ true) → (i < r .size) ⊎ (i ≡ r .size) → getD (live (suc k)) (r .node i) false ≡ true
       go rec (inl m) = link i m (rec (suc i) m)

@@ -15,7 +15,6 @@ use lib.Bits.{block-odd}
 use Rattle.basis.specs.Bounded.{lt-or-ge}
 use Rattle.fields.specs.Bits.{bitAt, fieldOf, bitsOf}
 
-
 -- a bit of the first of two bytes, and of the second
 high-bit : (a b k : ℕ) → b < 256 → (a * 256 + b) / 2 ^ (8 + k) ≡ a / 2 ^ k
 high-bit a b k h = sym (shr-shr (a * 256 + b) 8 k) ∙ ap (λ (x : ℕ). x / 2 ^ k) (high a 8 h)
@@ -45,6 +44,7 @@ module _ (s : List ℕ) (p : ℕ) (low : getD s (p / 8 + 1) 0 < 256) where
           ap (λ (n : ℕ). both / 2 ^ n % 2) k
           ∙ ap (λ (n : ℕ). n % 2) (high-bit (getD s (p / 8) 0) (getD s (p / 8 + 1) 0) (7 - (p + w) % 8) low)
           ∙ ap (λ (n : ℕ). getD s n 0 / 2 ^ (7 - (p + w) % 8) % 2) (sym i)
+
       second : 8 ≤ p % 8 + w → both / 2 ^ (16 - p % 8 - suc w) % 2 ≡ getD s ((p + w) / 8) 0 / 2 ^ (7 - (p + w) % 8) % 2
       second g =
           let i : (p + w) / 8 ≡ p / 8 + 1 = omega arith in
@@ -62,8 +62,8 @@ module _ (s : List ℕ) (p : ℕ) (low : getD s (p / 8 + 1) 0 < 256) where
       ap (λ (n : ℕ). x % 2 ^ n) (sym (add-one w))
       ∙ mod-pow-add x w 1
       ∙ ap₂ (λ (y b : ℕ). y * 2 + b)
-          (ap (λ (n : ℕ). n % 2 ^ w) (shr-shr both (16 - p % 8 - suc w) 1 ∙ ap (λ (n : ℕ). both / 2 ^ n) k) ∙ field-is w (omega arith))
-          (bit-is w h)
+      (ap (λ (n : ℕ). n % 2 ^ w) (shr-shr both (16 - p % 8 - suc w) 1 ∙ ap (λ (n : ℕ). both / 2 ^ n) k) ∙ field-is w (omega arith))
+      (bit-is w h)
 
 -- what the code computes with its shifts
 pub mask-is : (w : ℕ) → w ≤ 6 → 1 * 2 ^ w % 65536 ≡ 2 ^ w
@@ -88,5 +88,6 @@ bits-at (b ∷ s) (suc (suc (suc (suc (suc (suc (suc (suc q)))))))) = bits-at s 
   where
     next : suc (q / 8) ≡ suc (suc (suc (suc (suc (suc (suc (suc q))))))) / 8
     next = omega arith
+
     same : q % 8 ≡ suc (suc (suc (suc (suc (suc (suc (suc q))))))) % 8
     same = omega arith

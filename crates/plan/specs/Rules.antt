@@ -48,7 +48,7 @@ routeOk side = ltb side 4 || eqb side noSide
 
 pub record FieldsFit (b : List ℕ) : Type 0 where
   pub joints : (r s : ℕ) → r < headOf b .routers → s < 4
-    → JointFits (headOf b) (fieldOf b (jointAt r s) 2) (fieldOf b (jointAt r s + 2) 4) (fieldOf b (jointAt r s + 6) 2)
+      → JointFits (headOf b) (fieldOf b (jointAt r s) 2) (fieldOf b (jointAt r s + 2) 4) (fieldOf b (jointAt r s + 6) 2)
   pub routes : (r d : ℕ) → r < headOf b .routers → d < destinations (headOf b) → RouteFits (fieldOf b (routeAt (headOf b) r d) 3)
 
 -- ---- refusal 5: 'a router joint not named back, a joint to the same router, or an interface without exactly one joint'

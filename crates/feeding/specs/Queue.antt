@@ -1,0 +1,96 @@
+-- The queues by name, their capacities, and their numbers: out-queues first, then each router's, then the in-queues.
+use mathlib.Core.Path.{_≡_}
+use mathlib.Core.Logic.{_≢_}
+use mathlib.Core.Bool.{Bool, true, false}
+use Prim.Native.Nat.{ℕ, zero, suc, _+_, _*_, _-_, _/_, _%_, _<_}
+use lib.Dec.{ltb, eqb}
+use Rattle.basis.specs.Choice.{pick}
+use Rattle.plan.specs.declared.Head.{Head}
+use Rattle.plan.specs.Plan.{Plan, R, A, P}
+
+-- 'active out and in; passive in and out; per router U[i] (system packets from side i, for the unit), Q (at the unit),
+-- F[o] (from unit to side o), K[i,o] with i≠o (answers crossing)'
+pub data Queue : Type 0 where
+  activeOut : ℕ → Queue
+  activeIn : ℕ → Queue
+  passiveIn : ℕ → Queue
+  passiveOut : ℕ → Queue
+  U : ℕ → ℕ → Queue
+  Q : ℕ → Queue
+  F : ℕ → ℕ → Queue
+  K : ℕ → ℕ → ℕ → Queue
+
+-- the queues that a plan has
+abbrev pub Exists : Plan → Queue → Type 0
+Exists pl (activeOut a) = a < A pl
+Exists pl (activeIn a) = a < A pl
+Exists pl (passiveIn p) = p < P pl
+Exists pl (passiveOut p) = p < P pl
+Exists pl (U r i) = (r < R pl) × (i < 4)
+Exists pl (Q r) = r < R pl
+Exists pl (F r o) = (r < R pl) × (o < 4)
+Exists pl (K r i o) = (r < R pl) × (i < 4) × (o < 4) × (i ≢ o)
+
+-- 'eight capacities': of a queue by its kind
+abbrev pub capacity : Head → Queue → ℕ
+capacity h (activeOut a) = h .aout .0
+capacity h (activeIn a) = h .ain .0
+capacity h (passiveIn p) = h .pin .0
+capacity h (passiveOut p) = h .pout .0
+capacity h (U r i) = h .u .0
+capacity h (Q r) = h .q .0
+capacity h (F r o) = h .f .0
+capacity h (K r i o) = h .k .0
+
+-- ---- numbers
+-- a router's queues: U[0] to U[3], Q, then for each side its senders in order, F[o] and K[i,o] by i
+abbrev pub perRouter : ℕ
+perRouter = 21
+
+-- the place of K[i,o] among the senders of side o, F[o] being 0: by i, without i = o
+abbrev pub rank : ℕ → ℕ → ℕ
+rank i o = pick (ltb i o) (suc i) i
+
+abbrev pub outs : Plan → ℕ
+outs pl = A pl + P pl
+
+abbrev pub routerBase : Plan → ℕ → ℕ
+routerBase pl r = outs pl + perRouter * r
+
+-- the first in-queue
+abbrev pub inBase : Plan → ℕ
+inBase pl = routerBase pl (R pl)
+
+-- the sender of rank k at side o of router r
+abbrev pub sender : Plan → ℕ → ℕ → ℕ → ℕ
+sender pl r o k = routerBase pl r + 5 + 4 * o + k
+
+unfoldable pub number : Plan → Queue → ℕ
+number pl (activeOut a) = a
+number pl (passiveOut p) = A pl + p
+number pl (U r i) = routerBase pl r + i
+number pl (Q r) = routerBase pl r + 4
+number pl (F r o) = sender pl r o 0
+number pl (K r i o) = sender pl r o (rank i o)
+number pl (activeIn a) = inBase pl + a
+number pl (passiveIn p) = inBase pl + A pl + p
+
+unfoldable pub queues : Plan → ℕ
+queues pl = inBase pl + outs pl
+
+-- ---- the queue of a number
+-- the sender of rank k at side o
+abbrev pub senderAt : ℕ → ℕ → ℕ → Queue
+senderAt r o zero = F r o
+senderAt r o (suc k) = K r (pick (ltb k o) k (suc k)) o
+
+-- the k-th queue of a router
+abbrev pub inRouter : ℕ → ℕ → Queue
+inRouter r k = pick (ltb k 4) (U r k) (pick (eqb k 4) (Q r) (senderAt r ((k - 5) / 4) ((k - 5) % 4)))
+
+unfoldable pub queueAt : Plan → ℕ → Queue
+queueAt pl n =
+    pick (ltb n (A pl)) (activeOut n)
+    (pick (ltb n (outs pl)) (passiveOut (n - A pl))
+    (pick (ltb n (inBase pl)) (inRouter ((n - outs pl) / 21) ((n - outs pl) % 21))
+    (pick (ltb n (inBase pl + A pl)) (activeIn (n - inBase pl)) (passiveIn (n - inBase pl - A pl)))))

@@ -1,0 +1,1 @@
+// The queues by number, and which queue feeds which.

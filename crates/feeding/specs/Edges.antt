@@ -21,32 +21,52 @@ abbrev pub edge : Queue → Queue → Edge
 edge x y = record { from = x; to = y }
 
 -- ---- the edges of a pair
+-- from queue x into the router at y, through its unit and to its side o; and the edges after that
+abbrev pub throughUnit : Queue → Port → ℕ → List Edge → List Edge
+throughUnit x y o rest =
+    edge x (U (y .router) (y .side)) ∷ edge (U (y .router) (y .side)) (Q (y .router)) ∷ edge (Q (y .router)) (F (y .router) o) ∷ rest
+
 -- set-ups and tear-downs to passive p: from queue x into the router at y, and on, at most n routers
 unfoldable pub aheadEdges : Plan → ℕ → ℕ → Queue → Port → List Edge
 aheadEdges pl p zero x y = []
 aheadEdges pl p (suc n) x y =
-    let f : Queue = F (y .router) (routeTo pl (passive p) (y .router)) in
-    edge x (U (y .router) (y .side)) ∷ edge (U (y .router) (y .side)) (Q (y .router)) ∷ edge (Q (y .router)) f
-    ∷ elim (onward pl (passive p) y) [ on z ↦ aheadEdges pl p n f z | end ↦ edge f (passiveIn p) ∷ [] | lost ↦ [] ]
+    let o : ℕ = routeTo pl (passive p) (y .router) in
+    elim (onward pl (passive p) y) [
+      | on z ↦ throughUnit x y o (aheadEdges pl p n (F (y .router) o) z)
+      | end ↦ throughUnit x y o (edge (F (y .router) o) (passiveIn p) ∷ [])
+      | lost ↦ []
+    ]
 
--- answers to active a: from queue x into the router at y, and on
+-- answers to active a: from queue x into the router at y, and on, at most n routers
 unfoldable pub backEdges : Plan → ℕ → ℕ → Queue → Port → List Edge
 backEdges pl a zero x y = []
 backEdges pl a (suc n) x y =
     let k : Queue = K (y .router) (y .side) (routeTo pl (active a) (y .router)) in
-    edge x k ∷ elim (onward pl (active a) y) [ on z ↦ backEdges pl a n k z | end ↦ edge k (activeIn a) ∷ [] | lost ↦ [] ]
+    elim (onward pl (active a) y) [
+      | on z ↦ edge x k ∷ backEdges pl a n k z
+      | end ↦ edge x k ∷ edge k (activeIn a) ∷ []
+      | lost ↦ []
+    ]
 
 -- a NACK to active a from the unit of the router at y
 unfoldable pub nackEdges : Plan → ℕ → Port → List Edge
 nackEdges pl a y =
     let f : Queue = F (y .router) (routeTo pl (active a) (y .router)) in
-    edge (Q (y .router)) f ∷ elim (onward pl (active a) y) [ on z ↦ backEdges pl a (R pl) f z | end ↦ edge f (activeIn a) ∷ [] | lost ↦ [] ]
+    elim (onward pl (active a) y) [
+      | on z ↦ edge (Q (y .router)) f ∷ backEdges pl a (R pl) f z
+      | end ↦ edge (Q (y .router)) f ∷ edge f (activeIn a) ∷ []
+      | lost ↦ []
+    ]
 
--- the NACKs of each router of the walk to p from y
+-- the NACKs of each router of the walk to p from y, at most n routers
 unfoldable pub nacksEdges : Plan → ℕ → ℕ → ℕ → Port → List Edge
 nacksEdges pl a p zero y = []
 nacksEdges pl a p (suc n) y =
-    nackEdges pl a y ++ elim (onward pl (passive p) y) [ on z ↦ nacksEdges pl a p n z | end ↦ [] | lost ↦ [] ]
+    elim (onward pl (passive p) y) [
+      | on z ↦ nackEdges pl a y ++ nacksEdges pl a p n z
+      | end ↦ nackEdges pl a y
+      | lost ↦ []
+    ]
 
 unfoldable pub pairEdges : Plan → ℕ → ℕ → List Edge
 pairEdges pl a p =

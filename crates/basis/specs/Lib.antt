@@ -5,3 +5,4 @@ pub mod Pigeon
 pub mod Tab
 pub mod Ring
 pub mod Walk
+pub mod Among

@@ -1,0 +1,1 @@
+// Laws of the plan's tests. All of it is in specs/.

@@ -1,3 +1,6 @@
 pub mod Walks
 pub mod Sides
 pub mod Numbers
+pub mod Places
+pub mod Chains
+pub mod Edges

@@ -28,7 +28,7 @@ router-same : {n t m u : ℕ} → Router n t ≡ Router m u → n ≡ m
 router-same q = cc
 
 -- where the k-th stop of a walk leads: to a router, the next stop's, or to e
-leads : (pl : Plan) (e : Interface) (from : Port) (w : Walk pl e from) (k : ℕ) → k < w .size
+pub leads : (pl : Plan) (e : Interface) (from : Port) (w : Walk pl e from) (k : ℕ) → k < w .size
     → ((suc k < w .size) × (pl .joint (w .stop k .router) (routeTo pl e (w .stop k .router)) ≡ Router (w .stop (suc k) .router) (w .stop (suc k) .side)))
     ⊎ (pl .joint (w .stop k .router) (routeTo pl e (w .stop k .router)) ≡ jointOf e)
 leads pl e from w k h = by (below-suc {i = suc k} {n = w .size} (omega arith))

@@ -83,8 +83,7 @@ module _ {pl : Plan} (wired : Wired pl) where
   pub stops-inside : (e : Interface) (from : Port) (w : Walk pl e from) → from .router < R pl → (k : ℕ) → k < w .size → w .stop k .router < R pl
   stops-inside e from w h zero l = rw (w .begins) h
   stops-inside e from w h (suc k) l =
-      near wired (w .stop k .router) (routeTo pl e (w .stop k .router)) (w .stop (suc k) .router) (w .stop (suc k) .side)
-      (onward-on pl e (w .stop k) (w .stop (suc k)) (w .goes k l)) .0
+      near wired (onward-on pl e (w .stop k) (w .stop (suc k)) (w .goes k l)) .0
 
   pub arrives-of : (e : Interface) (from : Port) → from .router < R pl → Walk pl e from → arrives pl e from ≡ true
   unfolding arrives
@@ -116,7 +115,7 @@ module _ {pl : Plan} (wired : Wired pl) where
       x = home pl (active a)
 
       h : x .router < R pl
-      h = home-inside wired (active a) ha .0
+      h = home-inside (active a) wired ha .0
 
       at : (k : ℕ) (t : Spot Port) → walked pl (passive p) k x ≡ t → backArrives pl a t ≡ true
       at k (on y) q =
@@ -143,5 +142,5 @@ module _ {pl : Plan} (wired : Wired pl) where
 
       back′ : (k : ℕ) → k < w .size → Walk pl (active a) (w .stop k)
       back′ k l =
-          let short = walk-short (passive p) x (home-inside wired (active a) ha .0) w in
+          let short = walk-short (passive p) x (home-inside (active a) wired ha .0) w in
           walk-of (active a) (w .stop k) (rw (way-at (onward pl (passive p)) routerOf w k l) at (all-at (R pl) (λ i. backArrives pl a (walked pl (passive p) i x)) (both .1) k (omega arith)))

@@ -1,0 +1,1 @@
+use mathlib.Core.Path.{_≡_, refl, sym, ap, _∙_}

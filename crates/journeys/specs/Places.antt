@@ -19,10 +19,10 @@ use Rattle.wiring.specs.Wired.{Wired, near, home-inside}
 use Rattle.journeys.specs.Walks.{onward-on, onward-end, end-onward, alike, stops-inside}
 use Rattle.journeys.specs.Sides.{leads, turns, turns-later, home-turns}
 
-some-not-none : {X : Type 0} {x : X} → none ≡ some x → ⊥
+pub some-not-none : {X : Type 0} {x : X} → none ≡ some x → ⊥
 some-not-none e = let z : _≡_ {A = ℕ} 0 1 = cc in omega arith
 
-some-same : {X : Type 0} {x y : X} → some x ≡ some y → x ≡ y
+pub some-same : {X : Type 0} {x y : X} → some x ≡ some y → x ≡ y
 some-same e = cc
 
 joined-not : (e : Interface) → jointOf e ≡ Nothing → ⊥
@@ -36,7 +36,7 @@ router-not q = let z : _≡_ {A = ℕ} 0 1 = cc in omega arith
 pub meets-here : (pl : Plan) (e : Interface) (x : Port) → Meets pl e x x
 meets-here pl e x = record { steps = 0; here = spot-none (onward pl e) (on x) }
 
-pub meets-next : (pl : Plan) (e : Interface) (from y z : Port) → Meets pl e from y → onward pl e y ≡ on z → Meets pl e from z
+abbrev pub meets-next : (pl : Plan) (e : Interface) (from y z : Port) → Meets pl e from y → onward pl e y ≡ on z → Meets pl e from z
 meets-next pl e from y z m q = record { steps = suc (m .steps); here = spot-next (onward pl e) (m .steps) (on from) (m .here) ∙ q }
 
 -- a walk that arrives goes on from each router that it meets, or is there

@@ -1,3 +1,4 @@
 pub mod Queue
 pub mod Feeds
 pub mod Edges
+pub mod RingTest

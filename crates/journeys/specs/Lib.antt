@@ -4,3 +4,5 @@ pub mod Numbers
 pub mod Places
 pub mod Chains
 pub mod Edges
+pub mod Cells
+pub mod Rings

@@ -1,0 +1,72 @@
+-- Load's answer, one definition by cases in document 01's order:
+-- '1 fewer than six bytes; 2 R, A, P, S or a capacity outside its range; 3 wrong length or a fill bit set;
+-- 4 a later field outside its range; 5 a router joint not named back, a joint to the same router, or an interface without exactly one joint; 6 a ring.'
+use mathlib.Core.Bool.{Bool, not, _&&_}
+use mathlib.Core.List.{List}
+use Prim.Native.Nat.{ℕ}
+use lib.Dec.{eqb, ltb}
+use lib.ListN.{length}
+use Rattle.basis.specs.Choice.{pick}
+use Rattle.plan.specs.declared.Head.{Head}
+use Rattle.plan.specs.Head.{headOf, headOk, bitCount, byteCount}
+use Rattle.plan.specs.Plan.{planOf}
+use Rattle.plan.specs.Rules.{fillOk, namedOk, interfacesOk}
+use Rattle.plan.specs.Tables.{routesOf, jointsOf, homesOf}
+use Rattle.wiring.specs.Fields.{fieldsOk}
+use Rattle.feeding.specs.RingTest.{hasRing}
+use Rattle.load.specs.declared.Loaded.{Loaded}
+use Rattle.load.specs.declared.Loaded.the-variants.{Accepted, TooShort, OutOfRange, WrongLength, BadField, BadJoint, HasRing}
+
+unfoldable pub lengthOk : List ℕ → Bool
+lengthOk b = eqb (length b) (byteCount (headOf b)) && fillOk b (bitCount (headOf b))
+
+unfoldable pub jointsOk : List ℕ → Bool
+jointsOk b = namedOk (planOf b) && interfacesOk (planOf b)
+
+unfoldable pub loadOf : List ℕ → Loaded
+loadOf b =
+    pick (ltb (length b) 6) TooShort
+    (pick (not (headOk (headOf b))) OutOfRange
+    (pick (not (lengthOk b)) WrongLength
+    (pick (not (fieldsOk b)) BadField
+    (pick (not (jointsOk b)) BadJoint
+    (pick (hasRing (planOf b)) HasRing (Accepted (headOf b)))))))
+
+-- document 01's number of the answer, 0 for an accepted plan
+abbrev pub loadNumber : Loaded → ℕ
+loadNumber (Accepted h) = 0
+loadNumber TooShort = 1
+loadNumber OutOfRange = 2
+loadNumber WrongLength = 3
+loadNumber BadField = 4
+loadNumber BadJoint = 5
+loadNumber HasRing = 6
+
+-- ---- the lent tables after Load: an accepted plan's, else as they were
+abbrev pub loadRoutes : List ℕ → List (List ℕ) → Loaded → List (List ℕ)
+loadRoutes b t (Accepted h) = routesOf b h
+loadRoutes b t TooShort = t
+loadRoutes b t OutOfRange = t
+loadRoutes b t WrongLength = t
+loadRoutes b t BadField = t
+loadRoutes b t BadJoint = t
+loadRoutes b t HasRing = t
+
+abbrev pub loadJoints : List ℕ → List ℕ → Loaded → List ℕ
+loadJoints b t (Accepted h) = jointsOf b h
+loadJoints b t TooShort = t
+loadJoints b t OutOfRange = t
+loadJoints b t WrongLength = t
+loadJoints b t BadField = t
+loadJoints b t BadJoint = t
+loadJoints b t HasRing = t
+
+-- the ports of all interfaces, by column
+abbrev pub loadHomes : List ℕ → List ℕ → Loaded → List ℕ
+loadHomes b t (Accepted h) = homesOf (planOf b)
+loadHomes b t TooShort = t
+loadHomes b t OutOfRange = t
+loadHomes b t WrongLength = t
+loadHomes b t BadField = t
+loadHomes b t BadJoint = t
+loadHomes b t HasRing = t

@@ -1,0 +1,49 @@
+-- Document 01's starred runs of Load: 'T loads. 5 bytes: 1. T with a byte more: 3. Last byte 21: 3. First byte 00: 2.'
+use mathlib.Core.Path.{_≡_, refl}
+use mathlib.Core.List.{List, [], _∷_}
+use Prim.Native.Nat.{ℕ}
+use Rattle.basis.specs.Bounded.{anyBelow, allBelow}
+use Rattle.basis.specs.Fold.{upTo}
+use Rattle.basis.specs.Ring.{anyNext, live, ringTest}
+use Rattle.basis.specs.Walk.{spot}
+use Rattle.rings.specs.Edges.{edge}
+use Rattle.fields.specs.Bits.{bitAt, fieldOf}
+use Rattle.plan.specs.Head.{capacityAt, headOf, countsOk, capacitiesOk, headOk}
+use Rattle.plan.specs.Plan.{jointIn, planOf}
+use Rattle.plan.specs.Rules.{fillOk, jointOk, routeOk, namedOk, portsOf, home, interfacesOk}
+use Rattle.wiring.specs.Fields.{fieldsOk}
+use Rattle.paths.specs.Walk.{onward, arrives}
+use Rattle.paths.specs.Served.{backsArrive, servedFrom}
+use Rattle.feeding.specs.Queue.{number, queues}
+use Rattle.feeding.specs.Edges.{aheadEdges, backEdges, nackEdges, nacksEdges, pairEdges, marks, markPair, markActive, cellsOf}
+use Rattle.feeding.specs.RingTest.{hasRing}
+use Rattle.load.specs.Load.{lengthOk, jointsOk, loadOf, loadNumber}
+
+-- plan T: one router, side 0 to active 0, side 1 to passive 0, S=2, capacities 1: 08 42 11 24 92 4C 06 00 00 00 20
+abbrev pub planT : List ℕ
+planT = 8 ∷ 66 ∷ 17 ∷ 36 ∷ 146 ∷ 76 ∷ 6 ∷ 0 ∷ 0 ∷ 0 ∷ 32 ∷ []
+
+-- Load's number, computed from the bytes
+unfoldable pub loads : List ℕ → ℕ
+unfolding anyBelow allBelow upTo anyNext live ringTest spot edge bitAt fieldOf capacityAt headOf countsOk capacitiesOk headOk jointIn planOf fillOk jointOk routeOk namedOk portsOf home interfacesOk fieldsOk onward arrives backsArrive servedFrom number queues aheadEdges backEdges nackEdges nacksEdges pairEdges marks markPair markActive cellsOf hasRing lengthOk jointsOk loadOf
+loads b = loadNumber (loadOf b)
+
+pub t-loads : loads planT ≡ 0
+unfolding loads
+t-loads = refl
+
+pub five-bytes : loads (8 ∷ 66 ∷ 17 ∷ 36 ∷ 146 ∷ []) ≡ 1
+unfolding loads
+five-bytes = refl
+
+pub a-byte-more : loads (8 ∷ 66 ∷ 17 ∷ 36 ∷ 146 ∷ 76 ∷ 6 ∷ 0 ∷ 0 ∷ 0 ∷ 32 ∷ 0 ∷ []) ≡ 3
+unfolding loads
+a-byte-more = refl
+
+pub fill-bit : loads (8 ∷ 66 ∷ 17 ∷ 36 ∷ 146 ∷ 76 ∷ 6 ∷ 0 ∷ 0 ∷ 0 ∷ 33 ∷ []) ≡ 3
+unfolding loads
+fill-bit = refl
+
+pub no-router : loads (0 ∷ 66 ∷ 17 ∷ 36 ∷ 146 ∷ 76 ∷ 6 ∷ 0 ∷ 0 ∷ 0 ∷ 32 ∷ []) ≡ 2
+unfolding loads
+no-router = refl

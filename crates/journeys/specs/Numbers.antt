@@ -62,12 +62,22 @@ module _ (pl : Plan) where
   queue-at (F r o) (h, l) = sender-queue r o 0 h l (omega arith)
   queue-at (K r i o) (h, hi, ho, ne) = sender-queue r o (rank i o) h ho (rank-small i o hi ho ne) ∙ crossing r i o ne
   queue-at (activeIn a) h =
-      rw (le-ltb (inBase pl + a) (A pl) (omega arith), le-ltb (inBase pl + a) (outs pl) (omega arith), le-ltb (inBase pl + a) (inBase pl) (omega arith),
-        lt-ltb (inBase pl + a) (inBase pl + A pl) (omega arith), queueAt)
+      rw (
+        le-ltb (inBase pl + a) (A pl) (omega arith),
+        le-ltb (inBase pl + a) (outs pl) (omega arith),
+        le-ltb (inBase pl + a) (inBase pl) (omega arith),
+        lt-ltb (inBase pl + a) (inBase pl + A pl) (omega arith),
+        queueAt,
+      )
       (ap activeIn (omega arith))
   queue-at (passiveIn p) h =
-      rw (le-ltb (inBase pl + A pl + p) (A pl) (omega arith), le-ltb (inBase pl + A pl + p) (outs pl) (omega arith), le-ltb (inBase pl + A pl + p) (inBase pl) (omega arith),
-        le-ltb (inBase pl + A pl + p) (inBase pl + A pl) (omega arith), queueAt)
+      rw (
+        le-ltb (inBase pl + A pl + p) (A pl) (omega arith),
+        le-ltb (inBase pl + A pl + p) (outs pl) (omega arith),
+        le-ltb (inBase pl + A pl + p) (inBase pl) (omega arith),
+        le-ltb (inBase pl + A pl + p) (inBase pl + A pl) (omega arith),
+        queueAt,
+      )
       (ap passiveIn (omega arith))
 
   -- different names have different numbers

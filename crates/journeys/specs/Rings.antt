@@ -142,7 +142,7 @@ module _ {pl : Plan} (wired : Wired pl) (range : InRange (pl .head)) where
       let room : 4 * number pl x + cellOf y < 1600 = omega arith in
       ap (λ (c : List ℕ). getD c (4 * number pl x + cellOf y) 0) (cells-are pl)
       ∙ marks-has pl (allEdges pl) (replicate 1600 0) (edge x y) (feeds-written x y f) room
-        (λ d i q. ap (number pl) (cell-own (d .from) (d .to) x y (written-feeds d i) f q))
+      (λ d i q. ap (number pl) (cell-own (d .from) (d .to) x y (written-feeds d i) f q))
       ∙ add-one (number pl y)
 
   -- ---- so the test finds the rings

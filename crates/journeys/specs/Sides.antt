@@ -55,7 +55,7 @@ module _ {pl : Plan} (wired : Wired pl) where
 
       clash : routeTo pl e (y .router) ≡ y .side
           → ((suc (suc m) < w .size) × (pl .joint (y .router) (routeTo pl e (y .router)) ≡ Router (w .stop (suc (suc m)) .router) (w .stop (suc (suc m)) .side)))
-            ⊎ (pl .joint (y .router) (routeTo pl e (y .router)) ≡ jointOf e) → ⊥
+          ⊎ (pl .joint (y .router) (routeTo pl e (y .router)) ≡ jointOf e) → ⊥
       clash same (inl (l, q)) =
           let again : w .stop (suc (suc m)) .router ≡ x .router = router-same (sym q ∙ ap (pl .joint (y .router)) same ∙ back) in
           let met : suc (suc m) ≡ m = w .once (suc (suc m)) m l (omega arith) again in
@@ -77,6 +77,6 @@ module _ {pl : Plan} (wired : Wired pl) where
 
       clash : routeTo pl e (x .router) ≡ x .side
           → ((1 < w .size) × (pl .joint (w .stop 0 .router) (routeTo pl e (w .stop 0 .router)) ≡ Router (w .stop 1 .router) (w .stop 1 .side)))
-            ⊎ (pl .joint (w .stop 0 .router) (routeTo pl e (w .stop 0 .router)) ≡ jointOf e) → ⊥
+          ⊎ (pl .joint (w .stop 0 .router) (routeTo pl e (w .stop 0 .router)) ≡ jointOf e) → ⊥
       clash same (inl (l, q)) = router-not-end e′ (sym (rw (w .begins, same) at q) ∙ wired .joined e′ h .there)
       clash same (inr q) = ne (joint-same e e′ (sym (rw (w .begins, same) at q) ∙ wired .joined e′ h .there))

@@ -103,7 +103,7 @@ module _ {pl : Plan} (wired : Wired pl) where
   size-is e from h w =
       let s : suc (w .size - 1) ≡ w .size = omega (arith, w .some) in
       count-is (onward pl e) (w .size - 1) (on from) (w .stop (w .size - 1)) (way-at (onward pl e) routerOf w (w .size - 1) (omega (arith, w .some))) (w .ends (w .size - 1) s)
-        (R pl) (omega (arith, walk-short e from h w, w .some))
+      (R pl) (omega (arith, walk-short e from h w, w .some))
       ∙ s
 
   -- ---- served pairs

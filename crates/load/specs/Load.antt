@@ -10,9 +10,8 @@ use Rattle.basis.specs.Choice.{pick}
 use Rattle.plan.specs.declared.Head.{Head}
 use Rattle.plan.specs.Head.{headOf, headOk, bitCount, byteCount}
 use Rattle.plan.specs.Plan.{planOf}
-use Rattle.plan.specs.Rules.{fillOk, namedOk, interfacesOk}
+use Rattle.plan.specs.Rules.{fillOk, fieldsOk, namedOk, interfacesOk}
 use Rattle.plan.specs.Tables.{routesOf, jointsOf, homesOf}
-use Rattle.wiring.specs.Fields.{fieldsOk}
 use Rattle.feeding.specs.RingTest.{hasRing}
 use Rattle.load.specs.declared.Loaded.{Loaded}
 use Rattle.load.specs.declared.Loaded.the-variants.{Accepted, TooShort, OutOfRange, WrongLength, BadField, BadJoint, HasRing}

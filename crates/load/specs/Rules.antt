@@ -12,11 +12,11 @@ use Rattle.basis.specs.Choice.{pick, test, refuted}
 use Rattle.plan.specs.declared.Head.{Head}
 use Rattle.plan.specs.Head.{headOf, headOk, InRange, bitCount, byteCount}
 use Rattle.plan.specs.Plan.{Plan, planOf}
-use Rattle.plan.specs.Rules.{Filled, FieldsFit, JointsMatch, fillOk, namedOk, interfacesOk}
+use Rattle.plan.specs.Rules.{Filled, FieldsFit, JointsMatch, fillOk, fieldsOk, namedOk, interfacesOk}
 use Rattle.feeding.specs.Feeds.{FeedRing}
 use Rattle.feeding.specs.RingTest.{hasRing}
 use Rattle.wiring.specs.Heads.{head-ok, ok-head, and-both, and-of}
-use Rattle.wiring.specs.Fields.{fieldsOk, fill-ok, ok-fill, fields-ok, ok-fields}
+use Rattle.wiring.specs.Fields.{fill-ok, ok-fill, fields-ok, ok-fields}
 use Rattle.wiring.specs.Wired.{Wired, wired, plan-match, match-plan}
 use Rattle.journeys.specs.Rings.{ring-test, test-ring}
 use Rattle.load.specs.declared.Loaded.{Loaded}
@@ -63,15 +63,17 @@ passes b h e =
     let s = past (not (fieldsOk b)) BadField _ (λ z. omega arith) (r .1) in
     let t = past (not (jointsOk b)) BadJoint _ (λ z. omega arith) (s .1) in
     let u = past (hasRing (planOf b)) HasRing _ (λ z. omega arith) (t .1) in
-    let same : headOf b ≡ h = cc (u .1) in
-    (record {
-      six = p .0;
-      ranges = not-true _ (q .0);
-      size = not-true _ (r .0);
-      fields = not-true _ (s .0);
-      joints = not-true _ (t .0);
-      ringless = u .0;
-    }, sym same)
+    let same : headOf b ≡ h = cc (u .1) in (
+      record {
+        six = p .0;
+        ranges = not-true _ (q .0);
+        size = not-true _ (r .0);
+        fields = not-true _ (s .0);
+        joints = not-true _ (t .0);
+        ringless = u .0;
+      },
+      sym same,
+    )
 
 pub accepts : (b : List ℕ) → Passes b → loadOf b ≡ Accepted (headOf b)
 unfolding loadOf

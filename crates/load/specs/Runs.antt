@@ -10,8 +10,7 @@ use Rattle.rings.specs.Edges.{edge}
 use Rattle.fields.specs.Bits.{bitAt, fieldOf}
 use Rattle.plan.specs.Head.{capacityAt, headOf, countsOk, capacitiesOk, headOk}
 use Rattle.plan.specs.Plan.{jointIn, planOf}
-use Rattle.plan.specs.Rules.{fillOk, jointOk, routeOk, namedOk, portsOf, home, interfacesOk}
-use Rattle.wiring.specs.Fields.{fieldsOk}
+use Rattle.plan.specs.Rules.{fillOk, jointOk, routeOk, fieldsOk, namedOk, portsOf, home, interfacesOk}
 use Rattle.paths.specs.Walk.{onward, arrives}
 use Rattle.paths.specs.Served.{backsArrive, servedFrom}
 use Rattle.feeding.specs.Queue.{number, queues}

@@ -2,3 +2,4 @@ pub mod Head
 pub mod Plan
 pub mod Rules
 pub mod Tables
+pub mod Found

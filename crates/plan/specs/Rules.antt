@@ -51,6 +51,19 @@ pub record FieldsFit (b : List ℕ) : Type 0 where
       → JointFits (headOf b) (fieldOf b (jointAt r s) 2) (fieldOf b (jointAt r s + 2) 4) (fieldOf b (jointAt r s + 6) 2)
   pub routes : (r d : ℕ) → r < headOf b .routers → d < destinations (headOf b) → RouteFits (fieldOf b (routeAt (headOf b) r d) 3)
 
+-- the test of the joint at a bit position
+abbrev pub jointThere : List ℕ → ℕ → Bool
+jointThere b p = jointOk (headOf b) (fieldOf b p 2) (fieldOf b (p + 2) 4) (fieldOf b (p + 6) 2)
+
+-- the test of a router's route to a destination
+abbrev pub routeThere : List ℕ → ℕ → ℕ → Bool
+routeThere b r d = routeOk (fieldOf b (routeAt (headOf b) r d) 3)
+
+unfoldable pub fieldsOk : List ℕ → Bool
+fieldsOk b =
+    allBelow (4 * headOf b .routers) (λ i. jointThere b (45 + 8 * i))
+    && allBelow (headOf b .routers) (λ r. allBelow (destinations (headOf b)) (routeThere b r))
+
 -- ---- refusal 5: 'a router joint not named back, a joint to the same router, or an interface without exactly one joint'
 abbrev pub NamedBack : Plan → Type 0
 NamedBack pl = (r s n t : ℕ) → pl .joint r s ≡ Router n t → (n ≢ r) × (pl .joint n t ≡ Router r s)

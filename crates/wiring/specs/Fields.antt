@@ -12,21 +12,12 @@ use borrow.Author.Tests.{ltb-true, eqb-true, eqb-false, lt-ltb, eq-eqb}
 use Rattle.basis.specs.Choice.{test}
 use Rattle.basis.specs.Bounded.{allBelow, all-at, all-of, or-cases}
 use Rattle.fields.specs.Bits.{bitAt, fieldOf}
+use Rattle.fields.specs.Laws.{field-lt}
 use Rattle.plan.specs.declared.Head.{Head}
 use Rattle.plan.specs.Head.{headOf, destinations, bitCount}
 use Rattle.plan.specs.Plan.{jointAt, routeAt, noSide}
-use Rattle.plan.specs.Rules.{Filled, fillOk, JointFits, jointOk, RouteFits, routeOk, FieldsFit}
+use Rattle.plan.specs.Rules.{Filled, fillOk, JointFits, jointOk, RouteFits, routeOk, FieldsFit, jointThere, routeThere, fieldsOk}
 use Rattle.wiring.specs.Heads.{and-both, and-of}
-
--- ---- how large a field is
--- A field of w bits is below 2 ^ w.
-pub field-lt : (b : List ℕ) (p w : ℕ) → fieldOf b p w < 2 ^ w
-unfolding fieldOf bitAt
-field-lt b p zero = omega arith
-field-lt b p (suc w) =
-    let rest = field-lt b p w in
-    let bit = mod-lt (getD b ((p + w) / 8) 0 / 2 ^ (7 - (p + w) % 8)) {m = 2} (omega arith) in
-    rw pow-suc (omega arith)
 
 -- A field of one bit is that bit.
 pub field-one : (b : List ℕ) (p : ℕ) → fieldOf b p 1 ≡ bitAt b p
@@ -101,20 +92,7 @@ unfolding routeOk
 ok-route side (inl l) = rw (lt-ltb side 4 l)
 ok-route side (inr q) = rw q
 
--- ---- refusal 4: all later fields, tested on the bytes themselves
--- the test of the joint at a bit position
-abbrev pub jointThere : List ℕ → ℕ → Bool
-jointThere b p = jointOk (headOf b) (fieldOf b p 2) (fieldOf b (p + 2) 4) (fieldOf b (p + 6) 2)
-
--- the test of a router's route to a destination
-abbrev pub routeThere : List ℕ → ℕ → ℕ → Bool
-routeThere b r d = routeOk (fieldOf b (routeAt (headOf b) r d) 3)
-
-unfoldable pub fieldsOk : List ℕ → Bool
-fieldsOk b =
-    allBelow (4 * headOf b .routers) (λ i. jointThere b (45 + 8 * i))
-    && allBelow (headOf b .routers) (λ r. allBelow (destinations (headOf b)) (routeThere b r))
-
+-- ---- refusal 4: all later fields
 -- Later fields that pass the test are in their ranges.
 pub fields-ok : (b : List ℕ) → fieldsOk b ≡ true → FieldsFit b
 unfolding fieldsOk

@@ -17,10 +17,10 @@ use Rattle.plan.specs.declared.Joint.{Joint}
 use Rattle.plan.specs.declared.Joint.the-variants.{Nothing, Router, Active, Passive}
 use Rattle.plan.specs.Head.{InRange, headOf, destinations, routesAt}
 use Rattle.plan.specs.Plan.{Interface, noSide, jointAt, routeAt, jointFrom, jointIn, planOf}
-use Rattle.plan.specs.Rules.{jointOk, routeOk, jointOfPort, backOk, namedOk, portsOf, home, interfacesOk}
+use Rattle.plan.specs.Rules.{jointOk, routeOk, jointThere, routeThere, fieldsOk, jointOfPort, backOk, namedOk, portsOf, home, interfacesOk}
 use Rattle.plan.specs.Tables.{jointByte, jointOfByte, jointByteOk, jointsOf, rowOf, routesOf, tablePlan, jointBytesOk, rowOk, routesOk}
 use Rattle.wiring.specs.Heads.{counts-most}
-use Rattle.wiring.specs.Fields.{field-lt, jointThere, routeThere, fieldsOk}
+use Rattle.fields.specs.Laws.{field-lt}
 
 -- ---- entries of the tables
 -- Every entry of a list of one value is that value, also past its end where that is what is read there.

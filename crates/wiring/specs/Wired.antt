@@ -12,7 +12,7 @@ use Rattle.plan.specs.declared.Joint.the-variants.{Nothing, Router, Active, Pas
 use Rattle.plan.specs.Head.{headOf}
 use Rattle.plan.specs.Plan.{Plan, Interface, active, passive, R, Has, jointOf, jointAt, jointFrom, jointIn, planOf}
 use Rattle.plan.specs.Rules.{JointFits, FieldsFit, NamedBack, JoinedAt, JointsMatch, home, namedOk, interfacesOk}
-use Rattle.wiring.specs.Fields.{field-lt}
+use Rattle.fields.specs.Laws.{field-lt}
 use Rattle.wiring.specs.Joints.{Inside, Sided, router-some, interface-some, router-else, interface-same, named-ok, interfaces-ok, joints-ok, ok-joints}
 
 -- Joints stand inside the plan, router joints are named back by another router, each interface is joined at its home alone, and each joined interface is the plan's.

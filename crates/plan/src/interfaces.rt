@@ -1,0 +1,171 @@
+// What the joints join: routers by a joint at each end, each interface by exactly one.
+use crate::Head;
+use crate::Ports;
+ghost use mathlib.Core.Path.{_≡_};
+ghost use mathlib.Core.List.{[]};
+ghost use Prim.Native.Nat.{_≤_, _<_};
+ghost use lib.ListN.{length, getD};
+ghost use Rattle.plan.specs.declared.Head.{Head};
+ghost use Rattle.plan.specs.Head.{destinations};
+ghost use Rattle.plan.specs.Rules.{backOk, jointOfPort, namedOk, portsOf, interfacesOk};
+ghost use Rattle.plan.specs.Tables.{tablePlan, interfaceAt, homesOf};
+ghost use Rattle.plan.specs.Found.{wantedOf, toldOf, columnOf, markOf, foundOf, portOfCell};
+
+// A cell of a column that no port was found for, and of one with several.
+const NONE_FOUND: u8 = 64;
+
+const MORE_FOUND: u8 = 65;
+
+// A column behind all interfaces.
+const NO_COLUMN: usize = 32;
+
+// Whether the i-th port, if it is joined to a router, is joined to another router, whose joint names it back.
+pub fn back_ok(joints: &[u8; 64], i: usize) -> bool
+    requires { ⌜ i < 64 ⌝ }
+    ensures { λ r. ⌜ ((h : Head) → r ≡ backOk (tablePlan h [] (now (joints .entry))) i (jointOfPort (tablePlan h [] (now (joints .entry))) i)) ⌝ }
+{
+    let v = joints[i];
+    if v / 64 != 1 {
+        return true;
+    }
+    let k = (v % 64) as usize;
+    let w = joints[k];
+    (k / 4 != i / 4) & (w == (64 + i) as u8)
+}
+
+// Whether each router joint is named back by another router: refusal 5.
+pub fn named_ok(h: Head, joints: &[u8; 64]) -> bool
+    requires { ⌜ h .routers ≤ 16 ⌝ }
+    ensures { λ r. ⌜ r ≡ namedOk (tablePlan h [] (now (joints .entry))) ⌝ }
+{
+    let n = 4 * h.routers;
+    for i in 0..n {
+        if !back_ok(joints, i) {
+            return false;
+        }
+    }
+    true
+}
+
+// Kind and number of the joint that leads to the interface of column d.
+fn wanted(actives: usize, d: usize) -> u8
+    requires { ⌜ (actives ≤ 16) × (d < 32) ⌝ }
+    ensures { λ r. ⌜ r ≡ wantedOf actives d ⌝ }
+{
+    if d < actives {
+        (32 + d) as u8
+    } else {
+        (48 + (d - actives)) as u8
+    }
+}
+
+// The answer for so many ports found, the last at a number.
+fn told(count: usize, at: usize) -> Ports
+    ensures { λ r. ⌜ r ≡ toldOf count at ⌝ }
+{
+    if count == 0 {
+        return Ports::Missing;
+    }
+    if count == 1 {
+        return Ports::One(at);
+    }
+    Ports::Several
+}
+
+// The ports joined to the interface of column d.
+pub fn ports(h: Head, joints: &[u8; 64], d: usize) -> Ports
+    requires { ⌜ (h .routers ≤ 16) × (h .actives ≤ 16) × (h .passives ≤ 16) × (d < destinations h) ⌝ }
+    ensures { λ r. ⌜ r ≡ portsOf (tablePlan h [] (now (joints .entry))) (interfaceAt h d) ⌝ }
+{
+    let n = 4 * h.routers;
+    let w = wanted(h.actives, d);
+    let mut count: usize = 0;
+    let mut at: usize = 0;
+    for i in 0..n {
+        let v = joints[i];
+        if v / 4 == w {
+            count += 1;
+            at = i;
+        }
+    }
+    told(count, at)
+}
+
+// The column of the interface that a joint's byte names, or 32 where it names none of the plan's.
+fn column(actives: usize, passives: usize, v: u8) -> usize
+    requires { ⌜ (actives ≤ 16) × (passives ≤ 16) ⌝ }
+    ensures { λ r. ⌜ r ≡ columnOf actives passives v ⌝ }
+{
+    let kind = v / 64;
+    let number = (v / 4 % 16) as usize;
+    if kind == 2 {
+        return if number < actives { number } else { NO_COLUMN };
+    }
+    if kind == 3 {
+        return if number < passives {
+            actives + number
+        } else {
+            NO_COLUMN
+        };
+    }
+    NO_COLUMN
+}
+
+// A column's cell after one more port.
+fn mark(cell: u8, i: u8) -> u8
+    ensures { λ r. ⌜ r ≡ markOf cell i ⌝ }
+{
+    if cell == NONE_FOUND { i } else { MORE_FOUND }
+}
+
+// The port of each interface, by column.
+fn found(h: Head, joints: &[u8; 64]) -> [u8; 33]
+    requires { ⌜ (h .routers ≤ 16) × (h .actives ≤ 16) × (h .passives ≤ 16) ⌝ }
+    ensures { λ r. ⌜ r ≡ foundOf h (now (joints .entry)) ⌝ }
+{
+    let n = 4 * h.routers;
+    let actives = h.actives;
+    let passives = h.passives;
+    let mut t = [NONE_FOUND; 33];
+    for i in 0..n {
+        let d = column(actives, passives, joints[i]);
+        t[d] = mark(t[d], i as u8);
+    }
+    t
+}
+
+// Whether each interface has exactly one joint: refusal 5.
+pub fn interfaces_ok(h: Head, joints: &[u8; 64]) -> bool
+    requires { ⌜ (h .routers ≤ 16) × (h .actives ≤ 16) × (h .passives ≤ 16) ⌝ }
+    ensures { λ r. ⌜ r ≡ interfacesOk (tablePlan h [] (now (joints .entry))) ⌝ }
+{
+    let t = found(h, joints);
+    let n = h.actives + h.passives;
+    for d in 0..n {
+        if NONE_FOUND <= t[d] {
+            return false;
+        }
+    }
+    true
+}
+
+// The port of a cell, and 0 where it has none.
+fn port_or_0(cell: u8) -> u8
+    ensures { λ r. ⌜ r ≡ portOfCell cell ⌝ }
+{
+    if cell < NONE_FOUND { cell } else { 0 }
+}
+
+// The port number of every interface, by column.
+pub fn homes(h: Head, joints: &[u8; 64]) -> [u8; 32]
+    requires { ⌜ (h .routers ≤ 16) × (h .actives ≤ 16) × (h .passives ≤ 16) ⌝ }
+    ensures { λ r. ⌜ r ≡ homesOf (tablePlan h [] (now (joints .entry))) ⌝ }
+{
+    let t = found(h, joints);
+    let n = h.actives + h.passives;
+    let mut r = [0u8; 32];
+    for d in 0..n {
+        r[d] = port_or_0(t[d]);
+    }
+    r
+}

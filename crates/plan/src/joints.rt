@@ -1,0 +1,85 @@
+// The joints: 8 bits for each side of each router, kept as a byte (kind times 64, number times 4, partner's side) by port number.
+use crate::Head;
+use crate::Joint;
+ghost use mathlib.Core.Path.{_≡_};
+ghost use Prim.Native.Nat.{_≤_, _<_};
+ghost use lib.ListN.{length};
+ghost use Rattle.plan.specs.Tables.{jointByte, jointsOf, jointByteOk, jointBytesOk, jointOfByte};
+
+// The byte in which the first joint begins. Its last three bits and the next byte's first five are the joint.
+const FIRST_BYTE: usize = 5;
+
+// The i-th joint's eight bits.
+pub fn joint_byte(plan: &[u8], i: usize) -> u8
+    requires { ⌜ i < 64 ⌝ }
+    ensures { λ r. ⌜ r ≡ jointByte (now (plan .entry)) i ⌝ }
+{
+    let high = fields::byte_or_zero(plan, FIRST_BYTE + i);
+    let low = fields::byte_or_zero(plan, FIRST_BYTE + 1 + i);
+    (high % 8 * 32 + low / 8) as u8
+}
+
+// The joints of the plan's routers, and nothing at the ports behind them.
+pub fn joints(plan: &[u8], h: Head) -> [u8; 64]
+    requires { ⌜ h .routers ≤ 16 ⌝ }
+    ensures { λ r. ⌜ r ≡ jointsOf (now (plan .entry)) h ⌝ }
+{
+    let n = 4 * h.routers;
+    let mut t = [0u8; 64];
+    for i in 0..n {
+        t[i] = joint_byte(plan, i);
+    }
+    t
+}
+
+// Whether kind, number and side are in range.
+pub fn joint_byte_ok(h: Head, v: u8) -> bool
+    ensures { λ r. ⌜ r ≡ jointByteOk h v ⌝ }
+{
+    let kind = v / 64;
+    let number = (v / 4 % 16) as usize;
+    let side = v % 4;
+    if kind == 0 {
+        return (number == 0) & (side == 0);
+    }
+    if kind == 1 {
+        return number < h.routers;
+    }
+    if kind == 2 {
+        return (number < h.actives) & (side == 0);
+    }
+    (number < h.passives) & (side == 0)
+}
+
+// Whether each joint's kind, number and side are in range: refusal 4.
+pub fn joint_bytes_ok(h: Head, joints: &[u8; 64]) -> bool
+    requires { ⌜ h .routers ≤ 16 ⌝ }
+    ensures { λ r. ⌜ r ≡ jointBytesOk h (now (joints .entry)) ⌝ }
+{
+    let n = 4 * h.routers;
+    for i in 0..n {
+        let v = joints[i];
+        if !joint_byte_ok(h, v) {
+            return false;
+        }
+    }
+    true
+}
+
+// What a joint's byte says.
+pub fn joint_of(v: u8) -> Joint
+    ensures { λ r. ⌜ r ≡ jointOfByte v ⌝ }
+{
+    let kind = v / 64;
+    let number = (v / 4 % 16) as usize;
+    if kind == 1 {
+        return Joint::Router(number, (v % 4) as usize);
+    }
+    if kind == 2 {
+        return Joint::Active(number);
+    }
+    if kind == 3 {
+        return Joint::Passive(number);
+    }
+    Joint::Nothing
+}

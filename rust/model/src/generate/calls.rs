@@ -1,0 +1,133 @@
+//! Random lists of calls that keep a network busy: real rounds with launches, replies and consumes,
+//! and stray calls in any phase with any arguments.
+
+use super::Random;
+use crate::feeding::Queue;
+use crate::fields::SIDES;
+use crate::machine::list::Call;
+use crate::machine::{Network, Phase, State};
+
+/// How the callers behave for a while; each is a number of parts in 16.
+#[derive(Clone, Copy, Debug)]
+struct Mood {
+    launch: usize,
+    reply: usize,
+    accept: usize,
+    consume: usize,
+    stray: usize,
+    /// Launches ask for slots below this.
+    slots: usize,
+}
+
+/// Makes the next call of a list.
+#[derive(Clone, Debug)]
+pub struct Caller {
+    served: Vec<(usize, usize)>,
+    mood: Mood,
+    left: usize,
+}
+
+impl Caller {
+    /// A caller for a network.
+    pub fn new(random: &mut Random, network: &Network) -> Caller {
+        let plan = network.plan();
+        let pairs = (0..plan.actives()).flat_map(|a| (0..plan.passives()).map(move |p| (a, p)));
+        let served = pairs.filter(|&(a, p)| network.journey(a, p).is_some()).collect();
+        Caller { served, mood: Mood::new(random, network), left: 0 }
+    }
+
+    /// How many pairs there are to launch.
+    pub fn pairs(&self) -> usize {
+        self.served.len()
+    }
+
+    /// The next call, for the state as it is now.
+    pub fn next(&mut self, random: &mut Random, network: &Network, state: &State) -> Call {
+        if self.left == 0 {
+            self.mood = Mood::new(random, network);
+            self.left = random.within(50..=400);
+        }
+        self.left -= 1;
+        if random.chance(self.mood.stray, 160) {
+            return stray(random, network);
+        }
+        match state.phase {
+            Phase::Read => self.in_read(random, state),
+            Phase::Execute => Call::Execute,
+            Phase::Write => self.in_write(random, network, state),
+        }
+    }
+
+    /// Launches mostly where the allowance is not spent.
+    fn in_read(&self, random: &mut Random, state: &State) -> Call {
+        let slot = random.below(self.mood.slots);
+        let launches = random.chance(self.mood.launch, 16);
+        match random.pick(&self.served).filter(|_| launches) {
+            Some((active, passive)) if state.allowances[active] > 0 || random.chance(1, 8) => {
+                Call::Launch { active, passive, slot }
+            }
+            _ => Call::Read,
+        }
+    }
+
+    /// Mostly where something waits.
+    fn in_write(&self, random: &mut Random, network: &Network, state: &State) -> Call {
+        let plan = network.plan();
+        let waits = |queue| {
+            let flag = state.flags[network.queue_index(queue)];
+            !flag && !network.queue(state, queue).is_empty()
+        };
+        let passives: Vec<usize> =
+            (0..plan.passives()).filter(|&n| waits(Queue::PassiveIn(n))).collect();
+        let actives: Vec<usize> =
+            (0..plan.actives()).filter(|&n| waits(Queue::ActiveIn(n))).collect();
+        let reply = random.pick(&passives).filter(|_| random.chance(self.mood.reply, 16));
+        let consume = random.pick(&actives).filter(|_| random.chance(self.mood.consume, 16));
+        match (reply, consume) {
+            (Some(passive), _) => {
+                let choice = usize::from(random.chance(self.mood.accept, 16));
+                Call::Reply { passive, choice }
+            }
+            (None, Some(active)) => Call::Consume { active },
+            (None, None) => Call::Write,
+        }
+    }
+}
+
+impl Mood {
+    fn new(random: &mut Random, network: &Network) -> Mood {
+        let often = |random: &mut Random| random.pick(&[0, 2, 8, 12, 15, 15, 15]).unwrap_or(8);
+        Mood {
+            launch: random.pick(&[0, 2, 6, 10, 14]).unwrap_or(6),
+            reply: often(random),
+            accept: random.pick(&[0, 0, 1, 2, 12]).unwrap_or(1),
+            consume: often(random),
+            stray: random.pick(&[0, 4, 16, 48]).unwrap_or(4),
+            slots: random.within(1..=network.slots()),
+        }
+    }
+}
+
+/// Any call with any arguments, in range more often than not.
+fn stray(random: &mut Random, network: &Network) -> Call {
+    let plan = network.plan();
+    let mut number = |bound: usize| {
+        if random.chance(1, 12) {
+            random.number() as usize
+        } else {
+            random.below(bound + 1)
+        }
+    };
+    let (active, passive) = (number(plan.actives()), number(plan.passives()));
+    let (router, side, slot) = (number(plan.routers()), number(SIDES), number(network.slots()));
+    let choice = number(2);
+    match random.below(7) {
+        0 => Call::Read,
+        1 => Call::Execute,
+        2 => Call::Write,
+        3 => Call::Launch { active, passive, slot },
+        4 => Call::Reply { passive, choice },
+        5 => Call::Consume { active },
+        _ => Call::Entry { router, side, slot },
+    }
+}

@@ -1,0 +1,12 @@
+//! Plans from a seed: good ones of all sizes, damaged ones, plans with rings.
+
+pub mod calls;
+pub mod damage;
+pub mod draft;
+pub mod good;
+pub mod random;
+pub mod rings;
+pub mod states;
+
+pub use draft::Draft;
+pub use random::Random;

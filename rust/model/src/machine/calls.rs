@@ -1,0 +1,125 @@
+//! The calls, each with its refusals in document 01's order. A refusal alters nothing.
+
+use super::network::Network;
+use super::packet::{Hub, Kind, Packet, Slot};
+use super::state::{Phase, State};
+use crate::feeding::Queue;
+use crate::fields::SIDES;
+use crate::refusal::{
+    ALLOWANCE, EMPTY, FLAG_UP, FULL, NOT_A_STATE, PHASE, RANGE, UNMARKED, UNSERVED,
+};
+
+/// "Else the entry, 4 for free."
+pub const FREE: u32 = 4;
+
+/// The refusal, unless the condition for going on holds.
+fn ensure(holds: bool, refusal: u32) -> Result<(), u32> {
+    holds.then_some(()).ok_or(refusal)
+}
+
+impl Network {
+    /// Read: 7, 8.
+    pub fn read(&self, state: &mut State) -> Result<(), u32> {
+        self.ensure_phase(state, Phase::Read)?;
+        self.run_read(state);
+        Ok(())
+    }
+
+    /// Execute: 7, 8.
+    pub fn execute(&self, state: &mut State) -> Result<(), u32> {
+        self.ensure_phase(state, Phase::Execute)?;
+        self.run_execute(state);
+        Ok(())
+    }
+
+    /// Write: 7, 8.
+    pub fn write(&self, state: &mut State) -> Result<(), u32> {
+        self.ensure_phase(state, Phase::Write)?;
+        self.run_write(state);
+        Ok(())
+    }
+
+    /// "Launch (active, passive, slot): 8 not READ; 9 a number out of range; 10 pair not served; 11
+    /// allowance 0; 12 out-queue full. Else a SETUP, hub 0, joins and the allowance falls by one."
+    pub fn launch(
+        &self,
+        state: &mut State,
+        active: usize,
+        passive: usize,
+        slot: usize,
+    ) -> Result<(), u32> {
+        self.ensure_phase(state, Phase::Read)?;
+        let plan = self.plan();
+        let in_range = active < plan.actives() && passive < plan.passives() && slot < self.slots();
+        ensure(in_range, RANGE)?;
+        ensure(self.journey(active, passive).is_some(), UNSERVED)?;
+        ensure(state.allowances[active] > 0, ALLOWANCE)?;
+        let out = Queue::ActiveOut(active);
+        ensure(!self.is_full(state, out), FULL)?;
+        let set_up = Packet { kind: Kind::Setup, active, passive, slot: Slot(slot), hub: Hub(0) };
+        state.queues[self.queue_index(out)].push_back(set_up);
+        state.allowances[active] -= 1;
+        Ok(())
+    }
+
+    /// "Reply (passive, 1 accept or 0 decline): 8 not WRITE; 9 number or choice out of range; 14
+    /// in-queue flag up; 13 in-queue empty; 12 out-queue full. Else the head becomes ACK or NACK,
+    /// slot and hub kept, in the out-queue; the flag rises."
+    pub fn reply(&self, state: &mut State, passive: usize, choice: usize) -> Result<(), u32> {
+        self.ensure_phase(state, Phase::Write)?;
+        ensure(passive < self.plan().passives() && choice < 2, RANGE)?;
+        let head = self.waiting_head(state, Queue::PassiveIn(passive))?;
+        let out = Queue::PassiveOut(passive);
+        ensure(!self.is_full(state, out), FULL)?;
+        let kind = if choice == 1 { Kind::Ack } else { Kind::Nack };
+        self.take_head(state, Queue::PassiveIn(passive));
+        state.queues[self.queue_index(out)].push_back(Packet { kind, ..head });
+        Ok(())
+    }
+
+    /// "Consume (active): 8 not WRITE; 9; 14; 13; 15 head is an unmarked NACK. Else the packet is
+    /// returned and removed, the flag rises, the allowance grows by one."
+    pub fn consume(&self, state: &mut State, active: usize) -> Result<Packet, u32> {
+        self.ensure_phase(state, Phase::Write)?;
+        ensure(active < self.plan().actives(), RANGE)?;
+        let head = self.waiting_head(state, Queue::ActiveIn(active))?;
+        ensure(!head.is_unmarked_nack(), UNMARKED)?;
+        self.take_head(state, Queue::ActiveIn(active));
+        state.allowances[active] += 1;
+        Ok(head)
+    }
+
+    /// "Entry (router, side, slot): 9. Else the entry, 4 for free."
+    pub fn entry(
+        &self,
+        state: &State,
+        router: usize,
+        side: usize,
+        slot: usize,
+    ) -> Result<u32, u32> {
+        ensure(self.is_state(state), NOT_A_STATE)?;
+        let in_range = router < self.plan().routers() && side < SIDES && slot < self.slots();
+        ensure(in_range, RANGE)?;
+        let entry = state.table.entry(router, side, Slot(slot));
+        Ok(entry.map_or(FREE, |side| side as u32))
+    }
+
+    /// 7 not a state, then 8 another phase.
+    fn ensure_phase(&self, state: &State, phase: Phase) -> Result<(), u32> {
+        ensure(self.is_state(state), NOT_A_STATE)?;
+        ensure(state.phase == phase, PHASE)
+    }
+
+    /// 14 in-queue flag up, then 13 in-queue empty, else its head.
+    fn waiting_head(&self, state: &State, queue: Queue) -> Result<Packet, u32> {
+        ensure(!state.flags[self.queue_index(queue)], FLAG_UP)?;
+        self.queue(state, queue).front().copied().ok_or(EMPTY)
+    }
+
+    /// The head leaves its in-queue and the flag rises.
+    fn take_head(&self, state: &mut State, queue: Queue) {
+        let at = self.queue_index(queue);
+        state.queues[at].pop_front();
+        state.flags[at] = true;
+    }
+}

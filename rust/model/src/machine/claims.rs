@@ -1,0 +1,192 @@
+//! Demand 3 and what document 01 says of every list, watched call by call.
+
+use std::collections::HashMap;
+
+use super::list::{Answer, Call};
+use super::network::Network;
+use super::packet::{Kind, Packet, Slot};
+use super::places::Place;
+use super::state::{Phase, State, Table};
+use crate::feeding::Queue;
+
+/// "Those three numbers": active, passive, start slot.
+pub type Connection = (usize, usize, Slot);
+
+/// What a list's calls and answers have told so far.
+#[derive(Clone, Debug)]
+pub struct Claims<'n> {
+    network: &'n Network,
+    launched: HashMap<Connection, usize>,
+    accepted: HashMap<Connection, usize>,
+    /// Whole rounds without a move since a state in READ from which a move is claimed.
+    still: Option<usize>,
+    /// How often the network was empty while some connections were accepted.
+    pub tables_compared: usize,
+    /// The most rounds that ever passed before a claimed move.
+    pub longest_wait: usize,
+}
+
+impl<'n> Claims<'n> {
+    /// Before the first call; `start` is what Start left.
+    pub fn new(network: &'n Network, start: &State) -> Self {
+        let mut claims = Claims {
+            network,
+            launched: HashMap::new(),
+            accepted: HashMap::new(),
+            still: None,
+            tables_compared: 0,
+            longest_wait: 0,
+        };
+        claims.claim_a_move(start);
+        claims
+    }
+
+    /// After a call of a list from start: what it was given, what it said, what it left. The first
+    /// claim that fails.
+    pub fn after(
+        &mut self,
+        call: Call,
+        answer: Result<Answer, u32>,
+        before: &State,
+        state: &State,
+    ) -> Result<(), String> {
+        self.after_from_any_state(call, answer, before, state)?;
+        self.note_connections(call, answer)?;
+        self.table_is_the_accepted_ones(state)
+    }
+
+    /// The claims that hold of a list from any state, also one that no list from start reaches.
+    pub fn after_from_any_state(
+        &mut self,
+        call: Call,
+        answer: Result<Answer, u32>,
+        before: &State,
+        state: &State,
+    ) -> Result<(), String> {
+        // "A refusal alters no byte."
+        if answer.is_err() && before != state {
+            return Err(format!("{call:?} was refused and altered the state"));
+        }
+        // "No state reached from start is refused so."
+        if let Some(fault) = self.network.fault(state) {
+            return Err(format!("not a state: {fault}"));
+        }
+        self.no_queue_over_capacity(state)?;
+        self.note_moves(call, answer.is_ok(), before, state)
+    }
+
+    /// "No queue holds more than its capacity."
+    fn no_queue_over_capacity(&self, state: &State) -> Result<(), String> {
+        let over =
+            self.network.queues().iter().find(|&&queue| {
+                self.network.queue(state, queue).len() > self.network.capacity(queue)
+            });
+        over.map_or(Ok(()), |queue| Err(format!("{queue:?} is over its capacity")))
+    }
+
+    /// "At least as many accepted Launches of those three numbers as Consumes that accepted them."
+    fn note_connections(&mut self, call: Call, answer: Result<Answer, u32>) -> Result<(), String> {
+        match (call, answer) {
+            (Call::Launch { active, passive, slot }, Ok(_)) => {
+                *self.launched.entry((active, passive, Slot(slot))).or_default() += 1;
+            }
+            (Call::Consume { .. }, Ok(Answer::Packet(packet))) if packet.kind == Kind::Ack => {
+                let connection = self.connection(&packet);
+                let accepted = self.accepted.entry(connection).or_default();
+                *accepted += 1;
+                if self.launched.get(&connection).is_none_or(|launched| launched < accepted) {
+                    return Err(format!("{connection:?} was accepted more often than launched"));
+                }
+            }
+            _ => {}
+        }
+        Ok(())
+    }
+
+    /// "With that packet's active and passive and, as its start slot, the packet's slot minus hub
+    /// modulo S."
+    fn connection(&self, ack: &Packet) -> Connection {
+        (ack.active, ack.passive, ack.slot.minus(ack.hub, self.network.slots()))
+    }
+
+    /// "Whenever every queue and wire is empty, the slot table equals, entry by entry, the one that
+    /// the connections accepted so far make."
+    fn table_is_the_accepted_ones(&mut self, state: &State) -> Result<(), String> {
+        if self.network.packets(state).next().is_some() {
+            return Ok(());
+        }
+        self.tables_compared += usize::from(!self.accepted.is_empty());
+        if state.table == self.accepted_table() {
+            Ok(())
+        } else {
+            Err("the network is empty and its table is not the accepted ones' own".to_string())
+        }
+    }
+
+    /// "At its n-th router, n from 0, an accepted connection makes the entry (walk's side, start
+    /// slot + n modulo S), holding the side the walk came in by", and "every other one is free".
+    pub fn accepted_table(&self) -> Table {
+        let slots = self.network.slots();
+        let mut table = Table::free(self.network.plan().routers(), slots);
+        for &(active, passive, start) in self.accepted.keys() {
+            let journey = self.network.journey(active, passive).expect("accepted pairs are served");
+            for (n, hop) in journey.walk.iter().enumerate() {
+                table.set(hop.router, hop.side, start.after(n, slots), Some(hop.came_in));
+            }
+        }
+        table
+    }
+
+    /// "In those rounds at least one packet changes its queue or wire, or ends, by a Read, an
+    /// Execute or a Write."
+    fn note_moves(
+        &mut self,
+        call: Call,
+        accepted: bool,
+        before: &State,
+        state: &State,
+    ) -> Result<(), String> {
+        if accepted && self.moves(call, before, state) {
+            self.still = None;
+        } else if accepted && call == Call::Write {
+            self.still = self.still.map(|rounds| rounds + 1);
+            self.longest_wait = self.longest_wait.max(self.still.unwrap_or(0));
+            if self.still == Some(self.network.slots()) {
+                return Err("S whole rounds went by without a move".to_string());
+            }
+        }
+        self.claim_a_move(state);
+        Ok(())
+    }
+
+    /// From the first state on from which a move is claimed, rounds are counted.
+    fn claim_a_move(&mut self, state: &State) {
+        if self.still.is_none() && self.move_is_due(state) {
+            self.still = Some(0);
+        }
+    }
+
+    /// "Whenever at the start of a round a packet is in a wire, or in a queue other than an
+    /// interface's in-queue, while no passive in-queue is full."
+    fn move_is_due(&self, state: &State) -> bool {
+        let in_queue =
+            |place| matches!(place, Place::In(Queue::ActiveIn(_)) | Place::In(Queue::PassiveIn(_)));
+        let full = |passive| self.network.is_full(state, Queue::PassiveIn(passive));
+        state.phase == Phase::Read
+            && !(0..self.network.plan().passives()).any(full)
+            && self.network.packets(state).any(|(place, _)| !in_queue(place))
+    }
+
+    /// Whether an accepted call took a packet out of its queue or wire: a full wire at Read, a
+    /// packet that ends in Execute, a picked head at Write.
+    fn moves(&self, call: Call, before: &State, state: &State) -> bool {
+        let mut routers = 0..self.network.plan().routers();
+        let waiting = |state, router| self.network.queue(state, Queue::Q { router }).len();
+        match call {
+            Call::Read => before.wires.iter().any(Option::is_some),
+            Call::Execute => routers.any(|router| waiting(state, router) < waiting(before, router)),
+            Call::Write => before.choices.iter().any(Option::is_some),
+            _ => false,
+        }
+    }
+}

@@ -1,0 +1,78 @@
+//! "The list in 3": calls as values, so that a list of them can be run.
+
+use super::network::Network;
+use super::packet::Packet;
+use super::state::State;
+
+/// A call on a state.
+#[derive(Clone, Copy, Debug, PartialEq, Eq)]
+pub enum Call {
+    /// Read.
+    Read,
+    /// Execute.
+    Execute,
+    /// Write.
+    Write,
+    /// Launch.
+    Launch {
+        /// The active that sends.
+        active: usize,
+        /// The passive that receives.
+        passive: usize,
+        /// The start slot.
+        slot: usize,
+    },
+    /// Reply.
+    Reply {
+        /// The passive that replies.
+        passive: usize,
+        /// 1 accept or 0 decline.
+        choice: usize,
+    },
+    /// Consume.
+    Consume {
+        /// The active that consumes.
+        active: usize,
+    },
+    /// Entry.
+    Entry {
+        /// The router asked.
+        router: usize,
+        /// Its side.
+        side: usize,
+        /// The slot.
+        slot: usize,
+    },
+}
+
+/// What an accepted call says.
+#[derive(Clone, Copy, Debug, PartialEq, Eq)]
+pub enum Answer {
+    /// "An accepted call with nothing to return says only that."
+    Done,
+    /// The packet that Consume returns.
+    Packet(Packet),
+    /// The entry, 4 for free.
+    Entry(u32),
+}
+
+impl Network {
+    /// Runs one call.
+    pub fn call(&self, state: &mut State, call: Call) -> Result<Answer, u32> {
+        match call {
+            Call::Read => self.read(state).map(|()| Answer::Done),
+            Call::Execute => self.execute(state).map(|()| Answer::Done),
+            Call::Write => self.write(state).map(|()| Answer::Done),
+            Call::Launch { active, passive, slot } => {
+                self.launch(state, active, passive, slot).map(|()| Answer::Done)
+            }
+            Call::Reply { passive, choice } => {
+                self.reply(state, passive, choice).map(|()| Answer::Done)
+            }
+            Call::Consume { active } => self.consume(state, active).map(Answer::Packet),
+            Call::Entry { router, side, slot } => {
+                self.entry(state, router, side, slot).map(Answer::Entry)
+            }
+        }
+    }
+}

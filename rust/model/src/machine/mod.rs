@@ -1,0 +1,23 @@
+//! The whole machine of document 01: its state, the three phases of a round, the calls with their
+//! refusals, refusal 7's condition, and the claims that hold of every list of calls.
+//!
+//! * [`packet`]: packets, slots, hub counts. [`network`]: a loaded plan, its journeys, its links.
+//! * [`state`]: queues, wires, credits, flags, marks, choices, table, allowances.
+//! * [`phases`]: what READ, EXECUTE and WRITE do. [`calls`]: the calls with their refusals.
+//! * [`valid`]: what is a state (refusal 7), and [`places`], where a packet of a pair can be.
+//! * [`list`]: calls as values. [`claims`]: demand 3, watched from outside by the calls and their answers.
+
+pub mod calls;
+pub mod claims;
+pub mod list;
+pub mod network;
+pub mod packet;
+pub mod phases;
+pub mod places;
+pub mod state;
+pub mod valid;
+
+pub use list::{Answer, Call};
+pub use network::{Journey, Link, Network};
+pub use packet::{Hub, Kind, Packet, Slot};
+pub use state::{Credit, Phase, State, Table};

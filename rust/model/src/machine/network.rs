@@ -1,0 +1,212 @@
+//! A loaded plan with its journeys and links worked out once.
+
+use super::packet::Packet;
+use crate::feeding::Queue;
+use crate::fields::{Joint, SIDES};
+use crate::plan::{Plan, Port};
+use crate::walk::{Hop, Interface};
+
+/// An output together with the wire it drives.
+#[derive(Clone, Copy, Debug, PartialEq, Eq)]
+pub enum Link {
+    /// Out of a router by a side: "a wire enters each joined side and each interface from its
+    /// neighbour".
+    Side(Port),
+    /// "One leads from router to unit".
+    Unit(usize),
+    /// "One back".
+    Back(usize),
+    /// Out of an active, into the side it is joined to.
+    Active(usize),
+    /// Out of a passive, into the side it is joined to.
+    Passive(usize),
+}
+
+/// A served pair's ways.
+#[derive(Clone, Debug)]
+pub struct Journey {
+    /// The walk from the active's router to the passive.
+    pub walk: Vec<Hop>,
+    /// The way back to the active from the walk's k-th router.
+    pub back: Vec<Vec<Port>>,
+    /// The side the passive's answers come in by.
+    pub answers: Port,
+}
+
+/// A loadable plan: every call of the machine is a call on one.
+#[derive(Clone, Debug)]
+pub struct Network {
+    plan: Plan,
+    journeys: Vec<Option<Journey>>,
+    queues: Vec<Queue>,
+    links: Vec<Link>,
+}
+
+impl Network {
+    /// Load, "first in every call".
+    pub fn load(bytes: &[u8]) -> Result<Network, u32> {
+        Plan::load(bytes).map(Network::of)
+    }
+
+    /// The network of a loaded plan.
+    pub fn of(plan: Plan) -> Network {
+        let pairs = (0..plan.actives()).flat_map(|a| (0..plan.passives()).map(move |p| (a, p)));
+        let journeys = pairs.map(|(active, passive)| journey(&plan, active, passive)).collect();
+        Network { journeys, queues: queues(&plan), links: links(&plan), plan }
+    }
+
+    /// The plan.
+    pub fn plan(&self) -> &Plan {
+        &self.plan
+    }
+
+    /// S.
+    pub fn slots(&self) -> usize {
+        self.plan.slots()
+    }
+
+    /// All queues.
+    pub fn queues(&self) -> &[Queue] {
+        &self.queues
+    }
+
+    /// All links.
+    pub fn links(&self) -> &[Link] {
+        &self.links
+    }
+
+    /// The ways of a pair, if both numbers are in range and the pair is served.
+    pub fn journey(&self, active: usize, passive: usize) -> Option<&Journey> {
+        let in_range = active < self.plan.actives() && passive < self.plan.passives();
+        let journey = in_range.then(|| &self.journeys[active * self.plan.passives() + passive]);
+        journey.and_then(Option::as_ref)
+    }
+
+    /// A queue's number.
+    pub fn queue_index(&self, queue: Queue) -> usize {
+        queue.index(&self.plan)
+    }
+
+    /// A link's number.
+    pub fn link_index(&self, link: Link) -> usize {
+        let per_router = SIDES + 2;
+        let routers = per_router * self.plan.routers();
+        match link {
+            Link::Side(Port { router, side }) => per_router * router + side,
+            Link::Unit(router) => per_router * router + SIDES,
+            Link::Back(router) => per_router * router + SIDES + 1,
+            Link::Active(number) => routers + number,
+            Link::Passive(number) => routers + self.plan.actives() + number,
+        }
+    }
+
+    /// A queue's capacity.
+    pub fn capacity(&self, queue: Queue) -> usize {
+        let capacities = self.plan.capacities();
+        match queue {
+            Queue::ActiveOut(_) => capacities.active_out,
+            Queue::ActiveIn(_) => capacities.active_in,
+            Queue::U { .. } => capacities.u,
+            Queue::Q { .. } => capacities.q,
+            Queue::F { .. } => capacities.f,
+            Queue::K { .. } => capacities.k,
+            Queue::PassiveIn(_) => capacities.passive_in,
+            Queue::PassiveOut(_) => capacities.passive_out,
+        }
+    }
+
+    /// "Each active's allowance = the smaller of its two capacities."
+    pub fn start_allowance(&self) -> usize {
+        let capacities = self.plan.capacities();
+        capacities.active_out.min(capacities.active_in)
+    }
+
+    /// The queues that may send over a link, in the order in which they are asked: "F[o], K[0,o]
+    /// to K[3,o] for a side; U[0] to U[3] to the unit; Q to F; an interface's out-queue".
+    pub fn senders(&self, link: Link) -> Vec<Queue> {
+        match link {
+            Link::Side(Port { router, side: to }) => {
+                let from = (0..SIDES).filter(|&from| from != to);
+                let crossing = from.map(|from| Queue::K { router, from, to });
+                std::iter::once(Queue::F { router, to }).chain(crossing).collect()
+            }
+            Link::Unit(router) => (0..SIDES).map(|from| Queue::U { router, from }).collect(),
+            Link::Back(router) => vec![Queue::Q { router }],
+            Link::Active(number) => vec![Queue::ActiveOut(number)],
+            Link::Passive(number) => vec![Queue::PassiveOut(number)],
+        }
+    }
+
+    /// The queue that a packet on this link's wire is bound for.
+    pub fn next_queue(&self, link: Link, packet: &Packet) -> Option<Queue> {
+        match link {
+            Link::Side(port) => match self.plan.joint(port) {
+                Joint::Nothing => None,
+                Joint::Router { router, side } => self.enter_router(Port { router, side }, packet),
+                Joint::Active(number) => Some(Queue::ActiveIn(number)),
+                Joint::Passive(number) => Some(Queue::PassiveIn(number)),
+            },
+            Link::Unit(router) => Some(Queue::Q { router }),
+            Link::Back(router) => {
+                self.route(router, packet).map(|side| Queue::F { router, to: side })
+            }
+            Link::Active(number) => self.enter_router(self.plan.active_port(number), packet),
+            Link::Passive(number) => self.enter_router(self.plan.passive_port(number), packet),
+        }
+    }
+
+    /// U[i] takes "system packets from side i, for the unit", K[i,o] "answers crossing".
+    fn enter_router(&self, Port { router, side: from }: Port, packet: &Packet) -> Option<Queue> {
+        if packet.is_answer() {
+            self.route(router, packet).map(|to| Queue::K { router, from, to })
+        } else {
+            Some(Queue::U { router, from })
+        }
+    }
+
+    /// The side the plan gives at a router for the interface a packet goes to.
+    fn route(&self, router: usize, packet: &Packet) -> Option<usize> {
+        let to = if packet.is_answer() {
+            Interface::Active(packet.active)
+        } else {
+            Interface::Passive(packet.passive)
+        };
+        self.plan.route(router, to)
+    }
+}
+
+/// The ways of a served pair.
+fn journey(plan: &Plan, active: usize, passive: usize) -> Option<Journey> {
+    let walk = plan.walk(active, passive)?;
+    let back = walk.iter().map(|hop| plan.way(hop.router, Interface::Active(active)));
+    let back = back.collect::<Option<Vec<_>>>()?;
+    Some(Journey { walk, back, answers: plan.passive_port(passive) })
+}
+
+/// "Active out and in; passive in and out; per router U[i], Q, F[o], K[i,o] with i≠o."
+fn queues(plan: &Plan) -> Vec<Queue> {
+    let mut queues = Vec::with_capacity(Queue::count(plan));
+    queues.extend((0..plan.actives()).flat_map(|n| [Queue::ActiveOut(n), Queue::ActiveIn(n)]));
+    queues.extend((0..plan.passives()).flat_map(|n| [Queue::PassiveIn(n), Queue::PassiveOut(n)]));
+    for router in 0..plan.routers() {
+        queues.push(Queue::Q { router });
+        for side in 0..SIDES {
+            queues.push(Queue::U { router, from: side });
+            queues.push(Queue::F { router, to: side });
+            let others = (0..SIDES).filter(|&to| to != side);
+            queues.extend(others.map(|to| Queue::K { router, from: side, to }));
+        }
+    }
+    queues
+}
+
+fn links(plan: &Plan) -> Vec<Link> {
+    let mut links = Vec::new();
+    for router in 0..plan.routers() {
+        links.extend((0..SIDES).map(|side| Link::Side(Port { router, side })));
+        links.extend([Link::Unit(router), Link::Back(router)]);
+    }
+    links.extend((0..plan.actives()).map(Link::Active));
+    links.extend((0..plan.passives()).map(Link::Passive));
+    links
+}

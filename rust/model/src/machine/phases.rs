@@ -1,0 +1,146 @@
+//! A round: what READ, EXECUTE and WRITE do to a state.
+
+use super::network::{Link, Network};
+use super::packet::{Hub, Kind, Packet, Slot};
+use super::state::{is_fed_by_a_wire, Credit, Phase, State, Table};
+use crate::feeding::Queue;
+use crate::plan::Port;
+
+impl Network {
+    /// "READ: each wire's packet joins its queue and the wire empties. Each raised flag adds one
+    /// credit to its queue and is lowered."
+    pub(super) fn run_read(&self, state: &mut State) {
+        for &link in self.links() {
+            if let Some(packet) = state.wires[self.link_index(link)].take() {
+                let queue = self.next_queue(link, &packet).expect("its journey goes on");
+                state.queues[self.queue_index(queue)].push_back(packet);
+            }
+        }
+        for (flag, credit) in state.flags.iter_mut().zip(&mut state.credits) {
+            if std::mem::take(flag) {
+                *credit = Credit(credit.0 + 1);
+            }
+        }
+        state.phase = Phase::Execute;
+    }
+
+    /// "EXECUTE, in this order": units, outputs, tear-downs.
+    pub(super) fn run_execute(&self, state: &mut State) {
+        for router in 0..self.plan().routers() {
+            self.handle_head(state, router);
+        }
+        for &link in self.links() {
+            state.choices[self.link_index(link)] = self.pick(state, link);
+        }
+        for active in 0..self.plan().actives() {
+            self.send_tear_down(state, active);
+        }
+        state.phase = Phase::Write;
+    }
+
+    /// "(1) Each unit handles Q's head once, if not yet handled, and no second head in that round."
+    fn handle_head(&self, state: &mut State, router: usize) {
+        let q = self.queue_index(Queue::Q { router });
+        let Some(head) = state.queues[q].front_mut().filter(|_| !state.handled[router]) else {
+            return;
+        };
+        match self.handle(&mut state.table, router, *head) {
+            Some(packet) => {
+                *head = packet;
+                state.handled[router] = true;
+            }
+            None => {
+                // "The packet ends and Q's flag rises."
+                state.queues[q].pop_front();
+                state.flags[q] = true;
+            }
+        }
+    }
+
+    /// What a unit makes of a packet: another packet, or none if it ends.
+    fn handle(&self, table: &mut Table, router: usize, packet: Packet) -> Option<Packet> {
+        let journey = self.journey(packet.active, packet.passive).expect("a served pair");
+        let hop = journey.walk.iter().find(|hop| hop.router == router).expect("on the walk");
+        let next = packet.slot.next(self.slots());
+        match packet.kind {
+            // "If entry (o, slot) is booked, or is the only free entry of o, the packet becomes a
+            // NACK, slot and hub kept."
+            Kind::Setup if !may_book(table, router, hop.side, packet.slot) => {
+                Some(Packet { kind: Kind::Nack, ..packet })
+            }
+            // "Else the entry is booked with the side the walk came in by; hub and slot each grow
+            // by one, the slot modulo S."
+            Kind::Setup => {
+                table.set(router, hop.side, packet.slot, Some(hop.came_in));
+                Some(Packet { slot: next, hub: packet.hub.grown(), ..packet })
+            }
+            // "TDOWN: the entry is freed; with hub 1 the packet ends, else hub falls and slot grows
+            // by one modulo S."
+            Kind::Tdown => {
+                table.set(router, hop.side, packet.slot, None);
+                let goes_on = packet.hub != Hub(1);
+                goes_on.then(|| Packet { slot: next, hub: packet.hub.fallen(), ..packet })
+            }
+            Kind::Ack | Kind::Nack => unreachable!("an answer in Q is its handled head"),
+        }
+    }
+
+    /// "(2) Each output picks a sender: the first" that is a candidate; "a router side picks nobody
+    /// when its entry for the current slot is booked".
+    fn pick(&self, state: &State, link: Link) -> Option<Queue> {
+        if let Link::Side(Port { router, side }) = link {
+            if state.table.entry(router, side, state.slot).is_some() {
+                return None;
+            }
+        }
+        self.senders(link).into_iter().find(|&sender| self.is_candidate(state, link, sender))
+    }
+
+    /// "(3) If an active's in-queue starts with an unmarked NACK and its out-queue is not full, a
+    /// TDOWN joins the out-queue with the NACK's hub and with slot minus hub modulo S, and the NACK
+    /// is marked."
+    fn send_tear_down(&self, state: &mut State, active: usize) {
+        let out = Queue::ActiveOut(active);
+        if self.is_full(state, out) {
+            return;
+        }
+        let head = state.queues[self.queue_index(Queue::ActiveIn(active))].front_mut();
+        let Some(nack) = head.filter(|head| head.is_unmarked_nack()) else { return };
+        let slot = nack.slot.minus(nack.hub, self.slots());
+        let tear_down = Packet { kind: Kind::Tdown, slot, ..*nack };
+        nack.hub = Hub(0);
+        state.queues[self.queue_index(out)].push_back(tear_down);
+    }
+
+    /// "WRITE: each picked head enters its wire, its queue's flag rises (none for out-queues), the
+    /// next queue's credit falls by one, choices are cleared. The slot grows by one modulo S."
+    pub(super) fn run_write(&self, state: &mut State) {
+        for &link in self.links() {
+            let wire = self.link_index(link);
+            if let Some(sender) = state.choices[wire].take() {
+                let packet = self.send(state, sender);
+                let next = self.next_queue(link, &packet).expect("its journey goes on");
+                let credit = &mut state.credits[self.queue_index(next)];
+                *credit = Credit(credit.0 - 1);
+                state.wires[wire] = Some(packet);
+            }
+        }
+        state.slot = state.slot.next(self.slots());
+        state.phase = Phase::Read;
+    }
+
+    /// Takes the picked head out of its queue; "the handled mark goes when that head leaves".
+    fn send(&self, state: &mut State, sender: Queue) -> Packet {
+        let at = self.queue_index(sender);
+        state.flags[at] = is_fed_by_a_wire(sender);
+        if let Queue::Q { router } = sender {
+            state.handled[router] = false;
+        }
+        state.queues[at].pop_front().expect("a candidate has a head")
+    }
+}
+
+/// Whether the entry is free and not the only free one of its side.
+fn may_book(table: &Table, router: usize, side: usize, slot: Slot) -> bool {
+    table.entry(router, side, slot).is_none() && table.free_entries(router, side) > 1
+}

@@ -1,0 +1,141 @@
+//! The state: queues, wires, credits, flags, marks, choices, table, allowances, phase, slot.
+
+use std::collections::VecDeque;
+
+use super::network::{Link, Network};
+use super::packet::{Packet, Slot};
+use crate::feeding::Queue;
+use crate::fields::SIDES;
+
+/// "The phase is READ, EXECUTE, WRITE in turn."
+#[derive(Clone, Copy, Debug, PartialEq, Eq)]
+pub enum Phase {
+    /// Wires empty into queues.
+    Read,
+    /// Units handle heads, outputs pick senders.
+    Execute,
+    /// Picked heads enter wires.
+    Write,
+}
+
+/// How many packets a queue can still be sent.
+#[derive(Clone, Copy, Debug, PartialEq, Eq)]
+pub struct Credit(pub usize);
+
+/// "For every router, side and slot below S the slot table holds free or the side by which the
+/// booking came in."
+#[derive(Clone, Debug, PartialEq, Eq)]
+pub struct Table {
+    slots: usize,
+    entries: Vec<Option<usize>>,
+}
+
+/// The state of a network. Queues, credits and flags stand by queue number, wires and choices by
+/// the number of their link.
+#[derive(Clone, Debug, PartialEq, Eq)]
+pub struct State {
+    /// The phase.
+    pub phase: Phase,
+    /// The current slot.
+    pub slot: Slot,
+    /// The queues, heads first.
+    pub queues: Vec<VecDeque<Packet>>,
+    /// The credit of each queue fed by a wire; 0 of any other.
+    pub credits: Vec<Credit>,
+    /// The flag of each queue fed by a wire.
+    pub flags: Vec<bool>,
+    /// Whether Q's head is handled, by router.
+    pub handled: Vec<bool>,
+    /// "Wires hold nothing or one packet."
+    pub wires: Vec<Option<Packet>>,
+    /// The sender that each output picked.
+    pub choices: Vec<Option<Queue>>,
+    /// The slot table.
+    pub table: Table,
+    /// Each active's allowance.
+    pub allowances: Vec<usize>,
+}
+
+impl Table {
+    /// All entries free.
+    pub fn free(routers: usize, slots: usize) -> Table {
+        Table { slots, entries: vec![None; routers * SIDES * slots] }
+    }
+
+    fn at(&self, router: usize, side: usize, slot: Slot) -> usize {
+        (router * SIDES + side) * self.slots + slot.0
+    }
+
+    /// The entry: none for free, else the side by which the booking came in.
+    pub fn entry(&self, router: usize, side: usize, slot: Slot) -> Option<usize> {
+        self.entries[self.at(router, side, slot)]
+    }
+
+    /// Books or frees an entry.
+    pub fn set(&mut self, router: usize, side: usize, slot: Slot, entry: Option<usize>) {
+        let at = self.at(router, side, slot);
+        self.entries[at] = entry;
+    }
+
+    /// How many entries of a router's side are free.
+    pub fn free_entries(&self, router: usize, side: usize) -> usize {
+        let slots = (0..self.slots).map(Slot);
+        slots.filter(|&slot| self.entry(router, side, slot).is_none()).count()
+    }
+
+    /// All entries, router by router, side by side, slot by slot.
+    pub fn entries(&self) -> &[Option<usize>] {
+        &self.entries
+    }
+}
+
+/// Whether a wire leads into this queue: it has credit and a flag. (Out-queues have neither.)
+pub fn is_fed_by_a_wire(queue: Queue) -> bool {
+    !matches!(queue, Queue::ActiveOut(_) | Queue::PassiveOut(_))
+}
+
+impl Network {
+    /// "Start: READ, queues, wires and table empty, flags down, no choices, credit of each queue
+    /// fed by a wire = its capacity, each active's allowance = the smaller of its two capacities."
+    pub fn start(&self) -> State {
+        let plan = self.plan();
+        let queues = Queue::count(plan);
+        let mut credits = vec![Credit(0); queues];
+        for &queue in self.queues().iter().filter(|&&queue| is_fed_by_a_wire(queue)) {
+            credits[self.queue_index(queue)] = Credit(self.capacity(queue));
+        }
+        State {
+            phase: Phase::Read,
+            slot: Slot(0),
+            queues: vec![VecDeque::new(); queues],
+            credits,
+            flags: vec![false; queues],
+            handled: vec![false; plan.routers()],
+            wires: vec![None; self.links().len()],
+            choices: vec![None; self.links().len()],
+            table: Table::free(plan.routers(), plan.slots()),
+            allowances: vec![self.start_allowance(); plan.actives()],
+        }
+    }
+
+    /// A queue's packets, head first.
+    pub fn queue<'s>(&self, state: &'s State, queue: Queue) -> &'s VecDeque<Packet> {
+        &state.queues[self.queue_index(queue)]
+    }
+
+    /// Whether a queue holds as many packets as its capacity.
+    pub fn is_full(&self, state: &State, queue: Queue) -> bool {
+        self.queue(state, queue).len() >= self.capacity(queue)
+    }
+
+    /// "A candidate has a head (in Q a handled one) and its next queue has credit."
+    pub fn is_candidate(&self, state: &State, link: Link, sender: Queue) -> bool {
+        let ready = match sender {
+            Queue::Q { router } => state.handled[router],
+            _ => true,
+        };
+        let head = self.queue(state, sender).front().filter(|_| ready);
+        let next = head.and_then(|head| self.next_queue(link, head));
+        next.is_some_and(|next| state.credits[self.queue_index(next)] != Credit(0))
+    }
+}

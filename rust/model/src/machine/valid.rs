@@ -1,0 +1,168 @@
+//! What is a state: refusal 7's conditions, one function for each, in document 01's order.
+
+use super::network::Network;
+use super::packet::{Kind, Packet};
+use super::places::Place;
+use super::state::{is_fed_by_a_wire, Phase, State};
+use crate::feeding::Queue;
+use crate::fields::SIDES;
+
+/// A condition that a state meets.
+type Condition = fn(&Network, &State) -> bool;
+
+/// All conditions, each with the fault it excludes.
+const CONDITIONS: [(&str, Condition); 12] = [
+    ("bytes the layout gives to no state", has_form),
+    ("slot or entry out of range", in_range),
+    ("a queue over capacity", within_capacity),
+    ("a packet out of range or out of place, or a hub that doesn't fit", packets_fit),
+    ("a wire full outside READ", wires_empty_outside_read),
+    ("a choice outside WRITE or of no candidate", choices_are_candidates),
+    ("a flag up in EXECUTE or on a queue whose head is picked", flags_allowed),
+    ("a handled mark on an empty Q", marks_have_heads),
+    ("an answer in Q that is not its handled head", answers_in_q_are_handled),
+    ("a side with no free entry", every_side_has_a_free_entry),
+    ("credit + queued + wire + raised flag ≠ capacity", credits_add_up),
+    ("allowance + SETUPs, ACKs and NACKs ≠ start allowance", allowances_add_up),
+];
+
+impl Network {
+    /// Whether refusal 7 does not apply.
+    pub fn is_state(&self, state: &State) -> bool {
+        self.fault(state).is_none()
+    }
+
+    /// The first condition that fails, in words.
+    pub fn fault(&self, state: &State) -> Option<&'static str> {
+        CONDITIONS.iter().find(|(_, holds)| !holds(self, state)).map(|&(fault, _)| fault)
+    }
+
+    /// Every packet with its place.
+    pub fn packets<'s>(&'s self, state: &'s State) -> impl Iterator<Item = (Place, &'s Packet)> {
+        let queued = self.queues().iter().flat_map(move |&queue| {
+            let handled = match queue {
+                Queue::Q { router } if state.handled[router] => Some(router),
+                _ => None,
+            };
+            self.queue(state, queue).iter().enumerate().map(move |(at, packet)| match handled {
+                Some(router) if at == 0 => (Place::Handled(router), packet),
+                _ => (Place::In(queue), packet),
+            })
+        });
+        let on_wires = self.links().iter().filter_map(|&link| {
+            let packet = state.wires[self.link_index(link)].as_ref();
+            packet.map(|packet| (Place::On(link), packet))
+        });
+        queued.chain(on_wires)
+    }
+}
+
+/// Every part has the plan's size; what belongs to no queue, or to one without wire, is empty.
+fn has_form(network: &Network, state: &State) -> bool {
+    let plan = network.plan();
+    let (queues, links) = (Queue::count(plan), network.links().len());
+    let sizes = [
+        (state.queues.len(), queues),
+        (state.credits.len(), queues),
+        (state.flags.len(), queues),
+        (state.handled.len(), plan.routers()),
+        (state.wires.len(), links),
+        (state.choices.len(), links),
+        (state.table.entries().len(), plan.routers() * SIDES * plan.slots()),
+        (state.allowances.len(), plan.actives()),
+    ];
+    let sized = sizes.iter().all(|(found, expected)| found == expected);
+    sized && unused_is_empty(network, state)
+}
+
+fn unused_is_empty(network: &Network, state: &State) -> bool {
+    let blank = |queue: Queue| {
+        let at = network.queue_index(queue);
+        state.credits[at].0 == 0 && !state.flags[at]
+    };
+    let outs = network.queues().iter().filter(|&&queue| !is_fed_by_a_wire(queue));
+    let sides = |router| (0..SIDES).map(move |side| Queue::K { router, from: side, to: side });
+    let mut never = (0..network.plan().routers()).flat_map(sides);
+    outs.copied().all(blank)
+        && never.all(|queue| blank(queue) && network.queue(state, queue).is_empty())
+}
+
+/// "Slot … or entry out of range"; the phase is one by its type, packets are tested in their place.
+fn in_range(network: &Network, state: &State) -> bool {
+    let entry_in_range = |entry: &Option<usize>| entry.is_none_or(|side| side < SIDES);
+    state.slot.0 < network.slots() && state.table.entries().iter().all(entry_in_range)
+}
+
+fn within_capacity(network: &Network, state: &State) -> bool {
+    let fits = |&queue: &Queue| network.queue(state, queue).len() <= network.capacity(queue);
+    network.queues().iter().all(fits)
+}
+
+fn packets_fit(network: &Network, state: &State) -> bool {
+    network.packets(state).all(|(place, packet)| network.fits(place, packet))
+}
+
+fn wires_empty_outside_read(_: &Network, state: &State) -> bool {
+    state.phase == Phase::Read || state.wires.iter().all(Option::is_none)
+}
+
+fn choices_are_candidates(network: &Network, state: &State) -> bool {
+    network.links().iter().all(|&link| match state.choices[network.link_index(link)] {
+        None => true,
+        Some(sender) => {
+            state.phase == Phase::Write
+                && network.senders(link).contains(&sender)
+                && network.is_candidate(state, link, sender)
+        }
+    })
+}
+
+fn flags_allowed(network: &Network, state: &State) -> bool {
+    let raised = |&queue: &Queue| state.flags[network.queue_index(queue)];
+    let picked = state.choices.iter().flatten();
+    let none_raised = || !state.flags.iter().any(|&flag| flag);
+    (state.phase != Phase::Execute || none_raised()) && !picked.into_iter().any(raised)
+}
+
+fn marks_have_heads(network: &Network, state: &State) -> bool {
+    let has_head = |router| !network.queue(state, Queue::Q { router }).is_empty();
+    state.handled.iter().enumerate().all(|(router, &handled)| !handled || has_head(router))
+}
+
+fn answers_in_q_are_handled(network: &Network, state: &State) -> bool {
+    let misplaced = |(place, packet): (Place, &Packet)| {
+        matches!(place, Place::In(Queue::Q { .. })) && packet.is_answer()
+    };
+    !network.packets(state).any(misplaced)
+}
+
+fn every_side_has_a_free_entry(network: &Network, state: &State) -> bool {
+    let sides = state.table.entries().chunks(network.slots());
+    sides.into_iter().all(|entries| entries.iter().any(Option::is_none))
+}
+
+/// For each queue fed by a wire; on the wire counts what is bound for that queue.
+fn credits_add_up(network: &Network, state: &State) -> bool {
+    let mut bound = vec![0; state.queues.len()];
+    for &link in network.links() {
+        let packet = state.wires[network.link_index(link)].as_ref();
+        if let Some(queue) = packet.and_then(|packet| network.next_queue(link, packet)) {
+            bound[network.queue_index(queue)] += 1;
+        }
+    }
+    let mut fed = network.queues().iter().filter(|&&queue| is_fed_by_a_wire(queue));
+    fed.all(|&queue| {
+        let at = network.queue_index(queue);
+        let taken = state.queues[at].len() + bound[at] + usize::from(state.flags[at]);
+        state.credits[at].0 + taken == network.capacity(queue)
+    })
+}
+
+/// For each active, in queues and on wires.
+fn allowances_add_up(network: &Network, state: &State) -> bool {
+    let mut sums = state.allowances.clone();
+    for (_, packet) in network.packets(state).filter(|(_, packet)| packet.kind != Kind::Tdown) {
+        sums[packet.active] += 1;
+    }
+    sums.iter().all(|&sum| sum == network.start_allowance())
+}

@@ -1,0 +1,136 @@
+//! Plans with a name; `all` lists them, and broken ones, with the answer document 01 gives for each.
+
+use crate::generate::{rings, Draft};
+
+mod list;
+
+pub use list::{all, Named};
+
+/// Plan T: "one router, side 0 to active 0, side 1 to passive 0, S=2, capacities 1".
+pub const T: [u8; 11] = [0x08, 0x42, 0x11, 0x24, 0x92, 0x4C, 0x06, 0x00, 0x00, 0x00, 0x20];
+
+/// Plan T, built.
+pub fn plan_t() -> Draft {
+    let mut draft = Draft::new(1, 2, 1);
+    draft.active(0, 0).passive(0, 1).shortest_routes();
+    draft
+}
+
+/// "S=4, two routers": an active at the first, a passive at the second.
+pub fn two_routers() -> Draft {
+    let mut draft = Draft::new(2, 4, 1);
+    draft.active(0, 0).join((0, 1), (1, 0)).passive(1, 1).shortest_routes();
+    draft
+}
+
+/// "S=4, two routers" where the second can decline: it has an active of its own, number 1, so that
+/// its side to the passive may be booked.
+pub fn declining() -> Draft {
+    let mut draft = Draft::new(2, 4, 1);
+    draft.active(0, 0).join((0, 1), (1, 0)).active(1, 2).passive(1, 1).shortest_routes();
+    draft
+}
+
+/// Router 0 in the middle of three; three actives and three passives, nine served pairs.
+pub fn four_routers() -> Draft {
+    let mut draft = Draft::new(4, 8, 1);
+    draft.capacities([2, 2, 1, 2, 1, 2, 2, 1]);
+    draft.join((0, 0), (1, 3)).join((0, 1), (2, 3)).join((0, 2), (3, 3));
+    draft.active(1, 0).active(1, 1).active(0, 3);
+    draft.passive(2, 0).passive(2, 1).passive(3, 0);
+    draft.shortest_routes();
+    draft
+}
+
+/// A line of 16 routers, 16 actives at its first half, 16 passives at its second: 256 served
+/// pairs, 262 bytes.
+pub fn largest() -> Draft {
+    let mut draft = Draft::new(16, 32, 7);
+    for router in 1..16 {
+        draft.join((router - 1, 0), (router, 1));
+    }
+    for router in 0..8 {
+        draft.active(router, 2).active(router, 3);
+    }
+    for router in 8..16 {
+        draft.passive(router, 2).passive(router, 3);
+    }
+    draft.shortest_routes();
+    draft
+}
+
+/// Two routers with two joints: set-ups go by one, answers by the other.
+pub fn parallel_joints() -> Draft {
+    let mut draft = Draft::new(2, 3, 1);
+    draft.join((0, 0), (1, 2)).join((0, 1), (1, 3)).active(0, 2).passive(1, 0);
+    draft.route_passive(0, 0, 0).route_passive(1, 0, 0);
+    draft.route_active(1, 0, 3).route_active(0, 0, 2);
+    draft
+}
+
+/// "Two routers, each with an active and a passive, set-ups crossing both ways."
+pub fn crossing() -> Draft {
+    rings::crossing(2, 2, 1)
+}
+
+/// Five routers in a ring with set-ups from 0 to 1, 2 to 3, 3 to 4, and all answers on around.
+pub fn answers_ring() -> Draft {
+    rings::answers_around(5, &[0, 2, 3], 4, 1)
+}
+
+/// Three routers in a ring, three set-ups of two joints each that follow one another around.
+pub fn set_ups_ring() -> Draft {
+    let mut draft = Draft::new(3, 4, 2);
+    for router in 0..3 {
+        draft.join((router, 0), ((router + 1) % 3, 1));
+    }
+    for router in 0..3 {
+        draft.active(router, 2).passive(router, 3);
+    }
+    draft.shortest_routes();
+    for pair in 0..3 {
+        for router in (0..3).filter(|&router| router != pair) {
+            draft.route_passive(router, pair, 0);
+        }
+    }
+    draft
+}
+
+/// The walk arrives, but the second router names no side for the active.
+fn way_back_missing() -> Draft {
+    let mut draft = two_routers();
+    draft.fields_mut().routers[1].to_active[0] = None;
+    draft
+}
+
+/// Of the nine pairs, those of active 0 and passive 2 are not served.
+fn unserved_pairs() -> Draft {
+    let mut draft = four_routers();
+    let routers = &mut draft.fields_mut().routers;
+    routers[1].to_active[0] = Some(2);
+    routers[0].to_passive[2] = None;
+    draft
+}
+
+/// Routes to the passive go round between two routers.
+fn walk_in_a_circle() -> Draft {
+    let mut draft = two_routers();
+    draft.route_passive(1, 0, 0);
+    draft
+}
+
+/// No router names a side for any passive.
+fn no_served_pair() -> Draft {
+    let mut draft = crossing();
+    for router in &mut draft.fields_mut().routers {
+        router.to_passive.fill(None);
+    }
+    draft
+}
+
+/// Crossing routers with the routes to one passive missing: no ring.
+fn one_way_of_crossing() -> Draft {
+    let mut draft = crossing();
+    draft.fields_mut().routers[1].to_passive[0] = None;
+    draft
+}

@@ -1,0 +1,105 @@
+//! Demand 3 on random plans and random lists of calls.
+
+use model::generate::calls::Caller;
+use model::generate::{good, Random};
+use model::machine::claims::Claims;
+use model::machine::{Answer, Call, Hub, Kind, Network};
+use model::named;
+
+/// What a run met, so that a run without traffic is not taken for a good one.
+#[derive(Debug, Default)]
+struct Met {
+    calls: usize,
+    rounds: usize,
+    launches: usize,
+    accepted: usize,
+    declined: usize,
+    torn_down: usize,
+    replies: usize,
+    refusals: [usize; 16],
+    tables_compared: usize,
+    longest_wait: usize,
+}
+
+/// A list of `count` calls from start, each claim tested after each call.
+fn run(random: &mut Random, network: &Network, count: usize, met: &mut Met) {
+    let mut caller = Caller::new(random, network);
+    let mut state = network.start();
+    let mut claims = Claims::new(network, &state);
+    for _ in 0..count {
+        let call = caller.next(random, network, &state);
+        let before = state.clone();
+        let answer = network.call(&mut state, call);
+        if let Err(fault) = claims.after(call, answer, &before, &state) {
+            let plan = network.plan().encode();
+            panic!("{fault}\nafter {call:?} with {answer:?}\nplan {plan:02X?}\nbefore {before:?}");
+        }
+        met.note(call, answer);
+        if call == Call::Execute && answer.is_ok() {
+            let ended = |q: &usize| state.queues[*q].len() < before.queues[*q].len();
+            met.torn_down += (0..state.queues.len()).filter(ended).count();
+        }
+    }
+    met.tables_compared += claims.tables_compared;
+    met.longest_wait = met.longest_wait.max(claims.longest_wait);
+}
+
+impl Met {
+    fn note(&mut self, call: Call, answer: Result<Answer, u32>) {
+        self.calls += 1;
+        match (call, answer) {
+            (_, Err(refusal)) => self.refusals[refusal as usize] += 1,
+            (Call::Write, Ok(_)) => self.rounds += 1,
+            (Call::Launch { .. }, Ok(_)) => self.launches += 1,
+            (Call::Reply { .. }, Ok(_)) => self.replies += 1,
+            (Call::Consume { .. }, Ok(Answer::Packet(packet))) => {
+                assert!(packet.is_answer());
+                match packet.kind {
+                    Kind::Ack => self.accepted += 1,
+                    _ => {
+                        assert_eq!(packet.hub, Hub(0));
+                        self.declined += 1;
+                    }
+                }
+            }
+            _ => {}
+        }
+    }
+}
+
+#[test]
+fn random_lists_on_random_plans() {
+    let mut random = Random::new(31);
+    let mut met = Met::default();
+    let mut plans = 0;
+    while met.calls < 1_000_000 {
+        let network = Network::of(good::loadable(&mut random));
+        // Plans with few served pairs are as good, but have little traffic.
+        let pairs = Caller::new(&mut random, &network).pairs();
+        if pairs < 6 && random.chance(9 - pairs, 10) {
+            continue;
+        }
+        plans += 1;
+        let count = random.within(200..=2_000);
+        run(&mut random, &network, count, &mut met);
+    }
+    println!("{plans} plans, {met:?}");
+    for refusal in [8, 9, 10, 11, 12, 13, 14, 15] {
+        assert!(met.refusals[refusal] >= 20, "refusal {refusal}: {met:?}");
+    }
+    assert!(met.accepted > 2_000 && met.declined > 10_000 && met.torn_down > 10_000, "{met:?}");
+    assert!(met.tables_compared > 1_000, "{met:?}");
+}
+
+#[test]
+fn random_lists_on_named_plans() {
+    let mut random = Random::new(32);
+    let mut met = Met::default();
+    for plan in named::all().iter().filter(|plan| plan.answer == 0) {
+        let network = Network::load(&plan.bytes).expect(plan.name);
+        for _ in 0..10 {
+            run(&mut random, &network, 1_000, &mut met);
+        }
+    }
+    println!("{met:?}");
+}

@@ -1,0 +1,227 @@
+//! Refusal 7, condition by condition, and states that no list reaches.
+
+use model::generate::calls::Caller;
+use model::generate::states::{scramble, CHANGES};
+use model::generate::{good, Random};
+use model::machine::claims::Claims;
+use model::machine::{Call, Credit, Hub, Kind, Link, Network, Packet, Phase, Slot, State};
+use model::{named, Port, Queue};
+
+const Q: Queue = Queue::Q { router: 0 };
+const TO_PASSIVE: Link = Link::Side(Port { router: 0, side: 1 });
+
+fn t() -> Network {
+    Network::load(&named::T).expect("loads")
+}
+
+/// Plan T after a launch in round 0 and so many accepted calls Read, Execute, Write.
+fn t_after(phases: usize) -> (Network, State) {
+    let network = t();
+    let mut state = network.start();
+    assert_eq!(network.launch(&mut state, 0, 0, 0), Ok(()));
+    for _ in 0..phases {
+        let call = match state.phase {
+            Phase::Read => Call::Read,
+            Phase::Execute => Call::Execute,
+            Phase::Write => Call::Write,
+        };
+        assert!(network.call(&mut state, call).is_ok());
+    }
+    (network, state)
+}
+
+/// The change makes a state into none, by this fault, and every call refuses it with 7.
+fn refused(phases: usize, fault: &str, change: impl Fn(&Network, &mut State)) {
+    let (network, mut state) = t_after(phases);
+    assert_eq!(network.fault(&state), None);
+    change(&network, &mut state);
+    let found = network.fault(&state).expect("not a state");
+    assert!(found.contains(fault), "{found}");
+    let before = state.clone();
+    for call in [
+        Call::Read,
+        Call::Execute,
+        Call::Write,
+        Call::Launch { active: 0, passive: 0, slot: 0 },
+        Call::Reply { passive: 0, choice: 1 },
+        Call::Consume { active: 9 },
+        Call::Entry { router: 0, side: 9, slot: 0 },
+    ] {
+        assert_eq!(network.call(&mut state, call), Err(7));
+        assert_eq!(state, before);
+    }
+}
+
+fn packet(kind: Kind, slot: usize, hub: usize) -> Packet {
+    Packet { kind, active: 0, passive: 0, slot: Slot(slot), hub: Hub(hub) }
+}
+
+#[test]
+fn form_and_ranges() {
+    refused(0, "no state", |_, state| state.wires.truncate(3));
+    refused(0, "no state", |network, state| {
+        state.flags[network.queue_index(Queue::ActiveOut(0))] = true;
+    });
+    refused(0, "out of range", |_, state| state.slot = Slot(2));
+    refused(0, "out of range", |_, state| state.table.set(0, 0, Slot(0), Some(4)));
+    refused(0, "no free entry", |_, state| {
+        state.table.set(0, 3, Slot(0), Some(3));
+        state.table.set(0, 3, Slot(1), Some(0));
+    });
+}
+
+#[test]
+fn queues_and_packets() {
+    refused(0, "over capacity", |network, state| {
+        let out = &mut state.queues[network.queue_index(Queue::ActiveOut(0))];
+        out.push_back(packet(Kind::Tdown, 0, 1));
+    });
+    for wrong in [
+        packet(Kind::Setup, 2, 0),
+        packet(Kind::Setup, 0, 1),
+        packet(Kind::Tdown, 0, 0),
+        packet(Kind::Tdown, 0, 2),
+        packet(Kind::Nack, 0, 0),
+        packet(Kind::Ack, 0, 1),
+        Packet { active: 1, ..packet(Kind::Setup, 0, 0) },
+        Packet { passive: 1, ..packet(Kind::Setup, 0, 0) },
+    ] {
+        refused(0, "packet", |network, state| {
+            state.queues[network.queue_index(Queue::ActiveOut(0))][0] = wrong;
+        });
+    }
+}
+
+/// After seven phases the SETUP is in Q, not yet handled; after eight it is handled and picked.
+#[test]
+fn a_head_in_q_before_and_after_handling() {
+    for wrong in [packet(Kind::Setup, 0, 1), packet(Kind::Tdown, 0, 2), packet(Kind::Nack, 0, 0)] {
+        refused(7, "packet", |network, state| state.queues[network.queue_index(Q)][0] = wrong);
+    }
+    refused(7, "packet", |_, state| state.handled[0] = true);
+    refused(8, "packet", |_, state| state.handled[0] = false);
+    // Handled by the last router, no router is ahead of a TDOWN.
+    refused(8, "packet", |network, state| {
+        state.queues[network.queue_index(Q)][0] = packet(Kind::Tdown, 0, 1);
+        state.allowances[0] += 1;
+    });
+    // A declined one is a NACK with hub 0, or, from the passive only, 1.
+    let (network, mut state) = t_after(8);
+    let head = network.queue_index(Q);
+    state.queues[head][0] = packet(Kind::Nack, 0, 0);
+    // It goes back to the active, so nothing is picked for the passive's side.
+    assert_eq!(network.fault(&state), None);
+    state.queues[head][0] = packet(Kind::Nack, 0, 1);
+    assert!(!network.is_state(&state));
+}
+
+#[test]
+fn wires_choices_flags_marks() {
+    refused(3, "packet", |network, state| {
+        let wire = network.link_index(Link::Active(0));
+        state.wires[wire] = Some(packet(Kind::Ack, 0, 1));
+    });
+    refused(3, "wire full outside READ", |_, state| state.phase = Phase::Execute);
+    refused(2, "choice", |_, state| state.phase = Phase::Read);
+    refused(2, "choice", |network, state| {
+        state.choices[network.link_index(TO_PASSIVE)] = Some(Queue::F { router: 0, to: 1 });
+    });
+    refused(2, "choice", |network, state| {
+        state.choices[network.link_index(TO_PASSIVE)] = Some(Queue::ActiveOut(0));
+    });
+    refused(1, "flag up in EXECUTE", |network, state| {
+        let at = network.queue_index(Q);
+        (state.flags[at], state.credits[at]) = (true, Credit(0));
+    });
+    refused(5, "flag up in EXECUTE or on a queue whose head is picked", |network, state| {
+        state.flags[network.queue_index(Queue::U { router: 0, from: 0 })] = true;
+    });
+    refused(0, "handled mark", |_, state| state.handled[0] = true);
+}
+
+#[test]
+fn sums() {
+    refused(0, "capacity", |network, state| state.credits[network.queue_index(Q)] = Credit(0));
+    refused(0, "capacity", |network, state| state.flags[network.queue_index(Q)] = true);
+    refused(3, "capacity", |network, state| {
+        state.credits[network.queue_index(Queue::U { router: 0, from: 0 })] = Credit(1);
+    });
+    refused(0, "allowance", |_, state| state.allowances[0] = 1);
+    refused(3, "allowance", |_, state| state.allowances[0] = 1);
+}
+
+#[test]
+fn a_candidate_may_stand_without_a_choice() {
+    let (network, mut state) = t_after(2);
+    state.choices.fill(None);
+    assert_eq!(network.fault(&state), None);
+}
+
+#[test]
+fn refusals_come_in_order() {
+    let (network, mut state) = t_after(0);
+    assert_eq!(network.reply(&mut state, 9, 9), Err(8));
+    assert_eq!(network.consume(&mut state, 9), Err(8));
+    assert_eq!(network.launch(&mut state, 1, 0, 0), Err(9));
+    assert_eq!(network.launch(&mut state, 0, 1, 0), Err(9));
+    assert_eq!(network.launch(&mut state, 0, 0, 2), Err(9));
+    assert_eq!(network.launch(&mut state, 0, 0, 0), Err(11));
+    assert_eq!(network.entry(&state, 1, 0, 0), Err(9));
+    assert_eq!(network.entry(&state, 0, 3, 1), Ok(4));
+    let (network, mut state) = t_after(14);
+    assert_eq!(network.launch(&mut state, 9, 9, 9), Err(8));
+    assert_eq!(network.reply(&mut state, 1, 0), Err(9));
+    assert_eq!(network.reply(&mut state, 0, 2), Err(9));
+    assert_eq!(network.reply(&mut state, 0, 0), Ok(()));
+    assert_eq!(network.reply(&mut state, 0, 0), Err(14));
+    assert_eq!(network.consume(&mut state, 0), Err(13));
+    let unserved = named::all().into_iter().find(|plan| plan.name == "no-served-pair");
+    let network = Network::load(&unserved.expect("named").bytes).expect("loads");
+    assert_eq!(network.launch(&mut network.start(), 0, 0, 0), Err(10));
+}
+
+/// Every call on a state leaves a state, and packets go on moving, also from states that no list
+/// reaches; what is no state is refused with 7 by every call.
+#[test]
+fn states_that_no_list_reaches() {
+    let mut random = Random::new(41);
+    let (mut calls, mut kept, mut no_states, mut longest) = (0, 0, 0, 0);
+    while calls < 400_000 {
+        let network = Network::of(good::loadable(&mut random));
+        let mut caller = Caller::new(&mut random, &network);
+        if caller.pairs() < 2 {
+            continue;
+        }
+        let mut state = network.start();
+        for _ in 0..20 {
+            kept += scramble(&mut random, &network, &mut state, 60);
+            no_states += usize::from(refuses_a_change(&mut random, &network, &state));
+            let mut claims = Claims::new(&network, &state);
+            for _ in 0..random.within(1..=150) {
+                let call = caller.next(&mut random, &network, &state);
+                let before = state.clone();
+                let answer = network.call(&mut state, call);
+                let claim = claims.after_from_any_state(call, answer, &before, &state);
+                let plan = network.plan();
+                claim.unwrap_or_else(|fault| panic!("{fault} after {call:?}: {plan:?} {before:?}"));
+                calls += 1;
+            }
+            longest = longest.max(claims.longest_wait);
+        }
+    }
+    println!("{calls} calls, {kept} changes, {no_states} refused, longest wait {longest}");
+    assert!(kept > 10_000 && no_states > 1_000);
+}
+
+/// Changes a state once; if that leaves no state, a call refuses it with 7 and alters nothing.
+fn refuses_a_change(random: &mut Random, network: &Network, state: &State) -> bool {
+    let mut changed = state.clone();
+    CHANGES[random.below(CHANGES.len())](random, network, &mut changed);
+    if network.is_state(&changed) {
+        return false;
+    }
+    let before = changed.clone();
+    assert_eq!(network.call(&mut changed, Call::Read), Err(7));
+    assert_eq!(changed, before);
+    true
+}

@@ -7,6 +7,9 @@ use Prim.Native.Nat.{ℕ}
 use lib.Dec.{eqb, ltb}
 use lib.ListN.{length}
 use Rattle.basis.specs.Choice.{pick}
+use Rattle.kinds.specs.declared.Refusal.{Refusal}
+use Rattle.kinds.specs.declared.Refusal.the-variants.{TooShort, OutOfRange, WrongLength, BadField, BadJoint, HasRing}
+use Rattle.kinds.specs.Refusals.{refusalNumber}
 use Rattle.plan.specs.declared.Head.{Head}
 use Rattle.plan.specs.Head.{headOf, headOk, bitCount, byteCount}
 use Rattle.plan.specs.Plan.{planOf}
@@ -14,7 +17,7 @@ use Rattle.plan.specs.Rules.{fillOk, fieldsOk, namedOk, interfacesOk}
 use Rattle.plan.specs.Tables.{routesOf, jointsOf, homesOf}
 use Rattle.feeding.specs.RingTest.{hasRing}
 use Rattle.load.specs.declared.Loaded.{Loaded}
-use Rattle.load.specs.declared.Loaded.the-variants.{Accepted, TooShort, OutOfRange, WrongLength, BadField, BadJoint, HasRing}
+use Rattle.load.specs.declared.Loaded.the-variants.{Accepted, Refused}
 
 unfoldable pub lengthOk : List ℕ → Bool
 lengthOk b = eqb (length b) (byteCount (headOf b)) && fillOk b (bitCount (headOf b))
@@ -24,48 +27,30 @@ jointsOk b = namedOk (planOf b) && interfacesOk (planOf b)
 
 unfoldable pub loadOf : List ℕ → Loaded
 loadOf b =
-    pick (ltb (length b) 6) TooShort
-    (pick (not (headOk (headOf b))) OutOfRange
-    (pick (not (lengthOk b)) WrongLength
-    (pick (not (fieldsOk b)) BadField
-    (pick (not (jointsOk b)) BadJoint
-    (pick (hasRing (planOf b)) HasRing (Accepted (headOf b)))))))
+    pick (ltb (length b) 6) (Refused TooShort)
+    (pick (not (headOk (headOf b))) (Refused OutOfRange)
+    (pick (not (lengthOk b)) (Refused WrongLength)
+    (pick (not (fieldsOk b)) (Refused BadField)
+    (pick (not (jointsOk b)) (Refused BadJoint)
+    (pick (hasRing (planOf b)) (Refused HasRing) (Accepted (headOf b)))))))
 
 -- document 01's number of the answer, 0 for an accepted plan
 abbrev pub loadNumber : Loaded → ℕ
 loadNumber (Accepted h) = 0
-loadNumber TooShort = 1
-loadNumber OutOfRange = 2
-loadNumber WrongLength = 3
-loadNumber BadField = 4
-loadNumber BadJoint = 5
-loadNumber HasRing = 6
+loadNumber (Refused w) = refusalNumber w
 
 -- ---- the lent tables after Load: an accepted plan's, else as they were
+-- the routes, router by destination
 abbrev pub loadRoutes : List ℕ → List (List ℕ) → Loaded → List (List ℕ)
 loadRoutes b t (Accepted h) = routesOf b h
-loadRoutes b t TooShort = t
-loadRoutes b t OutOfRange = t
-loadRoutes b t WrongLength = t
-loadRoutes b t BadField = t
-loadRoutes b t BadJoint = t
-loadRoutes b t HasRing = t
+loadRoutes b t (Refused w) = t
 
+-- the joints, by port
 abbrev pub loadJoints : List ℕ → List ℕ → Loaded → List ℕ
 loadJoints b t (Accepted h) = jointsOf b h
-loadJoints b t TooShort = t
-loadJoints b t OutOfRange = t
-loadJoints b t WrongLength = t
-loadJoints b t BadField = t
-loadJoints b t BadJoint = t
-loadJoints b t HasRing = t
+loadJoints b t (Refused w) = t
 
 -- the ports of all interfaces, by column
 abbrev pub loadHomes : List ℕ → List ℕ → Loaded → List ℕ
 loadHomes b t (Accepted h) = homesOf (planOf b)
-loadHomes b t TooShort = t
-loadHomes b t OutOfRange = t
-loadHomes b t WrongLength = t
-loadHomes b t BadField = t
-loadHomes b t BadJoint = t
-loadHomes b t HasRing = t
+loadHomes b t (Refused w) = t

@@ -9,6 +9,7 @@ use lib.Dec.{eqb, ltb}
 use lib.ListN.{length}
 use borrow.Author.Tests.{ltb-false, le-ltb, eqb-true, eq-eqb}
 use Rattle.basis.specs.Choice.{pick, test, refuted}
+use Rattle.kinds.specs.declared.Refusal.{Refusal}
 use Rattle.plan.specs.declared.Head.{Head}
 use Rattle.plan.specs.Head.{headOf, headOk, InRange, bitCount, byteCount}
 use Rattle.plan.specs.Plan.{Plan, planOf}
@@ -20,7 +21,7 @@ use Rattle.wiring.specs.Fields.{fill-ok, ok-fill, fields-ok, ok-fields}
 use Rattle.wiring.specs.Wired.{Wired, wired, plan-match, match-plan}
 use Rattle.journeys.specs.Rings.{ring-test, test-ring}
 use Rattle.load.specs.declared.Loaded.{Loaded}
-use Rattle.load.specs.declared.Loaded.the-variants.{Accepted, TooShort, OutOfRange, WrongLength, BadField, BadJoint, HasRing}
+use Rattle.load.specs.declared.Loaded.the-variants.{Accepted, Refused}
 use Rattle.load.specs.Load.{lengthOk, jointsOk, loadOf, loadNumber}
 
 -- every plan rule of document 01
@@ -42,27 +43,27 @@ pub record Passes (b : List ℕ) : Type 0 where
   pub joints : jointsOk b ≡ true
   pub ringless : hasRing (planOf b) ≡ false
 
-accepted-differs : {h : Head} {t : Loaded} → Accepted h ≡ t → loadNumber t ≡ 0
-accepted-differs e = rw (← e)
-
 not-true : (t : Bool) → not t ≡ false → t ≡ true
 not-true true e = refl
 not-true false e = absurd (true≢false e)
 
--- a choice with one refusal that is an acceptance took its second case
-past : {h : Head} (t : Bool) (x y : Loaded) → (loadNumber x ≡ 0 → ⊥) → pick t x y ≡ Accepted h → (t ≡ false) × (y ≡ Accepted h)
-past true x y n e = absurd (n (accepted-differs (sym e)))
-past false x y n e = (refl, e)
+refused-not : {h : Head} {w : Refusal} → Refused w ≡ Accepted h → ⊥
+refused-not e = let z : _≡_ {A = ℕ} 0 1 = cc in omega arith
+
+-- a choice of a refusal or something else that is an acceptance took its second case
+past : {h : Head} (t : Bool) (w : Refusal) (y : Loaded) → pick t (Refused w) y ≡ Accepted h → (t ≡ false) × (y ≡ Accepted h)
+past true w y e = absurd (refused-not e)
+past false w y e = (refl, e)
 
 pub passes : (b : List ℕ) (h : Head) → loadOf b ≡ Accepted h → Passes b × (h ≡ headOf b)
 unfolding loadOf
 passes b h e =
-    let p = past (ltb (length b) 6) TooShort _ (λ z. omega arith) e in
-    let q = past (not (headOk (headOf b))) OutOfRange _ (λ z. omega arith) (p .1) in
-    let r = past (not (lengthOk b)) WrongLength _ (λ z. omega arith) (q .1) in
-    let s = past (not (fieldsOk b)) BadField _ (λ z. omega arith) (r .1) in
-    let t = past (not (jointsOk b)) BadJoint _ (λ z. omega arith) (s .1) in
-    let u = past (hasRing (planOf b)) HasRing _ (λ z. omega arith) (t .1) in
+    let p = past (ltb (length b) 6) _ _ e in
+    let q = past (not (headOk (headOf b))) _ _ (p .1) in
+    let r = past (not (lengthOk b)) _ _ (q .1) in
+    let s = past (not (fieldsOk b)) _ _ (r .1) in
+    let t = past (not (jointsOk b)) _ _ (s .1) in
+    let u = past (hasRing (planOf b)) _ _ (t .1) in
     let same : headOf b ≡ h = cc (u .1) in (
       record {
         six = p .0;

@@ -3,14 +3,16 @@
 use mathlib.Core.Path.{_≡_}
 use mathlib.Core.Logic.{_⊎_}
 use mathlib.Core.Option.{Option, none, some}
-use Prim.Native.Nat.{ℕ, _<_}
+use Prim.Native.Nat.{ℕ, suc, _+_, _≤_, _<_}
 use Rattle.basis.specs.Walk.{Spot, on, end, lost}
+use Rattle.packets.specs.declared.Kind.{Kind}
+use Rattle.packets.specs.declared.Kind.the-variants.{Setup, Tdown, Ack, Nack}
 use Rattle.basis.specs.Ring.{Ring}
 use Rattle.plan.specs.declared.Joint.{Joint}
 use Rattle.plan.specs.declared.Joint.the-variants.{Nothing, Router, Active, Passive}
 use Rattle.plan.specs.Plan.{Plan, Port, Interface, active, passive, A, P, routeTo}
 use Rattle.plan.specs.Rules.{home}
-use Rattle.paths.specs.Walk.{onward, walked}
+use Rattle.paths.specs.Walk.{onward, walked, walkSize}
 use Rattle.paths.specs.Served.{Served}
 use Rattle.feeding.specs.Queue.{Queue, activeOut, activeIn, passiveIn, passiveOut, U, Q, F, K}
 
@@ -18,6 +20,12 @@ use Rattle.feeding.specs.Queue.{Queue, activeOut, activeIn, passiveIn, p
 pub data Heading : Type 0 where
   ahead : Heading
   back : Heading
+
+abbrev pub headingOf : Kind → Heading
+headingOf Setup = ahead
+headingOf Tdown = ahead
+headingOf Ack = back
+headingOf Nack = back
 
 abbrev pub destination : Heading → ℕ → ℕ → Interface
 destination ahead a p = passive p
@@ -36,50 +44,108 @@ across pl h a p (Router n t) = some (enters pl h a p (record { router = n; side 
 across pl h a p (Active n) = some (activeIn n)
 across pl h a p (Passive n) = some (passiveIn n)
 
--- the queue that a packet of the pair (a, p) goes to next from a queue; from an in-queue it goes nowhere
-unfoldable pub next : Plan → Heading → ℕ → ℕ → Queue → Option Queue
-next pl h a p (activeOut x) = some (enters pl h a p (home pl (active x)))
-next pl h a p (passiveOut x) = some (enters pl h a p (home pl (passive x)))
-next pl h a p (U r i) = some (Q r)
-next pl h a p (Q r) = some (F r (routeTo pl (destination h a p) r))
-next pl h a p (F r o) = across pl h a p (pl .joint r o)
-next pl h a p (K r i o) = across pl h a p (pl .joint r o)
-next pl h a p (activeIn x) = none
-next pl h a p (passiveIn x) = none
+-- what a packet leaves by: an interface, a router's side, the way from a router to its unit, or back
+pub data Output : Type 0 where
+  ofActive : ℕ → Output
+  ofPassive : ℕ → Output
+  ofSide : ℕ → ℕ → Output
+  toUnit : ℕ → Output
+  fromUnit : ℕ → Output
 
--- ---- where a packet of the pair may be
--- the walk to e from a router meets the router y .router, coming in by y .side
+-- the queue that a packet of the pair (a, p) joins as it leaves by an output
+abbrev pub beyond : Plan → Heading → ℕ → ℕ → Output → Option Queue
+beyond pl h a p (ofActive x) = some (enters pl h a p (home pl (active x)))
+beyond pl h a p (ofPassive x) = some (enters pl h a p (home pl (passive x)))
+beyond pl h a p (ofSide r o) = across pl h a p (pl .joint r o)
+beyond pl h a p (toUnit r) = some (Q r)
+beyond pl h a p (fromUnit r) = some (F r (routeTo pl (destination h a p) r))
+
+-- the output that a queue's packets leave by; from an in-queue they go nowhere
+abbrev pub outputOf : Queue → Option Output
+outputOf (activeOut x) = some (ofActive x)
+outputOf (passiveOut x) = some (ofPassive x)
+outputOf (U r i) = some (toUnit r)
+outputOf (Q r) = some (fromUnit r)
+outputOf (F r o) = some (ofSide r o)
+outputOf (K r i o) = some (ofSide r o)
+outputOf (activeIn x) = none
+outputOf (passiveIn x) = none
+
+abbrev pub leaving : Plan → Heading → ℕ → ℕ → Option Output → Option Queue
+leaving pl h a p none = none
+leaving pl h a p (some o) = beyond pl h a p o
+
+-- the next queue of a packet in a queue
+unfoldable pub next : Plan → Heading → ℕ → ℕ → Queue → Option Queue
+next pl h a p q = leaving pl h a p (outputOf q)
+
+-- ---- where a packet of the pair may be, and with which hub
+-- a place: in a queue, or for Q's handled head at the unit of a router
+pub data Place : Type 0 where
+  inQueue : Queue → Place
+  handledAt : ℕ → Place
+
+-- the walk to e from a port meets the router y .router, coming in by y .side
 pub record Meets (pl : Plan) (e : Interface) (from y : Port) : Type 0 where
   pub steps : ℕ
   pub here : walked pl e steps from ≡ on y
 
--- router r is on the pair's walk
-abbrev pub OnWalk : Plan → ℕ → ℕ → ℕ → Type 0
-OnWalk pl a p r = (i : ℕ) × Meets pl (passive p) (home pl (active a)) (record { router = r; side = i })
+-- the n-th router of the pair's walk is r, entered by side i
+abbrev pub Stands : Plan → ℕ → ℕ → ℕ → ℕ → ℕ → Type 0
+Stands pl a p n r i = walked pl (passive p) n (home pl (active a)) ≡ on (record { router = r; side = i })
 
--- an answer of the pair comes in by y: back from the passive, or from the unit of a router x on the walk by the next router z
-abbrev pub Returns : Plan → ℕ → ℕ → Port → Type 0
-Returns pl a p y =
-    Meets pl (active a) (home pl (passive p)) y
-    ⊎ ((x z : Port) × Meets pl (passive p) (home pl (active a)) x × (onward pl (active a) x ≡ on z) × Meets pl (active a) z y)
+-- the walk's length
+abbrev pub span : Plan → ℕ → ℕ → ℕ
+span pl a p = walkSize pl (passive p) (home pl (active a))
 
-unfoldable pub MayBe : Plan → Heading → ℕ → ℕ → Queue → Type 0
-MayBe pl ahead a p (activeOut x) = x ≡ a
-MayBe pl ahead a p (U r i) = Meets pl (passive p) (home pl (active a)) (record { router = r; side = i })
-MayBe pl ahead a p (Q r) = OnWalk pl a p r
-MayBe pl ahead a p (F r o) = OnWalk pl a p r × (o ≡ routeTo pl (passive p) r)
-MayBe pl ahead a p (passiveIn x) = x ≡ p
-MayBe pl ahead a p (activeIn x) = ⊥
-MayBe pl ahead a p (passiveOut x) = ⊥
-MayBe pl ahead a p (K r i o) = ⊥
-MayBe pl back a p (passiveOut x) = x ≡ p
-MayBe pl back a p (Q r) = OnWalk pl a p r
-MayBe pl back a p (F r o) = OnWalk pl a p r × (o ≡ routeTo pl (active a) r)
-MayBe pl back a p (K r i o) = Returns pl a p (record { router = r; side = i }) × (o ≡ routeTo pl (active a) r)
-MayBe pl back a p (activeIn x) = x ≡ a
-MayBe pl back a p (activeOut x) = ⊥
-MayBe pl back a p (passiveIn x) = ⊥
-MayBe pl back a p (U r i) = ⊥
+-- a packet on the way to the passive has n routers behind it
+unfoldable pub Ahead : Plan → ℕ → ℕ → Place → ℕ → Type 0
+Ahead pl a p (inQueue (activeOut x)) n = (x ≡ a) × (n ≡ 0)
+Ahead pl a p (inQueue (U r i)) n = Stands pl a p n r i
+Ahead pl a p (inQueue (Q r)) n = (i : ℕ) × Stands pl a p n r i
+Ahead pl a p (handledAt r) n = (i m : ℕ) × Stands pl a p m r i × (n ≡ suc m)
+Ahead pl a p (inQueue (F r o)) n = (i m : ℕ) × Stands pl a p m r i × (n ≡ suc m) × (o ≡ routeTo pl (passive p) r)
+Ahead pl a p (inQueue (passiveIn x)) n = (x ≡ p) × (n ≡ span pl a p)
+Ahead pl a p (inQueue (activeIn x)) n = ⊥
+Ahead pl a p (inQueue (passiveOut x)) n = ⊥
+Ahead pl a p (inQueue (K r i o)) n = ⊥
+
+-- an answer comes in by y: back from the passive, n the walk's length, or from the unit of the n-th router x by the next router z
+abbrev pub Returns : Plan → ℕ → ℕ → ℕ → Port → Type 0
+Returns pl a p n y =
+    (Meets pl (active a) (home pl (passive p)) y × (n ≡ span pl a p))
+    ⊎ ((x z : Port) × (walked pl (passive p) n (home pl (active a)) ≡ on x) × (onward pl (active a) x ≡ on z) × Meets pl (active a) z y)
+
+-- an answer that set out from the passive, n the walk's length, or as a NACK from the unit of the n-th router
+unfoldable pub Back : Plan → ℕ → ℕ → Place → ℕ → Type 0
+Back pl a p (inQueue (passiveOut x)) n = (x ≡ p) × (n ≡ span pl a p)
+Back pl a p (handledAt r) n = (i : ℕ) × Stands pl a p n r i
+Back pl a p (inQueue (F r o)) n = (i : ℕ) × Stands pl a p n r i × (o ≡ routeTo pl (active a) r)
+Back pl a p (inQueue (K r i o)) n = Returns pl a p n (record { router = r; side = i }) × (o ≡ routeTo pl (active a) r)
+Back pl a p (inQueue (activeIn x)) n = (x ≡ a) × (n ≤ span pl a p)
+Back pl a p (inQueue (Q r)) n = ⊥
+Back pl a p (inQueue (U r i)) n = ⊥
+Back pl a p (inQueue (activeOut x)) n = ⊥
+Back pl a p (inQueue (passiveIn x)) n = ⊥
+
+-- 'a hub that fits that place (SETUP: routers booked on the way there; TDOWN: 1 to the routers still ahead; ACK: the walk's length;
+-- NACK: that length if it can come from the passive, or the index, from 0, of a router whose NACK passes there)'
+abbrev pub Fits : Plan → Kind → ℕ → ℕ → ℕ → Place → Type 0
+Fits pl Setup a p hub x = Ahead pl a p x hub
+Fits pl Tdown a p hub x = (n : ℕ) × Ahead pl a p x n × (1 ≤ hub) × (n + hub ≤ span pl a p)
+Fits pl Ack a p hub x = Back pl a p x hub × (hub ≡ span pl a p)
+Fits pl Nack a p hub x = Back pl a p x hub
+
+-- the place of a packet that leaves a queue: a unit sends on what it has handled
+abbrev pub leavesFrom : Queue → Place
+leavesFrom (activeOut x) = inQueue (activeOut x)
+leavesFrom (activeIn x) = inQueue (activeIn x)
+leavesFrom (passiveIn x) = inQueue (passiveIn x)
+leavesFrom (passiveOut x) = inQueue (passiveOut x)
+leavesFrom (U r i) = inQueue (U r i)
+leavesFrom (Q r) = handledAt r
+leavesFrom (F r o) = inQueue (F r o)
+leavesFrom (K r i o) = inQueue (K r i o)
 
 -- ---- feeding, and the ring that a loadable plan has not
 pub record Feeds (pl : Plan) (x y : Queue) : Type 0 where
@@ -88,9 +154,10 @@ pub record Feeds (pl : Plan) (x y : Queue) : Type 0 where
   pub has-active : active < A pl
   pub has-passive : passive < P pl
   pub serves : Served pl active passive
-  pub heading : Heading
-  pub here : MayBe pl heading active passive x
-  pub goes : next pl heading active passive x ≡ some y
+  pub kind : Kind
+  pub hub : ℕ
+  pub here : Fits pl kind active passive hub (leavesFrom x)
+  pub goes : next pl (headingOf kind) active passive x ≡ some y
 
 -- a closed chain of feeding queues
 abbrev pub FeedRing : Plan → Type 0

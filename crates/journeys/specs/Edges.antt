@@ -14,7 +14,8 @@ use Rattle.plan.specs.Rules.{home}
 use Rattle.paths.specs.Walk.{onward, routerOf, Walk}
 use Rattle.paths.specs.Served.{Served}
 use Rattle.feeding.specs.Queue.{Queue, activeOut, activeIn, passiveIn, passiveOut, U, Q, F, K}
-use Rattle.feeding.specs.Feeds.{Heading, ahead, back, next, Meets, OnWalk, Returns, MayBe}
+use Rattle.feeding.specs.Feeds.{Heading, ahead, back, next, Meets}
+use Rattle.journeys.specs.Visits.{OnWalk, Comes, Visits}
 use Rattle.feeding.specs.Edges.{Edge, edge, aheadEdges, backEdges, nackEdges, nacksEdges, pairEdges}
 use Rattle.wiring.specs.Wired.{Wired, near, home-inside}
 use Rattle.journeys.specs.Walks.{onward-on, onward-end, walk-short}
@@ -125,7 +126,7 @@ module _ (pl : Plan) (a p : ℕ) (d : Edge) where
 -- ---- the pair's edges are its packets' steps
 -- a packet of the pair can go from x to y
 abbrev pub Steps : Plan → ℕ → ℕ → Queue → Queue → Type 0
-Steps pl a p x y = (h : Heading) × MayBe pl h a p x × (next pl h a p x ≡ some y)
+Steps pl a p x y = (h : Heading) × Visits pl h a p x × (next pl h a p x ≡ some y)
 
 module _ {pl : Plan} (wired : Wired pl) (a p : ℕ) (ha : a < A pl) (hp : p < P pl) (s : Served pl a p) where
   abbrev start : Port
@@ -137,7 +138,7 @@ module _ {pl : Plan} (wired : Wired pl) (a p : ℕ) (ha : a < A pl) (hp : p < P 
 
   -- ---- each edge written is a step
   ahead-sound : (d : Edge) → In d (aheadEdges pl p (R pl) (activeOut a) start) → Steps pl a p (d .from) (d .to)
-  unfolding MayBe next
+  unfolding Visits next
   ahead-sound d i =
       chain-sound pl (passive p) unitIn (unitOut pl p) (inUnit pl p) (passiveIn p) (Meets pl (passive p) start) (Steps pl a p) inside moves ends
       (R pl) (activeOut a) start (meets-here pl (passive p) start) (ahead, refl, refl) d (rw (ahead-chain pl p (R pl) (activeOut a) start) at i)
@@ -154,9 +155,9 @@ module _ {pl : Plan} (wired : Wired pl) (a p : ℕ) (ha : a < A pl) (hp : p < P 
       ends y m q = (ahead, ((y .side, m), refl), rw (onward-end pl (passive p) y q))
 
   -- answers that come in by what `Came` tells
-  back-sound : (Came : Port → Type 0) → ((y : Port) → Came y → Returns pl a p y) → ((y z : Port) → Came y → onward pl (active a) y ≡ on z → Came z)
+  back-sound : (Came : Port → Type 0) → ((y : Port) → Came y → Comes pl a p y) → ((y z : Port) → Came y → onward pl (active a) y ≡ on z → Came z)
       → (x : Queue) (from : Port) → Came from → Steps pl a p x (cross pl a from) → (d : Edge) → In d (backEdges pl a (R pl) x from) → Steps pl a p (d .from) (d .to)
-  unfolding MayBe next
+  unfolding Visits next
   back-sound Came told more x from c g d i =
       chain-sound pl (active a) (cross pl a) (cross pl a) noEdges (activeIn a) Came (Steps pl a p) (λ y m k b j. absurd j) moves ends
       (R pl) x from c g d (rw (back-chain pl a (R pl) x from) at i)
@@ -168,7 +169,7 @@ module _ {pl : Plan} (wired : Wired pl) (a p : ℕ) (ha : a < A pl) (hp : p < P 
       ends y m q = (back, (told y m, refl), rw (onward-end pl (active a) y q))
 
   nack-sound : (x : Port) → Meets pl (passive p) start x → (d : Edge) → In d (nackEdges pl a x) → Steps pl a p (d .from) (d .to)
-  unfolding MayBe next
+  unfolding Visits next
   nack-sound x m d i = by (onward pl (active a) x) refl
     where
       first : d ≡ edge (Q (x .router)) (nackOut pl a x) → Steps pl a p (d .from) (d .to)
@@ -191,7 +192,7 @@ module _ {pl : Plan} (wired : Wired pl) (a p : ℕ) (ha : a < A pl) (hp : p < P 
       by lost q = absurd (rw (nack-lost pl a x q) at i)
 
   pub edge-step : (d : Edge) → In d (pairEdges pl a p) → Steps pl a p (d .from) (d .to)
-  unfolding pairEdges MayBe next
+  unfolding pairEdges Visits next
   edge-step d i = first (in-either d (aheadEdges pl p (R pl) (activeOut a) start) (backs ++ nacks) i)
     where
       backs : List Edge
@@ -240,8 +241,8 @@ module _ {pl : Plan} (wired : Wired pl) (a p : ℕ) (ha : a < A pl) (hp : p < P 
   has-router : 0 < R pl
   has-router = let h = home-inside (active a) wired ha .0 in omega arith
 
-  ahead-written : (x y : Queue) → MayBe pl ahead a p x → next pl ahead a p x ≡ some y → In (edge x y) (pairEdges pl a p)
-  unfolding MayBe next
+  ahead-written : (x y : Queue) → Visits pl ahead a p x → next pl ahead a p x ≡ some y → In (edge x y) (pairEdges pl a p)
+  unfolding Visits next
   ahead-written (activeOut x) y m q =
       rw (← some-same q, m)
       (in-ahead (edge (activeOut a) (unitIn start))
@@ -302,8 +303,8 @@ module _ {pl : Plan} (wired : Wired pl) (a p : ℕ) (ha : a < A pl) (hp : p < P 
         some-routers (λ n. In (edge x (cross pl a from)) (chain pl (active a) (cross pl a) (cross pl a) noEdges (activeIn a) n x from))
         (λ n. chain-enters pl (active a) (cross pl a) (cross pl a) noEdges (activeIn a) n x from (goes-from pl (active a) from w from (meets-here pl (active a) from))) has-router
 
-  back-written : (x y : Queue) → MayBe pl back a p x → next pl back a p x ≡ some y → In (edge x y) (pairEdges pl a p)
-  unfolding MayBe next
+  back-written : (x y : Queue) → Visits pl back a p x → next pl back a p x ≡ some y → In (edge x y) (pairEdges pl a p)
+  unfolding Visits next
   back-written (passiveOut x) y m q =
       rw (← some-same q, m)
       (in-back (edge (passiveOut p) (cross pl a (home pl (passive p)))) (entered (home pl (passive p)) (home-inside (passive p) wired hp .0) (back-walk wired a p ha hp s) (passiveOut p)))
@@ -333,7 +334,7 @@ module _ {pl : Plan} (wired : Wired pl) (a p : ℕ) (ha : a < A pl) (hp : p < P 
       k : Port
       k = record { router = r; side = i }
 
-      by : Returns pl a p k → In (edge (K r i o) y) (pairEdges pl a p)
+      by : Comes pl a p k → In (edge (K r i o) y) (pairEdges pl a p)
       by (inl n) =
           rw e
           (in-back (edge (cross pl a k) y)

@@ -1,3 +1,4 @@
+pub mod Visits
 pub mod Walks
 pub mod Sides
 pub mod Numbers
@@ -5,4 +6,5 @@ pub mod Places
 pub mod Chains
 pub mod Edges
 pub mod Cells
+pub mod Fitting
 pub mod Rings

@@ -14,7 +14,8 @@ use Rattle.plan.specs.Rules.{home}
 use Rattle.paths.specs.Walk.{onward, routerOf, Walk, walked}
 use Rattle.paths.specs.Served.{Served}
 use Rattle.feeding.specs.Queue.{Queue, activeOut, activeIn, passiveIn, passiveOut, U, Q, F, K, Exists}
-use Rattle.feeding.specs.Feeds.{Heading, ahead, back, destination, enters, across, next, Meets, OnWalk, Returns, MayBe}
+use Rattle.feeding.specs.Feeds.{Heading, ahead, back, destination, enters, across, next, Meets}
+use Rattle.journeys.specs.Visits.{OnWalk, Comes, Visits}
 use Rattle.wiring.specs.Wired.{Wired, near, home-inside}
 use Rattle.journeys.specs.Walks.{onward-on, onward-end, end-onward, alike, stops-inside}
 use Rattle.journeys.specs.Sides.{leads, turns, turns-later, home-turns}
@@ -137,7 +138,7 @@ module _ {pl : Plan} (wired : Wired pl) where
     passive-not q = let z : _≡_ {A = ℕ} 0 1 = cc in omega arith
 
     -- an answer that comes in to a router crosses it to another side
-    pub returns-cross : (y : Port) → Returns pl a p y → Exists pl (K (y .router) (y .side) (routeTo pl (active a) (y .router)))
+    pub returns-cross : (y : Port) → Comes pl a p y → Exists pl (K (y .router) (y .side) (routeTo pl (active a) (y .router)))
     returns-cross y (inl m) =
         let i = meets-inside (active a) (home pl (passive p)) back-walk (home-inside (passive p) wired hp) y m in
         (i .0, i .1, exit-inside (active a) (home pl (passive p)) back-walk y m, meets-turns (active a) (home pl (passive p)) back-walk (home-turns wired (active a) (passive p) hp passive-not back-walk) y m)
@@ -150,8 +151,8 @@ module _ {pl : Plan} (wired : Wired pl) where
         (i .0, i .1, exit-inside (active a) z w y n, meets-turns (active a) z w first y n)
 
     -- ---- the queues where a packet may be exist
-    pub may-exist : (h : Heading) (x : Queue) → MayBe pl h a p x → Exists pl x
-    unfolding MayBe
+    pub may-exist : (h : Heading) (x : Queue) → Visits pl h a p x → Exists pl x
+    unfolding Visits
     may-exist ahead (activeOut x) m = rw m ha
     may-exist ahead (U r i) m = walk-inside (record { router = r; side = i }) m
     may-exist ahead (Q r) (i, m) = walk-inside (record { router = r; side = i }) m .0
@@ -171,16 +172,16 @@ module _ {pl : Plan} (wired : Wired pl) where
     may-exist back (U r i) m = absurd m
 
     -- ---- and where a packet goes next it may be
-    crosses : (y z : Port) → Returns pl a p y → onward pl (active a) y ≡ on z → Returns pl a p z
+    crosses : (y z : Port) → Comes pl a p y → onward pl (active a) y ≡ on z → Comes pl a p z
     crosses y z (inl m) q = inl (meets-next pl (active a) (home pl (passive p)) y z m q)
     crosses y z (inr (x, u, m, r, n)) q = inr (x, u, m, r, meets-next pl (active a) u y z n q)
 
-    returns-on : (y : Port) → Returns pl a p y → ((z : Port) × (onward pl (active a) y ≡ on z)) ⊎ (onward pl (active a) y ≡ end)
+    returns-on : (y : Port) → Comes pl a p y → ((z : Port) × (onward pl (active a) y ≡ on z)) ⊎ (onward pl (active a) y ≡ end)
     returns-on y (inl m) = goes-from pl (active a) (home pl (passive p)) back-walk y m
     returns-on y (inr (x, z, m, q, n)) = goes-from pl (active a) z (next-walk x z m q) y n
 
-    pub may-next : (h : Heading) (x y : Queue) → MayBe pl h a p x → next pl h a p x ≡ some y → MayBe pl h a p y
-    unfolding MayBe next
+    pub may-next : (h : Heading) (x y : Queue) → Visits pl h a p x → next pl h a p x ≡ some y → Visits pl h a p y
+    unfolding Visits next
     may-next ahead (activeOut x) y m q = rw (← some-same q) (rw m (meets-here pl (passive p) (home pl (active a))))
     may-next ahead (U r i) y m q = rw (← some-same q) (i, m)
     may-next ahead (Q r) y m q = rw (← some-same q) (m, refl)
@@ -189,7 +190,7 @@ module _ {pl : Plan} (wired : Wired pl) where
         x : Port
         x = record { router = r; side = i }
 
-        by : ((z : Port) × (onward pl (passive p) x ≡ on z)) ⊎ (onward pl (passive p) x ≡ end) → MayBe pl ahead a p y
+        by : ((z : Port) × (onward pl (passive p) x ≡ on z)) ⊎ (onward pl (passive p) x ≡ end) → Visits pl ahead a p y
         by (inl (z, g)) = rw (← some-same (rw (e, onward-on pl (passive p) x z g) at q)) (meets-next pl (passive p) (home pl (active a)) x z m g)
         by (inr g) = rw (← some-same (rw (e, onward-end pl (passive p) x g) at q)) refl
     may-next ahead (passiveIn x) y m q = absurd (some-not-none q)
@@ -203,7 +204,7 @@ module _ {pl : Plan} (wired : Wired pl) where
         x : Port
         x = record { router = r; side = i }
 
-        by : ((z : Port) × (onward pl (active a) x ≡ on z)) ⊎ (onward pl (active a) x ≡ end) → MayBe pl back a p y
+        by : ((z : Port) × (onward pl (active a) x ≡ on z)) ⊎ (onward pl (active a) x ≡ end) → Visits pl back a p y
         by (inl (z, g)) = rw (← some-same (rw (e, onward-on pl (active a) x z g) at q)) (inr (x, z, m, g, meets-here pl (active a) z), refl)
         by (inr g) = rw (← some-same (rw (e, onward-end pl (active a) x g) at q)) refl
     may-next back (K r i o) y (m, e) q = by (returns-on x m)
@@ -211,7 +212,7 @@ module _ {pl : Plan} (wired : Wired pl) where
         x : Port
         x = record { router = r; side = i }
 
-        by : ((z : Port) × (onward pl (active a) x ≡ on z)) ⊎ (onward pl (active a) x ≡ end) → MayBe pl back a p y
+        by : ((z : Port) × (onward pl (active a) x ≡ on z)) ⊎ (onward pl (active a) x ≡ end) → Visits pl back a p y
         by (inl (z, g)) = rw (← some-same (rw (e, onward-on pl (active a) x z g) at q)) (crosses x z m g, refl)
         by (inr g) = rw (← some-same (rw (e, onward-end pl (active a) x g) at q)) refl
     may-next back (activeIn x) y m q = absurd (some-not-none q)

@@ -18,7 +18,7 @@ use Rattle.plan.specs.Plan.{Plan, Port, active, passive, R, A, P, routeTo}
 use Rattle.plan.specs.Rules.{home}
 use Rattle.paths.specs.Served.{Served, served}
 use Rattle.feeding.specs.Queue.{Queue, activeOut, activeIn, passiveIn, passiveOut, U, Q, F, K, Exists, number, queues, queueAt}
-use Rattle.feeding.specs.Feeds.{Heading, ahead, back, destination, enters, across, next, MayBe, Feeds, FeedRing}
+use Rattle.feeding.specs.Feeds.{Heading, ahead, back, headingOf, destination, enters, across, next, Feeds, FeedRing}
 use Rattle.feeding.specs.Edges.{Edge, edge, cellOf, marks, cellsOf, pairEdges}
 use Rattle.feeding.specs.RingTest.{hasRing}
 use Rattle.wiring.specs.Wired.{Wired}
@@ -26,6 +26,8 @@ use Rattle.wiring.specs.Tables.{replicate-at}
 use Rattle.journeys.specs.Walks.{serves-of, served-of}
 use Rattle.journeys.specs.Numbers.{queue-at, number-same, number-below}
 use Rattle.journeys.specs.Places.{may-exist, may-next, some-same, some-not-none}
+use Rattle.journeys.specs.Visits.{Visits}
+use Rattle.journeys.specs.Fitting.{Somehow, fits-visits, visits-fit}
 use Rattle.journeys.specs.Edges.{Steps, edge-step, step-edge}
 use Rattle.journeys.specs.Cells.{place, target, allEdges, cells-are, all-in, in-all, marks-from, marks-has}
 
@@ -82,19 +84,24 @@ module _ (pl : Plan) (g h : Heading) (a p b q : ℕ) where
 
 module _ {pl : Plan} (wired : Wired pl) (range : InRange (pl .head)) where
   -- ---- an edge of a served pair is a feeding step between queues of the plan
-  feeds-from : (f : Queue) (t : Queue) → Feeds pl f t → Exists pl f
-  feeds-from x y f = may-exist wired (f .active) (f .passive) (f .has-active) (f .has-passive) (f .serves) (f .heading) x (f .here)
+  visits-of : (x y : Queue) (f : Feeds pl x y) → Visits pl (headingOf (f .kind)) (f .active) (f .passive) x
+  visits-of x y f = fits-visits pl (f .active) (f .passive) (f .kind) (f .hub) x (f .here)
+
+  feeds-from : (x y : Queue) → Feeds pl x y → Exists pl x
+  feeds-from x y f = may-exist wired (f .active) (f .passive) (f .has-active) (f .has-passive) (f .serves) (headingOf (f .kind)) x (visits-of x y f)
 
   feeds-to : (x y : Queue) → Feeds pl x y → Exists pl y
   feeds-to x y f =
-      may-exist wired (f .active) (f .passive) (f .has-active) (f .has-passive) (f .serves) (f .heading) y
-      (may-next wired (f .active) (f .passive) (f .has-active) (f .has-passive) (f .serves) (f .heading) x y (f .here) (f .goes))
+      may-exist wired (f .active) (f .passive) (f .has-active) (f .has-passive) (f .serves) (headingOf (f .kind)) y
+      (may-next wired (f .active) (f .passive) (f .has-active) (f .has-passive) (f .serves) (headingOf (f .kind)) x y (visits-of x y f) (f .goes))
 
   written-feeds : (d : Edge) → In d (allEdges pl) → Feeds pl (d .from) (d .to)
   written-feeds d i = by (all-in pl d i)
     where
       made : (a p : ℕ) → a < A pl → p < P pl → Served pl a p → Steps pl a p (d .from) (d .to) → Feeds pl (d .from) (d .to)
-      made a p ha hp s (h, m, q) = record { active = a; passive = p; has-active = ha; has-passive = hp; serves = s; heading = h; here = m; goes = q }
+      made a p ha hp s (h, m, q) =
+          let c = visits-fit pl a p h (d .from) m in
+          record { active = a; passive = p; has-active = ha; has-passive = hp; serves = s; kind = c .kind; hub = c .hub; here = c .fits; goes = rw (c .heads) q }
 
       by : (a p : ℕ) × (a < A pl) × (p < P pl) × (served pl a p ≡ true) × In d (pairEdges pl a p) → Feeds pl (d .from) (d .to)
       by (a, p, ha, hp, t, j) = let s = served-of wired a p ha t in made a p ha hp s (edge-step wired a p ha hp s d j)
@@ -102,7 +109,7 @@ module _ {pl : Plan} (wired : Wired pl) (range : InRange (pl .head)) where
   feeds-written : (x y : Queue) → Feeds pl x y → In (edge x y) (allEdges pl)
   feeds-written x y f =
       in-all pl (edge x y) (f .active) (f .passive) (f .has-active) (f .has-passive) (serves-of wired (f .active) (f .passive) (f .has-active) (f .serves))
-      (step-edge wired (f .active) (f .passive) (f .has-active) (f .has-passive) (f .serves) x y (f .heading, f .here, f .goes))
+      (step-edge wired (f .active) (f .passive) (f .has-active) (f .has-passive) (f .serves) x y (headingOf (f .kind), visits-of x y f, f .goes))
 
   -- ---- cells
   place-apart : (x y u v : Queue) → Exists pl y → Exists pl v → 4 * number pl x + cellOf y ≡ 4 * number pl u + cellOf v → (number pl x ≡ number pl u) × (cellOf y ≡ cellOf v)
@@ -113,7 +120,7 @@ module _ {pl : Plan} (wired : Wired pl) (range : InRange (pl .head)) where
   cell-own x y u v f g e =
       let both = place-apart x y u v (feeds-to x y f) (feeds-to u v g) e in
       let same : x ≡ u = number-same pl x u (feeds-from x y f) (feeds-from u v g) (both .0) in
-      next-same pl (f .heading) (g .heading) (f .active) (f .passive) (g .active) (g .passive) u y v (rw same at (f .goes)) (g .goes) (feeds-to x y f) (feeds-to u v g) (both .1)
+      next-same pl (headingOf (f .kind)) (headingOf (g .kind)) (f .active) (f .passive) (g .active) (g .passive) u y v (rw same at (f .goes)) (g .goes) (feeds-to x y f) (feeds-to u v g) (both .1)
 
   few : queues pl ≤ 400
   unfolding queues

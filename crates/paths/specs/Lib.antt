@@ -1,3 +1,5 @@
 pub mod Walk
 pub mod Served
 pub mod Steps
+pub mod Inside
+pub mod Alike

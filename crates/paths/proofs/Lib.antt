@@ -1,0 +1,3 @@
+pub mod Through
+pub mod Stood
+pub mod Ends

@@ -1,9 +1,13 @@
 -- A joint's byte, read from the two bytes that hold it; a route read past its row's end. Assumes nothing.
 use mathlib.Core.Path.{_≡_, refl}
+use mathlib.Core.Bool.{Bool, true, false, _&&_}
 use mathlib.Core.List.{List, [], _∷_}
 use Prim.Native.Nat.{ℕ, zero, suc, _+_, _*_, _/_, _%_, _<_}
+use native.Mathlib.Numerals.{add-one}
 use native.Mathlib.Omega.{arith}
 use lib.ListN.{getD}
+use Rattle.basis.specs.Choice.{pick}
+use Rattle.basis.specs.Bounded.{allBelow}
 use Rattle.fields.specs.Bits.{bitAt, fieldOf}
 use Rattle.fields.specs.Laws.{bit-of}
 use Rattle.plan.specs.Rules.{routeOk}
@@ -67,3 +71,12 @@ unfolding routeOk
 route-default [] d = refl
 route-default (x ∷ row) zero = refl
 route-default (x ∷ row) (suc d) = route-default row d
+
+-- one more turn of a loop that tests and goes on
+pub all-and : (f : ℕ → Bool) (i : ℕ) {b c : Bool} → b ≡ allBelow i f → c ≡ f i → (b && c) ≡ allBelow (i + 1) f
+unfolding allBelow
+all-and f i e g = rw (add-one, e, g) (and-pick (allBelow i f) (f i))
+  where
+    and-pick : (b c : Bool) → (b && c) ≡ pick b c false
+    and-pick true c = refl
+    and-pick false c = refl

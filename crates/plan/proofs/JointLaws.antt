@@ -1,17 +1,16 @@
 -- What a joint's byte says, by its kind; that comparing bytes is what the tests of joints do. Assumes nothing.
-use mathlib.Core.Path.{_≡_, refl, sym, ap, _∙_}
+use mathlib.Core.Path.{_≡_, sym, _∙_}
 use mathlib.Core.Logic.{_⊎_, inl, inr}
-use mathlib.Core.Bool.{Bool, true, false, not, _&&_}
+use mathlib.Core.Bool.{true, false, not, _&&_}
 use mathlib.Core.List.{List, []}
-use Prim.Native.Nat.{ℕ, zero, suc, _+_, _*_, _-_, _/_, _%_, _≤_, _<_}
+use Prim.Native.Nat.{ℕ, _+_, _*_, _-_, _/_, _%_, _≤_, _<_}
 use native.Mathlib.Omega.{arith}
-use lib.Dec.{eqb, ltb}
+use lib.Dec.{eqb}
 use lib.ListN.{getD}
 use borrow.Author.Tests.{eqb-true, eqb-false, eq-eqb, ne-eqb, lt-ltb, le-ltb}
-use Rattle.basis.specs.Choice.{pick, test, same-test}
+use Rattle.basis.specs.Choice.{test, same-test}
 use Rattle.basis.specs.Bounded.{lt-or-ge}
 use Rattle.plan.specs.declared.Head.{Head}
-use Rattle.plan.specs.declared.Joint.{Joint}
 use Rattle.plan.specs.declared.Joint.the-variants.{Nothing, Router, Active, Passive}
 use Rattle.plan.specs.Plan.{active, passive}
 use Rattle.plan.specs.Rules.{jointOfPort, isRouterAt, backOk, leadsTo}

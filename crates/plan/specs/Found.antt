@@ -1,5 +1,4 @@
 -- How the code finds an interface's ports: by numbers instead of cases, and all interfaces in one pass over the joints' bytes.
-use mathlib.Core.Path.{_≡_}
 use mathlib.Core.List.{List}
 use Prim.Native.Nat.{ℕ, _+_, _*_, _-_, _/_, _%_}
 use lib.Dec.{eqb, ltb}

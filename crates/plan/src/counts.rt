@@ -22,6 +22,13 @@ const SLOTS_AT: usize = 15;
 
 const CAPACITIES_AT: usize = 21;
 
+// The most of routers, of actives and of passives, of slots, and of a capacity.
+const COUNT_MOST: usize = 16;
+
+const SLOTS_MOST: usize = 32;
+
+const CAPACITY_MOST: u8 = 7;
+
 // The bits before the joints, of a router's joints, and of a route.
 pub const JOINTS_AT: usize = 45;
 
@@ -81,17 +88,17 @@ fn is_within(low: usize, n: usize, high: usize) -> bool
 fn capacity_ok(c: Credit) -> bool
     ensures { λ r. ⌜ r ≡ within 1 (c .0) 7 ⌝ }
 {
-    (1 <= c.0) & (c.0 <= 7)
+    (1 <= c.0) & (c.0 <= CAPACITY_MOST)
 }
 
 // Whether the counts and the slot count are in range.
 pub fn counts_ok(h: Head) -> bool
     ensures { λ r. ⌜ r ≡ countsOk h ⌝ }
 {
-    is_within(1, h.routers, 16)
-        & is_within(1, h.actives, 16)
-        & is_within(1, h.passives, 16)
-        & is_within(2, h.slots as usize, 32)
+    is_within(1, h.routers, COUNT_MOST)
+        & is_within(1, h.actives, COUNT_MOST)
+        & is_within(1, h.passives, COUNT_MOST)
+        & is_within(2, h.slots as usize, SLOTS_MOST)
 }
 
 // Whether each capacity is in range.

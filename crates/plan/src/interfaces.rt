@@ -1,6 +1,13 @@
 // What the joints join: routers by a joint at each end, each interface by exactly one.
 use crate::Head;
 use crate::Ports;
+use crate::joints::KIND;
+use crate::joints::NUMBER;
+use crate::joints::NUMBERS;
+use crate::joints::SIDES;
+use crate::joints::TO_ACTIVE;
+use crate::joints::TO_PASSIVE;
+use crate::joints::TO_ROUTER;
 ghost use mathlib.Core.Path.{_≡_};
 ghost use mathlib.Core.List.{[]};
 ghost use Prim.Native.Nat.{_≤_, _<_};
@@ -16,6 +23,13 @@ const NONE_FOUND: u8 = 64;
 
 const MORE_FOUND: u8 = 65;
 
+// The byte of a joint to port 0, and the upper six bits of one to active 0 and to passive 0.
+const ROUTER_FROM: usize = 64;
+
+const ACTIVE_FROM: usize = 32;
+
+const PASSIVE_FROM: usize = 48;
+
 // A column behind all interfaces.
 const NO_COLUMN: usize = 32;
 
@@ -25,12 +39,12 @@ pub fn back_ok(joints: &[u8; 64], i: usize) -> bool
     ensures { λ r. ⌜ ((h : Head) → r ≡ backOk (tablePlan h [] (now (joints .entry))) i (jointOfPort (tablePlan h [] (now (joints .entry))) i)) ⌝ }
 {
     let v = joints[i];
-    if v / 64 != 1 {
+    if v / KIND != TO_ROUTER {
         return true;
     }
-    let k = (v % 64) as usize;
+    let k = (v % KIND) as usize;
     let w = joints[k];
-    (k / 4 != i / 4) & (w == (64 + i) as u8)
+    (k / SIDES != i / SIDES) & (w == (ROUTER_FROM + i) as u8)
 }
 
 // Whether each router joint is named back by another router: refusal 5.
@@ -38,7 +52,7 @@ pub fn named_ok(h: Head, joints: &[u8; 64]) -> bool
     requires { ⌜ h .routers ≤ 16 ⌝ }
     ensures { λ r. ⌜ r ≡ namedOk (tablePlan h [] (now (joints .entry))) ⌝ }
 {
-    let n = 4 * h.routers;
+    let n = SIDES * h.routers;
     for i in 0..n {
         if !back_ok(joints, i) {
             return false;
@@ -77,13 +91,13 @@ pub fn ports(h: Head, joints: &[u8; 64], d: usize) -> Ports
     requires { ⌜ (h .routers ≤ 16) × (h .actives ≤ 16) × (h .passives ≤ 16) × (d < destinations h) ⌝ }
     ensures { λ r. ⌜ r ≡ portsOf (tablePlan h [] (now (joints .entry))) (interfaceAt h d) ⌝ }
 {
-    let n = 4 * h.routers;
+    let n = SIDES * h.routers;
     let w = wanted(h.actives, d);
     let mut count: usize = 0;
     let mut at: usize = 0;
     for i in 0..n {
         let v = joints[i];
-        if v / 4 == w {
+        if v / NUMBER == w {
             count += 1;
             at = i;
         }
@@ -96,12 +110,12 @@ fn column(actives: usize, passives: usize, v: u8) -> usize
     requires { ⌜ (actives ≤ 16) × (passives ≤ 16) ⌝ }
     ensures { λ r. ⌜ r ≡ columnOf actives passives v ⌝ }
 {
-    let kind = v / 64;
-    let number = (v / 4 % 16) as usize;
-    if kind == 2 {
+    let kind = v / KIND;
+    let number = (v / NUMBER % NUMBERS) as usize;
+    if kind == TO_ACTIVE {
         return if number < actives { number } else { NO_COLUMN };
     }
-    if kind == 3 {
+    if kind == TO_PASSIVE {
         return if number < passives {
             actives + number
         } else {
@@ -123,7 +137,7 @@ fn found(h: Head, joints: &[u8; 64]) -> [u8; 33]
     requires { ⌜ (h .routers ≤ 16) × (h .actives ≤ 16) × (h .passives ≤ 16) ⌝ }
     ensures { λ r. ⌜ r ≡ foundOf h (now (joints .entry)) ⌝ }
 {
-    let n = 4 * h.routers;
+    let n = SIDES * h.routers;
     let actives = h.actives;
     let passives = h.passives;
     let mut t = [NONE_FOUND; 33];

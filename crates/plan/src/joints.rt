@@ -9,6 +9,23 @@ ghost use Rattle.plan.specs.Tables.{jointByte, jointsOf, jointByteOk, jo
 // The byte in which the first joint begins. Its last three bits and the next byte's first five are the joint.
 const FIRST_BYTE: usize = 5;
 
+// A joint's byte is the kind times 64, plus the number, below 16, times 4, plus the partner's side.
+pub const KIND: u8 = 64;
+
+pub const NUMBER: u8 = 4;
+
+pub const NUMBERS: u8 = 16;
+
+// The kinds of a joint, but for 0, which is to nothing.
+pub const TO_ROUTER: u8 = 1;
+
+pub const TO_ACTIVE: u8 = 2;
+
+pub const TO_PASSIVE: u8 = 3;
+
+// The sides of a router.
+pub const SIDES: usize = 4;
+
 // The i-th joint's eight bits.
 pub fn joint_byte(plan: &[u8], i: usize) -> u8
     requires { ⌜ i < 64 ⌝ }
@@ -24,7 +41,7 @@ pub fn joints(plan: &[u8], h: Head) -> [u8; 64]
     requires { ⌜ h .routers ≤ 16 ⌝ }
     ensures { λ r. ⌜ r ≡ jointsOf (now (plan .entry)) h ⌝ }
 {
-    let n = 4 * h.routers;
+    let n = SIDES * h.routers;
     let mut t = [0u8; 64];
     for i in 0..n {
         t[i] = joint_byte(plan, i);
@@ -36,16 +53,16 @@ pub fn joints(plan: &[u8], h: Head) -> [u8; 64]
 pub fn joint_byte_ok(h: Head, v: u8) -> bool
     ensures { λ r. ⌜ r ≡ jointByteOk h v ⌝ }
 {
-    let kind = v / 64;
-    let number = (v / 4 % 16) as usize;
-    let side = v % 4;
+    let kind = v / KIND;
+    let number = (v / NUMBER % NUMBERS) as usize;
+    let side = v % NUMBER;
     if kind == 0 {
         return (number == 0) & (side == 0);
     }
-    if kind == 1 {
+    if kind == TO_ROUTER {
         return number < h.routers;
     }
-    if kind == 2 {
+    if kind == TO_ACTIVE {
         return (number < h.actives) & (side == 0);
     }
     (number < h.passives) & (side == 0)
@@ -56,7 +73,7 @@ pub fn joint_bytes_ok(h: Head, joints: &[u8; 64]) -> bool
     requires { ⌜ h .routers ≤ 16 ⌝ }
     ensures { λ r. ⌜ r ≡ jointBytesOk h (now (joints .entry)) ⌝ }
 {
-    let n = 4 * h.routers;
+    let n = SIDES * h.routers;
     for i in 0..n {
         let v = joints[i];
         if !joint_byte_ok(h, v) {
@@ -70,15 +87,15 @@ pub fn joint_bytes_ok(h: Head, joints: &[u8; 64]) -> bool
 pub fn joint_of(v: u8) -> Joint
     ensures { λ r. ⌜ r ≡ jointOfByte v ⌝ }
 {
-    let kind = v / 64;
-    let number = (v / 4 % 16) as usize;
-    if kind == 1 {
-        return Joint::Router(number, (v % 4) as usize);
+    let kind = v / KIND;
+    let number = (v / NUMBER % NUMBERS) as usize;
+    if kind == TO_ROUTER {
+        return Joint::Router(number, (v % NUMBER) as usize);
     }
-    if kind == 2 {
+    if kind == TO_ACTIVE {
         return Joint::Active(number);
     }
-    if kind == 3 {
+    if kind == TO_PASSIVE {
         return Joint::Passive(number);
     }
     Joint::Nothing

@@ -4,34 +4,25 @@ use native.Mathlib.Nat.{mul-le-mul-right}
 use borrow.Author.Needs.{needs}
 use Rattle.plan.proofs.counts.bit_count.Statement.{statement}
 use Rattle.plan.proofs.counts.bit_count.Tie as tie
-use Rattle.plan.proofs.counts.bit_count.Reads as reads
-use Rattle.plan.proofs.counts.bit_count.Lts as lts
 
--- src/counts.rt:111:17
 mul-result : tie.Need-mul-result
 mul-result c = search needs
 
--- src/counts.rt:111:5
 add-result : tie.Need-add-result
 add-result c = search needs
 
--- src/counts.rt:111:61
 add-result-2 : tie.Need-add-result-2
 add-result-2 c = search needs
 
--- src/counts.rt:111:48
 mul-result-2 : tie.Need-mul-result-2
 mul-result-2 c = omega (arith, mul-le-mul-right (c .before .before .before .args .h .actives + c .before .before .before .args .h .passives) (c .before .before .before .pre .0))
 
--- src/counts.rt:111:43
 mul-result-3 : tie.Need-mul-result-3
 mul-result-3 c = omega (arith, mul-le-mul-right (c .before .before .before .args .h .actives + c .before .before .before .args .h .passives) (c .before .before .before .pre .0))
 
--- src/counts.rt:111:5
 add-result-3 : tie.Need-add-result-3
 add-result-3 c = omega (arith, mul-le-mul-right (c .before .before .before .args .h .actives + c .before .before .before .args .h .passives) (c .before .before .before .pre .0))
 
--- src/counts.rt:107:1
 returns : tie.Need-returns
 returns c = search needs
 

@@ -2,43 +2,31 @@ use Rattle.plan.specs.Head.{capacitiesOk}
 use borrow.Author.Needs.{needs}
 use Rattle.plan.proofs.counts.capacities_ok.Statement.{statement}
 use Rattle.plan.proofs.counts.capacities_ok.Tie as tie
-use Rattle.plan.proofs.counts.capacities_ok.Reads as reads
-use Rattle.plan.proofs.counts.capacities_ok.Lts as lts
-use Rattle.plan.proofs.counts.capacity_ok.Reads as capacity-ok-reads
 
--- src/counts.rt:89:5
 capacity-ok-requires : tie.Need-capacity-ok-requires
 capacity-ok-requires c κs = search needs
 
--- src/counts.rt:90:11
 capacity-ok-requires-2 : tie.Need-capacity-ok-requires-2
 capacity-ok-requires-2 c κs = search needs
 
--- src/counts.rt:91:11
 capacity-ok-requires-3 : tie.Need-capacity-ok-requires-3
 capacity-ok-requires-3 c κs = search needs
 
--- src/counts.rt:92:11
 capacity-ok-requires-4 : tie.Need-capacity-ok-requires-4
 capacity-ok-requires-4 c κs = search needs
 
--- src/counts.rt:93:11
 capacity-ok-requires-5 : tie.Need-capacity-ok-requires-5
 capacity-ok-requires-5 c κs = search needs
 
--- src/counts.rt:94:11
 capacity-ok-requires-6 : tie.Need-capacity-ok-requires-6
 capacity-ok-requires-6 c κs = search needs
 
--- src/counts.rt:95:11
 capacity-ok-requires-7 : tie.Need-capacity-ok-requires-7
 capacity-ok-requires-7 c κs = search needs
 
--- src/counts.rt:96:11
 capacity-ok-requires-8 : tie.Need-capacity-ok-requires-8
 capacity-ok-requires-8 c κs = search needs
 
--- src/counts.rt:86:1
 returns : tie.Need-returns
 unfolding capacitiesOk
 returns c = simp (c .before .before .before .before .before .before .before .capacity-ok .ensures, c .before .before .before .before .before .before .capacity-ok2 .ensures, c .before .before .before .before .before .capacity-ok3 .ensures, c .before .before .before .before .capacity-ok4 .ensures, c .before .before .before .capacity-ok5 .ensures, c .before .before .capacity-ok6 .ensures, c .before .capacity-ok7 .ensures, c .capacity-ok8 .ensures)

@@ -2,31 +2,22 @@ use Rattle.plan.specs.Head.{countsOk}
 use borrow.Author.Needs.{needs}
 use Rattle.plan.proofs.counts.counts_ok.Statement.{statement}
 use Rattle.plan.proofs.counts.counts_ok.Tie as tie
-use Rattle.plan.proofs.counts.counts_ok.Reads as reads
-use Rattle.plan.proofs.counts.counts_ok.Lts as lts
-use Rattle.plan.proofs.counts.is_within.Reads as is-within-reads
 
--- src/counts.rt:82:5
 is-within-requires : tie.Need-is-within-requires
 is-within-requires c κs = search needs
 
--- src/counts.rt:82:35
 is-within-requires-2 : tie.Need-is-within-requires-2
 is-within-requires-2 c κs = search needs
 
--- src/counts.rt:82:65
 is-within-requires-3 : tie.Need-is-within-requires-3
 is-within-requires-3 c κs = search needs
 
--- src/counts.rt:82:109
 cast-is-within : tie.Need-cast-is-within
 cast-is-within c = search needs
 
--- src/counts.rt:82:96
 is-within-requires-4 : tie.Need-is-within-requires-4
 is-within-requires-4 c κs = search needs
 
--- src/counts.rt:79:1
 returns : tie.Need-returns
 unfolding countsOk
 returns c = simp (c .before .before .before .before .is-within .ensures, c .before .before .before .is-within2 .ensures, c .before .before .is-within3 .ensures, c .is-within4 .ensures)

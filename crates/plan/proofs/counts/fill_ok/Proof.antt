@@ -1,19 +1,15 @@
 use borrow.Author.Needs.{needs}
 use native.Mathlib.Omega.{arith}
-use Prim.Native.Nat.{ℕ, _≤_, _-_, _+_, _*_}
+use Prim.Native.Nat.{ℕ, _≤_, _-_, _+_}
 use borrow.Author.Tests.{eq-eqb, ne-eqb}
-use mathlib.Core.Bool.{true, false}
+use mathlib.Core.Bool.{true}
 use mathlib.Core.Path.{_≡_, sym, ap}
-use lib.ListN.{length}
 use lib.Dec.{eqb}
 use Rattle.fields.specs.Bits.{fieldOf}
 use Rattle.basis.specs.Bounded.{allBelow, all-none, all-more, all-fail, all-done}
 use Rattle.plan.specs.Rules.{fillOk}
 use Rattle.plan.proofs.counts.fill_ok.Statement.{statement}
 use Rattle.plan.proofs.counts.fill_ok.Tie as tie
-use Rattle.plan.proofs.counts.fill_ok.Reads as reads
-use Rattle.plan.proofs.counts.fill_ok.Lts as lts
-use Rattle.fields.proofs.field.Reads as field-reads
 
 abbrev Inv-loop : tie.InvT-loop
 Inv-loop plan from n i₀ i = (i ≤ n) × (allBelow i (λ k. eqb (fieldOf plan (from + k) 1) 0) ≡ true)
@@ -21,44 +17,34 @@ Inv-loop plan from n i₀ i = (i ≤ n) × (allBelow i (λ k. eqb (fieldOf plan 
 abbrev μ-loop : tie.MeasureT-loop
 μ-loop plan from n i₀ i = n - i
 
--- src/counts.rt:119:13
 mul-n : tie.Need-mul-n Inv-loop μ-loop
 mul-n c = search needs
 
--- src/counts.rt:119:13
 sub-n : tie.Need-sub-n Inv-loop μ-loop
 sub-n c = search needs
 
--- src/counts.rt:120:5
 loop-holds : tie.Need-loop-holds Inv-loop μ-loop
 loop-holds c = (search needs, all-none _)
 
--- src/counts.rt:121:32
 add-field : tie.Need-add-field Inv-loop μ-loop
 add-field c = search needs
 
--- src/counts.rt:121:12
 field-requires : tie.Need-field-requires Inv-loop μ-loop
 field-requires c κs = search needs
 
--- src/counts.rt:122:13
 returns : tie.Need-returns Inv-loop μ-loop
 unfolding fillOk
 returns c = sym (all-fail _ _ (c .before .before .before .loop .i) (c .before .before .loop-test .taken) (ap (λ (v : ℕ). eqb v 0) (c .before .field .ensures)) (ne-eqb _ _ (c .if1 .taken)))
 
--- src/counts.rt:120:9
 add-i : tie.Need-add-i Inv-loop μ-loop
 add-i c = search needs
 
--- src/counts.rt:120:5
 loop-less : tie.Need-loop-less Inv-loop μ-loop
 loop-less c = search needs
 
--- src/counts.rt:120:5
 loop-again : tie.Need-loop-again Inv-loop μ-loop
 loop-again c = (search needs, all-more _ _ (c .before .before .before .loop .inv .1) (ap (λ (v : ℕ). eqb v 0) (c .before .field .ensures)) (eq-eqb _ _ (c .if1 .left)))
 
--- src/counts.rt:115:1
 returns-2 : tie.Need-returns-2 Inv-loop μ-loop
 unfolding fillOk
 returns-2 c = sym (all-done _ (c .before .loop .inv .1) (omega arith))

@@ -2,72 +2,52 @@ use Rattle.plan.specs.Head.{headOf}
 use borrow.Author.Needs.{needs}
 use Rattle.plan.proofs.counts.read_head.Statement.{statement}
 use Rattle.plan.proofs.counts.read_head.Tie as tie
-use Rattle.plan.proofs.counts.read_head.Reads as reads
-use Rattle.plan.proofs.counts.read_head.Lts as lts
-use Rattle.fields.proofs.field.Reads as field-reads
-use Rattle.plan.proofs.counts.capacity.Reads as capacity-reads
 
--- src/counts.rt:36:19
 field-requires : tie.Need-field-requires
 field-requires c κs = search needs
 
--- src/counts.rt:36:19
 cast-routers : tie.Need-cast-routers
 cast-routers c = search needs
 
--- src/counts.rt:37:19
 field-requires-2 : tie.Need-field-requires-2
 field-requires-2 c κs = search needs
 
--- src/counts.rt:37:19
 cast-actives : tie.Need-cast-actives
 cast-actives c = search needs
 
--- src/counts.rt:38:20
 field-requires-3 : tie.Need-field-requires-3
 field-requires-3 c κs = search needs
 
--- src/counts.rt:38:20
 cast-passives : tie.Need-cast-passives
 cast-passives c = search needs
 
--- src/counts.rt:39:9
 field-requires-4 : tie.Need-field-requires-4
 field-requires-4 c κs = search needs
 
--- src/counts.rt:40:9
 capacity-requires : tie.Need-capacity-requires
 capacity-requires c κs = search needs
 
--- src/counts.rt:41:9
 capacity-requires-2 : tie.Need-capacity-requires-2
 capacity-requires-2 c κs = search needs
 
--- src/counts.rt:42:9
 capacity-requires-3 : tie.Need-capacity-requires-3
 capacity-requires-3 c κs = search needs
 
--- src/counts.rt:43:9
 capacity-requires-4 : tie.Need-capacity-requires-4
 capacity-requires-4 c κs = search needs
 
--- src/counts.rt:44:9
 capacity-requires-5 : tie.Need-capacity-requires-5
 capacity-requires-5 c κs = search needs
 
--- src/counts.rt:45:9
 capacity-requires-6 : tie.Need-capacity-requires-6
 capacity-requires-6 c κs = search needs
 
--- src/counts.rt:46:9
 capacity-requires-7 : tie.Need-capacity-requires-7
 capacity-requires-7 c κs = search needs
 
--- src/counts.rt:47:9
 capacity-requires-8 : tie.Need-capacity-requires-8
 capacity-requires-8 c κs = search needs
 
--- src/counts.rt:33:1
 returns : tie.Need-returns
 unfolding headOf
 returns c = simp (c .before .before .before .before .before .before .before .before .before .before .before .field .ensures, c .before .before .before .before .before .before .before .before .before .before .field2 .ensures, c .before .before .before .before .before .before .before .before .before .field3 .ensures, c .before .before .before .before .before .before .before .before .field4 .ensures, c .before .before .before .before .before .before .before .capacity .ensures, c .before .before .before .before .before .before .capacity2 .ensures, c .before .before .before .before .before .capacity3 .ensures, c .before .before .before .before .capacity4 .ensures, c .before .before .before .capacity5 .ensures, c .before .before .capacity6 .ensures, c .before .capacity7 .ensures, c .capacity8 .ensures)

@@ -2,34 +2,25 @@ use Rattle.plan.proofs.JointLaws.{back-none, back-router}
 use borrow.Author.Needs.{needs}
 use Rattle.plan.proofs.interfaces.back_ok.Statement.{statement}
 use Rattle.plan.proofs.interfaces.back_ok.Tie as tie
-use Rattle.plan.proofs.interfaces.back_ok.Reads as reads
-use Rattle.plan.proofs.interfaces.back_ok.Lts as lts
 
--- src/interfaces.rt:26:13
 element-copy-out-v : tie.Need-element-copy-out-v
 element-copy-out-v c = search needs
 
--- src/interfaces.rt:28:9
 returns : tie.Need-returns
 returns c = λ h. back-none h (c .before .before .args .joints .now) (c .before .before .args .i) (c .if1 .taken)
 
--- src/interfaces.rt:30:13
 cast-k : tie.Need-cast-k
 cast-k c = search needs
 
--- src/interfaces.rt:31:13
 element-copy-out-w : tie.Need-element-copy-out-w
 element-copy-out-w c = search needs
 
--- src/interfaces.rt:32:31
 add-result : tie.Need-add-result
 add-result c = search needs
 
--- src/interfaces.rt:32:30
 cast-result : tie.Need-cast-result
 cast-result c = search needs
 
--- src/interfaces.rt:22:1
 returns-2 : tie.Need-returns-2
 returns-2 c = λ h. back-router h (c .before .before .before .args .joints .now) (c .before .before .before .args .i) (c .before .before .before .pre) (c .before .if1 .left)
 

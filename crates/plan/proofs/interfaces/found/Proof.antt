@@ -1,19 +1,13 @@
 use borrow.Author.Needs.{needs}
 use Rattle.plan.proofs.JointLaws.{column-le}
-use Rattle.plan.specs.Found.{columnOf, markOf, foundStep, foundOf}
+use Rattle.plan.specs.Found.{foundStep, foundOf}
 use Rattle.basis.specs.Fold.{upTo, up-none, up-more, up-done}
 use native.Mathlib.Omega.{arith}
-use lib.ListN.{length, getD, set, length-set}
-use Prim.Native.Nat.{ℕ, _≤_, _<_, _-_, _+_, _*_, _/_}
-use mathlib.Core.List.{List, []}
-use mathlib.Core.Bool.{true, false}
-use mathlib.Core.Path.{_≡_, _∙_, sym, ap}
+use lib.ListN.{length, getD, length-set}
+use Prim.Native.Nat.{_≤_, _-_}
+use mathlib.Core.Path.{_≡_}
 use Rattle.plan.proofs.interfaces.found.Statement.{statement}
 use Rattle.plan.proofs.interfaces.found.Tie as tie
-use Rattle.plan.proofs.interfaces.found.Reads as reads
-use Rattle.plan.proofs.interfaces.found.Lts as lts
-use Rattle.plan.proofs.interfaces.column.Reads as column-reads
-use Rattle.plan.proofs.interfaces.mark.Reads as mark-reads
 
 abbrev Inv-loop : tie.InvT-loop
 Inv-loop joints n actives passives t₀ i₀ t i = (i ≤ n) × (t ≡ upTo (foundStep actives passives joints) i t₀) × (length t ≡ 33)
@@ -21,52 +15,40 @@ Inv-loop joints n actives passives t₀ i₀ t i = (i ≤ n) × (t ≡ upTo (fou
 abbrev μ-loop : tie.MeasureT-loop
 μ-loop joints n actives passives t₀ i₀ t i = n - i
 
--- src/interfaces.rt:117:13
 mul-n : tie.Need-mul-n Inv-loop μ-loop
 mul-n c = search needs
 
--- src/interfaces.rt:121:5
 loop-holds : tie.Need-loop-holds Inv-loop μ-loop
 loop-holds c = (omega arith, up-none _ _, search needs)
 
--- src/interfaces.rt:122:43
 element-copy-out-column : tie.Need-element-copy-out-column Inv-loop μ-loop
 element-copy-out-column c = search needs
 
--- src/interfaces.rt:122:13
 column-requires : tie.Need-column-requires Inv-loop μ-loop
 column-requires c κs = search needs
 
--- src/interfaces.rt:123:21
 array-read-mark : tie.Need-array-read-mark Inv-loop μ-loop
 array-read-mark c = omega (arith, c .column .ensures, column-le (c .before .before .before .before .before .args .h .actives) (c .before .before .before .before .before .args .h .passives) (getD (c .before .before .before .before .before .args .joints .now) (c .before .before .before .loop .i) 0) (c .before .before .before .before .before .pre .1))
 
--- src/interfaces.rt:123:27
 cast-mark : tie.Need-cast-mark Inv-loop μ-loop
 cast-mark c = search needs
 
--- src/interfaces.rt:123:16
 mark-requires : tie.Need-mark-requires Inv-loop μ-loop
 mark-requires c κs = search needs
 
--- src/interfaces.rt:123:9
 array-write-t : tie.Need-array-write-t Inv-loop μ-loop
 array-write-t c = omega (arith, c .before .column .ensures, column-le (c .before .before .before .before .before .before .args .h .actives) (c .before .before .before .before .before .before .args .h .passives) (getD (c .before .before .before .before .before .before .args .joints .now) (c .before .before .before .before .loop .i) 0) (c .before .before .before .before .before .before .pre .1))
 
--- src/interfaces.rt:121:9
 add-i : tie.Need-add-i Inv-loop μ-loop
 add-i c = search needs
 
--- src/interfaces.rt:121:5
 loop-less : tie.Need-loop-less Inv-loop μ-loop
 loop-less c = search needs
 
--- src/interfaces.rt:121:5
 loop-again : tie.Need-loop-again Inv-loop μ-loop
 unfolding foundStep
 loop-again c = (omega arith, up-more _ _ _ (c .before .before .before .before .loop .inv .1) (simp (c .mark .ensures, c .before .column .ensures)), simp length-set (c .before .before .before .before .loop .inv .2))
 
--- src/interfaces.rt:113:1
 returns : tie.Need-returns Inv-loop μ-loop
 unfolding foundOf
 returns c = up-done _ _ (c .before .loop .inv .1) (omega arith)

@@ -1,20 +1,13 @@
 use borrow.Author.Needs.{needs}
 use Rattle.plan.proofs.PortLaws.{found-homes}
-use Rattle.plan.specs.Found.{portOfCell, foundOf}
+use Rattle.plan.specs.Found.{portOfCell}
 use Rattle.basis.specs.Fold.{upTo, fill, up-none, up-fill, up-done}
-use borrow.Author.Tests.{eq-eqb, ne-eqb, lt-ltb, le-ltb, not-true, not-false}
 use native.Mathlib.Omega.{arith}
-use lib.ListN.{length, getD, set, length-set}
-use Prim.Native.Nat.{ℕ, _≤_, _<_, _-_, _+_, _*_, _/_}
-use mathlib.Core.List.{List, []}
-use mathlib.Core.Bool.{true, false}
-use mathlib.Core.Path.{_≡_, _∙_, sym, ap}
+use lib.ListN.{length, getD, length-set}
+use Prim.Native.Nat.{_≤_, _-_}
+use mathlib.Core.Path.{_≡_, _∙_}
 use Rattle.plan.proofs.interfaces.homes.Statement.{statement}
 use Rattle.plan.proofs.interfaces.homes.Tie as tie
-use Rattle.plan.proofs.interfaces.homes.Reads as reads
-use Rattle.plan.proofs.interfaces.homes.Lts as lts
-use Rattle.plan.proofs.interfaces.found.Reads as found-reads
-use Rattle.plan.proofs.interfaces.port_or_0.Reads as port-or-0-reads
 
 abbrev Inv-loop : tie.InvT-loop
 Inv-loop joints t n r₀ d₀ r d = (d ≤ n) × (r ≡ upTo (fill (λ k. portOfCell (getD t k 0))) d r₀) × (length r ≡ 32)
@@ -22,43 +15,33 @@ Inv-loop joints t n r₀ d₀ r d = (d ≤ n) × (r ≡ upTo (fill (λ k. portOf
 abbrev μ-loop : tie.MeasureT-loop
 μ-loop joints t n r₀ d₀ r d = n - d
 
--- src/interfaces.rt:155:13
 found-requires : tie.Need-found-requires Inv-loop μ-loop
 found-requires c κs = search needs
 
--- src/interfaces.rt:156:13
 add-n : tie.Need-add-n Inv-loop μ-loop
 add-n c = search needs
 
--- src/interfaces.rt:158:5
 loop-holds : tie.Need-loop-holds Inv-loop μ-loop
 loop-holds c = (search needs, up-none _ _, search needs)
 
--- src/interfaces.rt:159:26
 array-read-port-or-0 : tie.Need-array-read-port-or-0 Inv-loop μ-loop
 array-read-port-or-0 c = search needs
 
--- src/interfaces.rt:159:16
 port-or-0-requires : tie.Need-port-or-0-requires Inv-loop μ-loop
 port-or-0-requires c κs = search needs
 
--- src/interfaces.rt:159:9
 array-write-r : tie.Need-array-write-r Inv-loop μ-loop
 array-write-r c = search needs
 
--- src/interfaces.rt:158:9
 add-d : tie.Need-add-d Inv-loop μ-loop
 add-d c = search needs
 
--- src/interfaces.rt:158:5
 loop-less : tie.Need-loop-less Inv-loop μ-loop
 loop-less c = search needs
 
--- src/interfaces.rt:158:5
 loop-again : tie.Need-loop-again Inv-loop μ-loop
 loop-again c = (omega arith, up-fill _ _ _ (c .before .before .loop .inv .1) (c .port-or-0 .ensures), simp length-set (c .before .before .loop .inv .2))
 
--- src/interfaces.rt:151:1
 returns : tie.Need-returns Inv-loop μ-loop
 returns c = up-done _ _ (c .before .loop .inv .1) (omega arith) ∙ found-homes (c .before .before .before .before .args .h) (c .before .before .before .before .args .joints .now) (c .before .before .before .before .pre .0) (c .before .before .before .before .pre .1) (c .before .before .before .before .pre .2) (c .before .before .before .found .result) (c .before .before .before .found .ensures)
 

@@ -1,16 +1,12 @@
 use Rattle.plan.specs.Found.{markOf}
-use borrow.Author.Tests.{eq-eqb, ne-eqb, lt-ltb, le-ltb, not-true, not-false}
+use borrow.Author.Tests.{eq-eqb, ne-eqb}
 use Rattle.plan.proofs.interfaces.mark.Statement.{statement}
 use Rattle.plan.proofs.interfaces.mark.Tie as tie
-use Rattle.plan.proofs.interfaces.mark.Reads as reads
-use Rattle.plan.proofs.interfaces.mark.Lts as lts
 
--- src/interfaces.rt:106:1
 returns : tie.Need-returns
 unfolding markOf
 returns c = simp (eq-eqb _ _ (c .if1 .taken))
 
--- src/interfaces.rt:106:1
 returns-2 : tie.Need-returns-2
 unfolding markOf
 returns-2 c = simp (ne-eqb _ _ (c .if1 .left))

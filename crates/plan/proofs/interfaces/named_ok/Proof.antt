@@ -3,18 +3,14 @@ use Rattle.plan.specs.declared.Head.{Head}
 use Rattle.plan.specs.Tables.{tablePlan}
 use Rattle.plan.specs.Rules.{backOk, jointOfPort, namedOk}
 use Rattle.basis.specs.Bounded.{allBelow, all-none, all-more, all-fail, all-done}
-use borrow.Author.Tests.{eq-eqb, ne-eqb, lt-ltb, le-ltb, not-true, not-false}
+use borrow.Author.Tests.{not-true, not-false}
 use native.Mathlib.Omega.{arith}
-use lib.ListN.{length, getD, set, length-set}
-use Prim.Native.Nat.{ℕ, _≤_, _<_, _-_, _+_, _*_, _/_}
-use mathlib.Core.List.{List, []}
-use mathlib.Core.Bool.{true, false}
-use mathlib.Core.Path.{_≡_, _∙_, sym, ap}
+use Prim.Native.Nat.{_≤_, _-_}
+use mathlib.Core.List.{[]}
+use mathlib.Core.Bool.{true}
+use mathlib.Core.Path.{_≡_, sym}
 use Rattle.plan.proofs.interfaces.named_ok.Statement.{statement}
 use Rattle.plan.proofs.interfaces.named_ok.Tie as tie
-use Rattle.plan.proofs.interfaces.named_ok.Reads as reads
-use Rattle.plan.proofs.interfaces.named_ok.Lts as lts
-use Rattle.plan.proofs.interfaces.back_ok.Reads as back-ok-reads
 
 abbrev Inv-loop : tie.InvT-loop
 Inv-loop joints n i₀ i = (i ≤ n) × ((h : Head) → allBelow i (λ k. backOk (tablePlan h [] joints) k (jointOfPort (tablePlan h [] joints) k)) ≡ true)
@@ -22,36 +18,28 @@ Inv-loop joints n i₀ i = (i ≤ n) × ((h : Head) → allBelow i (λ k. backOk
 abbrev μ-loop : tie.MeasureT-loop
 μ-loop joints n i₀ i = n - i
 
--- src/interfaces.rt:40:13
 mul-n : tie.Need-mul-n Inv-loop μ-loop
 mul-n c = search needs
 
--- src/interfaces.rt:41:5
 loop-holds : tie.Need-loop-holds Inv-loop μ-loop
 loop-holds c = (search needs, λ h. all-none _)
 
--- src/interfaces.rt:42:13
 back-ok-requires : tie.Need-back-ok-requires Inv-loop μ-loop
 back-ok-requires c κs = search needs
 
--- src/interfaces.rt:43:13
 returns : tie.Need-returns Inv-loop μ-loop
 unfolding namedOk tablePlan
 returns c = sym (all-fail _ _ (c .before .before .before .loop .i) (c .before .before .loop-test .taken) (c .before .back-ok .ensures (c .before .before .before .before .before .args .h)) (not-true _ (c .if1 .taken)))
 
--- src/interfaces.rt:41:9
 add-i : tie.Need-add-i Inv-loop μ-loop
 add-i c = search needs
 
--- src/interfaces.rt:41:5
 loop-less : tie.Need-loop-less Inv-loop μ-loop
 loop-less c = search needs
 
--- src/interfaces.rt:41:5
 loop-again : tie.Need-loop-again Inv-loop μ-loop
 loop-again c = (search needs, λ h. all-more _ _ (c .before .before .before .loop .inv .1 h) (c .before .back-ok .ensures h) (not-false _ (c .if1 .left)))
 
--- src/interfaces.rt:36:1
 returns-2 : tie.Need-returns-2 Inv-loop μ-loop
 unfolding namedOk tablePlan
 returns-2 c = sym (all-done _ (c .before .loop .inv .1 (c .before .before .before .args .h)) (omega arith))

@@ -6,17 +6,10 @@ use Rattle.plan.specs.declared.Ports.the-variants.{Missing}
 use Rattle.plan.specs.Found.{toldOf}
 use Rattle.basis.specs.Fold.{upTo, up-none, up-more, up-done}
 use native.Mathlib.Omega.{arith}
-use lib.ListN.{length, getD, set, length-set}
-use Prim.Native.Nat.{ℕ, _≤_, _<_, _-_, _+_, _*_, _/_}
-use mathlib.Core.List.{List, []}
-use mathlib.Core.Bool.{true, false}
-use mathlib.Core.Path.{_≡_, _∙_, sym, ap}
+use Prim.Native.Nat.{_≤_, _-_}
+use mathlib.Core.Path.{_≡_, _∙_}
 use Rattle.plan.proofs.interfaces.ports.Statement.{statement}
 use Rattle.plan.proofs.interfaces.ports.Tie as tie
-use Rattle.plan.proofs.interfaces.ports.Reads as reads
-use Rattle.plan.proofs.interfaces.ports.Lts as lts
-use Rattle.plan.proofs.interfaces.told.Reads as told-reads
-use Rattle.plan.proofs.interfaces.wanted.Reads as wanted-reads
 
 abbrev Inv-loop : tie.InvT-loop
 Inv-loop joints d n w count₀ at₀ i₀ count at i = (i ≤ n) × (count ≤ i) × (toldOf count at ≡ upTo (hitStep joints w) i Missing)
@@ -24,35 +17,27 @@ Inv-loop joints d n w count₀ at₀ i₀ count at i = (i ≤ n) × (count ≤ i
 abbrev μ-loop : tie.MeasureT-loop
 μ-loop joints d n w count₀ at₀ i₀ count at i = n - i
 
--- src/interfaces.rt:75:13
 mul-n : tie.Need-mul-n Inv-loop μ-loop
 mul-n c = search needs
 
--- src/interfaces.rt:76:9
 wanted-requires : tie.Need-wanted-requires Inv-loop μ-loop
 wanted-requires c κs = search needs
 
--- src/interfaces.rt:79:5
 loop-holds : tie.Need-loop-holds Inv-loop μ-loop
 loop-holds c = (omega arith, omega arith, told-none _ ∙ up-none _ _)
 
--- src/interfaces.rt:80:17
 element-copy-out-v : tie.Need-element-copy-out-v Inv-loop μ-loop
 element-copy-out-v c = search needs
 
--- src/interfaces.rt:82:13
 add-count : tie.Need-add-count Inv-loop μ-loop
 add-count c = search needs
 
--- src/interfaces.rt:79:9
 add-i : tie.Need-add-i Inv-loop μ-loop
 add-i c = search needs
 
--- src/interfaces.rt:79:5
 loop-less : tie.Need-loop-less Inv-loop μ-loop
 loop-less c = search needs
 
--- src/interfaces.rt:79:5
 loop-again : tie.Need-loop-again Inv-loop μ-loop
 loop-again c = let js = c .before .before .before .before .before .before .args .joints .now in
     let w = c .before .before .before .before .wanted .result in
@@ -62,11 +47,9 @@ loop-again c = let js = c .before .before .before .before .before .before .args 
     (λ k. (omega arith, omega arith, up-more _ _ _ (l .inv .2) (ap₂ toldOf (k .1) (k .2) ∙ miss js w (l .count) (l .at) (l .i) (k .0 .left))))
     (c .if1 .came)
 
--- src/interfaces.rt:86:5
 told-requires : tie.Need-told-requires Inv-loop μ-loop
 told-requires c κs = search needs
 
--- src/interfaces.rt:71:1
 returns : tie.Need-returns Inv-loop μ-loop
 returns c = c .told .ensures ∙ up-done _ _ (c .before .before .loop .inv .2) (omega arith) ∙ ports-hit (c .before .before .before .before .before .args .h) (c .before .before .before .before .before .args .joints .now) (c .before .before .before .before .before .pre .0) (c .before .before .before .before .before .pre .1) (c .before .before .before .before .before .pre .2) (c .before .before .before .before .before .args .d) _ (c .before .before .before .before .before .pre .3) (c .before .before .before .wanted .ensures)
 

@@ -1,21 +1,16 @@
 use Rattle.plan.specs.Found.{toldOf}
-use borrow.Author.Tests.{eq-eqb, ne-eqb, lt-ltb, le-ltb, not-true, not-false}
+use borrow.Author.Tests.{eq-eqb, ne-eqb}
 use Rattle.plan.proofs.interfaces.told.Statement.{statement}
 use Rattle.plan.proofs.interfaces.told.Tie as tie
-use Rattle.plan.proofs.interfaces.told.Reads as reads
-use Rattle.plan.proofs.interfaces.told.Lts as lts
 
--- src/interfaces.rt:62:9
 returns : tie.Need-returns
 unfolding toldOf
 returns c = simp (eq-eqb _ _ (c .if1 .taken))
 
--- src/interfaces.rt:65:9
 returns-2 : tie.Need-returns-2
 unfolding toldOf
 returns-2 c = simp (ne-eqb _ _ (c .before .if1 .left), eq-eqb _ _ (c .if2 .taken))
 
--- src/interfaces.rt:58:1
 returns-3 : tie.Need-returns-3
 unfolding toldOf
 returns-3 c = simp (ne-eqb _ _ (c .before .if1 .left), ne-eqb _ _ (c .if2 .left))

@@ -1,33 +1,25 @@
 use Rattle.plan.specs.Found.{wantedOf}
-use borrow.Author.Tests.{eq-eqb, ne-eqb, lt-ltb, le-ltb, not-true, not-false}
+use borrow.Author.Tests.{lt-ltb, le-ltb}
 use borrow.Author.Needs.{needs}
 use Rattle.plan.proofs.interfaces.wanted.Statement.{statement}
 use Rattle.plan.proofs.interfaces.wanted.Tie as tie
-use Rattle.plan.proofs.interfaces.wanted.Reads as reads
-use Rattle.plan.proofs.interfaces.wanted.Lts as lts
 
--- src/interfaces.rt:54:23
 add-result : tie.Need-add-result
 add-result c = search needs
 
--- src/interfaces.rt:54:22
 cast-result : tie.Need-cast-result
 cast-result c = search needs
 
--- src/interfaces.rt:54:47
 add-result-2 : tie.Need-add-result-2
 add-result-2 c = search needs
 
--- src/interfaces.rt:54:46
 cast-result-2 : tie.Need-cast-result-2
 cast-result-2 c = search needs
 
--- src/interfaces.rt:50:1
 returns : tie.Need-returns
 unfolding wantedOf
 returns c = simp (lt-ltb _ _ (c .if1 .taken))
 
--- src/interfaces.rt:50:1
 returns-2 : tie.Need-returns-2
 unfolding wantedOf
 returns-2 c = simp (le-ltb _ _ (c .if1 .left))

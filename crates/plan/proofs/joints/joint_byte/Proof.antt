@@ -5,43 +5,31 @@ use Rattle.plan.proofs.Bytes.{joint-is}
 use borrow.Author.Needs.{needs}
 use Rattle.plan.proofs.joints.joint_byte.Statement.{statement}
 use Rattle.plan.proofs.joints.joint_byte.Tie as tie
-use Rattle.plan.proofs.joints.joint_byte.Reads as reads
-use Rattle.plan.proofs.joints.joint_byte.Lts as lts
-use Rattle.fields.proofs.byte_or_zero.Reads as byte-or-zero-reads
 
--- src/joints.rt:17:43
 add-byte-or-zero : tie.Need-add-byte-or-zero
 add-byte-or-zero c = search needs
 
--- src/joints.rt:17:9
 byte-or-zero-requires : tie.Need-byte-or-zero-requires
 byte-or-zero-requires c κs = search needs
 
--- src/joints.rt:18:42
 add-byte-or-zero-2 : tie.Need-add-byte-or-zero-2
 add-byte-or-zero-2 c = search needs
 
--- src/joints.rt:18:42
 add-byte-or-zero-3 : tie.Need-add-byte-or-zero-3
 add-byte-or-zero-3 c = search needs
 
--- src/joints.rt:18:9
 byte-or-zero-requires-2 : tie.Need-byte-or-zero-requires-2
 byte-or-zero-requires-2 c κs = search needs
 
--- src/joints.rt:19:6
 mul-result : tie.Need-mul-result
 mul-result c = search needs
 
--- src/joints.rt:19:6
 add-result : tie.Need-add-result
 add-result c = search needs
 
--- src/joints.rt:19:5
 cast-result : tie.Need-cast-result
 cast-result c = omega (arith, c .before .before .shared-slice-known .given (6 + c .before .before .before .args .i))
 
--- src/joints.rt:13:1
 returns : tie.Need-returns
 returns c = let a = c .before .before .before .args in
     let low : getD (a .plan .now) (6 + a .i) 0 < 256 = omega (arith, c .before .before .shared-slice-known .given (6 + a .i)) in

@@ -4,29 +4,22 @@ use borrow.Author.Tests.{eq-eqb, ne-eqb}
 use borrow.Author.Needs.{needs}
 use Rattle.plan.proofs.joints.joint_byte_ok.Statement.{statement}
 use Rattle.plan.proofs.joints.joint_byte_ok.Tie as tie
-use Rattle.plan.proofs.joints.joint_byte_ok.Reads as reads
-use Rattle.plan.proofs.joints.joint_byte_ok.Lts as lts
 
--- src/joints.rt:40:18
 cast-number : tie.Need-cast-number
 cast-number c = search needs
 
--- src/joints.rt:43:9
 returns : tie.Need-returns
 unfolding jointByteOk jointOk
 returns c = simp (eq-eqb _ _ (c .if1 .taken))
 
--- src/joints.rt:46:9
 returns-2 : tie.Need-returns-2
 unfolding jointByteOk jointOk
 returns-2 c = simp (ne-eqb _ _ (c .before .before .if1 .left), eq-eqb _ _ (c .before .if2 .taken))
 
--- src/joints.rt:49:9
 returns-3 : tie.Need-returns-3
 unfolding jointByteOk jointOk
 returns-3 c = simp (ne-eqb _ _ (c .before .before .before .if1 .left), ne-eqb _ _ (c .before .before .if2 .left), eq-eqb _ _ (c .before .if3 .taken))
 
--- src/joints.rt:36:1
 returns-4 : tie.Need-returns-4
 unfolding jointByteOk jointOk
 returns-4 c = simp (ne-eqb _ _ (c .before .before .before .if1 .left), ne-eqb _ _ (c .before .before .if2 .left), ne-eqb _ _ (c .before .if3 .left))

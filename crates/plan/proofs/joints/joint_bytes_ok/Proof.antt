@@ -3,15 +3,12 @@ use Rattle.plan.specs.Tables.{jointByteOk, jointBytesOk}
 use Rattle.basis.specs.Bounded.{allBelow, all-none, all-more, all-fail, all-done}
 use borrow.Author.Tests.{not-true, not-false}
 use native.Mathlib.Omega.{arith}
-use lib.ListN.{length, getD, length-set}
-use Prim.Native.Nat.{ℕ, _≤_, _-_, _+_, _*_}
-use mathlib.Core.Bool.{true, false}
-use mathlib.Core.Path.{_≡_, _∙_, sym, ap}
+use lib.ListN.{getD}
+use Prim.Native.Nat.{_≤_, _-_}
+use mathlib.Core.Bool.{true}
+use mathlib.Core.Path.{_≡_, sym}
 use Rattle.plan.proofs.joints.joint_bytes_ok.Statement.{statement}
 use Rattle.plan.proofs.joints.joint_bytes_ok.Tie as tie
-use Rattle.plan.proofs.joints.joint_bytes_ok.Reads as reads
-use Rattle.plan.proofs.joints.joint_bytes_ok.Lts as lts
-use Rattle.plan.proofs.joints.joint_byte_ok.Reads as joint-byte-ok-reads
 
 abbrev Inv-loop : tie.InvT-loop
 Inv-loop h joints n i₀ i = (i ≤ n) × (allBelow i (λ k. jointByteOk h (getD joints k 0)) ≡ true)
@@ -19,40 +16,31 @@ Inv-loop h joints n i₀ i = (i ≤ n) × (allBelow i (λ k. jointByteOk h (getD
 abbrev μ-loop : tie.MeasureT-loop
 μ-loop h joints n i₀ i = n - i
 
--- src/joints.rt:59:13
 mul-n : tie.Need-mul-n Inv-loop μ-loop
 mul-n c = search needs
 
--- src/joints.rt:60:5
 loop-holds : tie.Need-loop-holds Inv-loop μ-loop
 loop-holds c = (search needs, all-none _)
 
--- src/joints.rt:61:17
 element-copy-out-v : tie.Need-element-copy-out-v Inv-loop μ-loop
 element-copy-out-v c = search needs
 
--- src/joints.rt:62:13
 joint-byte-ok-requires : tie.Need-joint-byte-ok-requires Inv-loop μ-loop
 joint-byte-ok-requires c κs = search needs
 
--- src/joints.rt:63:13
 returns : tie.Need-returns Inv-loop μ-loop
 unfolding jointBytesOk
 returns c = sym (all-fail _ _ (c .before .before .before .before .loop .i) (c .before .before .before .loop-test .taken) (c .before .joint-byte-ok .ensures) (not-true _ (c .if1 .taken)))
 
--- src/joints.rt:60:9
 add-i : tie.Need-add-i Inv-loop μ-loop
 add-i c = search needs
 
--- src/joints.rt:60:5
 loop-less : tie.Need-loop-less Inv-loop μ-loop
 loop-less c = search needs
 
--- src/joints.rt:60:5
 loop-again : tie.Need-loop-again Inv-loop μ-loop
 loop-again c = (search needs, all-more _ _ (c .before .before .before .before .loop .inv .1) (c .before .joint-byte-ok .ensures) (not-false _ (c .if1 .left)))
 
--- src/joints.rt:55:1
 returns-2 : tie.Need-returns-2 Inv-loop μ-loop
 unfolding jointBytesOk
 returns-2 c = sym (all-done _ (c .before .loop .inv .1) (omega arith))

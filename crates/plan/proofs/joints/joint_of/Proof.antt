@@ -3,33 +3,25 @@ use borrow.Author.Tests.{eq-eqb, ne-eqb}
 use borrow.Author.Needs.{needs}
 use Rattle.plan.proofs.joints.joint_of.Statement.{statement}
 use Rattle.plan.proofs.joints.joint_of.Tie as tie
-use Rattle.plan.proofs.joints.joint_of.Reads as reads
-use Rattle.plan.proofs.joints.joint_of.Lts as lts
 
--- src/joints.rt:74:18
 cast-number : tie.Need-cast-number
 cast-number c = search needs
 
--- src/joints.rt:76:38
 cast-t8 : tie.Need-cast-t8
 cast-t8 c = search needs
 
--- src/joints.rt:76:9
 returns : tie.Need-returns
 unfolding jointOfByte
 returns c = simp (eq-eqb _ _ (c .if1 .taken))
 
--- src/joints.rt:79:9
 returns-2 : tie.Need-returns-2
 unfolding jointOfByte
 returns-2 c = simp (ne-eqb _ _ (c .before .if1 .left), eq-eqb _ _ (c .if2 .taken))
 
--- src/joints.rt:82:9
 returns-3 : tie.Need-returns-3
 unfolding jointOfByte
 returns-3 c = simp (ne-eqb _ _ (c .before .before .if1 .left), ne-eqb _ _ (c .before .if2 .left), eq-eqb _ _ (c .if3 .taken))
 
--- src/joints.rt:70:1
 returns-4 : tie.Need-returns-4
 unfolding jointOfByte
 returns-4 c = simp (ne-eqb _ _ (c .before .before .if1 .left), ne-eqb _ _ (c .before .if2 .left), ne-eqb _ _ (c .if3 .left))

@@ -2,10 +2,7 @@ use borrow.Author.Needs.{needs}
 use Rattle.plan.specs.Rules.{routeOk}
 use Rattle.plan.proofs.routes.route_ok.Statement.{statement}
 use Rattle.plan.proofs.routes.route_ok.Tie as tie
-use Rattle.plan.proofs.routes.route_ok.Reads as reads
-use Rattle.plan.proofs.routes.route_ok.Lts as lts
 
--- src/routes.rt:43:1
 returns : tie.Need-returns
 unfolding routeOk
 returns c = search needs

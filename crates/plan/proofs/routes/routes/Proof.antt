@@ -3,16 +3,11 @@ use Rattle.plan.specs.Tables.{rowOf, routesOf}
 use Rattle.basis.specs.Fold.{upTo, fill, up-none, up-fill, up-done}
 use native.Mathlib.Nat.{mul-le-mul-right}
 use native.Mathlib.Omega.{arith}
-use lib.ListN.{length, getD, length-set}
-use Prim.Native.Nat.{ℕ, _≤_, _-_, _+_, _*_}
-use mathlib.Core.List.{List, []}
-use mathlib.Core.Bool.{true, false}
-use mathlib.Core.Path.{_≡_, _∙_, sym, ap}
+use lib.ListN.{length, length-set}
+use Prim.Native.Nat.{_≤_, _-_, _+_, _*_}
+use mathlib.Core.Path.{_≡_}
 use Rattle.plan.proofs.routes.routes.Statement.{statement}
 use Rattle.plan.proofs.routes.routes.Tie as tie
-use Rattle.plan.proofs.routes.routes.Reads as reads
-use Rattle.plan.proofs.routes.routes.Lts as lts
-use Rattle.plan.proofs.routes.row.Reads as row-reads
 
 abbrev Inv-loop : tie.InvT-loop
 Inv-loop plan n at routers t₀ r₀ t r = (r ≤ routers) × (t ≡ upTo (fill (λ k. rowOf plan n (at + 3 * (n * k)))) r t₀) × (length t ≡ 16)
@@ -20,59 +15,45 @@ Inv-loop plan n at routers t₀ r₀ t r = (r ≤ routers) × (t ≡ upTo (fill 
 abbrev μ-loop : tie.MeasureT-loop
 μ-loop plan n at routers t₀ r₀ t r = routers - r
 
--- src/routes.rt:32:13
 add-n : tie.Need-add-n Inv-loop μ-loop
 add-n c = search needs
 
--- src/routes.rt:33:26
 mul-at : tie.Need-mul-at Inv-loop μ-loop
 mul-at c = search needs
 
--- src/routes.rt:33:14
 add-at : tie.Need-add-at Inv-loop μ-loop
 add-at c = search needs
 
--- src/routes.rt:36:5
 loop-holds : tie.Need-loop-holds Inv-loop μ-loop
 loop-holds c = (omega arith, up-none _ _, search needs)
 
--- src/routes.rt:37:48
 mul-row : tie.Need-mul-row Inv-loop μ-loop
 mul-row c = let h : c .before .before .before .before .before .args .h .actives + c .before .before .before .before .before .args .h .passives ≤ 32 = omega arith in omega (arith, mul-le-mul-right (c .before .loop .r) h)
 
--- src/routes.rt:37:34
 mul-row-2 : tie.Need-mul-row-2 Inv-loop μ-loop
 mul-row-2 c = let h : c .before .before .before .before .before .args .h .actives + c .before .before .before .before .before .args .h .passives ≤ 32 = omega arith in omega (arith, mul-le-mul-right (c .before .loop .r) h)
 
--- src/routes.rt:37:29
 add-row : tie.Need-add-row Inv-loop μ-loop
 add-row c = let h : c .before .before .before .before .before .args .h .actives + c .before .before .before .before .before .args .h .passives ≤ 32 = omega arith in omega (arith, mul-le-mul-right (c .before .loop .r) h)
 
--- src/routes.rt:37:16
 row-requires : tie.Need-row-requires Inv-loop μ-loop
 row-requires c κs = let h : c .before .before .before .before .before .args .h .actives + c .before .before .before .before .before .args .h .passives ≤ 32 = omega arith in omega (arith, mul-le-mul-right (c .before .loop .r) h)
 
--- src/routes.rt:37:9
 mul-t : tie.Need-mul-t Inv-loop μ-loop
 mul-t c = search needs
 
--- src/routes.rt:37:9
 array-set-from-t : tie.Need-array-set-from-t Inv-loop μ-loop
 array-set-from-t c = search needs
 
--- src/routes.rt:36:9
 add-r : tie.Need-add-r Inv-loop μ-loop
 add-r c = search needs
 
--- src/routes.rt:36:5
 loop-less : tie.Need-loop-less Inv-loop μ-loop
 loop-less c = search needs
 
--- src/routes.rt:36:5
 loop-again : tie.Need-loop-again Inv-loop μ-loop
 loop-again c = (omega arith, up-fill _ _ _ (c .before .before .loop .inv .1) (c .row .ensures), simp length-set (c .before .before .loop .inv .2))
 
--- src/routes.rt:28:1
 returns : tie.Need-returns Inv-loop μ-loop
 unfolding routesOf
 returns c = up-done _ _ (c .before .loop .inv .1) (omega arith)

@@ -1,0 +1,55 @@
+-- '*WRITE*: each picked head enters its wire, its queue's flag rises (none for out-queues), the next queue's credit falls by one, choices are
+-- cleared. The slot grows by one modulo S.' 'The handled mark goes when that head leaves or ends'.
+use mathlib.Core.Bool.{Bool, true, false}
+use mathlib.Core.List.{List, [], _∷_}
+use mathlib.Core.Option.{Option, none, some}
+use Prim.Native.Nat.{ℕ, zero, suc}
+use Rattle.basis.specs.Fold.{upTo}
+use Rattle.packets.specs.declared.Packet.{Packet}
+use Rattle.packets.specs.declared.Wire.the-variants.{Full}
+use Rattle.packets.specs.declared.Phase.the-variants.{Read}
+use Rattle.packets.specs.Counters.{slotNext, creditDown}
+use Rattle.plan.specs.Plan.{Plan, S}
+use Rattle.feeding.specs.Queue.{Queue, activeOut, activeIn, passiveIn, passiveOut, U, Q, F, K}
+use Rattle.feeding.specs.Feeds.{Output}
+use Rattle.machine.specs.Outputs.{nextBy, senders, outputs, outputAt}
+use Rattle.machine.specs.State.{State, Choice, nobody, sender, withPhase, withSlot, withQueue, withWire, withCredit, withFlag, withHandled, withChoice}
+
+-- the sender of a rank
+abbrev pub ofRank : List Queue → ℕ → Option Queue
+ofRank [] k = none
+ofRank (q ∷ qs) zero = some q
+ofRank (q ∷ qs) (suc k) = ofRank qs k
+
+-- 'none for out-queues'
+abbrev pub raise : Queue → State → State
+raise (activeOut x) s = s
+raise (passiveOut x) s = s
+raise (activeIn x) s = withFlag (activeIn x) true s
+raise (passiveIn x) s = withFlag (passiveIn x) true s
+raise (U r i) s = withFlag (U r i) true s
+raise (Q r) s = withFlag (Q r) true (withHandled (Q r) false s)
+raise (F r o) s = withFlag (F r o) true s
+raise (K r i o) s = withFlag (K r i o) true s
+
+abbrev pub spend : Option Queue → State → State
+spend none s = s
+spend (some q) s = withCredit q (creditDown (s .credit q)) s
+
+unfoldable pub sendHead : Plan → Output → Queue → List Packet → State → State
+sendHead pl o q [] s = s
+sendHead pl o q (x ∷ rest) s = withWire o (Full x) (spend (nextBy pl o x) (raise q (withQueue q rest s)))
+
+abbrev pub sendFrom : Plan → Output → Option Queue → State → State
+sendFrom pl o none s = s
+sendFrom pl o (some q) s = sendHead pl o q (s .queue q) s
+
+unfoldable pub sendBy : Plan → Output → Choice → State → State
+sendBy pl o nobody s = s
+sendBy pl o (sender k) s = withChoice o nobody (sendFrom pl o (ofRank (senders o) k) s)
+
+unfoldable pub send : Plan → Output → State → State
+send pl o s = sendBy pl o (s .choice o) s
+
+unfoldable pub doWrite : Plan → State → State
+doWrite pl s = withPhase Read (withSlot (slotNext (s .slot) (S pl)) (upTo (λ n. send pl (outputAt pl n)) (outputs pl) s))

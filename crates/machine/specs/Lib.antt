@@ -6,3 +6,4 @@ pub mod Execute
 pub mod Write
 pub mod Calls
 pub mod Accepted
+pub mod Valid

@@ -17,12 +17,6 @@ impl Tally {
     pub fn plans(&self) -> usize {
         self.answers.iter().sum()
     }
-
-    /// Adds another one's counts.
-    pub fn add(&mut self, other: &Tally) {
-        self.answers.iter_mut().zip(other.answers).for_each(|(count, more)| *count += more);
-        self.walks.iter_mut().zip(other.walks).for_each(|(count, more)| *count += more);
-    }
 }
 
 /// Compares Load and the walks on these bytes; panics where the two differ or a byte changed.

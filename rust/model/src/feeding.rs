@@ -15,7 +15,7 @@ pub enum Queue {
     PassiveIn(usize),
     /// A passive's out-queue.
     PassiveOut(usize),
-    /// U[from] of a router: "system packets from side i, for the unit".
+    /// `U[from]` of a router: "system packets from side i, for the unit".
     U {
         /// The router.
         router: usize,
@@ -27,14 +27,14 @@ pub enum Queue {
         /// The router.
         router: usize,
     },
-    /// F[to] of a router: "from unit to side o".
+    /// `F[to]` of a router: "from unit to side o".
     F {
         /// The router.
         router: usize,
         /// The side its packets leave by.
         to: usize,
     },
-    /// K[from,to] of a router: "answers crossing".
+    /// `K[from,to]` of a router: "answers crossing".
     K {
         /// The router.
         router: usize,
@@ -45,7 +45,7 @@ pub enum Queue {
     },
 }
 
-/// Numbers of the queues of one router: U, Q, F, K[i,o] (K[i,i] has a number and is never used).
+/// Numbers of the queues of one router: U, Q, F, K (`K[i,i]` has a number and is never used).
 const PER_ROUTER: usize = SIDES + 1 + SIDES + SIDES * SIDES;
 
 impl Queue {

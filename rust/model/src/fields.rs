@@ -21,13 +21,13 @@ pub struct Capacities {
     pub active_out: usize,
     /// Of each active's in-queue.
     pub active_in: usize,
-    /// Of each U[i].
+    /// Of each `U[i]`.
     pub u: usize,
     /// Of each Q.
     pub q: usize,
-    /// Of each F[o].
+    /// Of each `F[o]`.
     pub f: usize,
-    /// Of each K[i,o].
+    /// Of each `K[i,o]`.
     pub k: usize,
     /// Of each passive's in-queue.
     pub passive_in: usize,

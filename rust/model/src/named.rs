@@ -1,4 +1,4 @@
-//! Plans with a name; `all` lists them, and broken ones, with the answer document 01 gives for each.
+//! Plans with a name; `all` lists them, and broken ones, each with the answer of document 01.
 
 use crate::generate::{rings, Draft};
 

@@ -1,10 +1,10 @@
 //! Demand 3 on random plans and random lists of calls.
 
 use model::generate::calls::Caller;
-use model::generate::{good, Random};
+use model::generate::{good, Draft, Random};
 use model::machine::claims::Claims;
 use model::machine::{Answer, Call, Hub, Kind, Network};
-use model::named;
+use model::{named, Plan};
 
 /// What a run met, so that a run without traffic is not taken for a good one.
 #[derive(Debug, Default)]
@@ -23,6 +23,18 @@ struct Met {
 
 /// A list of `count` calls from start, each claim tested after each call.
 fn run(random: &mut Random, network: &Network, count: usize, met: &mut Met) {
+    if let Err(fault) = try_run(random, network, count, met) {
+        panic!("{fault}\nplan {:02X?}", network.plan().encode());
+    }
+}
+
+/// The same; the first claim that fails is given back.
+fn try_run(
+    random: &mut Random,
+    network: &Network,
+    count: usize,
+    met: &mut Met,
+) -> Result<(), String> {
     let mut caller = Caller::new(random, network);
     let mut state = network.start();
     let mut claims = Claims::new(network, &state);
@@ -30,10 +42,9 @@ fn run(random: &mut Random, network: &Network, count: usize, met: &mut Met) {
         let call = caller.next(random, network, &state);
         let before = state.clone();
         let answer = network.call(&mut state, call);
-        if let Err(fault) = claims.after(call, answer, &before, &state) {
-            let plan = network.plan().encode();
-            panic!("{fault}\nafter {call:?} with {answer:?}\nplan {plan:02X?}\nbefore {before:?}");
-        }
+        claims.after(call, answer, &before, &state).map_err(|fault| {
+            format!("{fault}, after {call:?} with {answer:?}\nbefore {before:?}")
+        })?;
         met.note(call, answer);
         if call == Call::Execute && answer.is_ok() {
             let ended = |q: &usize| state.queues[*q].len() < before.queues[*q].len();
@@ -42,6 +53,7 @@ fn run(random: &mut Random, network: &Network, count: usize, met: &mut Met) {
     }
     met.tables_compared += claims.tables_compared;
     met.longest_wait = met.longest_wait.max(claims.longest_wait);
+    Ok(())
 }
 
 impl Met {
@@ -102,4 +114,32 @@ fn random_lists_on_named_plans() {
         }
     }
     println!("{met:?}");
+}
+
+/// Whether a plan with a ring, run all the same, comes to stand still: then the ring rule is needed,
+/// and these lists find what breaks progress.
+fn stands_still(mut draft: Draft) -> bool {
+    draft.capacities([7, 7, 1, 1, 1, 1, 7, 7]);
+    draft.fields_mut().slots = 32;
+    let plan = Plan::join(draft.fields().clone()).expect("its joints fit");
+    assert_eq!(Plan::load(&plan.encode()).err(), Some(6));
+    let network = Network::of(plan);
+    let mut random = Random::new(33);
+    let mut met = Met::default();
+    let fault = (0..50).find_map(|_| try_run(&mut random, &network, 2_000, &mut met).err());
+    fault.is_some_and(|fault| fault.starts_with("S whole rounds went by without a move"))
+}
+
+/// Two crossing routers whose own actives come before the other router at the unit.
+fn crossing_with_actives_first() -> Draft {
+    let mut draft = Draft::new(2, 2, 1);
+    draft.active(0, 0).passive(0, 1).active(1, 0).passive(1, 1).join((0, 2), (1, 2));
+    draft.shortest_routes();
+    draft
+}
+
+#[test]
+fn rings_stand_still() {
+    assert!(stands_still(crossing_with_actives_first()));
+    assert!(stands_still(named::answers_ring()));
 }

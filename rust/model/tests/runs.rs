@@ -22,7 +22,7 @@ impl Run {
     }
 
     /// Read and Execute: the round's WRITE comes next.
-    fn to_write(&mut self) {
+    fn run_to_write(&mut self) {
         assert_eq!(self.network.read(&mut self.state), Ok(()));
         assert_eq!(self.network.execute(&mut self.state), Ok(()));
     }
@@ -31,12 +31,13 @@ impl Run {
     fn end(&mut self) {
         assert_eq!(self.network.write(&mut self.state), Ok(()));
         self.round += 1;
+        assert!(self.round < 100, "what was waited for does not come");
     }
 
     /// Whole rounds up to the start of that one.
     fn up_to(&mut self, round: usize) {
         while self.round < round {
-            self.to_write();
+            self.run_to_write();
             self.end();
         }
     }
@@ -81,22 +82,22 @@ fn launch_in_round_0() {
     assert_eq!((run.entry(0, 1, 0), run.entry(0, 1, 1)), (0, 4));
     run.end();
     // "Waits at the passive from round 4."
-    run.to_write();
+    run.run_to_write();
     assert_eq!(run.queue(Queue::PassiveIn(0)), []);
     assert_eq!(run.reply(0, 1), Err(13));
     run.end();
-    run.to_write();
+    run.run_to_write();
     assert_eq!(run.queue(Queue::PassiveIn(0)), [packet(Kind::Setup, 1, 1)]);
     // "Accepted there."
     assert_eq!(run.reply(0, 1), Ok(()));
     run.end();
     // "Consumed in round 7 with slot 1, hub 1", and not before.
     while run.round < 7 {
-        run.to_write();
+        run.run_to_write();
         assert_eq!(run.consume(0), Err(13));
         run.end();
     }
-    run.to_write();
+    run.run_to_write();
     assert_eq!(run.consume(0), Ok(packet(Kind::Ack, 1, 1)));
     assert!(run.no_packets());
     assert_eq!((run.entry(0, 1, 0), run.entry(0, 1, 1)), (0, 4));
@@ -109,17 +110,17 @@ fn launch_in_round_1() {
     assert_eq!(run.launch(0, 0, 0), Ok(()));
     run.up_to(4);
     // "F[1] waits in round 4 (slot 0 booked)."
-    run.to_write();
+    run.run_to_write();
     assert_eq!((run.state.slot, run.entry(0, 1, 0)), (Slot(0), 0));
     assert_eq!(run.queue(TO_PASSIVE), [packet(Kind::Setup, 1, 1)]);
     assert!(run.state.choices.iter().all(Option::is_none));
     run.end();
-    run.to_write();
+    run.run_to_write();
     assert_eq!(run.queue(TO_PASSIVE), [packet(Kind::Setup, 1, 1)]);
     assert_eq!(run.queue(Queue::PassiveIn(0)), []);
     run.end();
     // "Reaches the passive in round 6."
-    run.to_write();
+    run.run_to_write();
     assert_eq!(run.queue(TO_PASSIVE), []);
     assert_eq!(run.queue(Queue::PassiveIn(0)), [packet(Kind::Setup, 1, 1)]);
 }
@@ -129,11 +130,11 @@ fn after_the_first_ack() -> Run {
     let mut run = Run::new(&named::T);
     assert_eq!(run.launch(0, 0, 0), Ok(()));
     run.up_to(4);
-    run.to_write();
+    run.run_to_write();
     assert_eq!(run.reply(0, 1), Ok(()));
     run.end();
     run.up_to(7);
-    run.to_write();
+    run.run_to_write();
     assert_eq!(run.consume(0), Ok(packet(Kind::Ack, 1, 1)));
     run.end();
     run
@@ -144,13 +145,12 @@ fn last_free_entry_is_declined() {
     let mut run = after_the_first_ack();
     assert_eq!(run.launch(0, 0, 1), Ok(()));
     let nack = loop {
-        run.to_write();
+        run.run_to_write();
         match run.consume(0) {
             Ok(packet) => break packet,
             Err(refusal) => assert_eq!(refusal, 13),
         }
         run.end();
-        assert!(run.round < 20);
     };
     // "NACK with hub 0": nothing was booked, no TDOWN follows.
     assert_eq!(nack, packet(Kind::Nack, 1, 0));
@@ -166,13 +166,13 @@ fn a_declined_set_up_is_torn_down() {
     while run.queue(Queue::PassiveIn(0)).is_empty() {
         run.up_to(run.round + 1);
     }
-    run.to_write();
+    run.run_to_write();
     assert_eq!(run.reply(0, 1), Ok(()));
     run.end();
     assert_eq!(run.entry(1, 1, 0), 2);
     // Start 3: the first router books slot 3, the second declines slot 0.
     assert_eq!(run.launch(0, 0, 3), Ok(()));
-    run.to_write();
+    run.run_to_write();
     while run.queue(Queue::ActiveIn(0)).is_empty() {
         run.end();
         assert_eq!(run.network.read(&mut run.state), Ok(()));
@@ -191,7 +191,7 @@ fn a_declined_set_up_is_torn_down() {
     run.up_to(run.round + 4);
     // It frees the first router's entry; "the second router keeps its entry".
     assert_eq!((run.entry(0, 1, 3), run.entry(1, 1, 0)), (4, 2));
-    run.to_write();
+    run.run_to_write();
     let ack = Packet { active: 1, ..packet(Kind::Ack, 1, 1) };
     assert_eq!(run.consume(1), Ok(ack));
     assert!(run.no_packets());

@@ -121,8 +121,8 @@ impl Network {
         capacities.active_out.min(capacities.active_in)
     }
 
-    /// The queues that may send over a link, in the order in which they are asked: "F[o], K[0,o]
-    /// to K[3,o] for a side; U[0] to U[3] to the unit; Q to F; an interface's out-queue".
+    /// The queues that may send over a link, in the order they are asked: "`F[o]`, `K[0,o]` to
+    /// `K[3,o]` for a side; `U[0]` to `U[3]` to the unit; Q to F; an interface's out-queue".
     pub fn senders(&self, link: Link) -> Vec<Queue> {
         match link {
             Link::Side(Port { router, side: to }) => {
@@ -155,7 +155,7 @@ impl Network {
         }
     }
 
-    /// U[i] takes "system packets from side i, for the unit", K[i,o] "answers crossing".
+    /// `U[i]` takes "system packets from side i, for the unit", `K[i,o]` "answers crossing".
     fn enter_router(&self, Port { router, side: from }: Port, packet: &Packet) -> Option<Queue> {
         if packet.is_answer() {
             self.route(router, packet).map(|to| Queue::K { router, from, to })
@@ -183,7 +183,7 @@ fn journey(plan: &Plan, active: usize, passive: usize) -> Option<Journey> {
     Some(Journey { walk, back, answers: plan.passive_port(passive) })
 }
 
-/// "Active out and in; passive in and out; per router U[i], Q, F[o], K[i,o] with i≠o."
+/// "Active out and in; passive in and out; per router `U[i]`, Q, `F[o]`, `K[i,o]` with i≠o."
 fn queues(plan: &Plan) -> Vec<Queue> {
     let mut queues = Vec::with_capacity(Queue::count(plan));
     queues.extend((0..plan.actives()).flat_map(|n| [Queue::ActiveOut(n), Queue::ActiveIn(n)]));

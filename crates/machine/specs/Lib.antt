@@ -7,3 +7,4 @@ pub mod Write
 pub mod Calls
 pub mod Accepted
 pub mod Valid
+pub mod Progress

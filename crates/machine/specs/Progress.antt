@@ -1,0 +1,87 @@
+-- The words of demand 3: an empty network, a packet on its way, a move, and whole rounds.
+use mathlib.Core.Path.{_≡_}
+use mathlib.Core.Logic.{_⊎_}
+use mathlib.Core.Bool.{Bool, true, false}
+use mathlib.Core.List.{List, [], _∷_, _++_}
+use Prim.Native.Nat.{ℕ, zero, suc, _+_, _≤_, _<_}
+use lib.ListN.{length}
+use Rattle.kinds.specs.declared.Refusal.{Refusal}
+use Rattle.packets.specs.declared.Packet.{Packet}
+use Rattle.packets.specs.declared.Wire.the-variants.{Empty, Full}
+use Rattle.packets.specs.declared.Phase.the-variants.{Read}
+use Rattle.packets.specs.declared.Answer.{Answer}
+use Rattle.packets.specs.declared.Answer.the-variants.{Refused, Done, Taken, Holds}
+use Rattle.plan.specs.Plan.{Plan, P}
+use Rattle.feeding.specs.Queue.{Queue, activeOut, activeIn, passiveIn, passiveOut, U, Q, F, K, Exists, capacity}
+use Rattle.feeding.specs.Feeds.{Output}
+use Rattle.machine.specs.State.{State}
+use Rattle.machine.specs.Valid.{Drives}
+use Rattle.machine.specs.Calls.{Call, read, execute, write, launch, reply, consume, entry}
+
+-- 'no queue holds more than its capacity'
+abbrev pub Within : Plan → State → Type 0
+Within pl s = (q : Queue) → Exists pl q → length (s .queue q) ≤ capacity (pl .head) q
+
+-- 'every queue and wire is empty'
+pub record Quiet (pl : Plan) (s : State) : Type 0 where
+  pub queues : (q : Queue) → Exists pl q → s .queue q ≡ []
+  pub wires : (o : Output) → Drives pl o → s .wire o ≡ Empty
+
+-- 'an interface's in-queue'
+abbrev pub isInQueue : Queue → Bool
+isInQueue (activeOut x) = false
+isInQueue (activeIn x) = true
+isInQueue (passiveIn x) = true
+isInQueue (passiveOut x) = false
+isInQueue (U r i) = false
+isInQueue (Q r) = false
+isInQueue (F r o) = false
+isInQueue (K r i o) = false
+
+-- 'a packet is in a wire, or in a queue other than an interface's in-queue'
+abbrev pub UnderWay : Plan → State → Type 0
+UnderWay pl s =
+    ((o : Output) × (x : Packet) × Drives pl o × (s .wire o ≡ Full x))
+    ⊎ ((q : Queue) × (x : Packet) × (rest : List Packet) × Exists pl q × (isInQueue q ≡ false) × (s .queue q ≡ x ∷ rest))
+
+-- 'no passive in-queue is full'
+abbrev pub PassiveRoom : Plan → State → Type 0
+PassiveRoom pl s = (p : ℕ) → p < P pl → length (s .queue (passiveIn p)) < capacity (pl .head) (passiveIn p)
+
+-- 'at the start of a round': 'any state in READ', with the condition of demand 3's last part
+pub record Waits (pl : Plan) (s : State) : Type 0 where
+  pub phase : s .phase ≡ Read
+  pub packet : UnderWay pl s
+  pub room : PassiveRoom pl s
+
+-- 'that call takes it out of the queue or wire it was in': told by the states before and after it
+abbrev pub Moved : Plan → State → State → Type 0
+Moved pl s t =
+    ((o : Output) × (x : Packet) × Drives pl o × (s .wire o ≡ Full x) × (t .wire o ≡ Empty))
+    ⊎ ((q : Queue) × Exists pl q × (length (t .queue q) < length (s .queue q)))
+
+-- 'by a Read, an Execute or a Write'
+abbrev pub isTimed : Call → Bool
+isTimed read = true
+isTimed execute = true
+isTimed write = true
+isTimed (launch a p t) = false
+isTimed (reply p c) = false
+isTimed (consume a) = false
+isTimed (entry r o t) = false
+
+-- 'A whole round is one accepted Read, Execute and Write': an accepted Write ends one
+abbrev pub isDone : Answer → ℕ
+isDone (Refused w) = 0
+isDone Done = 1
+isDone (Taken x) = 0
+isDone (Holds e) = 0
+
+abbrev pub endsRound : Call → Answer → ℕ
+endsRound read x = 0
+endsRound execute x = 0
+endsRound write x = isDone x
+endsRound (launch a p t) x = 0
+endsRound (reply p c) x = 0
+endsRound (consume a) x = 0
+endsRound (entry r o t) x = 0

@@ -1,5 +1,6 @@
 pub mod Marks
 pub mod Steps
+pub mod Trips
 pub mod Ahead
 pub mod Back
 pub mod Nack

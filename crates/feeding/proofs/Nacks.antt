@@ -1,80 +1,73 @@
--- The turns of the loop that marks the NACKs of each router of a walk: what is left to mark.
-use mathlib.Core.Path.{_≡_, sym, ap, _∙_}
-use mathlib.Core.List.{List, [], _++_}
-use Prim.Native.Nat.{ℕ, suc, _+_, _-_, _<_}
-use native.Mathlib.Omega.{arith}
-use Rattle.basis.specs.Walk.{on, end, lost}
+-- The NACKs of each router of a walk, as a trip: no queue leads from one router's to the next.
+use mathlib.Core.Path.{_≡_, refl, ap, _∙_}
+use mathlib.Core.List.{List, _++_}
+use Prim.Native.Nat.{ℕ, zero, suc, _+_, _<_}
+use Rattle.basis.specs.Walk.{Spot, on, end, lost}
 use Rattle.plan.specs.declared.Head.{Head}
-use Rattle.plan.specs.Plan.{Plan, Port, passive}
+use Rattle.plan.specs.Plan.{Plan, Port, R, passive}
 use Rattle.plan.specs.Rules.{portOf}
 use Rattle.plan.specs.Tables.{tablePlan, interfaceAt}
 use Rattle.paths.specs.declared.Step.{Step}
 use Rattle.paths.specs.declared.Step.the-variants.{On, End, Lost}
 use Rattle.paths.specs.Walk.{onward}
 use Rattle.paths.specs.Steps.{stepOf}
+use Rattle.feeding.specs.Queue.{Queue, number}
 use Rattle.feeding.specs.Edges.{nackEdges, nacksEdges, marks}
-use Rattle.feeding.proofs.Marks.{marks-append}
-use Rattle.feeding.proofs.Steps.{goes-on, goes-end, goes-lost}
-use Rattle.feeding.proofs.Ahead.{to-passive}
+use Rattle.feeding.specs.Numbered.{numbered}
+use Rattle.feeding.proofs.Steps.{the-passive}
+use Rattle.feeding.proofs.Trips.{Trip, legs, rest, rest-done, rest-lost, rest-end, rest-on}
 
--- the marks of the NACKs of each router of the walk from a port, at most n routers
-unfoldable pub nacksFrom : Plan → ℕ → ℕ → ℕ → ℕ → List ℕ → List ℕ
-nacksFrom pl a p n at cells = marks pl (nacksEdges pl a p n (portOf at)) cells
+unfoldable pub nacks : (pl : Plan) (a p : ℕ) → Trip pl
+nacks pl a p = record {
+  to = passive p;
+  first = λ x y. nackEdges pl a y;
+  last = λ x y. nackEdges pl a y;
+  next = λ y. numbered 0;
+  first-number = λ x y cells. refl;
+  last-number = λ x y cells. refl;
+}
 
--- before the loop all is left
-pub nacks-all : (pl : Plan) (a p at : ℕ) (cells : List ℕ) {m n : ℕ} → m ≡ n → nacksFrom pl a p m at cells ≡ nacksFrom pl a p n at cells
-nacks-all pl a p at cells e = rw e
-
--- and where nothing is left, all is marked
-pub nacks-done : (pl : Plan) (a p m at : ℕ) (cells : List ℕ) (n from : ℕ) (before : List ℕ) {u : List ℕ}
-    → nacksFrom pl a p m at cells ≡ nacksFrom pl a p n from before → nacksFrom pl a p m at cells ≡ u
-    → u ≡ marks pl (nacksEdges pl a p n (portOf from)) before
-unfolding nacksFrom
-nacks-done pl a p m at cells n from before e f = sym f ∙ e
-
--- ---- the edges by the step at the first router
-module _ (pl : Plan) (a p n : ℕ) (y : Port) where
-  edges-on : {z : Port} → onward pl (passive p) y ≡ on z → nacksEdges pl a p (suc n) y ≡ nackEdges pl a y ++ nacksEdges pl a p n z
-  unfolding nacksEdges
-  edges-on e = rw (e, nacksEdges)
-
-  edges-end : onward pl (passive p) y ≡ end → nacksEdges pl a p (suc n) y ≡ nackEdges pl a y
-  unfolding nacksEdges
-  edges-end e = rw (e, nacksEdges)
-
-  edges-lost : onward pl (passive p) y ≡ lost → nacksEdges pl a p (suc n) y ≡ []
-  unfolding nacksEdges
-  edges-lost e = rw (e, nacksEdges)
+-- its edges are those of the definition
+nacks-is : (pl : Plan) (a p n : ℕ) (x : Queue) (y : Port) → legs pl (nacks pl a p) n x y ≡ nacksEdges pl a p n y
+unfolding legs nacks nacksEdges
+nacks-is pl a p zero x y = refl
+nacks-is pl a p (suc n) x y = by (λ v w. nacks-is pl a p n v w) (onward pl (passive p) y) refl
+  where
+    by : ((v : Queue) (w : Port) → legs pl (nacks pl a p) n v w ≡ nacksEdges pl a p n w)
+        → (s : Spot Port) → onward pl (passive p) y ≡ s → legs pl (nacks pl a p) (suc n) x y ≡ nacksEdges pl a p (suc n) y
+    by more (on z) e = rw (e, legs, nacksEdges) (ap (λ es. nackEdges pl a y ++ es) (more (numbered 0) z))
+    by more end e = rw (e, legs, nacksEdges)
+    by more lost e = rw (e, legs, nacksEdges)
 
 module _ (h : Head) (routes : List (List ℕ)) (joints : List ℕ) (a p : ℕ) where
   abbrev pl : Plan
   pl = tablePlan h routes joints
 
-  -- no router is left
-  pub nacks-none : (at : ℕ) (cells : List ℕ) {n : ℕ} → n ≡ 0 → nacksFrom pl a p n at cells ≡ cells
-  unfolding nacksFrom nacksEdges marks
-  nacks-none at cells q = rw q
+  -- after the loop
+  pub nacks-done : (m at : ℕ) (cells : List ℕ) (from : ℕ) (before : List ℕ) {u : List ℕ}
+      → rest pl (nacks pl a p) m 0 at cells ≡ rest pl (nacks pl a p) (h .routers) 0 from before → rest pl (nacks pl a p) m 0 at cells ≡ u
+      → u ≡ marks pl (nacksEdges pl a p (R pl) (portOf from)) before
+  unfolding tablePlan
+  nacks-done m at cells from before e f =
+      rest-done pl (nacks pl a p) m 0 at cells (h .routers) 0 from before e f
+      ∙ ap (λ es. marks pl es before) (nacks-is pl a p (h .routers) (numbered 0) (portOf from))
+
+  nacks-to : interfaceAt h (h .actives + p) ≡ nacks pl a p .to
+  unfolding nacks
+  nacks-to = the-passive h p
 
   module _ (m at : ℕ) (cells : List ℕ) {s : Step} (e : s ≡ stepOf (onward pl (interfaceAt h (h .actives + p)) (portOf at))) where
-    -- the walk is nowhere
-    pub nacks-lost : 0 < m → s ≡ Lost → nacksFrom pl a p m at cells ≡ cells
-    unfolding nacksFrom marks
-    nacks-lost l q =
-        let more : m ≡ suc (m - 1) = omega arith in
-        rw more (ap (λ es. marks pl es cells) (edges-lost pl a p (m - 1) (portOf at) (to-passive h routes joints p (portOf at) (goes-lost h routes joints (h .actives + p) at e q))))
+    -- a turn where the walk is nowhere
+    pub nacks-lost : 0 < m → s ≡ Lost → rest pl (nacks pl a p) m 0 at cells ≡ cells
+    nacks-lost l q = rest-lost h routes joints (nacks pl a p) (h .actives + p) nacks-to m 0 at cells e l q
 
-    -- the walk goes on
-    pub nacks-on : {n z : ℕ} {t : List ℕ} → m ≡ suc n → s ≡ On z → t ≡ marks pl (nackEdges pl a (portOf at)) cells → nacksFrom pl a p m at cells ≡ nacksFrom pl a p n z t
-    unfolding nacksFrom
-    nacks-on {n} {z} more q k =
-        rw more (ap (λ es. marks pl es cells) (edges-on pl a p n (portOf at) (to-passive h routes joints p (portOf at) (goes-on h routes joints (h .actives + p) at e q .0))))
-        ∙ marks-append pl (nackEdges pl a (portOf at)) (nacksEdges pl a p n (portOf z)) cells
-        ∙ ap (marks pl (nacksEdges pl a p n (portOf z))) (sym k)
+    -- a turn where it goes on
+    pub nacks-on : {n z : ℕ} {t : List ℕ} → m ≡ suc n → s ≡ On z → t ≡ marks pl (nackEdges pl a (portOf at)) cells
+        → rest pl (nacks pl a p) m 0 at cells ≡ rest pl (nacks pl a p) n 0 z t
+    unfolding nacks number
+    nacks-on more q k = rest-on h routes joints (nacks pl a p) (h .actives + p) nacks-to m 0 at cells e more q refl k
 
-    -- the walk is there
-    pub nacks-end : {t : List ℕ} → 0 < m → s ≡ End → t ≡ marks pl (nackEdges pl a (portOf at)) cells → nacksFrom pl a p m at cells ≡ t
-    unfolding nacksFrom
-    nacks-end l q k =
-        let more : m ≡ suc (m - 1) = omega arith in
-        rw more (ap (λ es. marks pl es cells) (edges-end pl a p (m - 1) (portOf at) (to-passive h routes joints p (portOf at) (goes-end h routes joints (h .actives + p) at e q))))
-        ∙ sym k
+    -- a turn where it is there
+    pub nacks-end : {t : List ℕ} → 0 < m → s ≡ End → t ≡ marks pl (nackEdges pl a (portOf at)) cells → rest pl (nacks pl a p) m 0 at cells ≡ t
+    unfolding nacks
+    nacks-end l q k = rest-end h routes joints (nacks pl a p) (h .actives + p) nacks-to m 0 at cells e l q k

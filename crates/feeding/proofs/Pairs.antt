@@ -1,23 +1,22 @@
 -- The marks of a pair, of an active's pairs and of all pairs.
-use mathlib.Core.Path.{_≡_, refl, sym, ap, _∙_}
-use mathlib.Core.List.{List, [], _∷_, _++_}
+use mathlib.Core.Path.{_≡_, sym, ap, _∙_}
+use mathlib.Core.List.{List, _++_}
 use mathlib.Core.Bool.{Bool, true, false}
-use Prim.Native.Nat.{ℕ, _+_, _*_, _/_, _%_, _≤_, _<_}
+use Prim.Native.Nat.{ℕ, _+_, _*_, _≤_, _<_}
 use native.Mathlib.Omega.{arith}
-use lib.ListN.{getD, replicate, length, length-replicate}
-use Rattle.basis.specs.Choice.{pick}
+use lib.ListN.{getD, replicate, length-replicate}
 use Rattle.basis.specs.Fold.{upTo, up-keeps, up-done, fill-at}
 use Rattle.plan.specs.declared.Head.{Head}
 use Rattle.plan.specs.declared.Ports.{Ports}
 use Rattle.plan.specs.declared.Ports.the-variants.{Missing, One, Several}
 use Rattle.plan.specs.Head.{destinations}
-use Rattle.plan.specs.Plan.{Plan, Port, Interface, R, active, passive}
+use Rattle.plan.specs.Plan.{Plan, Interface, R, active, passive}
 use Rattle.plan.specs.Rules.{portOf, jointOfPort, leadsTo, meet, portsOf, portOr0, home}
 use Rattle.plan.specs.Tables.{tablePlan, interfaceAt, homesOf}
 use Rattle.paths.specs.Served.{servedFrom}
-use Rattle.feeding.specs.Queue.{activeOut, passiveOut}
-use Rattle.feeding.specs.Edges.{Edge, aheadEdges, backEdges, nacksEdges, pairEdges, marks, markPair, markActive, cellsOf}
-use Rattle.feeding.specs.Numbered.{Counts, number-table, noEdges}
+use Rattle.feeding.specs.Queue.{passiveOut}
+use Rattle.feeding.specs.Edges.{aheadEdges, backEdges, nacksEdges, pairEdges, marks, markPair, markActive, cellsOf}
+use Rattle.feeding.specs.Numbered.{Counts, numbered, number-table, noEdges}
 use Rattle.feeding.proofs.Marks.{marks-append}
 use Rattle.feeding.proofs.Steps.{the-active, the-passive}
 use Rattle.feeding.proofs.Back.{back-number}
@@ -69,24 +68,20 @@ module _ (h : Head) (routes : List (List ℕ)) (joints : List ℕ) (few : Counts
     -- and one that is
     pub pair-marked : (a p : ℕ) (cells : List ℕ) {from to : ℕ} {b : Bool} {t u v : List ℕ} → a < h .actives → p < h .passives
         → from ≡ getD homes a 0 → to ≡ getD homes (h .actives + p) 0 → b ≡ servedFrom pl a p (portOf from) → b ≡ true
-        → t ≡ marks pl (aheadEdges pl p (h .routers) (activeOut a) (portOf from)) cells
-        → u ≡ marks pl (backEdges pl a (h .routers) (activeOut (h .actives + p)) (portOf to)) t
-        → v ≡ marks pl (nacksEdges pl a p (h .routers) (portOf from)) u → v ≡ markPair pl a p cells
-    unfolding markPair pairEdges tablePlan
-    pair-marked a p cells {from} {to} {b} {t} {u} la lp ef et s q first second third =
+        → t ≡ marks pl (aheadEdges pl p (R pl) (numbered a) (portOf from)) cells
+        → u ≡ marks pl (backEdges pl a (R pl) (numbered (h .actives + p)) (portOf to)) t
+        → v ≡ marks pl (nacksEdges pl a p (R pl) (portOf from)) u → v ≡ markPair pl a p cells
+    unfolding markPair pairEdges
+    pair-marked a p cells {from} {to} {b} {t} la lp ef et s q first second third =
+        let answers = backEdges pl a (R pl) (passiveOut p) (portOf to) in
+        let nacks = nacksEdges pl a p (R pl) (portOf from) in
+        let start = back-number pl a (R pl) (passiveOut p) (portOf to) t (sym (number-table h routes joints (passiveOut p))) in
         rw (active-home a la ef, passive-home p lp et, ← s, q)
         (third
-        ∙ ap (marks pl (nacksEdges pl a p (h .routers) (portOf from))) back
-        ∙ sym (marks-append pl (backEdges pl a (h .routers) (passiveOut p) (portOf to)) (nacksEdges pl a p (h .routers) (portOf from)) t)
-        ∙ ap (marks pl (backEdges pl a (h .routers) (passiveOut p) (portOf to) ++ nacksEdges pl a p (h .routers) (portOf from))) first
-        ∙ sym (marks-append pl (aheadEdges pl p (h .routers) (activeOut a) (portOf from))
-        (backEdges pl a (h .routers) (passiveOut p) (portOf to) ++ nacksEdges pl a p (h .routers) (portOf from)) cells))
-      where
-        back : u ≡ marks pl (backEdges pl a (h .routers) (passiveOut p) (portOf to)) t
-        back =
-            second
-            ∙ sym (back-number pl a (h .routers) (passiveOut p) (portOf to) t
-            ∙ ap (λ x. marks pl (backEdges pl a (h .routers) (activeOut x) (portOf to)) t) (number-table h routes joints (passiveOut p)))
+        ∙ ap (marks pl nacks) (second ∙ start)
+        ∙ sym (marks-append pl answers nacks t)
+        ∙ ap (marks pl (answers ++ nacks)) first
+        ∙ sym (marks-append pl (aheadEdges pl p (R pl) (numbered a) (portOf from)) (answers ++ nacks) cells))
 
 -- ---- after the loop over an active's pairs
 pub active-marked : (h : Head) (routes : List (List ℕ)) (joints : List ℕ) (a : ℕ) (cells : List ℕ) {i : ℕ} {t : List ℕ}

@@ -1,5 +1,5 @@
 -- What a step of a walk tells over the tables: where it comes to, and that it left by one of the four sides.
-use mathlib.Core.Path.{_≡_, sym, ap, _∙_}
+use mathlib.Core.Path.{_≡_, sym, _∙_}
 use mathlib.Core.Logic.{_⊎_, inl, inr}
 use mathlib.Core.Bool.{true, false}
 use mathlib.Core.List.{List}
@@ -8,7 +8,7 @@ use native.Mathlib.Omega.{arith}
 use lib.Dec.{ltb}
 use borrow.Author.Tests.{ltb-true, lt-ltb, le-ltb}
 use Rattle.basis.specs.Choice.{test}
-use Rattle.basis.specs.Walk.{Spot, on, end, lost, on-lost, end-lost}
+use Rattle.basis.specs.Walk.{on, end, lost, on-lost, end-lost}
 use Rattle.plan.specs.declared.Head.{Head}
 use Rattle.plan.specs.Plan.{Plan, Port, Interface, active, passive, routeTo}
 use Rattle.plan.specs.Rules.{portOf}

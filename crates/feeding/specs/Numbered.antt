@@ -5,10 +5,10 @@ use Prim.Native.Nat.{ℕ, _+_, _≤_}
 use lib.ListN.{replicate}
 use Rattle.plan.specs.declared.Head.{Head}
 use Rattle.plan.specs.declared.Joint.the-variants.{Nothing}
-use Rattle.plan.specs.Plan.{Plan, A, noSide}
+use Rattle.plan.specs.Plan.{Plan, noSide}
 use Rattle.plan.specs.Tables.{tablePlan}
 use Rattle.feeding.specs.Queue.{Queue, activeOut, activeIn, passiveIn, passiveOut, U, Q, F, K, rank, routerBase, outs, inBase, sender, number, queues}
-use Rattle.feeding.specs.Edges.{Edge, mark, marks}
+use Rattle.feeding.specs.Edges.{Edge, marks}
 
 -- the counts of a plan are at most 16
 abbrev pub Counts : Head → Type 0
@@ -28,6 +28,10 @@ numberIn h (F r o) = sender (bare h) r o 0
 numberIn h (K r i o) = sender (bare h) r o (rank i o)
 numberIn h (activeIn a) = inBase (bare h) + a
 numberIn h (passiveIn p) = inBase (bare h) + h .actives + p
+
+-- a queue of number x, in every plan: it stands for any other queue of that number
+abbrev pub numbered : ℕ → Queue
+numbered x = activeOut x
 
 pub number-in : (pl : Plan) (x : Queue) → number pl x ≡ numberIn (pl .head) x
 unfolding number
@@ -61,6 +65,10 @@ pub marks-table : (h : Head) (routes : List (List ℕ)) (joints : List ℕ) (es 
     → marks (tablePlan h routes joints) es cells ≡ marks (bare h) es cells
 unfolding tablePlan
 marks-table h routes joints es cells = marks-in (tablePlan h routes joints) es cells
+
+-- the edges of the plan are marked: the cells before, and after
+abbrev pub Marked : Plan → (Plan → List Edge) → List ℕ → List ℕ → Type 0
+Marked pl es before after = after ≡ marks pl (es pl) before
 
 -- the table of successors before any edge is marked
 unfoldable pub noEdges : List ℕ

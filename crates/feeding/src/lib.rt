@@ -3,12 +3,12 @@ ghost use mathlib.Core.Path.{_≡_};
 ghost use mathlib.Core.List.{List, []};
 ghost use Prim.Native.Nat.{ℕ, _+_, _*_, _/_, _%_, _≤_, _<_};
 ghost use lib.ListN.{set};
-ghost use Rattle.plan.specs.Plan.{routeTo};
+ghost use Rattle.plan.specs.Plan.{R, routeTo};
 ghost use Rattle.plan.specs.Rules.{portOf};
 ghost use Rattle.plan.specs.Tables.{tablePlan, interfaceAt, homesOf};
 ghost use Rattle.feeding.specs.Queue.{activeOut, activeIn, passiveIn, U, Q, F, K, rank, routerBase};
 ghost use Rattle.feeding.specs.Edges.{marks, throughUnit, aheadEdges, backEdges, nackEdges, nacksEdges, markPair, markActive, cellsOf};
-ghost use Rattle.feeding.specs.Numbered.{Counts, bare, numberIn, queuesIn, noEdges};
+ghost use Rattle.feeding.specs.Numbered.{Counts, bare, numbered, numberIn, queuesIn, Marked, noEdges};
 use paths::Step;
 use plan::Head;
 
@@ -109,6 +109,13 @@ fn no_edges() -> [u16; CELLS]
     [0u16; CELLS]
 }
 
+// A byte as an index.
+fn wide(x: u8) -> usize
+    ensures { λ v. ⌜ v ≡ x ⌝ }
+{
+    x as usize
+}
+
 // The side that router r gives for the interface of a column.
 fn side_for(routes: &[[u8; 32]; 16], d: usize, r: usize) -> usize
     requires { ⌜ (d < 32) × (r < 16) ⌝ }
@@ -140,7 +147,7 @@ fn from_unit(cells: &mut [u16; CELLS], h: Head, r: usize, o: usize) -> usize
 fn through_unit(cells: &mut [u16; CELLS], h: Head, x: usize, at: usize, o: usize) -> usize
     requires { ⌜ Counts h × (x < 400) × (at < 64) × (o < 4) ⌝ }
     ensures { λ n. ⌜ (n ≡ numberIn h (F (at / 4) o)) × (n < 400)
-        × (now (cells .exit) ≡ marks (bare h) (throughUnit (activeOut x) (portOf at) o []) (now (cells .entry))) ⌝ }
+        × (now (cells .exit) ≡ marks (bare h) (throughUnit (numbered x) (portOf at) o []) (now (cells .entry))) ⌝ }
 {
     let u = u_queue(h, at / SIDES, at % SIDES);
     mark(cells, x, u, at % SIDES);
@@ -159,10 +166,8 @@ fn mark_ahead(
     from: usize,
 )
     requires { ⌜ Counts h × (a < h .actives) × (p < h .passives) × (from < 64) ⌝ }
-    ensures { λ _. ⌜ now (cells .exit)
-        ≡ marks (tablePlan h (now (routes .entry)) (now (joints .entry)))
-        (aheadEdges (tablePlan h (now (routes .entry)) (now (joints .entry))) p (h .routers) (activeOut a) (portOf from))
-        (now (cells .entry)) ⌝ }
+    ensures { λ _. ⌜ Marked (tablePlan h (now (routes .entry)) (now (joints .entry))) (λ pl. aheadEdges pl p (R pl) (activeOut a) (portOf from))
+        (now (cells .entry)) (now (cells .exit)) ⌝ }
 {
     let d = h.actives + p;
     let routers = h.routers;
@@ -194,9 +199,9 @@ fn across(cells: &mut [u16; CELLS], h: Head, x: usize, at: usize, o: usize) -> u
     ensures { λ n. ⌜ (n ≡ numberIn h (K (at / 4) (at % 4) o)) × (n < 400)
         × (now (cells .exit) ≡ set (now (cells .entry)) (4 * x + o) (n + 1)) ⌝ }
 {
-    let k = k_queue(h, at / SIDES, at % SIDES, o);
-    mark(cells, x, k, o);
-    k
+    let crossing = k_queue(h, at / SIDES, at % SIDES, o);
+    mark(cells, x, crossing, o);
+    crossing
 }
 
 // Marks the edges of answers to active a, from queue x into the router at a port and on.
@@ -210,10 +215,8 @@ fn mark_back(
     from: usize,
 )
     requires { ⌜ Counts h × (a < h .actives) × (x < 400) × (from < 64) ⌝ }
-    ensures { λ _. ⌜ now (cells .exit)
-        ≡ marks (tablePlan h (now (routes .entry)) (now (joints .entry)))
-        (backEdges (tablePlan h (now (routes .entry)) (now (joints .entry))) a (h .routers) (activeOut x) (portOf from))
-        (now (cells .entry)) ⌝ }
+    ensures { λ _. ⌜ Marked (tablePlan h (now (routes .entry)) (now (joints .entry))) (λ pl. backEdges pl a (R pl) (numbered x) (portOf from))
+        (now (cells .entry)) (now (cells .exit)) ⌝ }
 {
     let routers = h.routers;
     let mut k = x;
@@ -248,9 +251,8 @@ fn mark_nack(
     at: usize,
 )
     requires { ⌜ Counts h × (a < h .actives) × (at < 64) ⌝ }
-    ensures { λ _. ⌜ now (cells .exit)
-        ≡ marks (tablePlan h (now (routes .entry)) (now (joints .entry)))
-        (nackEdges (tablePlan h (now (routes .entry)) (now (joints .entry))) a (portOf at)) (now (cells .entry)) ⌝ }
+    ensures { λ _. ⌜ Marked (tablePlan h (now (routes .entry)) (now (joints .entry))) (λ pl. nackEdges pl a (portOf at))
+        (now (cells .entry)) (now (cells .exit)) ⌝ }
 {
     let side = side_for(routes, a, at / SIDES);
     let s = paths::onward(routes, joints, h, a, at);
@@ -282,9 +284,8 @@ fn mark_nacks(
     from: usize,
 )
     requires { ⌜ Counts h × (a < h .actives) × (p < h .passives) × (from < 64) ⌝ }
-    ensures { λ _. ⌜ now (cells .exit)
-        ≡ marks (tablePlan h (now (routes .entry)) (now (joints .entry)))
-        (nacksEdges (tablePlan h (now (routes .entry)) (now (joints .entry))) a p (h .routers) (portOf from)) (now (cells .entry)) ⌝ }
+    ensures { λ _. ⌜ Marked (tablePlan h (now (routes .entry)) (now (joints .entry))) (λ pl. nacksEdges pl a p (R pl) (portOf from))
+        (now (cells .entry)) (now (cells .exit)) ⌝ }
 {
     let d = h.actives + p;
     let routers = h.routers;
@@ -305,13 +306,6 @@ fn mark_nacks(
             }
         }
     }
-}
-
-// A byte as an index.
-fn wide(x: u8) -> usize
-    ensures { λ v. ⌜ v ≡ x ⌝ }
-{
-    x as usize
 }
 
 // Marks the edges of a pair, where it is served.

@@ -1,3 +1,5 @@
 pub mod Load
 pub mod Rules
 pub mod Runs
+pub mod Walk
+pub mod Lent

@@ -1,9 +1,182 @@
-// Load: a plan is accepted exactly if it obeys every plan rule of document 01.
+// Load: a plan is accepted exactly if it obeys every plan rule of document 01. And Walk, which says how long a served pair's walk is.
+use kinds::Hub;
 use kinds::Refusal;
 use plan::Head;
+ghost use mathlib.Core.Path.{_≡_};
+ghost use mathlib.Core.Bool.{_&&_};
+ghost use mathlib.Core.List.{[]};
+ghost use Prim.Native.Nat.{_≤_, _<_};
+ghost use Rattle.kinds.specs.Refusals.{refusalNumber};
+ghost use Rattle.plan.specs.Head.{headOf, InRange};
+ghost use Rattle.plan.specs.Rules.{namedOk, interfacesOk};
+ghost use Rattle.plan.specs.Tables.{jointBytesOk, routesOk, tablePlan, homesOf};
+ghost use Rattle.feeding.specs.Numbered.{Counts};
+ghost use Rattle.feeding.specs.RingTest.{hasRing};
+ghost use Rattle.load.specs.Load.{lengthOk, loadOf, loadNumber, loadRoutes, loadJoints, loadHomes};
+ghost use Rattle.load.specs.Walk.{pairWalk, walkOf};
+
+// The fewest bytes in which counts and capacities fit.
+const HEAD_BYTES: usize = 6;
 
 // Load's answer: the plan's counts and capacities, or the first refusal that applies.
 pub enum Loaded {
     Accepted(Head),
     Refused(Refusal),
+}
+
+// Whether the length is the one that the counts give, and no fill bit is set: refusal 3.
+fn length_ok(plan: &[u8], h: Head) -> bool
+    requires { ⌜ (h ≡ headOf (now plan)) × InRange h ⌝ }
+    ensures { λ r. ⌜ r ≡ lengthOk (now (plan .entry)) ⌝ }
+{
+    let bits = plan::counts::bit_count(h);
+    if plan.len() != (bits + 7) / 8 {
+        return false;
+    }
+    plan::counts::fill_ok(plan, bits)
+}
+
+// Whether each joint's and each route's fields are in range: refusal 4.
+fn fields_ok(h: Head, joints: &[u8; 64], routes: &[[u8; 32]; 16]) -> bool
+    requires { ⌜ Counts h ⌝ }
+    ensures { λ r. ⌜ r ≡ (jointBytesOk h (now (joints .entry)) && routesOk h (now (routes .entry))) ⌝ }
+{
+    plan::joints::joint_bytes_ok(h, joints) & plan::routes::routes_ok(h, routes)
+}
+
+// Whether router joints are named back by another router, and each interface has exactly one joint: refusal 5.
+fn joints_ok(h: Head, joints: &[u8; 64]) -> bool
+    requires { ⌜ Counts h ⌝ }
+    ensures { λ r. ⌜ r ≡ (namedOk (tablePlan h [] (now (joints .entry))) && interfacesOk (tablePlan h [] (now (joints .entry)))) ⌝ }
+{
+    plan::interfaces::named_ok(h, joints) & plan::interfaces::interfaces_ok(h, joints)
+}
+
+// Whether some queues feed each other in a ring: refusal 6.
+fn ring_found(h: Head, routes: &[[u8; 32]; 16], joints: &[u8; 64], homes: &[u8; 32]) -> bool
+    requires { ⌜ Counts h × (now homes ≡ homesOf (tablePlan h (now routes) (now joints))) ⌝ }
+    ensures { λ r. ⌜ r ≡ hasRing (tablePlan h (now (routes .entry)) (now (joints .entry))) ⌝ }
+{
+    let cells = feeding::successors(routes, joints, homes, h);
+    rings::has_ring(&cells, feeding::queue_count(h))
+}
+
+// Load: the first refusal that applies, in document 01's order, or the plan's head, with routes, joints and homes in the lent tables.
+// A refusal leaves the lent tables as they were.
+pub fn load(
+    plan: &[u8],
+    routes: &mut [[u8; 32]; 16],
+    joints: &mut [u8; 64],
+    homes: &mut [u8; 32],
+) -> Loaded
+    ensures { λ l. ⌜ (l ≡ loadOf (now (plan .entry)))
+        × (now (routes .exit) ≡ loadRoutes (now (plan .entry)) (now (routes .entry)) (loadOf (now (plan .entry))))
+        × (now (joints .exit) ≡ loadJoints (now (plan .entry)) (now (joints .entry)) (loadOf (now (plan .entry))))
+        × (now (homes .exit) ≡ loadHomes (now (plan .entry)) (now (homes .entry)) (loadOf (now (plan .entry)))) ⌝ }
+{
+    if plan.len() < HEAD_BYTES {
+        return Loaded::Refused(Refusal::TooShort);
+    }
+    let h = plan::counts::read_head(plan);
+    if !plan::counts::head_ok(h) {
+        return Loaded::Refused(Refusal::OutOfRange);
+    }
+    if !length_ok(plan, h) {
+        return Loaded::Refused(Refusal::WrongLength);
+    }
+    let j = plan::joints::joints(plan, h);
+    let t = plan::routes::routes(plan, h);
+    if !fields_ok(h, &j, &t) {
+        return Loaded::Refused(Refusal::BadField);
+    }
+    if !joints_ok(h, &j) {
+        return Loaded::Refused(Refusal::BadJoint);
+    }
+    let o = plan::interfaces::homes(h, &j);
+    if ring_found(h, &t, &j, &o) {
+        return Loaded::Refused(Refusal::HasRing);
+    }
+    *routes = t;
+    *joints = j;
+    *homes = o;
+    Loaded::Accepted(h)
+}
+
+// Document 01's number of a refusal.
+pub fn refusal_number(w: Refusal) -> u8
+    ensures { λ r. ⌜ r ≡ refusalNumber w ⌝ }
+{
+    match w {
+        Refusal::TooShort => 1,
+        Refusal::OutOfRange => 2,
+        Refusal::WrongLength => 3,
+        Refusal::BadField => 4,
+        Refusal::BadJoint => 5,
+        Refusal::HasRing => 6,
+        Refusal::NotState => 7,
+        Refusal::WrongPhase => 8,
+        Refusal::BadNumber => 9,
+        Refusal::NotServed => 10,
+        Refusal::NoAllowance => 11,
+        Refusal::QueueFull => 12,
+        Refusal::QueueEmpty => 13,
+        Refusal::FlagUp => 14,
+        Refusal::Unmarked => 15,
+    }
+}
+
+// The number of Load's answer, 0 for an accepted plan.
+pub fn load_number(l: Loaded) -> u8
+    ensures { λ r. ⌜ r ≡ loadNumber l ⌝ }
+{
+    match l {
+        Loaded::Accepted(_) => 0,
+        Loaded::Refused(w) => refusal_number(w),
+    }
+}
+
+// A byte as an index.
+fn wide(x: u8) -> usize
+    ensures { λ v. ⌜ v ≡ x ⌝ }
+{
+    x as usize
+}
+
+// The number of routers on a pair's walk, or 0 where the pair is not served.
+fn pair_walk(
+    routes: &[[u8; 32]; 16],
+    joints: &[u8; 64],
+    homes: &[u8; 32],
+    h: Head,
+    a: usize,
+    p: usize,
+) -> Hub
+    requires { ⌜ Counts h × (a < h .actives) × (p < h .passives) × (now homes ≡ homesOf (tablePlan h (now routes) (now joints))) ⌝ }
+    ensures { λ r. ⌜ r .0 ≡ pairWalk (tablePlan h (now (routes .entry)) (now (joints .entry))) a p ⌝ }
+{
+    let from = wide(homes[a]);
+    if !paths::served_from(routes, joints, h, a, p, from) {
+        return Hub(0);
+    }
+    paths::walk_size(routes, joints, h, h.actives + p, from)
+}
+
+// The number of routers on a served pair's walk; 0 where the plan does not load, a number is out of range or the pair is not served.
+pub fn walk(plan: &[u8], active: usize, passive: usize) -> Hub
+    ensures { λ r. ⌜ r .0 ≡ walkOf (now (plan .entry)) active passive ⌝ }
+{
+    let mut routes = [[7u8; 32]; 16];
+    let mut joints = [0u8; 64];
+    let mut homes = [0u8; 32];
+    let l = load(plan, &mut routes, &mut joints, &mut homes);
+    let Loaded::Accepted(h) = l else {
+        return Hub(0);
+    };
+    if h.actives <= active {
+        return Hub(0);
+    }
+    if h.passives <= passive {
+        return Hub(0);
+    }
+    pair_walk(&routes, &joints, &homes, h, active, passive)
 }

@@ -1,10 +1,8 @@
+-- The table has zeros only.
 use mathlib.Core.Path.{refl}
-use Rattle.feeding.proofs.no_edges.Statement.{statement}
 use Rattle.feeding.proofs.no_edges.Tie as tie
-use Rattle.feeding.proofs.no_edges.Reads as reads
-use Rattle.feeding.proofs.no_edges.Lts as lts
+use Rattle.feeding.proofs.no_edges.Statement.{statement}
 
--- src/lib.rt:104:1
 returns : tie.Need-returns
 unfolding Rattle.feeding.specs.Numbered.noEdges
 returns c = refl

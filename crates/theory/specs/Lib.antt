@@ -1,3 +1,5 @@
 pub mod Closure
 pub mod Core
 pub mod Feeders
+pub mod Follow
+pub mod Stuck

@@ -1,0 +1,5 @@
+pub mod Watch
+pub mod Runs
+pub mod LastFree
+pub mod Spent
+pub mod Declined

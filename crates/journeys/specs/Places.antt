@@ -176,7 +176,7 @@ module _ {pl : Plan} (wired : Wired pl) where
     crosses y z (inl m) q = inl (meets-next pl (active a) (home pl (passive p)) y z m q)
     crosses y z (inr (x, u, m, r, n)) q = inr (x, u, m, r, meets-next pl (active a) u y z n q)
 
-    returns-on : (y : Port) → Comes pl a p y → ((z : Port) × (onward pl (active a) y ≡ on z)) ⊎ (onward pl (active a) y ≡ end)
+    pub returns-on : (y : Port) → Comes pl a p y → ((z : Port) × (onward pl (active a) y ≡ on z)) ⊎ (onward pl (active a) y ≡ end)
     returns-on y (inl m) = goes-from pl (active a) (home pl (passive p)) back-walk y m
     returns-on y (inr (x, z, m, q, n)) = goes-from pl (active a) z (next-walk x z m q) y n
 

@@ -36,4 +36,3 @@ Visits pl back a p (activeIn x) = x ≡ a
 Visits pl back a p (activeOut x) = ⊥
 Visits pl back a p (passiveIn x) = ⊥
 Visits pl back a p (U r i) = ⊥
-

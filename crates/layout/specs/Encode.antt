@@ -1,0 +1,108 @@
+-- The bytes of a state: header, a row for each queue, a row for each output, the allowances, the table; and the bytes past the state.
+use mathlib.Core.Path.{_≡_, refl, sym, ap, ap₂, _∙_}
+use mathlib.Core.Bool.{Bool, true, false}
+use mathlib.Core.List.{List, [], _∷_, _++_, append-assoc}
+use Prim.Native.Nat.{ℕ, zero, suc, _+_, _*_, _/_, _%_, _≤_, _<_}
+use native.Mathlib.Omega.{arith}
+use lib.ListN.{length, length-append}
+use Rattle.packets.specs.declared.Wire.{Wire}
+use Rattle.packets.specs.declared.Wire.the-variants.{Empty, Full}
+use Rattle.packets.specs.declared.Entry.{Entry}
+use Rattle.plan.specs.Plan.{Plan, A}
+use Rattle.feeding.specs.Queue.{Queue, queues, queueAt}
+use Rattle.feeding.specs.Feeds.{Output}
+use Rattle.machine.specs.Outputs.{outputs, outputAt}
+use Rattle.machine.specs.State.{State}
+use Rattle.layout.specs.Rows.{span, span-length}
+use Rattle.layout.specs.Offsets.{places, queueWidth, outputWidth, entryWidth, routerEntries, slotRoom, entries, size}
+use Rattle.layout.specs.Codes.{phaseCode, flagCode, choiceCode, entryCode}
+use Rattle.layout.specs.Places.{packetBytes, blank, placeBytes, length-places}
+
+-- ---- one row
+-- credit, flag, handled mark, length, places
+unfoldable pub queueBytes : State → Queue → List ℕ
+queueBytes s q = s .credit q .0 ∷ flagCode (s .flag q) ∷ flagCode (s .handled q) ∷ length (s .queue q) ∷ placeBytes places (s .queue q)
+
+-- a full wire's packet, zero bytes where it is empty
+abbrev pub wireBytes : Wire → List ℕ
+wireBytes Empty = 0 ∷ blank
+wireBytes (Full x) = 1 ∷ packetBytes x
+
+unfoldable pub outputBytes : State → Output → List ℕ
+outputBytes s o = wireBytes (s .wire o) ++ (choiceCode (s .choice o) ∷ [])
+
+abbrev pub allowanceBytes : State → ℕ → List ℕ
+allowanceBytes s a = s .allowance a ∷ []
+
+abbrev pub entryBytes : Entry → List ℕ
+entryBytes x = entryCode x ∷ 0 ∷ []
+
+-- the entry of a number: its router, its side, its slot
+abbrev pub entryOfNumber : State → ℕ → Entry
+entryOfNumber s n = s .table (n / routerEntries) (n % routerEntries / slotRoom) (n % slotRoom)
+
+-- ---- the parts
+abbrev pub header : State → List ℕ
+header s = phaseCode (s .phase) ∷ s .slot .0 ∷ []
+
+abbrev pub queuePart : Plan → State → List ℕ
+queuePart pl s = span 0 (queues pl) (λ n. queueBytes s (queueAt pl n))
+
+abbrev pub outputPart : Plan → State → List ℕ
+outputPart pl s = span 0 (outputs pl) (λ n. outputBytes s (outputAt pl n))
+
+abbrev pub allowancePart : Plan → State → List ℕ
+allowancePart pl s = span 0 (A pl) (allowanceBytes s)
+
+abbrev pub tablePart : Plan → State → List ℕ
+tablePart pl s = span 0 (entries pl) (λ n. entryBytes (entryOfNumber s n))
+
+-- the state's bytes, then the bytes past the state
+unfoldable pub encode : Plan → State → List ℕ → List ℕ
+encode pl s rest = header s ++ (queuePart pl s ++ (outputPart pl s ++ (allowancePart pl s ++ (tablePart pl s ++ rest))))
+
+-- ---- every row has its width
+pub length-queue : (s : State) (q : Queue) → length (queueBytes s q) ≡ queueWidth
+unfolding queueBytes
+length-queue s q = omega (arith, length-places places (s .queue q))
+
+pub length-wire : (x : Wire) → length (wireBytes x) ≡ 6
+length-wire Empty = refl
+length-wire (Full x) = refl
+
+pub length-output : (s : State) (o : Output) → length (outputBytes s o) ≡ outputWidth
+unfolding outputBytes
+length-output s o = rw (length-append (wireBytes (s .wire o)), length-wire (s .wire o))
+
+module _ (pl : Plan) (s : State) where
+  pub length-queues : length (queuePart pl s) ≡ queueWidth * queues pl
+  length-queues = span-length queueWidth 0 (queues pl) (λ n. queueBytes s (queueAt pl n)) (λ n. length-queue s (queueAt pl n))
+
+  pub length-outputs : length (outputPart pl s) ≡ outputWidth * outputs pl
+  length-outputs = span-length outputWidth 0 (outputs pl) (λ n. outputBytes s (outputAt pl n)) (λ n. length-output s (outputAt pl n))
+
+  pub length-allowances : length (allowancePart pl s) ≡ 1 * A pl
+  length-allowances = span-length 1 0 (A pl) (allowanceBytes s) (λ n. refl)
+
+  pub length-table : length (tablePart pl s) ≡ entryWidth * entries pl
+  length-table = span-length entryWidth 0 (entries pl) (λ n. entryBytes (entryOfNumber s n)) (λ n. refl)
+
+  -- the bytes past the state stand behind it
+  pub encode-append : (rest : List ℕ) → encode pl s rest ≡ encode pl s [] ++ rest
+  unfolding encode
+  encode-append rest = simp append-assoc
+
+  -- the state's bytes are as many as the layout says
+  pub length-encode : length (encode pl s []) ≡ size pl
+  unfolding encode size
+  length-encode =
+      rw (
+        length-append (queuePart pl s),
+        length-append (outputPart pl s),
+        length-append (allowancePart pl s),
+        length-append (tablePart pl s),
+        length-queues,
+        length-outputs,
+        length-allowances,
+        length-table,
+      ) (omega arith)

@@ -1,0 +1,82 @@
+-- The layout in figures for plan T, as docs/STATE.md gives them, and Start's bytes of plan T: a state's, but not one byte short or with a byte changed.
+use mathlib.Core.Path.{_≡_, refl}
+use mathlib.Core.Bool.{Bool, true, false}
+use mathlib.Core.List.{List, [], _∷_, _++_}
+use Prim.Native.Nat.{ℕ}
+use lib.ListN.{length, set, take}
+use Rattle.fields.specs.Bits.{bitAt, fieldOf}
+use Rattle.plan.specs.Head.{capacityAt, headOf}
+use Rattle.plan.specs.Plan.{Plan, jointIn, planOf}
+use Rattle.feeding.specs.Queue.{Queue, activeOut, activeIn, passiveIn, passiveOut, U, Q, F, K, number, queues, queueAt}
+use Rattle.feeding.specs.Feeds.{Output, ofActive, ofPassive, ofSide, toUnit, fromUnit}
+use Rattle.machine.specs.Outputs.{outputs, outputAt}
+use Rattle.machine.specs.State.{State, start}
+use Rattle.layout.specs.Rows.{span, front}
+use Rattle.layout.specs.Named.{outputNumber}
+use Rattle.layout.specs.Offsets.{outputsAt, allowancesAt, tableAt, size, queueRow, outputRow, allowanceRow, entryRow}
+use Rattle.layout.specs.Places.{placeBytes, packetAt, packetsAt}
+use Rattle.layout.specs.Encode.{queueBytes, outputBytes, encode}
+use Rattle.layout.specs.Decode.{decode}
+use Rattle.layout.specs.Canonical.{sameBytes, canonical}
+
+-- one router, side 0 to active 0, side 1 to passive 0, S=2, capacities 1
+unfoldable pub planT : Plan
+unfolding bitAt fieldOf capacityAt headOf jointIn planOf
+planT = planOf (8 ∷ 66 ∷ 17 ∷ 36 ∷ 146 ∷ 76 ∷ 6 ∷ 0 ∷ 0 ∷ 0 ∷ 32 ∷ [])
+
+-- ---- where the parts begin, and the size
+pub t-parts : (outputsAt planT ≡ 977) × (allowancesAt planT ≡ 1033) × (tableAt planT ≡ 1034) × (size planT ≡ 1290)
+unfolding planT queues size
+t-parts = (refl, refl, refl, refl)
+
+-- ---- where the rows stand
+abbrev pub queuesOf : List Queue → List ℕ
+queuesOf [] = []
+queuesOf (q ∷ qs) = queueRow planT q ∷ queuesOf qs
+
+abbrev pub outputsOf : List Output → List ℕ
+outputsOf [] = []
+outputsOf (o ∷ os) = outputRow planT o ∷ outputsOf os
+
+pub t-interfaces : queuesOf (activeOut 0 ∷ passiveOut 0 ∷ activeIn 0 ∷ passiveIn 0 ∷ []) ≡ 2 ∷ 41 ∷ 899 ∷ 938 ∷ []
+unfolding planT queueRow number
+t-interfaces = refl
+
+pub t-unit : queuesOf (U 0 0 ∷ U 0 1 ∷ U 0 2 ∷ U 0 3 ∷ Q 0 ∷ []) ≡ 80 ∷ 119 ∷ 158 ∷ 197 ∷ 236 ∷ []
+unfolding planT queueRow number
+t-unit = refl
+
+pub t-sides : queuesOf (F 0 0 ∷ K 0 1 0 ∷ K 0 2 0 ∷ K 0 3 0 ∷ F 0 1 ∷ K 0 0 1 ∷ K 0 2 1 ∷ K 0 3 1 ∷ F 0 2 ∷ K 0 0 2 ∷ K 0 1 2 ∷ K 0 3 2 ∷ F 0 3 ∷ K 0 0 3 ∷ K 0 1 3 ∷ K 0 2 3 ∷ [])
+    ≡ 275 ∷ 314 ∷ 353 ∷ 392 ∷ 431 ∷ 470 ∷ 509 ∷ 548 ∷ 587 ∷ 626 ∷ 665 ∷ 704 ∷ 743 ∷ 782 ∷ 821 ∷ 860 ∷ []
+unfolding planT queueRow number
+t-sides = refl
+
+pub t-outputs : outputsOf (ofActive 0 ∷ ofPassive 0 ∷ ofSide 0 0 ∷ ofSide 0 1 ∷ ofSide 0 2 ∷ ofSide 0 3 ∷ toUnit 0 ∷ fromUnit 0 ∷ []) ≡ 977 ∷ 984 ∷ 991 ∷ 998 ∷ 1005 ∷ 1012 ∷ 1019 ∷ 1026 ∷ []
+unfolding planT queues outputRow outputNumber
+t-outputs = refl
+
+pub t-entries : (allowanceRow planT 0 ≡ 1033) × (entryRow planT 0 0 0 ≡ 1034) × (entryRow planT 0 1 0 ≡ 1098) × (entryRow planT 0 2 0 ≡ 1162) × (entryRow planT 0 3 1 ≡ 1228)
+unfolding planT queues allowanceRow entryRow
+t-entries = (refl, refl, refl, refl, refl)
+
+-- ---- Start's bytes
+unfoldable pub startT : List ℕ
+unfolding planT span queues queueAt outputAt start placeBytes queueBytes outputBytes encode
+startT = encode planT (start planT) []
+
+unfoldable pub isState : List ℕ → Bool
+unfolding planT span front size queues queueAt number queueRow outputAt outputNumber outputRow allowanceRow entryRow start placeBytes packetAt packetsAt queueBytes outputBytes encode decode sameBytes canonical
+isState b = canonical planT b
+
+pub t-start : isState (startT ++ (7 ∷ [])) ≡ true
+unfolding startT isState
+t-start = refl
+
+pub t-short : isState (take 1289 startT) ≡ false
+unfolding startT isState
+t-short = refl
+
+-- a packet's byte past the length, the length 8, a flag 2, the table's second byte, an entry from S on
+pub t-others : (isState (set startT 8 1) ≡ false) × (isState (set startT 5 8) ≡ false) × (isState (set startT 3 2) ≡ false) × (isState (set startT 1035 1) ≡ false) × (isState (set startT 1038 1) ≡ false)
+unfolding startT isState
+t-others = (refl, refl, refl, refl, refl)

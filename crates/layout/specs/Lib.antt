@@ -1,0 +1,14 @@
+pub mod Rows
+pub mod Named
+pub mod Offsets
+pub mod Codes
+pub mod Places
+pub mod Encode
+pub mod Decode
+pub mod Small
+pub mod Standing
+pub mod Round
+pub mod Canonical
+pub mod Numbering
+pub mod Bytes
+pub mod Figures

@@ -1,0 +1,125 @@
+-- Which queues, outputs and entries a plan has, as tests; the numbers of outputs and entries; and what each number names.
+use mathlib.Core.Path.{_≡_, refl, sym, ap, _∙_}
+use mathlib.Core.Logic.{_⊎_, inl, inr, _≢_}
+use mathlib.Core.Bool.{Bool, true, false, not}
+use Prim.Native.Nat.{ℕ, zero, suc, _+_, _*_, _-_, _/_, _%_, _≤_, _<_}
+use native.Mathlib.Omega.{arith}
+use lib.Dec.{eqb, ltb}
+use borrow.Author.Tests.{ltb-true, lt-ltb, le-ltb, eq-eqb, eqb-false, ne-eqb}
+use Rattle.basis.specs.Choice.{pick, also, also-true, also-of}
+use Rattle.basis.specs.Bounded.{lt-or-ge}
+use Rattle.plan.specs.Plan.{Plan, R, A, P, S}
+use Rattle.feeding.specs.Queue.{Queue, activeOut, activeIn, passiveIn, passiveOut, U, Q, F, K, Exists, outs, routerBase, inBase, queues, senderAt, inRouter, queueAt}
+use Rattle.feeding.specs.Feeds.{Output, ofActive, ofPassive, ofSide, toUnit, fromUnit}
+use Rattle.machine.specs.Outputs.{outputs, outputAt, routerOutput}
+use Rattle.machine.specs.Valid.{Drives}
+
+-- ---- the plan has a queue
+abbrev pub existsTest : Plan → Queue → Bool
+existsTest pl (activeOut a) = ltb a (A pl)
+existsTest pl (activeIn a) = ltb a (A pl)
+existsTest pl (passiveIn p) = ltb p (P pl)
+existsTest pl (passiveOut p) = ltb p (P pl)
+existsTest pl (U r i) = also (ltb r (R pl)) (ltb i 4)
+existsTest pl (Q r) = ltb r (R pl)
+existsTest pl (F r o) = also (ltb r (R pl)) (ltb o 4)
+existsTest pl (K r i o) = also (ltb r (R pl)) (also (ltb i 4) (also (ltb o 4) (not (eqb i o))))
+
+not-eqb : (i o : ℕ) → not (eqb i o) ≡ true → i ≢ o
+not-eqb i o e = eqb-false i o (by (eqb i o) e)
+  where
+    by : (t : Bool) → not t ≡ true → t ≡ false
+    by true u = sym u
+    by false u = refl
+
+-- the test is passed exactly by the plan's queues
+pub test-exists : (pl : Plan) (q : Queue) → existsTest pl q ≡ true → Exists pl q
+test-exists pl (activeOut a) e = ltb-true a (A pl) e
+test-exists pl (activeIn a) e = ltb-true a (A pl) e
+test-exists pl (passiveIn p) e = ltb-true p (P pl) e
+test-exists pl (passiveOut p) e = ltb-true p (P pl) e
+test-exists pl (U r i) e = let p = also-true e in (ltb-true r (R pl) (p .0), ltb-true i 4 (p .1))
+test-exists pl (Q r) e = ltb-true r (R pl) e
+test-exists pl (F r o) e = let p = also-true e in (ltb-true r (R pl) (p .0), ltb-true o 4 (p .1))
+test-exists pl (K r i o) e =
+    let p = also-true e in let q = also-true (p .1) in let s = also-true (q .1) in
+    (ltb-true r (R pl) (p .0), ltb-true i 4 (q .0), ltb-true o 4 (s .0), not-eqb i o (s .1))
+
+pub exists-test : (pl : Plan) (q : Queue) → Exists pl q → existsTest pl q ≡ true
+exists-test pl (activeOut a) h = lt-ltb a (A pl) h
+exists-test pl (activeIn a) h = lt-ltb a (A pl) h
+exists-test pl (passiveIn p) h = lt-ltb p (P pl) h
+exists-test pl (passiveOut p) h = lt-ltb p (P pl) h
+exists-test pl (U r i) (h, l) = also-of (lt-ltb r (R pl) h) (lt-ltb i 4 l)
+exists-test pl (Q r) h = lt-ltb r (R pl) h
+exists-test pl (F r o) (h, l) = also-of (lt-ltb r (R pl) h) (lt-ltb o 4 l)
+exists-test pl (K r i o) (h, hi, ho, ne) = also-of (lt-ltb r (R pl) h) (also-of (lt-ltb i 4 hi) (also-of (lt-ltb o 4 ho) (rw (ne-eqb i o ne))))
+
+-- ---- the plan has an output
+abbrev pub drivesTest : Plan → Output → Bool
+drivesTest pl (ofActive a) = ltb a (A pl)
+drivesTest pl (ofPassive p) = ltb p (P pl)
+drivesTest pl (ofSide r o) = also (ltb r (R pl)) (ltb o 4)
+drivesTest pl (toUnit r) = ltb r (R pl)
+drivesTest pl (fromUnit r) = ltb r (R pl)
+
+pub test-drives : (pl : Plan) (o : Output) → drivesTest pl o ≡ true → Drives pl o
+test-drives pl (ofActive a) e = ltb-true a (A pl) e
+test-drives pl (ofPassive p) e = ltb-true p (P pl) e
+test-drives pl (ofSide r o) e = let p = also-true e in (ltb-true r (R pl) (p .0), ltb-true o 4 (p .1))
+test-drives pl (toUnit r) e = ltb-true r (R pl) e
+test-drives pl (fromUnit r) e = ltb-true r (R pl) e
+
+pub drives-test : (pl : Plan) (o : Output) → Drives pl o → drivesTest pl o ≡ true
+drives-test pl (ofActive a) h = lt-ltb a (A pl) h
+drives-test pl (ofPassive p) h = lt-ltb p (P pl) h
+drives-test pl (ofSide r o) (h, l) = also-of (lt-ltb r (R pl) h) (lt-ltb o 4 l)
+drives-test pl (toUnit r) h = lt-ltb r (R pl) h
+drives-test pl (fromUnit r) h = lt-ltb r (R pl) h
+
+-- ---- the plan has an entry: a router's, a side's, a slot's
+abbrev pub entryTest : Plan → ℕ → ℕ → ℕ → Bool
+entryTest pl r o t = also (ltb r (R pl)) (also (ltb o 4) (ltb t (S pl)))
+
+abbrev pub HasEntry : Plan → ℕ → ℕ → ℕ → Type 0
+HasEntry pl r o t = (r < R pl) × (o < 4) × (t < S pl)
+
+pub test-entry : (pl : Plan) (r o t : ℕ) → entryTest pl r o t ≡ true → HasEntry pl r o t
+test-entry pl r o t e = let p = also-true e in let q = also-true (p .1) in (ltb-true r (R pl) (p .0), ltb-true o 4 (q .0), ltb-true t (S pl) (q .1))
+
+pub entry-test : (pl : Plan) (r o t : ℕ) → HasEntry pl r o t → entryTest pl r o t ≡ true
+entry-test pl r o t (h, k, l) = also-of (lt-ltb r (R pl) h) (also-of (lt-ltb o 4 k) (lt-ltb t (S pl) l))
+
+-- ---- numbers of outputs: interfaces' first, then each router's four sides, to its unit, and back
+unfoldable pub outputNumber : Plan → Output → ℕ
+outputNumber pl (ofActive a) = a
+outputNumber pl (ofPassive p) = A pl + p
+outputNumber pl (ofSide r o) = A pl + P pl + 6 * r + o
+outputNumber pl (toUnit r) = A pl + P pl + 6 * r + 4
+outputNumber pl (fromUnit r) = A pl + P pl + 6 * r + 5
+
+module _ (pl : Plan) where
+  router-output : (r k : ℕ) → k < 6 → outputAt pl (A pl + P pl + 6 * r + k) ≡ routerOutput r k
+  unfolding outputAt
+  router-output r k l =
+      let d : (A pl + P pl + 6 * r + k - (A pl + P pl)) / 6 ≡ r = omega arith in
+      let m : (A pl + P pl + 6 * r + k - (A pl + P pl)) % 6 ≡ k = omega arith in
+      rw (le-ltb (A pl + P pl + 6 * r + k) (A pl) (omega arith), le-ltb (A pl + P pl + 6 * r + k) (A pl + P pl) (omega arith), outputAt, d, m)
+
+  -- the output of an output's number is that output
+  pub output-at : (o : Output) → Drives pl o → outputAt pl (outputNumber pl o) ≡ o
+  unfolding outputNumber outputAt
+  output-at (ofActive a) h = rw (lt-ltb a (A pl) h, outputAt)
+  output-at (ofPassive p) h = rw (le-ltb (A pl + p) (A pl) (omega arith), lt-ltb (A pl + p) (A pl + P pl) (omega arith), outputAt) (ap ofPassive (omega arith))
+  output-at (ofSide r o) (h, l) = router-output r o (omega arith) ∙ rw (lt-ltb o 4 l)
+  output-at (toUnit r) h = router-output r 4 (omega arith)
+  output-at (fromUnit r) h = router-output r 5 (omega arith)
+
+  -- every number is below the count of outputs
+  pub output-below : (o : Output) → Drives pl o → outputNumber pl o < outputs pl
+  unfolding outputNumber
+  output-below (ofActive a) h = omega arith
+  output-below (ofPassive p) h = omega arith
+  output-below (ofSide r o) (h, l) = omega arith
+  output-below (toUnit r) h = omega arith
+  output-below (fromUnit r) h = omega arith

@@ -1,0 +1,118 @@
+-- The numbers of the layout: widths, counts, and the offset of every byte, linear in the plan's counts and in the place's numbers.
+use mathlib.Core.Path.{_≡_, refl}
+use Prim.Native.Nat.{ℕ, _+_, _*_, _≤_, _<_}
+use native.Mathlib.Omega.{arith}
+use Rattle.plan.specs.Head.{InRange}
+use Rattle.plan.specs.Plan.{Plan, R, A, P}
+use Rattle.feeding.specs.Queue.{Queue, number, queues}
+use Rattle.feeding.specs.Feeds.{Output}
+use Rattle.machine.specs.Outputs.{outputs}
+use Rattle.layout.specs.Named.{outputNumber}
+
+-- ---- the header
+abbrev pub phaseByte : ℕ
+phaseByte = 0
+
+abbrev pub slotByte : ℕ
+slotByte = 1
+
+abbrev pub queuesAt : ℕ
+queuesAt = 2
+
+-- ---- a packet's five bytes
+abbrev pub packetWidth : ℕ
+packetWidth = 5
+
+-- ---- a queue's row: four bytes, then seven places for packets
+abbrev pub places : ℕ
+places = 7
+
+abbrev pub creditByte : ℕ
+creditByte = 0
+
+abbrev pub flagByte : ℕ
+flagByte = 1
+
+abbrev pub handledByte : ℕ
+handledByte = 2
+
+abbrev pub lengthByte : ℕ
+lengthByte = 3
+
+abbrev pub firstPlace : ℕ
+firstPlace = 4
+
+abbrev pub queueWidth : ℕ
+queueWidth = firstPlace + packetWidth * places
+
+-- ---- an output's row: the wire's byte and packet, then the choice
+abbrev pub wireByte : ℕ
+wireByte = 0
+
+abbrev pub wirePacket : ℕ
+wirePacket = 1
+
+abbrev pub choiceByte : ℕ
+choiceByte = 6
+
+abbrev pub outputWidth : ℕ
+outputWidth = 7
+
+-- ---- the table: room for 32 slots on each of a router's four sides, two bytes an entry
+abbrev pub slotRoom : ℕ
+slotRoom = 32
+
+abbrev pub routerEntries : ℕ
+routerEntries = 4 * slotRoom
+
+abbrev pub entryWidth : ℕ
+entryWidth = 2
+
+abbrev pub entries : Plan → ℕ
+entries pl = routerEntries * R pl
+
+abbrev pub entryNumber : ℕ → ℕ → ℕ → ℕ
+entryNumber r o t = routerEntries * r + slotRoom * o + t
+
+-- ---- where each part begins
+abbrev pub outputsAt : Plan → ℕ
+outputsAt pl = queuesAt + queueWidth * queues pl
+
+abbrev pub allowancesAt : Plan → ℕ
+allowancesAt pl = outputsAt pl + outputWidth * outputs pl
+
+abbrev pub tableAt : Plan → ℕ
+tableAt pl = allowancesAt pl + A pl
+
+-- the count of the state's bytes
+unfoldable pub size : Plan → ℕ
+size pl = tableAt pl + entryWidth * entries pl
+
+-- ---- where each row stands
+unfoldable pub queueRow : Plan → Queue → ℕ
+queueRow pl q = queuesAt + queueWidth * number pl q
+
+unfoldable pub outputRow : Plan → Output → ℕ
+outputRow pl o = outputsAt pl + outputWidth * outputNumber pl o
+
+unfoldable pub allowanceRow : Plan → ℕ → ℕ
+allowanceRow pl a = allowancesAt pl + a
+
+unfoldable pub entryRow : Plan → ℕ → ℕ → ℕ → ℕ
+entryRow pl r o t = tableAt pl + entryWidth * entryNumber r o t
+
+-- the size, by the plan's counts alone
+pub size-is : (pl : Plan) → size pl ≡ 2 + 39 * queues pl + 7 * outputs pl + A pl + 256 * R pl
+unfolding size
+size-is pl = omega arith
+
+-- the state of a plan whose counts are in range is at most 20,610 bytes
+pub size-most : (pl : Plan) → InRange (pl .head) → size pl ≤ 20610
+unfolding size queues
+size-most pl range =
+    let r = range .routers .1 in let a = range .actives .1 in let p = range .passives .1 in
+    omega arith
+
+-- 'at most 64 KiB'
+pub size-small : (pl : Plan) → InRange (pl .head) → size pl ≤ 65536
+size-small pl range = let m = size-most pl range in omega arith

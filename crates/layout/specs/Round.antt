@@ -1,0 +1,122 @@
+-- The state of a state's bytes is that state: each row is read where it stands, and outside the plan's places both are as Start left them.
+use mathlib.Core.Path.{_≡_, refl, sym, ap, ap₂, _∙_, fun-ext}
+use mathlib.Core.Bool.{Bool, true, false}
+use mathlib.Core.List.{List, [], _∷_, _++_}
+use Prim.Native.Nat.{ℕ, _+_, _≤_, _<_}
+use native.Mathlib.Omega.{arith}
+use lib.Dec.{ltb}
+use borrow.Author.Tests.{ltb-true, lt-ltb}
+use lib.ListN.{length, getD}
+use Rattle.basis.specs.Choice.{pick, not-both}
+use Rattle.packets.specs.declared.Packet.{Packet}
+use Rattle.packets.specs.declared.Entry.{Entry}
+use Rattle.packets.specs.declared.Wire.{Wire}
+use Rattle.packets.specs.declared.Wire.the-variants.{Empty, Full}
+use Rattle.plan.specs.Head.{InRange}
+use Rattle.plan.specs.Plan.{Plan, A}
+use Rattle.feeding.specs.Queue.{Queue, Exists}
+use Rattle.feeding.specs.Feeds.{Output}
+use Rattle.machine.specs.State.{State, start}
+use Rattle.machine.specs.Valid.{Bounded, Drives}
+use Rattle.layout.specs.Rows.{Stands, stands-left, stands-right, stands-get, stands-byte}
+use Rattle.layout.specs.Named.{existsTest, test-exists, exists-test, drivesTest, test-drives, drives-test, entryTest, test-entry, entry-test}
+use Rattle.layout.specs.Offsets.{places, firstPlace, wirePacket, queueRow, outputRow, allowanceRow, entryRow}
+use Rattle.layout.specs.Codes.{phase-code, flagCode, flagOf, flag-code, choiceCode, choiceOf, choice-code, entryOf, entry-code}
+use Rattle.layout.specs.Places.{packetBytes, blank, placeBytes, packetAt, packet-read, packets-read}
+use Rattle.layout.specs.Encode.{queueBytes, wireBytes, outputBytes, allowanceBytes, entryBytes, encode, length-wire}
+use Rattle.layout.specs.Standing.{queue-stands, output-stands, allowance-stands, entry-stands}
+use Rattle.layout.specs.Decode.{creditAt, flagAt, handledAt, lengthAt, queueIn, wireOf, wireAt, choiceAt, entryAt, decode}
+use Rattle.layout.specs.Small.{Small}
+
+-- ---- one row is read where it stands
+module _ (s : State) (b : List ℕ) (i : ℕ) where
+  credit-read : (q : Queue) → Stands i (queueBytes s q) b → creditAt i b ≡ s .credit q
+  unfolding queueBytes
+  credit-read q t = ap (λ (n : ℕ). record { 0 = n }) (stands-get i (queueBytes s q) b t 0 (omega arith))
+
+  flag-read : (q : Queue) → Stands i (queueBytes s q) b → flagAt i b ≡ s .flag q
+  unfolding queueBytes
+  flag-read q t = ap flagOf (stands-get i (queueBytes s q) b t 1 (omega arith)) ∙ flag-code (s .flag q)
+
+  handled-read : (q : Queue) → Stands i (queueBytes s q) b → handledAt i b ≡ s .handled q
+  unfolding queueBytes
+  handled-read q t = ap flagOf (stands-get i (queueBytes s q) b t 2 (omega arith)) ∙ flag-code (s .handled q)
+
+  queue-read : (q : Queue) → length (s .queue q) ≤ places → Stands i (queueBytes s q) b → queueIn i b ≡ s .queue q
+  unfolding queueBytes
+  queue-read q h t =
+      let n : lengthAt i b ≡ length (s .queue q) = stands-get i (queueBytes s q) b t 3 (omega arith) in
+      let front : List ℕ = s .credit q .0 ∷ flagCode (s .flag q) ∷ flagCode (s .handled q) ∷ length (s .queue q) ∷ [] in
+      rw n (packets-read places (i + firstPlace) (s .queue q) b h (stands-right i (i + firstPlace) front (placeBytes places (s .queue q)) b refl t))
+
+  wire-read : (w : Wire) → Stands i (wireBytes w) b → wireAt i b ≡ w
+  wire-read Empty t = ap (λ n. wireOf (flagOf n) (packetAt (i + wirePacket) b)) (stands-get i (wireBytes Empty) b t 0 (omega arith))
+  wire-read (Full x) t =
+      ap₂ (λ n y. wireOf (flagOf n) y) (stands-get i (wireBytes (Full x)) b t 0 (omega arith))
+      (packet-read (i + wirePacket) x b (stands-right i (i + wirePacket) (1 ∷ []) (packetBytes x) b refl t))
+
+  output-wire-read : (o : Output) → Stands i (outputBytes s o) b → wireAt i b ≡ s .wire o
+  unfolding outputBytes
+  output-wire-read o t = wire-read (s .wire o) (stands-left i (wireBytes (s .wire o)) (choiceCode (s .choice o) ∷ []) b t)
+
+  choice-read : (o : Output) → Stands i (outputBytes s o) b → choiceAt i b ≡ s .choice o
+  unfolding outputBytes
+  choice-read o t =
+      let e : i + 6 ≡ i + length (wireBytes (s .wire o)) = rw (length-wire (s .wire o)) in
+      let k : Stands (i + 6) (choiceCode (s .choice o) ∷ []) b = stands-right i (i + 6) (wireBytes (s .wire o)) (choiceCode (s .choice o) ∷ []) b e t in
+      ap choiceOf (stands-byte (i + 6) (choiceCode (s .choice o) ∷ []) b k (omega arith)) ∙ choice-code (s .choice o)
+
+  entry-read : (x : Entry) → Stands i (entryBytes x) b → entryAt i b ≡ x
+  entry-read x t = ap entryOf (stands-byte i (entryBytes x) b t (omega arith)) ∙ entry-code x
+
+-- ---- the whole
+-- read where the plan has it, else the default
+kept : {X : Type 0} (t : Bool) (x d v : X) → (t ≡ true → x ≡ v) → (t ≡ false → v ≡ d) → pick t x d ≡ v
+kept true x d v f g = f refl
+kept false x d v f g = sym (g refl)
+
+module _ (pl : Plan) (s : State) (rest : List ℕ) (range : InRange (pl .head)) (out : Bounded pl s) (small : Small pl s) where
+  unless : {X : Type 0} (t : Bool) → t ≡ false → (X → t ≡ true) → X → ⊥
+  unless t e f x = not-both (f x) e
+
+  of-queue : {X : Type 0} (q : Queue) (x d v : X) → (Stands (queueRow pl q) (queueBytes s q) (encode pl s rest) → x ≡ v) → ((Exists pl q → ⊥) → v ≡ d) → pick (existsTest pl q) x d ≡ v
+  of-queue q x d v f g =
+      kept (existsTest pl q) x d v (λ e. f (queue-stands pl s rest q (test-exists pl q e))) (λ e. g (unless (existsTest pl q) e (exists-test pl q)))
+
+  of-output : {X : Type 0} (o : Output) (x d v : X) → (Stands (outputRow pl o) (outputBytes s o) (encode pl s rest) → x ≡ v) → ((Drives pl o → ⊥) → v ≡ d) → pick (drivesTest pl o) x d ≡ v
+  of-output o x d v f g =
+      kept (drivesTest pl o) x d v (λ e. f (output-stands pl s rest o (test-drives pl o e))) (λ e. g (unless (drivesTest pl o) e (drives-test pl o)))
+
+  same-entry : (r o t : ℕ) → decode pl (encode pl s rest) .table r o t ≡ s .table r o t
+  unfolding decode
+  same-entry r o t =
+      kept (entryTest pl r o t) _ (start pl .table r o t) (s .table r o t)
+      (λ e. let h = test-entry pl r o t e in let l = range .slots .1 in
+      entry-read s (encode pl s rest) (entryRow pl r o t) (s .table r o t) (entry-stands pl s rest r o t (h .0) (h .1) (omega arith)))
+      (λ e. out .table r o t (unless (entryTest pl r o t) e (entry-test pl r o t)))
+
+  same-allowance : (a : ℕ) → decode pl (encode pl s rest) .allowance a ≡ s .allowance a
+  unfolding decode
+  same-allowance a =
+      kept (ltb a (A pl)) _ (start pl .allowance a) (s .allowance a)
+      (λ e. stands-byte (allowanceRow pl a) (allowanceBytes s a) (encode pl s rest) (allowance-stands pl s rest a (ltb-true a (A pl) e)) (omega arith))
+      (λ e. out .allowance a (unless (ltb a (A pl)) e (lt-ltb a (A pl))))
+
+  -- the state of a state's bytes is that state
+  pub decode-encode : decode pl (encode pl s rest) ≡ s
+  unfolding decode encode
+  decode-encode =
+      let b : List ℕ = encode pl s rest in
+      let qs : decode pl b .queue ≡ s .queue =
+      fun-ext (λ q. kept (existsTest pl q) _ (start pl .queue q) (s .queue q)
+      (λ e. let h = test-exists pl q e in queue-read s b (queueRow pl q) q (small .few q h) (queue-stands pl s rest q h))
+      (λ e. out .queue q (unless (existsTest pl q) e (exists-test pl q)))) in
+      let ws : decode pl b .wire ≡ s .wire = fun-ext (λ o. of-output o _ _ (s .wire o) (output-wire-read s b (outputRow pl o) o) (out .wire o)) in
+      let cs : decode pl b .credit ≡ s .credit = fun-ext (λ q. of-queue q _ _ (s .credit q) (credit-read s b (queueRow pl q) q) (out .credit q)) in
+      let fs : decode pl b .flag ≡ s .flag = fun-ext (λ q. of-queue q _ _ (s .flag q) (flag-read s b (queueRow pl q) q) (out .flag q)) in
+      let hs : decode pl b .handled ≡ s .handled = fun-ext (λ q. of-queue q _ _ (s .handled q) (handled-read s b (queueRow pl q) q) (out .handled q)) in
+      let ps : decode pl b .choice ≡ s .choice = fun-ext (λ o. of-output o _ _ (s .choice o) (choice-read s b (outputRow pl o) o) (out .choice o)) in
+      let ts : decode pl b .table ≡ s .table = fun-ext (λ r. fun-ext (λ o. fun-ext (λ t. same-entry r o t))) in
+      let al : decode pl b .allowance ≡ s .allowance = fun-ext (λ a. same-allowance a) in
+      let ph : decode pl b .phase ≡ s .phase = phase-code (s .phase) in
+      λ i. record { phase = ph i; slot = s .slot; queue = qs i; wire = ws i; credit = cs i; flag = fs i; handled = hs i; choice = ps i; table = ts i; allowance = al i }

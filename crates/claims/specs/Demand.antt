@@ -5,9 +5,7 @@ use mathlib.Core.Logic.{_≢_}
 use mathlib.Core.Bool.{Bool, true, false, _&&_}
 use mathlib.Core.List.{List, [], _∷_, _++_}
 use Prim.Native.Nat.{ℕ, zero, suc, _+_, _≤_, _<_}
-use lib.Dec.{eqb}
 use lib.ListN.{length}
-use Rattle.basis.specs.Choice.{pick}
 use Rattle.kinds.specs.declared.Refusal.the-variants.{NotState}
 use Rattle.packets.specs.declared.Answer.{Answer}
 use Rattle.packets.specs.declared.Answer.the-variants.{Refused, Done, Taken, Holds}
@@ -18,7 +16,8 @@ use Rattle.load.specs.Load.{loadOf}
 use Rattle.machine.specs.State.{State, start}
 use Rattle.machine.specs.Calls.{Call, read, execute, write, launch, reply, consume, entry, call}
 use Rattle.machine.specs.Accepted.{Connection, accept, MadeBy}
-use Rattle.machine.specs.Progress.{Within, Quiet, Waits, Moved, isTimed, isDone, endsRound}
+use Rattle.machine.specs.Progress.{Within, Quiet, Waits, Moved, isTimed, endsRound}
+use Rattle.machine.specs.Ruled.{ruledAfter, launchesCall, times}
 use Rattle.layout.specs.Decode.{decode}
 use Rattle.claims.specs.Calls.{Given, callOn, startOn}
 
@@ -43,26 +42,9 @@ roundsIn p [] b = 0
 roundsIn p (c ∷ cs) b = endsRound c (callOn p c b .answer) + roundsIn p cs (callOn p c b .bytes)
 
 -- how many accepted Launches of a triple the list has
-abbrev pub launchesCall : Connection → Call → Answer → ℕ
-launchesCall d read x = 0
-launchesCall d execute x = 0
-launchesCall d write x = 0
-launchesCall d (launch a q t) x = pick (eqb a (d .active) && eqb q (d .passive) && eqb t (d .start .0)) (isDone x) 0
-launchesCall d (reply q c) x = 0
-launchesCall d (consume a) x = 0
-launchesCall d (entry r o t) x = 0
-
 abbrev pub launchesIn : List ℕ → Connection → List Call → List ℕ → ℕ
 launchesIn p d [] b = 0
 launchesIn p d (c ∷ cs) b = launchesCall d c (callOn p c b .answer) + launchesIn p d cs (callOn p c b .bytes)
-
--- how many times a connection was accepted
-abbrev pub sameConnection : Connection → Connection → Bool
-sameConnection c d = eqb (c .active) (d .active) && eqb (c .passive) (d .passive) && eqb (c .start .0) (d .start .0)
-
-abbrev pub times : Connection → List Connection → ℕ
-times d [] = 0
-times d (c ∷ cs) = pick (sameConnection c d) 1 0 + times d cs
 
 -- 'at least one packet changes its queue or wire, or ends, by a Read, an Execute or a Write': a call of the list that takes it out
 pub record MovesIn (p : List ℕ) (cs : List Call) (b : List ℕ) : Type 0 where
@@ -72,11 +54,6 @@ pub record MovesIn (p : List ℕ) (cs : List Call) (b : List ℕ) : Type 0 where
   pub split : cs ≡ before ++ (at ∷ rest)
   pub timed : isTimed at ≡ true
   pub moved : Moved (planOf p) (stateOf p (bytesAfter p before b)) (stateOf p (callOn p at (bytesAfter p before b) .bytes))
-
--- the rules run on the same list
-abbrev pub ruledAfter : Plan → List Call → State → State
-ruledAfter pl [] s = s
-ruledAfter pl (c ∷ cs) s = ruledAfter pl cs (call pl c s .state)
 
 -- the same queues, wires and table
 pub record Agrees (s t : State) : Type 0 where

@@ -8,3 +8,4 @@ pub mod Calls
 pub mod Accepted
 pub mod Valid
 pub mod Progress
+pub mod Ruled

@@ -1,10 +1,10 @@
 -- Every byte of a valid state is a byte: below 256.
-use mathlib.Core.Path.{_≡_, refl, sym, ap, _∙_}
+use mathlib.Core.Path.{_≡_, refl, sym, _∙_}
 use mathlib.Core.Logic.{_⊎_, inl, inr}
 use mathlib.Core.Bool.{Bool, true, false}
 use mathlib.Core.List.{List, [], _∷_, _++_}
-use mathlib.Core.Option.{Option, none, some}
-use Prim.Native.Nat.{ℕ, zero, suc, _+_, _*_, _/_, _%_, _≤_, _<_}
+use mathlib.Core.Option.{some}
+use Prim.Native.Nat.{ℕ, zero, suc, _+_, _/_, _%_, _≤_, _<_}
 use native.Mathlib.Omega.{arith}
 use lib.ListN.{length, getD}
 use Rattle.basis.specs.Choice.{test}
@@ -17,7 +17,7 @@ use Rattle.packets.specs.declared.Entry.{Entry}
 use Rattle.packets.specs.declared.Entry.the-variants.{Free, Booked}
 use Rattle.plan.specs.Head.{InRange}
 use Rattle.plan.specs.Plan.{Plan, R, A, S}
-use Rattle.feeding.specs.Queue.{Queue, Exists, capacity, queues, queueAt}
+use Rattle.feeding.specs.Queue.{Queue, Exists, queues, queueAt}
 use Rattle.feeding.specs.Feeds.{Output, ofActive, ofPassive, ofSide, toUnit, fromUnit}
 use Rattle.machine.specs.Outputs.{senders, outputs, outputAt}
 use Rattle.machine.specs.State.{State, Choice, nobody, sender, start}
@@ -26,10 +26,10 @@ use Rattle.machine.specs.Valid.{PacketOk, Lined, Drives, isFed, Valid, Bounded}
 use Rattle.layout.specs.Rows.{span}
 use Rattle.layout.specs.Numbering.{queue-named, output-named, entry-named}
 use Rattle.layout.specs.Offsets.{places, entries, routerEntries, slotRoom}
-use Rattle.layout.specs.Codes.{phaseCode, phase-small, kind-small, flag-small, choiceCode, entryCode}
+use Rattle.layout.specs.Codes.{phase-small, kind-small, flag-small, choiceCode}
 use Rattle.layout.specs.Places.{packetBytes, blank, placeBytes}
-use Rattle.layout.specs.Encode.{queueBytes, wireBytes, outputBytes, allowanceBytes, entryBytes, entryOfNumber, header, queuePart, outputPart, allowancePart, tablePart, encode}
-use Rattle.layout.specs.Small.{capacity-most}
+use Rattle.layout.specs.Encode.{queueBytes, wireBytes, outputBytes, allowanceBytes, entryBytes, queuePart, outputPart, allowancePart, tablePart, encode}
+use Rattle.layout.specs.Decode.{capacity-most}
 
 -- all elements of a list are bytes
 abbrev pub Bytes : List ℕ → Type 0
@@ -42,10 +42,12 @@ bytes-get [] i h = omega arith
 bytes-get (x ∷ b) zero (h, k) = h
 bytes-get (x ∷ b) (suc i) (h, k) = bytes-get b i k
 
+-- two lists of bytes, one behind the other
 pub bytes-append : (x y : List ℕ) → Bytes x → Bytes y → Bytes (x ++ y)
 bytes-append [] y h k = k
 bytes-append (a ∷ x) y (h, l) k = (h, bytes-append x y l k)
 
+-- rows of bytes
 pub bytes-span : (i n : ℕ) (g : ℕ → List ℕ) → ((j : ℕ) → i ≤ j → j < i + n → Bytes (g j)) → Bytes (span i n g)
 unfolding span
 bytes-span i zero g h = record {}

@@ -2,7 +2,7 @@
 use mathlib.Core.Path.{_≡_, refl, sym, ap, ap₂, _∙_, subst⁻¹}
 use mathlib.Core.Bool.{Bool, true, false, false≢true}
 use mathlib.Core.List.{List, [], _∷_, _++_}
-use Prim.Native.Nat.{ℕ, zero, suc, _+_, _≤_, _<_}
+use Prim.Native.Nat.{ℕ, _+_, _≤_}
 use native.Mathlib.Omega.{arith}
 use lib.Dec.{eqb, leb}
 use lib.ListN.{length, length-append}
@@ -15,8 +15,7 @@ use Rattle.machine.specs.Valid.{Bounded}
 use Rattle.layout.specs.Rows.{front, past, front-past, front-append, past-append}
 use Rattle.layout.specs.Offsets.{size}
 use Rattle.layout.specs.Encode.{encode, encode-append, length-encode}
-use Rattle.layout.specs.Decode.{decode, decode-bounded}
-use Rattle.layout.specs.Small.{Small, decode-small}
+use Rattle.layout.specs.Decode.{decode, decode-bounded, Small, decode-small}
 use Rattle.layout.specs.Round.{decode-encode}
 
 -- ---- two lists of bytes are one
@@ -26,7 +25,7 @@ sameBytes [] (y ∷ ys) = false
 sameBytes (x ∷ xs) [] = false
 sameBytes (x ∷ xs) (y ∷ ys) = also (eqb x y) (sameBytes xs ys)
 
--- the test is passed exactly by equal lists
+-- the test is passed by equal lists alone
 pub same-bytes : (xs ys : List ℕ) → sameBytes xs ys ≡ true → xs ≡ ys
 unfolding sameBytes
 same-bytes [] [] e = refl
@@ -34,6 +33,7 @@ same-bytes [] (y ∷ ys) e = absurd (false≢true e)
 same-bytes (x ∷ xs) [] e = absurd (false≢true e)
 same-bytes (x ∷ xs) (y ∷ ys) e = let p = also-true e in ap₂ _∷_ (eqb-true x y (p .0)) (same-bytes xs ys (p .1))
 
+-- and by those
 pub bytes-same : (xs : List ℕ) → sameBytes xs xs ≡ true
 unfolding sameBytes
 bytes-same [] = refl
@@ -86,10 +86,11 @@ pub record Encodes (pl : Plan) (b : List ℕ) : Type 0 where
   pub small : Small pl state
   pub same : b ≡ encode pl state rest
 
--- the test is passed exactly by the bytes that the layout gives to a state
+-- the test is passed by the bytes that the layout gives to a state alone
 pub canonical-encodes : (pl : Plan) (b : List ℕ) → canonical pl b ≡ true → Encodes pl b
 canonical-encodes pl b e = record { state = decode pl b; rest = past (size pl) b; bounded = decode-bounded pl b; small = decode-small pl b; same = encode-canonical pl b e }
 
+-- and by all of them
 pub encodes-canonical : (pl : Plan) → InRange (pl .head) → (b : List ℕ) → Encodes pl b → canonical pl b ≡ true
 encodes-canonical pl range b x = rw (x .same) (canonical-encode pl range (x .state) (x .rest) (x .bounded) (x .small))
 

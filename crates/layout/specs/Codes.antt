@@ -1,7 +1,7 @@
 -- The byte of each value that is not a number, and the value of each byte. A byte that is no value's is read as some value: comparing back tells.
 use mathlib.Core.Path.{_≡_, refl}
 use mathlib.Core.Bool.{Bool, true, false}
-use Prim.Native.Nat.{ℕ, zero, suc, _<_, _≤_}
+use Prim.Native.Nat.{ℕ, zero, suc, _≤_}
 use native.Mathlib.Omega.{arith}
 use Rattle.packets.specs.declared.Kind.{Kind}
 use Rattle.packets.specs.declared.Kind.the-variants.{Setup, Tdown, Ack, Nack}
@@ -22,6 +22,7 @@ phaseOf zero = Read
 phaseOf (suc zero) = Execute
 phaseOf (suc (suc n)) = Write
 
+-- a value's byte is read as that value: so each of the five
 pub phase-code : (x : Phase) → phaseOf (phaseCode x) ≡ x
 phase-code Read = refl
 phase-code Execute = refl

@@ -1,24 +1,26 @@
 -- The state of bytes, whatever they are: each part read at its offset where the plan has it, and as Start leaves it elsewhere.
-use mathlib.Core.Path.{_≡_, refl, sym, ap, _∙_}
+-- So it is bounded, and small: its queues fit in their places, as those of every valid state do.
+use mathlib.Core.Path.{_≡_}
 use mathlib.Core.Bool.{Bool, true, false}
-use mathlib.Core.List.{List, [], _∷_}
-use Prim.Native.Nat.{ℕ, _+_, _≤_, _<_}
+use mathlib.Core.List.{List}
+use Prim.Native.Nat.{ℕ, _+_, _≤_}
 use native.Mathlib.Omega.{arith}
+use lib.Dec.{ltb}
 use lib.ListN.{length, getD}
+use borrow.Author.Tests.{ltb-true}
 use Rattle.basis.specs.Choice.{pick, refuted}
 use Rattle.kinds.specs.declared.Credit.{Credit}
 use Rattle.packets.specs.declared.Packet.{Packet}
 use Rattle.packets.specs.declared.Wire.{Wire}
 use Rattle.packets.specs.declared.Wire.the-variants.{Empty, Full}
 use Rattle.packets.specs.declared.Entry.{Entry}
-use Rattle.plan.specs.Plan.{Plan, A, R, S}
-use Rattle.feeding.specs.Queue.{Queue, Exists}
-use Rattle.feeding.specs.Feeds.{Output}
+use Rattle.plan.specs.declared.Head.{Head}
+use Rattle.plan.specs.Head.{InRange}
+use Rattle.plan.specs.Plan.{Plan, A}
+use Rattle.feeding.specs.Queue.{Queue, activeOut, activeIn, passiveIn, passiveOut, U, Q, F, K, Exists, capacity}
 use Rattle.machine.specs.State.{State, Choice, start}
-use Rattle.machine.specs.Valid.{Bounded, Drives}
-use lib.Dec.{ltb}
-use borrow.Author.Tests.{ltb-true}
-use Rattle.layout.specs.Named.{existsTest, test-exists, drivesTest, test-drives, entryTest, test-entry}
+use Rattle.machine.specs.Valid.{Valid, Bounded}
+use Rattle.layout.specs.Named.{existsTest, test-exists, exists-test, drivesTest, test-drives, entryTest, test-entry}
 use Rattle.layout.specs.Offsets.{phaseByte, slotByte, places, creditByte, flagByte, handledByte, lengthByte, firstPlace, wireByte, wirePacket, choiceByte, queueRow, outputRow, allowanceRow, entryRow}
 use Rattle.layout.specs.Codes.{phaseOf, flagOf, choiceOf, entryOf}
 use Rattle.layout.specs.Places.{packetAt, packetsAt, packets-few}
@@ -68,7 +70,7 @@ decode pl b =
       allowance = λ a. pick (ltb a (A pl)) (getD b (allowanceRow pl a) 0) (start pl .allowance a);
     }
 
--- ---- what is read is a state outside the plan's places as Start left it
+-- ---- outside the plan's places, what is read is as Start left it
 left : {X : Type 0} (t : Bool) (x d : X) → (t ≡ true → ⊥) → pick t x d ≡ d
 left t x d h = rw (refuted t h)
 
@@ -85,3 +87,28 @@ decode-bounded pl b =
       table = λ r o t h. left (entryTest pl r o t) _ _ (λ e. h (test-entry pl r o t e));
       allowance = λ a h. left (ltb a (A pl)) _ _ (λ e. h (ltb-true a (A pl) e));
     }
+
+-- ---- queues that fit in their places
+-- what a state needs so that its bytes tell it: no queue has more packets than places
+pub record Small (pl : Plan) (s : State) : Type 0 where
+  pub few : (q : Queue) → Exists pl q → length (s .queue q) ≤ places
+
+-- 'eight capacities of 3 bits, 1 to 7'
+pub capacity-most : (h : Head) (q : Queue) → InRange h → capacity h q ≤ places
+capacity-most h (activeOut a) range = range .aout .1
+capacity-most h (activeIn a) range = range .ain .1
+capacity-most h (passiveIn p) range = range .pin .1
+capacity-most h (passiveOut p) range = range .pout .1
+capacity-most h (U r i) range = range .u .1
+capacity-most h (Q r) range = range .q .1
+capacity-most h (F r o) range = range .f .1
+capacity-most h (K r i o) range = range .k .1
+
+-- a valid state's queues are within their capacities
+pub valid-small : (pl : Plan) (s : State) → InRange (pl .head) → Valid pl s → Small pl s
+valid-small pl s range v = record { few = λ q h. let c = v .capacities q h in let m = capacity-most (pl .head) q range in omega arith }
+
+-- what is read from bytes is small
+pub decode-small : (pl : Plan) (b : List ℕ) → Small pl (decode pl b)
+unfolding decode
+decode-small pl b = record { few = λ q h. rw (exists-test pl q h) (packets-few places (lengthAt (queueRow pl q) b) (queueRow pl q + firstPlace) b) }

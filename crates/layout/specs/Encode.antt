@@ -1,8 +1,7 @@
 -- The bytes of a state: header, a row for each queue, a row for each output, the allowances, the table; and the bytes past the state.
-use mathlib.Core.Path.{_≡_, refl, sym, ap, ap₂, _∙_}
-use mathlib.Core.Bool.{Bool, true, false}
+use mathlib.Core.Path.{_≡_, refl}
 use mathlib.Core.List.{List, [], _∷_, _++_, append-assoc}
-use Prim.Native.Nat.{ℕ, zero, suc, _+_, _*_, _/_, _%_, _≤_, _<_}
+use Prim.Native.Nat.{ℕ, zero, _+_, _*_, _/_, _%_}
 use native.Mathlib.Omega.{arith}
 use lib.ListN.{length, length-append}
 use Rattle.packets.specs.declared.Wire.{Wire}
@@ -14,7 +13,7 @@ use Rattle.feeding.specs.Feeds.{Output}
 use Rattle.machine.specs.Outputs.{outputs, outputAt}
 use Rattle.machine.specs.State.{State}
 use Rattle.layout.specs.Rows.{span, span-length}
-use Rattle.layout.specs.Offsets.{places, queueWidth, outputWidth, entryWidth, routerEntries, slotRoom, entries, size}
+use Rattle.layout.specs.Offsets.{places, queueWidth, outputWidth, choiceByte, entryWidth, routerEntries, slotRoom, entries, size}
 use Rattle.layout.specs.Codes.{phaseCode, flagCode, choiceCode, entryCode}
 use Rattle.layout.specs.Places.{packetBytes, blank, placeBytes, length-places}
 
@@ -66,7 +65,8 @@ pub length-queue : (s : State) (q : Queue) → length (queueBytes s q) ≡ queue
 unfolding queueBytes
 length-queue s q = omega (arith, length-places places (s .queue q))
 
-pub length-wire : (x : Wire) → length (wireBytes x) ≡ 6
+-- a wire's bytes end where the choice stands
+pub length-wire : (x : Wire) → length (wireBytes x) ≡ choiceByte
 length-wire Empty = refl
 length-wire (Full x) = refl
 
@@ -75,6 +75,7 @@ unfolding outputBytes
 length-output s o = rw (length-append (wireBytes (s .wire o)), length-wire (s .wire o))
 
 module _ (pl : Plan) (s : State) where
+  -- and every part as many rows as it has
   pub length-queues : length (queuePart pl s) ≡ queueWidth * queues pl
   length-queues = span-length queueWidth 0 (queues pl) (λ n. queueBytes s (queueAt pl n)) (λ n. length-queue s (queueAt pl n))
 

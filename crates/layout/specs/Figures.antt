@@ -2,15 +2,15 @@
 use mathlib.Core.Path.{_≡_, refl}
 use mathlib.Core.Bool.{Bool, true, false}
 use mathlib.Core.List.{List, [], _∷_, _++_}
-use Prim.Native.Nat.{ℕ}
+use Prim.Native.Nat.{ℕ, zero, suc, _+_}
 use lib.ListN.{length, set, take}
 use Rattle.fields.specs.Bits.{bitAt, fieldOf}
 use Rattle.plan.specs.Head.{capacityAt, headOf}
 use Rattle.plan.specs.Plan.{Plan, jointIn, planOf}
 use Rattle.feeding.specs.Queue.{Queue, activeOut, activeIn, passiveIn, passiveOut, U, Q, F, K, number, queues, queueAt}
 use Rattle.feeding.specs.Feeds.{Output, ofActive, ofPassive, ofSide, toUnit, fromUnit}
-use Rattle.machine.specs.Outputs.{outputs, outputAt}
-use Rattle.machine.specs.State.{State, start}
+use Rattle.machine.specs.Outputs.{outputAt}
+use Rattle.machine.specs.State.{start}
 use Rattle.layout.specs.Rows.{span, front}
 use Rattle.layout.specs.Named.{outputNumber}
 use Rattle.layout.specs.Offsets.{outputsAt, allowancesAt, tableAt, size, queueRow, outputRow, allowanceRow, entryRow}
@@ -68,10 +68,32 @@ unfoldable pub isState : List ℕ → Bool
 unfolding planT span front size queues queueAt number queueRow outputAt outputNumber outputRow allowanceRow entryRow start placeBytes packetAt packetsAt queueBytes outputBytes encode decode sameBytes canonical
 isState b = canonical planT b
 
+-- the offsets of the bytes that are not 0, from i on
+abbrev pub filled : ℕ → List ℕ → List ℕ
+filled i [] = []
+filled i (zero ∷ b) = filled (suc i) b
+filled i (suc x ∷ b) = i ∷ filled (suc i) b
+
+abbrev pub sumOf : List ℕ → ℕ
+sumOf [] = 0
+sumOf (x ∷ b) = x + sumOf b
+
+-- after Start: a credit in each queue's row, and the allowance; each is 1
+pub t-filled : filled 0 startT
+    ≡ 2 ∷ 41 ∷ 80 ∷ 119 ∷ 158 ∷ 197 ∷ 236 ∷ 275 ∷ 314 ∷ 353 ∷ 392 ∷ 431 ∷ 470 ∷ 509 ∷ 548 ∷ 587 ∷ 626 ∷ 665 ∷ 704 ∷ 743 ∷ 782 ∷ 821 ∷ 860 ∷ 899 ∷ 938 ∷ 1033 ∷ []
+unfolding startT
+t-filled = refl
+
+pub t-ones : sumOf startT ≡ 26
+unfolding startT
+t-ones = refl
+
+-- Start's bytes are a state's, whatever is past them
 pub t-start : isState (startT ++ (7 ∷ [])) ≡ true
 unfolding startT isState
 t-start = refl
 
+-- one byte too few
 pub t-short : isState (take 1289 startT) ≡ false
 unfolding startT isState
 t-short = refl

@@ -5,7 +5,6 @@ pub mod Codes
 pub mod Places
 pub mod Encode
 pub mod Decode
-pub mod Small
 pub mod Standing
 pub mod Round
 pub mod Canonical

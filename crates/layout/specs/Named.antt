@@ -1,15 +1,14 @@
 -- Which queues, outputs and entries a plan has, as tests; the numbers of outputs and entries; and what each number names.
 use mathlib.Core.Path.{_≡_, refl, sym, ap, _∙_}
-use mathlib.Core.Logic.{_⊎_, inl, inr, _≢_}
+use mathlib.Core.Logic.{_≢_}
 use mathlib.Core.Bool.{Bool, true, false, not}
-use Prim.Native.Nat.{ℕ, zero, suc, _+_, _*_, _-_, _/_, _%_, _≤_, _<_}
+use Prim.Native.Nat.{ℕ, _+_, _*_, _-_, _/_, _%_, _<_}
 use native.Mathlib.Omega.{arith}
 use lib.Dec.{eqb, ltb}
-use borrow.Author.Tests.{ltb-true, lt-ltb, le-ltb, eq-eqb, eqb-false, ne-eqb}
-use Rattle.basis.specs.Choice.{pick, also, also-true, also-of}
-use Rattle.basis.specs.Bounded.{lt-or-ge}
+use borrow.Author.Tests.{ltb-true, lt-ltb, le-ltb, eqb-false, ne-eqb}
+use Rattle.basis.specs.Choice.{also, also-true, also-of}
 use Rattle.plan.specs.Plan.{Plan, R, A, P, S}
-use Rattle.feeding.specs.Queue.{Queue, activeOut, activeIn, passiveIn, passiveOut, U, Q, F, K, Exists, outs, routerBase, inBase, queues, senderAt, inRouter, queueAt}
+use Rattle.feeding.specs.Queue.{Queue, activeOut, activeIn, passiveIn, passiveOut, U, Q, F, K, Exists, queues}
 use Rattle.feeding.specs.Feeds.{Output, ofActive, ofPassive, ofSide, toUnit, fromUnit}
 use Rattle.machine.specs.Outputs.{outputs, outputAt, routerOutput}
 use Rattle.machine.specs.Valid.{Drives}
@@ -32,7 +31,7 @@ not-eqb i o e = eqb-false i o (by (eqb i o) e)
     by true u = sym u
     by false u = refl
 
--- the test is passed exactly by the plan's queues
+-- the test is passed by the plan's queues alone
 pub test-exists : (pl : Plan) (q : Queue) → existsTest pl q ≡ true → Exists pl q
 test-exists pl (activeOut a) e = ltb-true a (A pl) e
 test-exists pl (activeIn a) e = ltb-true a (A pl) e
@@ -45,6 +44,7 @@ test-exists pl (K r i o) e =
     let p = also-true e in let q = also-true (p .1) in let s = also-true (q .1) in
     (ltb-true r (R pl) (p .0), ltb-true i 4 (q .0), ltb-true o 4 (s .0), not-eqb i o (s .1))
 
+-- and by each of them
 pub exists-test : (pl : Plan) (q : Queue) → Exists pl q → existsTest pl q ≡ true
 exists-test pl (activeOut a) h = lt-ltb a (A pl) h
 exists-test pl (activeIn a) h = lt-ltb a (A pl) h
@@ -63,6 +63,7 @@ drivesTest pl (ofSide r o) = also (ltb r (R pl)) (ltb o 4)
 drivesTest pl (toUnit r) = ltb r (R pl)
 drivesTest pl (fromUnit r) = ltb r (R pl)
 
+-- the test is passed by the plan's outputs alone
 pub test-drives : (pl : Plan) (o : Output) → drivesTest pl o ≡ true → Drives pl o
 test-drives pl (ofActive a) e = ltb-true a (A pl) e
 test-drives pl (ofPassive p) e = ltb-true p (P pl) e
@@ -70,6 +71,7 @@ test-drives pl (ofSide r o) e = let p = also-true e in (ltb-true r (R pl) (p .0)
 test-drives pl (toUnit r) e = ltb-true r (R pl) e
 test-drives pl (fromUnit r) e = ltb-true r (R pl) e
 
+-- and by each of them
 pub drives-test : (pl : Plan) (o : Output) → Drives pl o → drivesTest pl o ≡ true
 drives-test pl (ofActive a) h = lt-ltb a (A pl) h
 drives-test pl (ofPassive p) h = lt-ltb p (P pl) h
@@ -81,12 +83,15 @@ drives-test pl (fromUnit r) h = lt-ltb r (R pl) h
 abbrev pub entryTest : Plan → ℕ → ℕ → ℕ → Bool
 entryTest pl r o t = also (ltb r (R pl)) (also (ltb o 4) (ltb t (S pl)))
 
+-- a router, a side and a slot of the plan
 abbrev pub HasEntry : Plan → ℕ → ℕ → ℕ → Type 0
 HasEntry pl r o t = (r < R pl) × (o < 4) × (t < S pl)
 
+-- the test is passed by the plan's entries alone
 pub test-entry : (pl : Plan) (r o t : ℕ) → entryTest pl r o t ≡ true → HasEntry pl r o t
 test-entry pl r o t e = let p = also-true e in let q = also-true (p .1) in (ltb-true r (R pl) (p .0), ltb-true o 4 (q .0), ltb-true t (S pl) (q .1))
 
+-- and by each of them
 pub entry-test : (pl : Plan) (r o t : ℕ) → HasEntry pl r o t → entryTest pl r o t ≡ true
 entry-test pl r o t (h, k, l) = also-of (lt-ltb r (R pl) h) (also-of (lt-ltb o 4 k) (lt-ltb t (S pl) l))
 

@@ -1,17 +1,17 @@
 -- Every number below the count is the number of one of the plan's queues, outputs or entries: no row of the layout is nobody's.
-use mathlib.Core.Path.{_≡_, refl, sym, ap, _∙_}
-use mathlib.Core.Logic.{_⊎_, inl, inr, _≢_}
+use mathlib.Core.Path.{_≡_, refl, sym}
+use mathlib.Core.Logic.{_⊎_, inl, inr}
 use mathlib.Core.Bool.{Bool, true, false}
-use Prim.Native.Nat.{ℕ, zero, suc, _+_, _*_, _-_, _/_, _%_, _≤_, _<_}
+use Prim.Native.Nat.{ℕ, zero, suc, _+_, _-_, _/_, _%_, _≤_, _<_}
 use native.Mathlib.Omega.{arith}
 use lib.Dec.{eqb, ltb}
 use borrow.Author.Tests.{ltb-true, ltb-false, lt-ltb, le-ltb, eqb-true, eqb-false}
 use Rattle.basis.specs.Choice.{pick}
 use Rattle.basis.specs.Bounded.{lt-or-ge}
 use Rattle.plan.specs.Plan.{Plan, R, A, P}
-use Rattle.feeding.specs.Queue.{Queue, activeOut, activeIn, passiveIn, passiveOut, U, Q, F, K, Exists, rank, outs, routerBase, inBase, sender, number, queues, senderAt, inRouter, queueAt}
-use Rattle.feeding.specs.Feeds.{Output, ofActive, ofPassive, ofSide, toUnit, fromUnit}
-use Rattle.machine.specs.Outputs.{outputs, outputAt, routerOutput}
+use Rattle.feeding.specs.Queue.{Queue, K, Exists, outs, routerBase, inBase, sender, number, queues, senderAt, inRouter, queueAt}
+use Rattle.feeding.specs.Feeds.{Output}
+use Rattle.machine.specs.Outputs.{outputs, outputAt}
 use Rattle.machine.specs.Valid.{Drives}
 use Rattle.layout.specs.Named.{outputNumber}
 use Rattle.layout.specs.Offsets.{routerEntries, slotRoom, entries, entryNumber}
@@ -76,6 +76,7 @@ module _ (pl : Plan) where
       (λ w. let d = eqb-false ((n - (A pl + P pl)) % 6) 4 w in (r, omega arith)))))
 
   -- ---- entries
+  -- an entry's number gives back its router, its side and its slot, and these its number
   pub entry-named : (n : ℕ) → n < entries pl
       → (n / routerEntries < R pl) × (n % routerEntries / slotRoom < 4) × (n % slotRoom < slotRoom) × (entryNumber (n / routerEntries) (n % routerEntries / slotRoom) (n % slotRoom) ≡ n)
   entry-named n h = (omega arith, omega arith, omega arith, omega arith)

@@ -1,9 +1,9 @@
 -- The numbers of the layout: widths, counts, and the offset of every byte, linear in the plan's counts and in the place's numbers.
-use mathlib.Core.Path.{_≡_, refl}
-use Prim.Native.Nat.{ℕ, _+_, _*_, _≤_, _<_}
+use mathlib.Core.Path.{_≡_}
+use Prim.Native.Nat.{ℕ, _+_, _*_, _≤_}
 use native.Mathlib.Omega.{arith}
 use Rattle.plan.specs.Head.{InRange}
-use Rattle.plan.specs.Plan.{Plan, R, A, P}
+use Rattle.plan.specs.Plan.{Plan, R, A}
 use Rattle.feeding.specs.Queue.{Queue, number, queues}
 use Rattle.feeding.specs.Feeds.{Output}
 use Rattle.machine.specs.Outputs.{outputs}
@@ -20,6 +20,21 @@ abbrev pub queuesAt : ℕ
 queuesAt = 2
 
 -- ---- a packet's five bytes
+abbrev pub packetKind : ℕ
+packetKind = 0
+
+abbrev pub packetActive : ℕ
+packetActive = 1
+
+abbrev pub packetPassive : ℕ
+packetPassive = 2
+
+abbrev pub packetSlot : ℕ
+packetSlot = 3
+
+abbrev pub packetHub : ℕ
+packetHub = 4
+
 abbrev pub packetWidth : ℕ
 packetWidth = 5
 
@@ -68,6 +83,7 @@ routerEntries = 4 * slotRoom
 abbrev pub entryWidth : ℕ
 entryWidth = 2
 
+-- entries have numbers too, by router, side and slot
 abbrev pub entries : Plan → ℕ
 entries pl = routerEntries * R pl
 

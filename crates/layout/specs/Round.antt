@@ -1,14 +1,13 @@
 -- The state of a state's bytes is that state: each row is read where it stands, and outside the plan's places both are as Start left them.
 use mathlib.Core.Path.{_≡_, refl, sym, ap, ap₂, _∙_, fun-ext}
 use mathlib.Core.Bool.{Bool, true, false}
-use mathlib.Core.List.{List, [], _∷_, _++_}
-use Prim.Native.Nat.{ℕ, _+_, _≤_, _<_}
+use mathlib.Core.List.{List, [], _∷_}
+use Prim.Native.Nat.{ℕ, _+_, _≤_}
 use native.Mathlib.Omega.{arith}
 use lib.Dec.{ltb}
 use borrow.Author.Tests.{ltb-true, lt-ltb}
-use lib.ListN.{length, getD}
+use lib.ListN.{length}
 use Rattle.basis.specs.Choice.{pick, not-both}
-use Rattle.packets.specs.declared.Packet.{Packet}
 use Rattle.packets.specs.declared.Entry.{Entry}
 use Rattle.packets.specs.declared.Wire.{Wire}
 use Rattle.packets.specs.declared.Wire.the-variants.{Empty, Full}
@@ -20,53 +19,55 @@ use Rattle.machine.specs.State.{State, start}
 use Rattle.machine.specs.Valid.{Bounded, Drives}
 use Rattle.layout.specs.Rows.{Stands, stands-left, stands-right, stands-get, stands-byte}
 use Rattle.layout.specs.Named.{existsTest, test-exists, exists-test, drivesTest, test-drives, drives-test, entryTest, test-entry, entry-test}
-use Rattle.layout.specs.Offsets.{places, firstPlace, wirePacket, queueRow, outputRow, allowanceRow, entryRow}
+use Rattle.layout.specs.Offsets.{places, creditByte, flagByte, handledByte, lengthByte, wireByte, choiceByte, firstPlace, wirePacket, queueRow, outputRow, allowanceRow, entryRow}
 use Rattle.layout.specs.Codes.{phase-code, flagCode, flagOf, flag-code, choiceCode, choiceOf, choice-code, entryOf, entry-code}
-use Rattle.layout.specs.Places.{packetBytes, blank, placeBytes, packetAt, packet-read, packets-read}
+use Rattle.layout.specs.Places.{packetBytes, placeBytes, packetAt, packet-read, packets-read}
 use Rattle.layout.specs.Encode.{queueBytes, wireBytes, outputBytes, allowanceBytes, entryBytes, encode, length-wire}
 use Rattle.layout.specs.Standing.{queue-stands, output-stands, allowance-stands, entry-stands}
-use Rattle.layout.specs.Decode.{creditAt, flagAt, handledAt, lengthAt, queueIn, wireOf, wireAt, choiceAt, entryAt, decode}
-use Rattle.layout.specs.Small.{Small}
+use Rattle.layout.specs.Decode.{creditAt, flagAt, handledAt, lengthAt, queueIn, wireOf, wireAt, choiceAt, entryAt, decode, Small}
 
 -- ---- one row is read where it stands
 module _ (s : State) (b : List ℕ) (i : ℕ) where
-  credit-read : (q : Queue) → Stands i (queueBytes s q) b → creditAt i b ≡ s .credit q
+  -- a queue's credit, flag, handled mark and packets
+  pub credit-read : (q : Queue) → Stands i (queueBytes s q) b → creditAt i b ≡ s .credit q
   unfolding queueBytes
-  credit-read q t = ap (λ (n : ℕ). record { 0 = n }) (stands-get i (queueBytes s q) b t 0 (omega arith))
+  credit-read q t = ap (λ (n : ℕ). record { 0 = n }) (stands-get i (queueBytes s q) b t creditByte (omega arith))
 
-  flag-read : (q : Queue) → Stands i (queueBytes s q) b → flagAt i b ≡ s .flag q
+  pub flag-read : (q : Queue) → Stands i (queueBytes s q) b → flagAt i b ≡ s .flag q
   unfolding queueBytes
-  flag-read q t = ap flagOf (stands-get i (queueBytes s q) b t 1 (omega arith)) ∙ flag-code (s .flag q)
+  flag-read q t = ap flagOf (stands-get i (queueBytes s q) b t flagByte (omega arith)) ∙ flag-code (s .flag q)
 
-  handled-read : (q : Queue) → Stands i (queueBytes s q) b → handledAt i b ≡ s .handled q
+  pub handled-read : (q : Queue) → Stands i (queueBytes s q) b → handledAt i b ≡ s .handled q
   unfolding queueBytes
-  handled-read q t = ap flagOf (stands-get i (queueBytes s q) b t 2 (omega arith)) ∙ flag-code (s .handled q)
+  handled-read q t = ap flagOf (stands-get i (queueBytes s q) b t handledByte (omega arith)) ∙ flag-code (s .handled q)
 
-  queue-read : (q : Queue) → length (s .queue q) ≤ places → Stands i (queueBytes s q) b → queueIn i b ≡ s .queue q
+  pub queue-read : (q : Queue) → length (s .queue q) ≤ places → Stands i (queueBytes s q) b → queueIn i b ≡ s .queue q
   unfolding queueBytes
   queue-read q h t =
-      let n : lengthAt i b ≡ length (s .queue q) = stands-get i (queueBytes s q) b t 3 (omega arith) in
+      let n : lengthAt i b ≡ length (s .queue q) = stands-get i (queueBytes s q) b t lengthByte (omega arith) in
       let front : List ℕ = s .credit q .0 ∷ flagCode (s .flag q) ∷ flagCode (s .handled q) ∷ length (s .queue q) ∷ [] in
       rw n (packets-read places (i + firstPlace) (s .queue q) b h (stands-right i (i + firstPlace) front (placeBytes places (s .queue q)) b refl t))
 
-  wire-read : (w : Wire) → Stands i (wireBytes w) b → wireAt i b ≡ w
-  wire-read Empty t = ap (λ n. wireOf (flagOf n) (packetAt (i + wirePacket) b)) (stands-get i (wireBytes Empty) b t 0 (omega arith))
+  -- a wire; an output's wire and choice
+  pub wire-read : (w : Wire) → Stands i (wireBytes w) b → wireAt i b ≡ w
+  wire-read Empty t = ap (λ n. wireOf (flagOf n) (packetAt (i + wirePacket) b)) (stands-get i (wireBytes Empty) b t wireByte (omega arith))
   wire-read (Full x) t =
-      ap₂ (λ n y. wireOf (flagOf n) y) (stands-get i (wireBytes (Full x)) b t 0 (omega arith))
+      ap₂ (λ n y. wireOf (flagOf n) y) (stands-get i (wireBytes (Full x)) b t wireByte (omega arith))
       (packet-read (i + wirePacket) x b (stands-right i (i + wirePacket) (1 ∷ []) (packetBytes x) b refl t))
 
-  output-wire-read : (o : Output) → Stands i (outputBytes s o) b → wireAt i b ≡ s .wire o
+  pub output-wire-read : (o : Output) → Stands i (outputBytes s o) b → wireAt i b ≡ s .wire o
   unfolding outputBytes
   output-wire-read o t = wire-read (s .wire o) (stands-left i (wireBytes (s .wire o)) (choiceCode (s .choice o) ∷ []) b t)
 
-  choice-read : (o : Output) → Stands i (outputBytes s o) b → choiceAt i b ≡ s .choice o
+  pub choice-read : (o : Output) → Stands i (outputBytes s o) b → choiceAt i b ≡ s .choice o
   unfolding outputBytes
   choice-read o t =
-      let e : i + 6 ≡ i + length (wireBytes (s .wire o)) = rw (length-wire (s .wire o)) in
-      let k : Stands (i + 6) (choiceCode (s .choice o) ∷ []) b = stands-right i (i + 6) (wireBytes (s .wire o)) (choiceCode (s .choice o) ∷ []) b e t in
-      ap choiceOf (stands-byte (i + 6) (choiceCode (s .choice o) ∷ []) b k (omega arith)) ∙ choice-code (s .choice o)
+      let e : i + choiceByte ≡ i + length (wireBytes (s .wire o)) = rw (length-wire (s .wire o)) in
+      let k : Stands (i + choiceByte) (choiceCode (s .choice o) ∷ []) b = stands-right i (i + choiceByte) (wireBytes (s .wire o)) (choiceCode (s .choice o) ∷ []) b e t in
+      ap choiceOf (stands-byte (i + choiceByte) (choiceCode (s .choice o) ∷ []) b k (omega arith)) ∙ choice-code (s .choice o)
 
-  entry-read : (x : Entry) → Stands i (entryBytes x) b → entryAt i b ≡ x
+  -- an entry
+  pub entry-read : (x : Entry) → Stands i (entryBytes x) b → entryAt i b ≡ x
   entry-read x t = ap entryOf (stands-byte i (entryBytes x) b t (omega arith)) ∙ entry-code x
 
 -- ---- the whole
@@ -75,10 +76,12 @@ kept : {X : Type 0} (t : Bool) (x d v : X) → (t ≡ true → x ≡ v) → (t �
 kept true x d v f g = f refl
 kept false x d v f g = sym (g refl)
 
-module _ (pl : Plan) (s : State) (rest : List ℕ) (range : InRange (pl .head)) (out : Bounded pl s) (small : Small pl s) where
-  unless : {X : Type 0} (t : Bool) → t ≡ false → (X → t ≡ true) → X → ⊥
-  unless t e f x = not-both (f x) e
+-- what makes a test true does not hold where it is false
+unless : {X : Type 0} (t : Bool) → t ≡ false → (X → t ≡ true) → X → ⊥
+unless t e f x = not-both (f x) e
 
+module _ (pl : Plan) (s : State) (rest : List ℕ) (range : InRange (pl .head)) (out : Bounded pl s) (small : Small pl s) where
+  -- a part of a queue's row, and of an output's
   of-queue : {X : Type 0} (q : Queue) (x d v : X) → (Stands (queueRow pl q) (queueBytes s q) (encode pl s rest) → x ≡ v) → ((Exists pl q → ⊥) → v ≡ d) → pick (existsTest pl q) x d ≡ v
   of-queue q x d v f g =
       kept (existsTest pl q) x d v (λ e. f (queue-stands pl s rest q (test-exists pl q e))) (λ e. g (unless (existsTest pl q) e (exists-test pl q)))

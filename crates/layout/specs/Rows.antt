@@ -1,6 +1,6 @@
 -- Rows of bytes one behind the other, and a row that stands at an offset in a list of bytes: for every width, count and offset.
 use mathlib.Core.Path.{_≡_, refl, sym, ap, ap₂, _∙_}
-use mathlib.Core.List.{List, [], _∷_, _++_, append-assoc, append-nil}
+use mathlib.Core.List.{List, [], _++_, append-assoc, append-nil}
 use Prim.Native.Nat.{ℕ, zero, suc, _+_, _*_, _-_, _<_, _≤_}
 use native.Mathlib.Nat.{add-zero, zero-add, mul-zero, mul-suc}
 use native.Mathlib.Omega.{arith}
@@ -33,6 +33,7 @@ span-split i (suc a) b g =
     let q : i + suc a ≡ suc i + a = omega arith in
     rw (p, q) (ap (λ l. g i ++ l) (span-split (suc i) a b g) ∙ sym (append-assoc (g i) (span (suc i) a g) (g (suc i + a) ++ span (suc (suc i + a)) b g)))
 
+-- the same of all n rows
 pub span-at : (n q : ℕ) (g : ℕ → List ℕ) → q < n → span 0 n g ≡ span 0 q g ++ (g q ++ span (suc q) (n - suc q) g)
 span-at n q g h =
     let p : n ≡ q + suc (n - suc q) = omega arith in
@@ -75,6 +76,7 @@ stands-row w n at g b l s q h =
 pub stands-get : (at : ℕ) (row b : List ℕ) → Stands at row b → (k : ℕ) → k < length row → getD b (at + k) 0 ≡ getD row k 0
 stands-get at row b s k h = rw (s .same, s .offset) (getD-append-add (s .before) (row ++ s .after) k 0 ∙ List·getD-append row (s .after) 0 k h)
 
+-- and its first byte, right there
 pub stands-byte : (at : ℕ) (row b : List ℕ) → Stands at row b → 0 < length row → getD b at 0 ≡ getD row 0 0
 stands-byte at row b s h = ap (λ k. getD b k 0) (sym (add-zero at)) ∙ stands-get at row b s 0 h
 
@@ -85,10 +87,12 @@ front n b = take n b
 unfoldable pub past : ℕ → List ℕ → List ℕ
 past n b = drop n b
 
+-- they are the list
 pub front-past : (n : ℕ) (b : List ℕ) → b ≡ front n b ++ past n b
 unfolding front past
 front-past n b = sym (take-append-drop n b)
 
+-- and of two lists, the first of length n, they are the two
 pub front-append : (n : ℕ) (x y : List ℕ) → length x ≡ n → front n (x ++ y) ≡ x
 unfolding front
 front-append n x y e = take-at x y n e

@@ -1,9 +1,8 @@
 -- Where the rows of a state stand in its bytes: each at the offset of its queue, output, active or entry.
-use mathlib.Core.Path.{_≡_, refl, sym, ap, _∙_, subst}
-use mathlib.Core.List.{List, [], _∷_, _++_}
-use Prim.Native.Nat.{ℕ, _+_, _*_, _/_, _%_, _≤_, _<_}
+use mathlib.Core.Path.{_≡_, refl, subst}
+use mathlib.Core.List.{List, _++_}
+use Prim.Native.Nat.{ℕ, _+_, _*_, _/_, _%_, _<_}
 use native.Mathlib.Omega.{arith}
-use lib.ListN.{length}
 use Rattle.packets.specs.declared.Entry.{Entry}
 use Rattle.plan.specs.Plan.{Plan, A, R}
 use Rattle.feeding.specs.Queue.{Queue, Exists, number, queues, queueAt}

@@ -3,3 +3,5 @@ pub mod Core
 pub mod Feeders
 pub mod Follow
 pub mod Stuck
+pub mod Interval
+pub mod Still

@@ -15,7 +15,8 @@ pub extern "C" fn pandabrass_load(plan: &[u8]) -> u32
     load::load_number(l) as u32
 }
 
-// The number of routers on a served pair's walk; 0 where the plan does not load, a number is out of range or the pair is not served.
+// The number of routers on a served pair's walk; 0 where the plan does not load, a number is out of range or the pair is
+// not served.
 #[no_mangle]
 pub extern "C" fn pandabrass_walk(plan: &[u8], active: u32, passive: u32) -> u32
     ensures { λ r. ⌜ r ≡ walkOf (now (plan .entry)) active passive ⌝ }

@@ -2,34 +2,33 @@
 use mathlib.Core.Path.{_≡_, refl, sym, ap, ap₂, _∙_}
 use mathlib.Core.Bool.{Bool, true, false, not, _&&_}
 use mathlib.Core.List.{List, []}
-use Prim.Native.Nat.{ℕ, _+_, _*_, _-_, _/_, _≤_, _<_}
+use Prim.Native.Nat.{ℕ, _+_, _-_, _/_, _≤_, _<_}
 use native.Mathlib.Omega.{arith}
-use lib.Dec.{ltb, eqb}
+use lib.Dec.{ltb}
 use lib.ListN.{length, getD}
 use borrow.Author.Tests.{lt-ltb, le-ltb, eq-eqb, ne-eqb}
-use Rattle.basis.specs.Choice.{pick, also-true}
+use Rattle.basis.specs.Choice.{also-true}
 use Rattle.basis.specs.Ring.{ringTest}
 use Rattle.rings.specs.Edges.{edge}
 use Rattle.kinds.specs.declared.Refusal.{Refusal}
 use Rattle.kinds.specs.declared.Refusal.the-variants.{TooShort, OutOfRange, WrongLength, BadField, BadJoint, HasRing}
 use Rattle.plan.specs.declared.Head.{Head}
-use Rattle.plan.specs.Head.{InRange, headOf, headOk, destinations, bitCount, byteCount}
-use Rattle.plan.specs.Plan.{Plan, Interface, active, passive, planOf}
+use Rattle.plan.specs.Head.{InRange, headOf, headOk, bitCount, byteCount}
+use Rattle.plan.specs.Plan.{Plan, active, passive, planOf}
 use Rattle.plan.specs.Rules.{fillOk, fieldsOk, namedOk, interfacesOk, portOf, portsOf, home}
 use Rattle.plan.specs.Tables.{interfaceAt, tablePlan, homesOf, routesOf, jointsOf, jointBytesOk, routesOk}
-use Rattle.paths.specs.Walk.{arrives, walkSize}
-use Rattle.paths.specs.Served.{servedFrom, served}
+use Rattle.paths.specs.Walk.{arrives}
+use Rattle.paths.specs.Served.{servedFrom}
 use Rattle.paths.specs.Steps.{sizeOr0}
-use Rattle.feeding.specs.Queue.{queues}
 use Rattle.feeding.specs.Edges.{cellsOf}
 use Rattle.feeding.specs.Numbered.{Counts, queuesIn, queues-in}
 use Rattle.feeding.specs.RingTest.{hasRing}
-use Rattle.wiring.specs.Heads.{head-ok, Most, counts-most}
+use Rattle.wiring.specs.Heads.{head-ok}
 use Rattle.wiring.specs.Tables.{tables-ok, table-plan, named-alike, interfaces-alike}
 use Rattle.load.specs.declared.Loaded.{Loaded}
 use Rattle.load.specs.declared.Loaded.the-variants.{Accepted, Refused}
 use Rattle.load.specs.Load.{lengthOk, jointsOk, loadOf, loadRoutes, loadJoints, loadHomes}
-use Rattle.load.specs.Walk.{pairWalk, walkBy, walkOf}
+use Rattle.load.specs.Walk.{pairWalk, walkOf}
 use Rattle.load.specs.Lent.{Lent, active-home}
 
 -- ---- a head in range

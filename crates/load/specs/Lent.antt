@@ -1,21 +1,20 @@
 -- What an accepted Load leaves in the lent tables: the plan of its bytes, and the port of each interface.
-use mathlib.Core.Path.{_≡_, refl, sym, ap, _∙_}
-use mathlib.Core.List.{List, []}
-use Prim.Native.Nat.{ℕ, _+_, _*_, _≤_, _<_}
+use mathlib.Core.Path.{_≡_, sym, ap, _∙_}
+use mathlib.Core.List.{List}
+use Prim.Native.Nat.{ℕ, _≤_, _<_}
 use native.Mathlib.Omega.{arith}
-use lib.ListN.{getD, replicate, length, length-replicate}
-use borrow.Author.Tests.{lt-ltb, le-ltb}
-use Rattle.basis.specs.Choice.{pick}
+use lib.ListN.{getD, replicate, length-replicate}
+use borrow.Author.Tests.{lt-ltb}
 use Rattle.basis.specs.Fold.{fill-at}
 use Rattle.plan.specs.declared.Head.{Head}
 use Rattle.plan.specs.Head.{InRange, headOf, destinations}
-use Rattle.plan.specs.Plan.{Plan, Interface, active, passive, planOf}
+use Rattle.plan.specs.Plan.{Plan, active, planOf}
 use Rattle.plan.specs.Rules.{portOf, portsOf, portOr0, home}
 use Rattle.plan.specs.Tables.{interfaceAt, tablePlan, homesOf, routesOf, jointsOf}
 use Rattle.wiring.specs.Heads.{head-ok}
 use Rattle.wiring.specs.Tables.{table-plan}
 use Rattle.load.specs.declared.Loaded.{Loaded}
-use Rattle.load.specs.declared.Loaded.the-variants.{Accepted, Refused}
+use Rattle.load.specs.declared.Loaded.the-variants.{Accepted}
 use Rattle.load.specs.Load.{loadOf, loadRoutes, loadJoints, loadHomes}
 use Rattle.load.specs.Rules.{passes}
 

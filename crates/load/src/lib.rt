@@ -1,11 +1,11 @@
-// Load: a plan is accepted exactly if it obeys every plan rule of document 01. And Walk, which says how long a served pair's walk is.
+// Load: a plan is accepted exactly if it obeys every plan rule of document 01. Walk: how long a served pair's walk is.
 use kinds::Hub;
 use kinds::Refusal;
 use plan::Head;
 ghost use mathlib.Core.Path.{_≡_};
 ghost use mathlib.Core.Bool.{_&&_};
 ghost use mathlib.Core.List.{[]};
-ghost use Prim.Native.Nat.{_≤_, _<_};
+ghost use Prim.Native.Nat.{_<_};
 ghost use Rattle.kinds.specs.Refusals.{refusalNumber};
 ghost use Rattle.plan.specs.Head.{headOf, InRange};
 ghost use Rattle.plan.specs.Rules.{namedOk, interfacesOk};
@@ -47,7 +47,8 @@ fn fields_ok(h: Head, joints: &[u8; 64], routes: &[[u8; 32]; 16]) -> bool
 // Whether router joints are named back by another router, and each interface has exactly one joint: refusal 5.
 fn joints_ok(h: Head, joints: &[u8; 64]) -> bool
     requires { ⌜ Counts h ⌝ }
-    ensures { λ r. ⌜ r ≡ (namedOk (tablePlan h [] (now (joints .entry))) && interfacesOk (tablePlan h [] (now (joints .entry)))) ⌝ }
+    ensures { λ r. ⌜ r
+        ≡ (namedOk (tablePlan h [] (now (joints .entry))) && interfacesOk (tablePlan h [] (now (joints .entry)))) ⌝ }
 {
     plan::interfaces::named_ok(h, joints) & plan::interfaces::interfaces_ok(h, joints)
 }
@@ -61,8 +62,8 @@ fn ring_found(h: Head, routes: &[[u8; 32]; 16], joints: &[u8; 64], homes: &[u8; 
     rings::has_ring(&cells, feeding::queue_count(h))
 }
 
-// Load: the first refusal that applies, in document 01's order, or the plan's head, with routes, joints and homes in the lent tables.
-// A refusal leaves the lent tables as they were.
+// Load: the first refusal that applies, in document 01's order, or the plan's head. An accepted plan's routes, joints and
+// homes are then in the lent tables; a refusal leaves these as they were.
 pub fn load(
     plan: &[u8],
     routes: &mut [[u8; 32]; 16],
@@ -143,7 +144,7 @@ fn wide(x: u8) -> usize
 }
 
 // The number of routers on a pair's walk, or 0 where the pair is not served.
-fn pair_walk(
+pub fn pair_walk(
     routes: &[[u8; 32]; 16],
     joints: &[u8; 64],
     homes: &[u8; 32],
@@ -151,7 +152,8 @@ fn pair_walk(
     a: usize,
     p: usize,
 ) -> Hub
-    requires { ⌜ Counts h × (a < h .actives) × (p < h .passives) × (now homes ≡ homesOf (tablePlan h (now routes) (now joints))) ⌝ }
+    requires { ⌜ Counts h × (a < h .actives) × (p < h .passives)
+        × (now homes ≡ homesOf (tablePlan h (now routes) (now joints))) ⌝ }
     ensures { λ r. ⌜ r .0 ≡ pairWalk (tablePlan h (now (routes .entry)) (now (joints .entry))) a p ⌝ }
 {
     let from = wide(homes[a]);
@@ -161,7 +163,8 @@ fn pair_walk(
     paths::walk_size(routes, joints, h, h.actives + p, from)
 }
 
-// The number of routers on a served pair's walk; 0 where the plan does not load, a number is out of range or the pair is not served.
+// The number of routers on a served pair's walk; 0 where the plan does not load, a number is out of range or the pair is
+// not served.
 pub fn walk(plan: &[u8], active: usize, passive: usize) -> Hub
     ensures { λ r. ⌜ r .0 ≡ walkOf (now (plan .entry)) active passive ⌝ }
 {

@@ -5,3 +5,4 @@ pub mod Follow
 pub mod Stuck
 pub mod Interval
 pub mod Still
+pub mod Moving

@@ -1,6 +1,5 @@
 use Rattle.load.proofs.Exits.{range-counts, walk-refused, walk-no-active, walk-no-passive, walk-of-pair}
 use Rattle.load.specs.Lent.{lent}
-use native.Mathlib.Omega.{arith}
 use borrow.Author.Needs.{needs}
 use Rattle.load.proofs.walk.Statement.{statement}
 use Rattle.load.proofs.walk.Tie as tie

@@ -1,0 +1,130 @@
+-- A change that spares an output: its senders keep their heads, marks and flags, and its next queues their credits. What could be sent still can.
+use mathlib.Core.Path.{_≡_, refl, sym, ap, _∙_}
+use mathlib.Core.Logic.{_⊎_, inl, inr, _≢_}
+use mathlib.Core.Bool.{Bool, true, false}
+use mathlib.Core.List.{List, [], _∷_, _++_, append-nil, append-assoc}
+use mathlib.Core.Option.{Option, none, some}
+use Prim.Native.Nat.{ℕ}
+use borrow.Author.Tests.{lt-ltb}
+use Rattle.basis.specs.Choice.{also-of}
+use Rattle.kinds.specs.declared.Credit.{Credit}
+use Rattle.packets.specs.declared.Packet.{Packet}
+use Rattle.plan.specs.Plan.{Plan}
+use Rattle.feeding.specs.Queue.{Queue, activeOut, activeIn, passiveIn, passiveOut, U, Q, F, K}
+use Rattle.feeding.specs.Feeds.{Output, outputOf}
+use Rattle.journeys.specs.Places.{some-not-none}
+use Rattle.machine.specs.Outputs.{nextBy}
+use Rattle.machine.specs.State.{State, withQueue, withFlag, join}
+use Rattle.machine.specs.Execute.{hasCredit, mayLeave, headReady, candidate}
+use Rattle.theory.specs.Core.{Sendable}
+use Rattle.theory.specs.Feeders.{sender-leaves}
+use Rattle.theory.specs.AccountCells.{queue-or, queue-here, queue-away}
+use Rattle.theory.specs.Senders.{Ready, candidate-ready}
+
+-- a list with more behind it
+abbrev pub Longer : List Packet → List Packet → Type 0
+Longer xs zs = (ys : List Packet) × (zs ≡ xs ++ ys)
+
+pub longer-same : {xs zs : List Packet} → zs ≡ xs → Longer xs zs
+longer-same {xs} {zs} e = ([], e ∙ sym (append-nil xs))
+
+-- for the senders of o, and the queues beyond it, t has what s has
+pub record Spares (pl : Plan) (s t : State) (o : Output) : Type 0 where
+  pub heads : (q : Queue) → outputOf q ≡ some o → Longer (s .queue q) (t .queue q)
+  pub marks : (q : Queue) → outputOf q ≡ some o → t .handled q ≡ s .handled q
+  pub flags : (q : Queue) → outputOf q ≡ some o → t .flag q ≡ s .flag q
+  pub credits : (x : Packet) (n : Queue) → nextBy pl o x ≡ some n → t .credit n ≡ s .credit n
+
+-- ---- what could be sent still can
+pub ready-candidate : (pl : Plan) (s : State) (o : Output) (q : Queue) → Ready pl s o q → candidate pl s o q ≡ true
+unfolding candidate
+ready-candidate pl s o q r = rw (r .queue) (also-of (r .leaves) (rw (r .goes) (lt-ltb 0 (s .credit (r .next) .0) (r .room))))
+
+may-same : (s t : State) (q : Queue) → t .handled q ≡ s .handled q → mayLeave t q ≡ mayLeave s q
+may-same s t (activeOut x) e = refl
+may-same s t (activeIn x) e = refl
+may-same s t (passiveIn x) e = refl
+may-same s t (passiveOut x) e = refl
+may-same s t (U r i) e = refl
+may-same s t (Q r) e = e
+may-same s t (F r o) e = refl
+may-same s t (K r i o) e = refl
+
+pub spared-ready : {pl : Plan} {s t : State} {o : Output} → Spares pl s t o → (q : Queue) → outputOf q ≡ some o → Ready pl s o q → Ready pl t o q
+spared-ready {pl} {s} {t} {o} c q l r =
+    let h = c .heads q l in
+    record {
+      head = r .head;
+      rest = r .rest ++ h .0;
+      queue = h .1 ∙ ap (λ (xs : List Packet). xs ++ h .0) (r .queue);
+      leaves = may-same s t q (c .marks q l) ∙ r .leaves;
+      next = r .next;
+      goes = r .goes;
+      room = rw (c .credits (r .head) (r .next) (r .goes)) (r .room);
+    }
+
+pub spared-sendable : {pl : Plan} {s t : State} {o : Output} → Spares pl s t o → (k : ℕ) → Sendable pl s o k → Sendable pl t o k
+spared-sendable {pl} {s} {t} {o} c k g =
+    let l = sender-leaves o k (g .queue) (g .rank) in
+    record {
+      queue = g .queue;
+      rank = g .rank;
+      ready = ready-candidate pl t o (g .queue) (spared-ready c (g .queue) l (candidate-ready pl s o (g .queue) (g .ready)));
+      down = c .flags (g .queue) l ∙ g .down;
+    }
+
+-- ---- changes that spare every output
+pub spares-alike : {pl : Plan} {o : Output} (s t : State) → t .queue ≡ s .queue → t .handled ≡ s .handled → t .flag ≡ s .flag → t .credit ≡ s .credit → Spares pl s t o
+spares-alike s t q h f c =
+    record {
+      heads = λ x l. longer-same (ap (λ (m : Queue → List Packet). m x) q);
+      marks = λ x l. ap (λ (m : Queue → Bool). m x) h;
+      flags = λ x l. ap (λ (m : Queue → Bool). m x) f;
+      credits = λ y n e. ap (λ (m : Queue → Credit). m n) c;
+    }
+
+pub spares-then : {pl : Plan} {o : Output} (s t u : State) → Spares pl s t o → Spares pl t u o → Spares pl s u o
+spares-then s t u a b =
+    record {
+      heads = λ x l.
+          let g = a .heads x l in
+          let h = b .heads x l in
+          (g .0 ++ h .0, h .1 ∙ ap (λ (xs : List Packet). xs ++ h .0) (g .1) ∙ append-assoc (s .queue x) (g .0) (h .0));
+      marks = λ x l. b .marks x l ∙ a .marks x l;
+      flags = λ x l. b .flags x l ∙ a .flags x l;
+      credits = λ y n e. b .credits y n e ∙ a .credits y n e;
+    }
+
+-- a packet joins a queue
+pub join-spares : {pl : Plan} {o : Output} (k : Queue) (x : Packet) (s : State) → Spares pl s (join k x s) o
+unfolding join
+join-spares k x s =
+    record {
+      heads = λ q l. by q (queue-or q k);
+      marks = λ q l. refl;
+      flags = λ q l. refl;
+      credits = λ y n e. refl;
+    }
+  where
+    by : (q : Queue) → (q ≡ k) ⊎ (q ≢ k) → Longer (s .queue q) (join k x s .queue q)
+    by q (inl e) = (x ∷ [], rw e (queue-here (s .queue) k (s .queue k ++ (x ∷ []))))
+    by q (inr ne) = longer-same (queue-away (s .queue) k (s .queue k ++ (x ∷ [])) q ne)
+
+-- a queue that is nobody's sender changes, and its flag
+pub turn-spares : {pl : Plan} {o : Output} (k : Queue) (xs : List Packet) (s : State) → outputOf k ≡ none → Spares pl s (withQueue k xs s) o
+turn-spares {pl} {o} k xs s out =
+    record {
+      heads = λ q l. longer-same (queue-away (s .queue) k xs q (λ e. some-not-none (sym out ∙ ap outputOf (sym e) ∙ l)));
+      marks = λ q l. refl;
+      flags = λ q l. refl;
+      credits = λ y n e. refl;
+    }
+
+pub flag-spares : {pl : Plan} {o : Output} (k : Queue) (b : Bool) (s : State) → outputOf k ≡ none → Spares pl s (withFlag k b s) o
+flag-spares {pl} {o} k b s out =
+    record {
+      heads = λ q l. longer-same refl;
+      marks = λ q l. refl;
+      flags = λ q l. queue-away (s .flag) k b q (λ e. some-not-none (sym out ∙ ap outputOf (sym e) ∙ l));
+      credits = λ y n e. refl;
+    }

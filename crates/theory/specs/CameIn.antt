@@ -1,21 +1,18 @@
 -- A router on a pair's walk: its sides in and out are sides of the plan, and the side in is the one that `cameIn` finds.
 use mathlib.Core.Path.{_≡_, refl, sym, ap, _∙_}
-use mathlib.Core.Logic.{_⊎_, inl, inr}
-use mathlib.Core.Bool.{Bool, true, false}
-use Prim.Native.Nat.{ℕ, zero, suc, _+_, _-_, _≤_, _<_}
+use mathlib.Core.Bool.{true, false}
+use Prim.Native.Nat.{ℕ, zero, suc, _+_, _-_, _<_}
 use native.Mathlib.Nat.{suc-add, zero-add}
 use native.Mathlib.Omega.{arith}
-use lib.Dec.{eqb}
 use borrow.Author.Tests.{eq-eqb, ne-eqb}
 use Rattle.basis.specs.Walk.{Spot, on, end, lost, way-on}
 use Rattle.plan.specs.Plan.{Plan, Port, Interface, active, passive, R, A, P, routeTo}
 use Rattle.plan.specs.Rules.{home}
-use Rattle.paths.specs.declared.Index.{Index}
 use Rattle.paths.specs.declared.Index.the-variants.{At, Off}
-use Rattle.paths.specs.Walk.{onward, routerOf, Walk, walked}
+use Rattle.paths.specs.Walk.{onward, routerOf, walked}
 use Rattle.paths.specs.Served.{Served}
 use Rattle.paths.specs.Steps.{standsOn, indexIn, indexOn}
-use Rattle.feeding.specs.Feeds.{Stands, span}
+use Rattle.feeding.specs.Feeds.{Stands}
 use Rattle.wiring.specs.Wired.{Wired, home-inside}
 use Rattle.journeys.specs.Places.{meets-inside, exit-inside}
 use Rattle.machine.specs.Execute.{cameBy, cameIn}

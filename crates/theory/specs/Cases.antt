@@ -1,12 +1,12 @@
 -- What each step of the rules does, by cases, each with the state that it leaves: a wire's delivery, a unit's turn, an active's tear-down, a sending.
-use mathlib.Core.Path.{_≡_, refl, sym, ap, ap₂, _∙_}
+use mathlib.Core.Path.{_≡_, refl, ap, ap₂, _∙_}
 use mathlib.Core.Logic.{_⊎_, inl, inr}
-use mathlib.Core.Bool.{Bool, true, false, not, _&&_, false≢true}
+use mathlib.Core.Bool.{Bool, true, false, _&&_, false≢true}
 use mathlib.Core.List.{List, [], _∷_}
 use mathlib.Core.Option.{Option, none, some}
-use Prim.Native.Nat.{ℕ, zero, suc}
+use Prim.Native.Nat.{ℕ}
 use lib.Dec.{eqb, ltb}
-use Rattle.basis.specs.Choice.{also, also-true, test}
+use Rattle.basis.specs.Choice.{also-true, test}
 use Rattle.packets.specs.declared.Kind.{Kind}
 use Rattle.packets.specs.declared.Kind.the-variants.{Setup, Tdown, Ack, Nack}
 use Rattle.packets.specs.declared.Packet.{Packet}
@@ -40,16 +40,19 @@ module _ (pl : Plan) (o : Output) (s : State) where
 abbrev pub exitAt : Plan → ℕ → Packet → ℕ
 exitAt pl r x = routeTo pl (passive (x .passive)) r
 
+-- its entry is neither booked nor the only free one of that side
 abbrev pub mayBookAt : Plan → ℕ → State → Packet → Bool
 mayBookAt pl r s x = mayBook (S pl) (s .table r (exitAt pl r x)) (x .slot .0)
 
--- the states that a unit's turn leaves
+-- the states that a unit's turn leaves: a set-up has booked
 abbrev pub afterBooked : Plan → ℕ → Packet → List Packet → State → State
 afterBooked pl r x rest s = handledAs r (booked (S pl) x) rest (withEntry r (exitAt pl r x) (x .slot .0) (Booked (cameIn pl (x .active) (x .passive) r)) s)
 
+-- a tear-down has freed an entry and goes on
 abbrev pub afterFreed : Plan → ℕ → Packet → List Packet → State → State
 afterFreed pl r x rest s = handledAs r (freed (S pl) x) rest (withEntry r (exitAt pl r x) (x .slot .0) Free s)
 
+-- a tear-down has freed its last entry and ended
 abbrev pub afterEnded : Plan → ℕ → Packet → List Packet → State → State
 afterEnded pl r x rest s = withFlag (Q r) true (withQueue (Q r) rest (withEntry r (exitAt pl r x) (x .slot .0) Free s))
 
@@ -133,6 +136,7 @@ module _ (pl : Plan) (a : ℕ) (s : State) where
   unfolding undo atActive answer
   undo-tears x rest e u h = ap (λ (l : List Packet). atActive pl a l s) e ∙ ap₂ (λ (b c : Bool). answer pl a x rest (b && c) s) u h
 
+  -- an active's turn
   pub data ActiveDoes : Type 0 where
     waits : undo pl a s ≡ s → ActiveDoes
     tears : (x : Packet) (rest : List Packet) → s .queue (activeIn a) ≡ x ∷ rest → unmarked x ≡ true → hasRoom pl (activeOut a) s ≡ true → ActiveDoes
@@ -194,6 +198,7 @@ module _ (pl : Plan) (o : Output) (s : State) where
       ∙ ap (λ (l : List Packet). withChoice o nobody (sendHead pl o q l s)) (h .line)
       ∙ ap (λ (z : Option Queue). withChoice o nobody (withWire o (Full (h .packet)) (spend z (raise q (withQueue q (h .rest) s))))) (h .next)
 
+  -- an output's turn in WRITE
   pub data SendDoes : Type 0 where
     none-sent : send pl o s ≡ s → SendDoes
     sent : (k : ℕ) (q : Queue) → s .choice o ≡ sender k → ofRank (senders o) k ≡ some q → Heads q → SendDoes

@@ -1,25 +1,24 @@
 -- What a unit, an active and a passive do to the sum of weights: the head's old weight goes, the weight of what it becomes comes, at its place.
-use mathlib.Core.Path.{_≡_, refl, sym, ap, ap₂, _∙_}
-use mathlib.Core.Logic.{_⊎_, inl, inr, _≢_}
-use mathlib.Core.Bool.{Bool, true, false}
+use mathlib.Core.Path.{_≡_, refl, ap, ap₂, _∙_}
+use mathlib.Core.Logic.{_⊎_, inl, inr}
+use mathlib.Core.Bool.{true, false}
 use mathlib.Core.List.{List, [], _∷_}
-use Prim.Native.Nat.{ℕ, zero, suc, _+_, _-_, _≤_, _<_}
+use Prim.Native.Nat.{ℕ, _+_, _<_}
 use native.Mathlib.Omega.{arith}
 use lib.Dec.{eqb}
 use Rattle.packets.specs.declared.Kind.{Kind}
-use Rattle.packets.specs.declared.Kind.the-variants.{Setup, Tdown, Ack, Nack}
+use Rattle.packets.specs.declared.Kind.the-variants.{Setup, Tdown}
 use Rattle.packets.specs.declared.Packet.{Packet}
-use Rattle.packets.specs.declared.Entry.the-variants.{Free, Booked}
 use Rattle.plan.specs.Plan.{Plan, R, A, P, S}
 use Rattle.feeding.specs.Queue.{Queue, activeOut, activeIn, passiveIn, passiveOut, Q, Exists}
 use Rattle.feeding.specs.Feeds.{inQueue, handledAt}
-use Rattle.machine.specs.State.{State, withQueue, withFlag, withEntry, withAllowance, join}
-use Rattle.machine.specs.Execute.{cameIn, declined, booked, freed, handledAs, unit, unmarked, marked, tdownOf, hasRoom, undo}
+use Rattle.machine.specs.State.{State, withQueue, withFlag}
+use Rattle.machine.specs.Execute.{declined, booked, freed, handledAs, unit, unmarked, marked, tdownOf, hasRoom, undo}
 use Rattle.machine.specs.Calls.{setupOf, launched, repliedAs, replied, removed}
 use Rattle.machine.specs.Valid.{headPlace, inAll}
 use Rattle.theory.specs.Core.{Core}
 use Rattle.theory.specs.Weights.{Weight, inLine, weighed, weighed-line, weighed-join}
-use Rattle.theory.specs.Cases.{exitAt, mayBookAt, unit-empty, unit-handled, unit-books, unit-declines, unit-ends, unit-frees, undo-tears}
+use Rattle.theory.specs.Cases.{mayBookAt, unit-empty, unit-handled, unit-books, unit-declines, unit-ends, unit-frees, undo-tears}
 use Rattle.theory.specs.Moves.{queue-weighed}
 
 module _ (pl : Plan) (w : Weight) where
@@ -93,7 +92,6 @@ module _ (pl : Plan) (w : Weight) where
     pub torn-weighed : (a : ℕ) → a < A pl → (x : Packet) (rest : List Packet) → s .queue (activeIn a) ≡ x ∷ rest → unmarked x ≡ true → hasRoom pl (activeOut a) s ≡ true
         → weighed pl w (undo pl a s) + w (inQueue (activeIn a)) x ≡ weighed pl w s + w (inQueue (activeIn a)) (marked x) + w (inQueue (activeOut a)) (tdownOf (S pl) x)
     torn-weighed a h x rest e u g =
-        let t : State = withQueue (activeIn a) (marked x ∷ rest) s in
         let joined = weighed-join pl w (activeOut a) h (tdownOf (S pl) x) (withQueue (activeIn a) (marked x ∷ rest) s) (λ m. c .marks (activeOut a) h m .2) in
         let swapped = swapped-weighed (activeIn a) h s refl x (marked x) rest e in
         let is = ap (weighed pl w) (undo-tears pl a s x rest e u g) in

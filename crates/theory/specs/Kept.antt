@@ -1,7 +1,7 @@
 -- The core's parts that speak of places: slot, entries, packets, marks, one free entry a side, and nothing outside the plan. Start has them, and a
 -- change of one part of a state keeps them under its condition.
 use mathlib.Core.Path.{_≡_, refl}
-use mathlib.Core.Bool.{Bool, true, false, false≢true}
+use mathlib.Core.Bool.{Bool, false≢true}
 use Prim.Native.Nat.{ℕ, _<_}
 use native.Mathlib.Omega.{arith}
 use lib.Dec.{eqb}
@@ -24,6 +24,7 @@ use Rattle.machine.specs.Valid.{Drives, Carries, Bounded}
 use Rattle.theory.specs.Core.{Core, SlotIn, EntriesIn, Places, Wires, Marks, FreeEntry}
 use Rattle.theory.specs.Puts.{put-cases, put-outside, number-one, entry-cases}
 
+-- what the steps keep of the places
 pub record Kept (pl : Plan) (s : State) : Type 0 where
   pub slot : SlotIn pl s
   pub entries : EntriesIn pl s
@@ -38,9 +39,11 @@ pub kept-of : (pl : Plan) (s : State) → Core pl s → Kept pl s
 kept-of pl s c =
     record { slot = c .slot; entries = c .entries; places = c .places; wires = c .wires; marks = c .marks; free-entry = c .free-entry; bounded = c .bounded }
 
+-- an empty wire is not full
 pub full-not : {x : Packet} → Empty ≡ Full x → ⊥
 full-not e = let z : _≡_ {A = ℕ} 0 1 = cc in omega arith
 
+-- a free entry is not booked
 pub booked-not : {i : ℕ} → Free ≡ Booked i → ⊥
 booked-not e = let z : _≡_ {A = ℕ} 0 1 = cc in omega arith
 
@@ -72,6 +75,7 @@ module _ {pl : Plan} {s : State} (k : Kept pl s) where
   b = k .bounded
 
   -- ---- parts that no place depends on
+  -- any phase
   pub phase-kept : (x : Phase) → Kept pl (withPhase x s)
   phase-kept x =
       record {
@@ -84,6 +88,7 @@ module _ {pl : Plan} {s : State} (k : Kept pl s) where
         bounded = record { queue = b .queue; credit = b .credit; flag = b .flag; handled = b .handled; wire = b .wire; choice = b .choice; table = b .table; allowance = b .allowance };
       }
 
+  -- a slot of the plan
   pub slot-kept : (x : Slot) → x .0 < S pl → Kept pl (withSlot x s)
   slot-kept x h =
       record {
@@ -96,6 +101,7 @@ module _ {pl : Plan} {s : State} (k : Kept pl s) where
         bounded = record { queue = b .queue; credit = b .credit; flag = b .flag; handled = b .handled; wire = b .wire; choice = b .choice; table = b .table; allowance = b .allowance };
       }
 
+  -- a credit of a queue of the plan
   pub credit-kept : (q : Queue) (x : Credit) → Exists pl q → Kept pl (withCredit q x s)
   credit-kept q x h =
       record {
@@ -117,6 +123,7 @@ module _ {pl : Plan} {s : State} (k : Kept pl s) where
         };
       }
 
+  -- its flag
   pub flag-kept : (q : Queue) (x : Bool) → Exists pl q → Kept pl (withFlag q x s)
   flag-kept q x h =
       record {
@@ -138,7 +145,8 @@ module _ {pl : Plan} {s : State} (k : Kept pl s) where
         };
       }
 
-  pub choice-kept : (o : Output) (x : Choice) → Drives pl o → Kept pl (withChoice o x s)
+  -- a choice of an output, as at Start if the output is not the plan's
+  pub choice-kept : (o : Output) (x : Choice) → ((Drives pl o → ⊥) → x ≡ start pl .choice o) → Kept pl (withChoice o x s)
   choice-kept o x h =
       record {
         slot = k .slot;
@@ -153,12 +161,13 @@ module _ {pl : Plan} {s : State} (k : Kept pl s) where
           flag = b .flag;
           handled = b .handled;
           wire = b .wire;
-          choice = put-outside sameOutput output-same same-output (Drives pl) (s .choice) (start pl .choice) o x h (b .choice);
+          choice = put-cases sameOutput output-same same-output (λ (u : Output) (v : Choice). (Drives pl u → ⊥) → v ≡ start pl .choice u) (s .choice) o x h (λ u ne. b .choice u);
           table = b .table;
           allowance = b .allowance;
         };
       }
 
+  -- an allowance of an active of the plan
   pub allowance-kept : (a x : ℕ) → a < A pl → Kept pl (withAllowance a x s)
   allowance-kept a x h =
       record {
@@ -181,6 +190,7 @@ module _ {pl : Plan} {s : State} (k : Kept pl s) where
       }
 
   -- ---- a wire, an entry
+  -- a wire of the plan, what it carries being on its way
   pub wire-kept : (o : Output) (x : Wire) → Drives pl o → ((y : Packet) → x ≡ Full y → Carries pl o y) → Kept pl (withWire o x s)
   wire-kept o x h c =
       record {
@@ -202,7 +212,7 @@ module _ {pl : Plan} {s : State} (k : Kept pl s) where
         };
       }
 
-  -- the side keeps a free entry u
+  -- an entry of the plan, booked if at all with one of the four sides, where its side keeps a free entry u
   pub entry-kept : (r o t : ℕ) (x : Entry) → r < R pl → o < 4 → t < S pl → ((i : ℕ) → x ≡ Booked i → i < 4) → (u : ℕ) → u < S pl → put eqb (s .table r o) t x u ≡ Free → Kept pl (withEntry r o t x s)
   entry-kept r o t x hr ho ht side u hu free =
       record {

@@ -1,33 +1,35 @@
--- EXECUTE keeps the places: what a unit makes of its head belongs at the unit as handled, and the table keeps a free entry a side; what an active
--- makes of a NACK belongs in its two queues.
-use mathlib.Core.Path.{_≡_, refl, sym, ap, _∙_}
-use mathlib.Core.Logic.{_⊎_, inl, inr, _≢_}
+-- EXECUTE keeps the places: a unit's head, handled, belongs there, and the table keeps a free entry a side; an active's NACK and its TDOWN belong
+-- in the active's queues.
+use mathlib.Core.Path.{_≡_, refl, _∙_}
+use mathlib.Core.Logic.{_≢_}
 use mathlib.Core.Bool.{Bool, true, false, not, _&&_, false≢true, and-eq-true-iff}
 use mathlib.Core.List.{List, [], _∷_}
-use Prim.Native.Nat.{ℕ, _+_, _-_, _%_, _≤_, _<_}
-use native.Mathlib.Nat.{mod-lt}
+use mathlib.Core.Option.{some}
+use Prim.Native.Nat.{ℕ, suc, _≤_, _<_}
 use native.Mathlib.Omega.{arith}
 use lib.Dec.{eqb}
 use borrow.Author.Tests.{eqb-true, eqb-false}
+use Rattle.basis.specs.Choice.{pick-same}
 use Rattle.basis.specs.Bounded.{Found, any-true}
 use Rattle.packets.specs.declared.Kind.{Kind}
 use Rattle.packets.specs.declared.Kind.the-variants.{Setup, Tdown, Ack, Nack}
 use Rattle.packets.specs.declared.Packet.{Packet}
 use Rattle.packets.specs.declared.Entry.{Entry}
 use Rattle.packets.specs.declared.Entry.the-variants.{Free, Booked}
-use Rattle.packets.specs.Counters.{slotNext, startSlot, hubUp, hubDown}
 use Rattle.plan.specs.Head.{InRange}
 use Rattle.plan.specs.Plan.{Plan, passive, R, A, S, routeTo}
 use Rattle.feeding.specs.Queue.{Queue, activeOut, activeIn, Q}
-use Rattle.feeding.specs.Feeds.{Output, inQueue, handledAt, Stands, span, Fits}
+use Rattle.feeding.specs.Feeds.{Output, inQueue, handledAt}
 use Rattle.wiring.specs.Wired.{Wired}
 use Rattle.machine.specs.Store.{put-here, put-away}
-use Rattle.machine.specs.State.{State, withQueue, withEntry, isFree}
-use Rattle.machine.specs.Execute.{cameIn, declined, booked, freed, otherFree, mayBook, handledAs, setUp, tearOne, tearDown, handle, atUnit, unit, picked, choose, unmarkedKind, unmarked, marked, tdownOf, hasRoom, answer, atActive, undo}
-use Rattle.machine.specs.Valid.{Belongs, Drives}
-use Rattle.theory.specs.Closure.{stands-below, span-short, unit-setup, unit-booked, unit-declined, unit-freed, active-answer, active-tdown, active-marked}
-use Rattle.theory.specs.CameIn.{stands-inside, stands-exit, came-in}
-use Rattle.theory.specs.Lines.{head-some, belongs-as}
+use Rattle.machine.specs.Outputs.{senders}
+use Rattle.machine.specs.State.{State, nobody, start, withEntry, isFree}
+use Rattle.machine.specs.Execute.{cameIn, declined, booked, freed, otherFree, mayBook, handledAs, setUp, tearOne, tearDown, handle, atUnit, unit, candidate, isOpen, firstOf, picked, choose, unmarkedKind, unmarked, marked, tdownOf, hasRoom, answer, atActive, undo}
+use Rattle.machine.specs.Write.{ofRank}
+use Rattle.machine.specs.Valid.{Belongs, Drives, Bounded}
+use Rattle.theory.specs.Feeders.{sender-leaves}
+use Rattle.theory.specs.Lines.{head-some, output-drives}
+use Rattle.theory.specs.Makes.{side-out, side-in, booked-belongs, declined-belongs, freed-belongs, marked-belongs, tdown-belongs}
 use Rattle.theory.specs.Puts.{number-one}
 use Rattle.theory.specs.Kept.{Kept, booked-not, choice-kept, flag-kept, entry-kept}
 use Rattle.theory.specs.KeptLines.{head-belongs, behind-belong, line-kept, mark-kept, join-kept, gone-kept}
@@ -61,12 +63,22 @@ unmarked-nack Nack hub t = let n : hub ≡ 0 → ⊥ = eqb-false hub 0 (not-true
 booked-same : {i j : ℕ} → Booked i ≡ Booked j → i ≡ j
 booked-same e = cc
 
-module _ {pl : Plan} (wired : Wired pl) (range : InRange (pl .head)) where
-  -- a slot modulo S is one of the plan's
-  slot-in : (n : ℕ) → n % S pl < S pl
-  slot-in n = mod-lt n (omega (arith, range .slots))
+-- none of the senders is ready: nobody is the first
+first-nobody : (ready : Queue → Bool) (n : ℕ) (l : List Queue) → ((j : ℕ) (q : Queue) → ofRank l j ≡ some q → ready q ≡ false) → firstOf ready n l ≡ nobody
+unfolding firstOf
+first-nobody ready n [] f = refl
+first-nobody ready n (q ∷ qs) f = rw (f 0 q refl) (first-nobody ready (suc n) qs (λ j. f (suc j)))
 
-  -- ---- a unit's unhandled head x, on its walk: n routers behind it, come in by side i
+-- an output that is not the plan's picks nobody: its senders are empty
+pub picks-nobody : (pl : Plan) (s : State) → Bounded pl s → (o : Output) → (Drives pl o → ⊥) → picked pl s o ≡ nobody
+unfolding picked candidate start
+picks-nobody pl s b o out = rw (first-nobody (candidate pl s o) 0 (senders o) idle) (pick-same (isOpen s o) nobody)
+  where
+    idle : (j : ℕ) (q : Queue) → ofRank (senders o) j ≡ some q → candidate pl s o q ≡ false
+    idle j q e = rw (b .queue q (λ h. out (output-drives pl q o h (sender-leaves o j q e))))
+
+module _ {pl : Plan} (wired : Wired pl) (range : InRange (pl .head)) where
+  -- ---- a unit's unhandled head x
   module _ (r : ℕ) (hr : r < R pl) (s : State) (k : Kept pl s) (x : Packet) (rest : List Packet) (e : s .queue (Q r) ≡ x ∷ rest) (f : s .handled (Q r) ≡ false) where
     abbrev side : ℕ
     side = routeTo pl (passive (x .passive)) r
@@ -74,63 +86,42 @@ module _ {pl : Plan} (wired : Wired pl) (range : InRange (pl .head)) where
     here : Belongs pl (inQueue (Q r)) x
     here = rw f at (head-belongs k (Q r) x rest hr e)
 
-    -- the head handled as y, perhaps with an entry changed
+    -- the side that it leaves by is one of the four
+    out : side < 4
+    out = side-out wired range x (inQueue (Q r)) here r refl
+
+    -- it is handled as y, perhaps with an entry changed
     handled-as : {t : State} → Kept pl t → (y : Packet) → Belongs pl (handledAt r) y → Kept pl (handledAs r y rest t)
     handled-as kt y b = mark-kept kt (Q r) true (y ∷ rest) hr (b, behind-belong k (Q r) x rest hr e) (λ d. (r, refl, head-some y rest))
 
-    set-up : (m : Bool) → mayBook (S pl) (s .table r side) (x .slot .0) ≡ m → Fits pl Setup (x .active) (x .passive) (x .hub .0) (inQueue (Q r)) → x .kind ≡ Setup → Kept pl (setUp pl r side x rest m s)
+    set-up : (m : Bool) → mayBook (S pl) (s .table r side) (x .slot .0) ≡ m → x .kind ≡ Setup → Kept pl (setUp pl r side x rest m s)
     unfolding setUp
-    set-up true m g q = by (unit-setup wired (x .active) (x .passive) (here .ranges .active) (here .ranges .passive) (here .serves) r (x .hub .0) g) (other-free (S pl) (s .table r side) (x .slot .0) m)
+    set-up true m q = handled-as (by (other-free (S pl) (s .table r side) (x .slot .0) m)) (booked (S pl) x) (booked-belongs wired range x (inQueue (Q r)) here r refl q)
       where
-        as-booked : (i : ℕ) → Stands pl (x .active) (x .passive) (x .hub .0) r i → Belongs pl (handledAt r) (booked (S pl) x)
-        as-booked i st =
-            let before = stands-below wired (x .active) (x .passive) (here .ranges .active) (here .ranges .passive) (here .serves) (x .hub .0) (record { router = r; side = i }) st in
-            let short = span-short wired (x .active) (x .passive) (here .ranges .active) (here .ranges .passive) (here .serves) in
-            belongs-as pl (inQueue (Q r)) (handledAt r) x (x .kind) (slotNext (x .slot) (S pl)) (hubUp (x .hub)) here (slot-in (x .slot .0 + 1)) (omega (arith, range .routers))
-            (rw q (unit-booked wired (x .active) (x .passive) (here .ranges .active) (here .ranges .passive) (here .serves) r (x .hub .0) g))
+        by : (u : ℕ) × (u < S pl) × (u ≢ x .slot .0) × (s .table r side u ≡ Free) → Kept pl (withEntry r side (x .slot .0) (Booked (cameIn pl (x .active) (x .passive) r)) s)
+        by (u, hu, ne, free) =
+            entry-kept k r side (x .slot .0) (Booked (cameIn pl (x .active) (x .passive) r)) hr out (here .ranges .slot)
+            (λ j c. rw (← booked-same c) (side-in wired range x (inQueue (Q r)) here r refl)) u hu
+            (put-away eqb number-one eqb-true (s .table r side) (x .slot .0) (Booked (cameIn pl (x .active) (x .passive) r)) u ne ∙ free)
+    set-up false m q = handled-as k (declined x) (declined-belongs wired range x (inQueue (Q r)) here r refl q)
 
-        by : (i : ℕ) × Stands pl (x .active) (x .passive) (x .hub .0) r i → (u : ℕ) × (u < S pl) × (u ≢ x .slot .0) × (s .table r side u ≡ Free)
-            → Kept pl (handledAs r (booked (S pl) x) rest (withEntry r side (x .slot .0) (Booked (cameIn pl (x .active) (x .passive) r)) s))
-        by (i, st) (u, hu, ne, free) =
-            let found = came-in wired (x .active) (x .passive) (here .ranges .active) (here .ranges .passive) (here .serves) (x .hub .0) r i st in
-            let four = stands-inside wired (x .active) (x .passive) (here .ranges .active) (here .ranges .passive) (here .serves) (x .hub .0) r i st .1 in
-            handled-as
-            (entry-kept k r side (x .slot .0) (Booked (cameIn pl (x .active) (x .passive) r)) hr
-            (stands-exit wired (x .active) (x .passive) (here .ranges .active) (here .ranges .passive) (here .serves) (x .hub .0) r i st)
-            (here .ranges .slot) (λ j c. rw (← booked-same c, found) four) u hu
-            (put-away eqb number-one eqb-true (s .table r side) (x .slot .0) (Booked (cameIn pl (x .active) (x .passive) r)) u ne ∙ free))
-            (booked (S pl) x) (as-booked i st)
-    set-up false m g q =
-        handled-as k (declined x)
-        (belongs-as pl (inQueue (Q r)) (handledAt r) x Nack (x .slot) (x .hub) here (here .ranges .slot) (here .ranges .hub)
-        (unit-declined wired (x .active) (x .passive) (here .ranges .active) (here .ranges .passive) (here .serves) r (x .hub .0) g))
-
-    tear-down : Fits pl Tdown (x .active) (x .passive) (x .hub .0) (inQueue (Q r)) → x .kind ≡ Tdown → Kept pl (tearDown pl r side x rest s)
+    tear-down : x .kind ≡ Tdown → Kept pl (tearDown pl r side x rest s)
     unfolding tearDown tearOne
-    tear-down g q = by (eqb (x .hub .0) 1) refl
+    tear-down q = by (eqb (x .hub .0) 1) refl
       where
-        freed-entry : (i : ℕ) × Stands pl (x .active) (x .passive) (g .0) r i → Kept pl (withEntry r side (x .slot .0) Free s)
-        freed-entry (i, st) =
-            entry-kept k r side (x .slot .0) Free hr
-            (stands-exit wired (x .active) (x .passive) (here .ranges .active) (here .ranges .passive) (here .serves) (g .0) r i st)
-            (here .ranges .slot) (λ j c. absurd (booked-not c)) (x .slot .0) (here .ranges .slot)
-            (put-here eqb number-one eqb-true (s .table r side) (x .slot .0) Free)
-
         entry : Kept pl (withEntry r side (x .slot .0) Free s)
-        entry = freed-entry (unit-setup wired (x .active) (x .passive) (here .ranges .active) (here .ranges .passive) (here .serves) r (g .0) (g .1))
+        entry =
+            entry-kept k r side (x .slot .0) Free hr out (here .ranges .slot) (λ j c. absurd (booked-not c)) (x .slot .0) (here .ranges .slot)
+            (put-here eqb number-one eqb-true (s .table r side) (x .slot .0) Free)
 
         by : (one : Bool) → eqb (x .hub .0) 1 ≡ one → Kept pl (tearOne pl r x rest one (withEntry r side (x .slot .0) Free s))
         by true o = flag-kept (gone-kept entry (Q r) x rest hr e f) (Q r) true hr
-        by false o =
-            let n : x .hub .0 ≡ 1 → ⊥ = eqb-false (x .hub .0) 1 o in
-            handled-as entry (freed (S pl) x)
-            (belongs-as pl (inQueue (Q r)) (handledAt r) x (x .kind) (slotNext (x .slot) (S pl)) (hubDown (x .hub)) here (slot-in (x .slot .0 + 1)) (omega (arith, here .ranges .hub))
-            (rw q (unit-freed wired (x .active) (x .passive) (here .ranges .active) (here .ranges .passive) (here .serves) r (x .hub .0) (omega (arith, g .2)) g)))
+        by false o = handled-as entry (freed (S pl) x) (freed-belongs wired range x (inQueue (Q r)) here r refl q (eqb-false (x .hub .0) 1 o))
 
     handled : (kind : Kind) → x .kind ≡ kind → Kept pl (handle pl r side kind x rest s)
     unfolding handle
-    handled Setup q = set-up (mayBook (S pl) (s .table r side) (x .slot .0)) refl (rw q at (here .fits)) q
-    handled Tdown q = tear-down (rw q at (here .fits)) q
+    handled Setup q = set-up (mayBook (S pl) (s .table r side) (x .slot .0)) refl q
+    handled Tdown q = tear-down q
     handled Ack q = k
     handled Nack q = k
 
@@ -145,9 +136,9 @@ module _ {pl : Plan} (wired : Wired pl) (range : InRange (pl .head)) where
       by (x ∷ rest) e false f = handled r hr s k x rest e f (x .kind) refl
 
   -- an output picks a sender
-  pub choose-kept : (o : Output) (s : State) → Drives pl o → Kept pl s → Kept pl (choose pl o s)
-  unfolding choose
-  choose-kept o s d k = choice-kept k o (picked pl s o) d
+  pub choose-kept : (o : Output) (s : State) → Kept pl s → Kept pl (choose pl o s)
+  unfolding choose start
+  choose-kept o s k = choice-kept k o (picked pl s o) (picks-nobody pl s (k .bounded) o)
 
   -- an active tears down what was declined
   pub undo-kept : (a : ℕ) (s : State) → a < A pl → Kept pl s → Kept pl (undo pl a s)
@@ -155,31 +146,13 @@ module _ {pl : Plan} (wired : Wired pl) (range : InRange (pl .head)) where
   undo-kept a s ha k = by (s .queue (activeIn a)) refl
     where
       answered : (x : Packet) (rest : List Packet) → s .queue (activeIn a) ≡ x ∷ rest → (t : Bool) → (unmarked x && hasRoom pl (activeOut a) s) ≡ t → Kept pl (answer pl a x rest t s)
-      answered x rest e false t = k
       answered x rest e true t =
-          join-kept
-          (line-kept k (activeIn a) (marked x ∷ rest) ha (as-marked, behind-belong k (activeIn a) x rest ha e) (λ d. head-some (marked x) rest))
-          (activeOut a) (tdownOf (S pl) x) ha as-tdown
-        where
-          nack : (x .kind ≡ Nack) × (1 ≤ x .hub .0)
-          nack = unmarked-nack (x .kind) (x .hub .0) (and-eq-true-iff (unmarked x) (hasRoom pl (activeOut a) s) .0 t .0)
-
-          here : Belongs pl (inQueue (activeIn a)) x
-          here = head-belongs k (activeIn a) x rest ha e
-
-          own : (a ≡ x .active) × (x .hub .0 ≤ span pl (x .active) (x .passive)) × ((x .kind ≡ Ack) ⊎ (x .kind ≡ Nack))
-          own = active-answer wired (x .active) (x .passive) (here .ranges .active) (here .ranges .passive) (here .serves) (x .kind) (x .hub .0) a (here .fits)
-
-          as-marked : Belongs pl (inQueue (activeIn a)) (marked x)
-          as-marked =
-              belongs-as pl (inQueue (activeIn a)) (inQueue (activeIn a)) x (x .kind) (x .slot) (record { 0 = 0 }) here (here .ranges .slot) (omega arith)
-              (rw (nack .0, own .0) (active-marked wired (x .active) (x .passive) (here .ranges .active) (here .ranges .passive) (here .serves)))
-
-          as-tdown : Belongs pl (inQueue (activeOut a)) (tdownOf (S pl) x)
-          as-tdown =
-              belongs-as pl (inQueue (activeIn a)) (inQueue (activeOut a)) x Tdown (startSlot (x .slot) (x .hub) (S pl)) (x .hub) here
-              (slot-in (x .slot .0 + (S pl - x .hub .0 % S pl))) (here .ranges .hub)
-              (rw (own .0) (active-tdown wired (x .active) (x .passive) (here .ranges .active) (here .ranges .passive) (here .serves) (x .hub .0) (nack .1) (own .1)))
+          let nack = unmarked-nack (x .kind) (x .hub .0) (and-eq-true-iff (unmarked x) (hasRoom pl (activeOut a) s) .0 t .0) in
+          let here : Belongs pl (inQueue (activeIn a)) x = head-belongs k (activeIn a) x rest ha e in
+          let mark : Belongs pl (inQueue (activeIn a)) (marked x) = marked-belongs wired range x (inQueue (activeIn a)) here a refl (nack .0) in
+          join-kept (line-kept k (activeIn a) (marked x ∷ rest) ha (mark, behind-belong k (activeIn a) x rest ha e) (λ d. head-some (marked x) rest))
+          (activeOut a) (tdownOf (S pl) x) ha (tdown-belongs wired range x (inQueue (activeIn a)) here a refl (nack .1))
+      answered x rest e false t = k
 
       by : (l : List Packet) → s .queue (activeIn a) ≡ l → Kept pl (atActive pl a l s)
       by [] e = k

@@ -1,5 +1,5 @@
 -- Kept by a change of one queue's line: another line that fits, with its mark or without, a packet that joins, a head that goes.
-use mathlib.Core.Path.{_≡_, refl, sym, ap, _∙_}
+use mathlib.Core.Path.{_≡_}
 use mathlib.Core.Logic.{_≢_}
 use mathlib.Core.Bool.{Bool, true, false}
 use mathlib.Core.List.{List, [], _∷_, _++_}
@@ -21,14 +21,17 @@ module _ {pl : Plan} {s : State} (k : Kept pl s) where
   abbrev b : Bounded pl s
   b = k .bounded
 
-  -- ---- where the packets of a line belong: its head, and those behind it
+  -- ---- where the packets of a line belong
+  -- its head where the mark says
   pub head-belongs : (q : Queue) (x : Packet) (rest : List Packet) → Exists pl q → s .queue q ≡ x ∷ rest → Belongs pl (headPlace (s .handled q) q) x
   head-belongs q x rest h e = let l : Lined pl q (s .handled q) (x ∷ rest) = rw e at (k .places q h) in l .0
 
+  -- those behind it in the queue
   pub behind-belong : (q : Queue) (x : Packet) (rest : List Packet) → Exists pl q → s .queue q ≡ x ∷ rest → (y : Packet) → In y rest → Belongs pl (inQueue q) y
   behind-belong q x rest h e = let l : Lined pl q (s .handled q) (x ∷ rest) = rw e at (k .places q h) in l .1
 
-  -- ---- a line replaced by one that fits, where a marked queue does not become empty
+  -- ---- changes
+  -- a line replaced by one that fits, where a marked queue does not become empty
   pub line-kept : (q : Queue) (l : List Packet) → Exists pl q → Lined pl q (s .handled q) l → (s .handled q ≡ true → l ≢ []) → Kept pl (withQueue q l s)
   line-kept q l h f n =
       record {

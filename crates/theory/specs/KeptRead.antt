@@ -1,7 +1,6 @@
 -- READ keeps the places: each wire's packet joins the queue in which it belongs, each raised flag becomes a credit.
 use mathlib.Core.Path.{_≡_, refl}
 use mathlib.Core.Bool.{Bool, true, false}
-use mathlib.Core.Option.{Option, none, some}
 use Rattle.packets.specs.declared.Packet.{Packet}
 use Rattle.packets.specs.declared.Wire.{Wire}
 use Rattle.packets.specs.declared.Wire.the-variants.{Empty, Full}
@@ -12,7 +11,7 @@ use Rattle.feeding.specs.Queue.{Queue, Exists}
 use Rattle.feeding.specs.Feeds.{Output}
 use Rattle.wiring.specs.Wired.{Wired}
 use Rattle.machine.specs.Outputs.{nextBy}
-use Rattle.machine.specs.State.{State, withWire, withCredit}
+use Rattle.machine.specs.State.{State, withWire}
 use Rattle.machine.specs.Read.{joinNext, arrive, deliver, lower, settle}
 use Rattle.machine.specs.Valid.{Drives, Carries}
 use Rattle.theory.specs.Lines.{belongs-exists}

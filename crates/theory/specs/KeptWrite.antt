@@ -20,10 +20,11 @@ use Rattle.machine.specs.Outputs.{nextBy, senders}
 use Rattle.machine.specs.State.{State, Choice, nobody, sender, withSlot, withQueue, withWire}
 use Rattle.machine.specs.Execute.{hasCredit, mayLeave, candidate}
 use Rattle.machine.specs.Write.{ofRank, raise, spend, sendHead, sendFrom, sendBy, send}
-use Rattle.machine.specs.Valid.{Belongs, Drives}
+use Rattle.machine.specs.Valid.{Belongs, headPlace, Drives}
 use Rattle.theory.specs.Core.{Sendable}
 use Rattle.theory.specs.Feeders.{sender-leaves}
-use Rattle.theory.specs.Lines.{isUnit, no-mark, head-leaves, line-of, sender-exists, belongs-exists, next-belongs}
+use Rattle.theory.specs.Lines.{isUnit, no-mark, head-leaves, line-of, sender-exists, belongs-exists}
+use Rattle.theory.specs.Makes.{next-belongs}
 use Rattle.theory.specs.Kept.{Kept, slot-kept, choice-kept, credit-kept, flag-kept, wire-kept}
 use Rattle.theory.specs.KeptLines.{head-belongs, behind-belong, mark-kept, gone-kept}
 
@@ -59,7 +60,7 @@ module _ {pl : Plan} (wired : Wired pl) (range : InRange (pl .head)) where
           → Kept pl (withWire o (Full x) (spend n (raise q (withQueue q rest s))))
       onto x rest e may none f c = absurd (false≢true c)
       onto x rest e may (some y) f c =
-          let there : Belongs pl (inQueue y) x = next-belongs wired q y o x leaves f (rw (head-leaves s q may) at (head-belongs k q x rest h e)) in
+          let there : Belongs pl (inQueue y) x = next-belongs wired range x (headPlace (s .handled q) q) (head-belongs k q x rest h e) q y o (head-leaves s q may) leaves f in
           wire-kept (credit-kept (raised q x rest s h e k) y (creditDown (raise q (withQueue q rest s) .credit y)) (belongs-exists wired y x there)) o (Full x) d
           (λ z g. rw (← full-same g) (record { queue = y; next = f; belongs = there }))
 
@@ -77,7 +78,7 @@ module _ {pl : Plan} (wired : Wired pl) (range : InRange (pl .head)) where
 
       by : (c : Choice) → s .choice o ≡ c → Kept pl (sendBy pl o c s)
       by nobody e = k
-      by (sender n) e = choice-kept (chosen n (able n e)) o nobody d
+      by (sender n) e = choice-kept (chosen n (able n e)) o nobody (λ out. absurd (out d))
 
   -- the slot after the current one is one of the plan's
   pub turn-kept : (s : State) → Kept pl s → Kept pl (withSlot (slotNext (s .slot) (S pl)) s)

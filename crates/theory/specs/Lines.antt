@@ -11,25 +11,22 @@ use borrow.Author.Tests.{lt-ltb, le-ltb}
 use Rattle.basis.specs.Choice.{pick, refuted}
 use Rattle.basis.specs.Bounded.{lt-or-ge}
 use Rattle.basis.specs.Among.{In, in-either}
-use Rattle.kinds.specs.declared.Slot.{Slot}
-use Rattle.kinds.specs.declared.Hub.{Hub}
 use Rattle.packets.specs.declared.Kind.{Kind}
 use Rattle.packets.specs.declared.Kind.the-variants.{Setup, Tdown, Ack, Nack}
 use Rattle.packets.specs.declared.Packet.{Packet}
-use Rattle.plan.specs.Plan.{Plan, R, A, P, S}
+use Rattle.plan.specs.Plan.{Plan, R, A, P}
 use Rattle.paths.specs.Served.{Served}
 use Rattle.feeding.specs.Queue.{Queue, activeOut, activeIn, passiveIn, passiveOut, U, Q, F, K, Exists, senderAt}
-use Rattle.feeding.specs.Feeds.{Output, ofActive, ofPassive, ofSide, toUnit, fromUnit, headingOf, next, outputOf, Place, inQueue, Ahead, Back, Fits, leavesFrom}
+use Rattle.feeding.specs.Feeds.{Output, ofActive, ofPassive, ofSide, toUnit, fromUnit, headingOf, outputOf, inQueue, Ahead, Back, Fits, leavesFrom}
 use Rattle.wiring.specs.Wired.{Wired}
 use Rattle.journeys.specs.Places.{may-exist, some-same, some-not-none}
 use Rattle.journeys.specs.Fitting.{fits-visits}
-use Rattle.machine.specs.Outputs.{nextBy, senders}
+use Rattle.machine.specs.Outputs.{senders}
 use Rattle.machine.specs.Execute.{mayLeave}
 use Rattle.machine.specs.State.{State}
 use Rattle.machine.specs.Write.{ofRank}
 use Rattle.machine.specs.Valid.{Belongs, headPlace, Lined, Drives}
 use Rattle.theory.specs.Core.{Marks}
-use Rattle.theory.specs.Closure.{fits-next}
 use Rattle.theory.specs.CameIn.{stands-inside}
 
 -- ---- marks
@@ -90,20 +87,14 @@ line-joined pl q done (z ∷ rest) x n b f = (f .0, λ y i. by y (in-either y re
     by y (inr (inl e)) = rw e b
     by y (inr (inr i)) = absurd i
 
--- a line with a head is not empty, nor is one that a packet has joined
+-- a line with a head is not empty
 pub head-some : (x : Packet) (l : List Packet) → (x ∷ l) ≢ []
 head-some x l e = let z : _≡_ {A = ℕ} 0 1 = cc in omega arith
 
+-- nor is one that a packet has joined
 pub joined-some : (l : List Packet) (x : Packet) → (l ++ (x ∷ [])) ≢ []
 joined-some [] x = head-some x []
 joined-some (y ∷ l) x = head-some y (l ++ (x ∷ []))
-
--- ---- where packets belong
--- what a rule makes of a packet, its pair kept, belongs where its new kind and hub fit
-pub belongs-as : (pl : Plan) (from at : Place) (x : Packet) (kind : Kind) (slot : Slot) (hub : Hub) → Belongs pl from x → slot .0 < S pl → hub .0 ≤ 16
-    → Fits pl kind (x .active) (x .passive) (hub .0) at → Belongs pl at (record { kind = kind; active = x .active; passive = x .passive; slot = slot; hub = hub })
-belongs-as pl from at x kind slot hub b t h f =
-    record { ranges = record { active = b .ranges .active; passive = b .ranges .passive; slot = t; hub = h }; serves = b .serves; fits = f }
 
 -- ---- queues that exist
 -- a sender of a plan's output is a queue of the plan
@@ -135,6 +126,17 @@ sender-exists pl (toUnit r) d (suc (suc (suc (suc k)))) q e = absurd (some-not-n
 sender-exists pl (fromUnit r) d zero q e = rw (← some-same e) d
 sender-exists pl (fromUnit r) d (suc k) q e = absurd (some-not-none e)
 
+-- the output by which a queue of the plan is left is the plan's
+pub output-drives : (pl : Plan) (q : Queue) (o : Output) → Exists pl q → outputOf q ≡ some o → Drives pl o
+output-drives pl (activeOut x) o h e = rw (← some-same e) h
+output-drives pl (activeIn x) o h e = absurd (some-not-none e)
+output-drives pl (passiveIn x) o h e = absurd (some-not-none e)
+output-drives pl (passiveOut x) o h e = rw (← some-same e) h
+output-drives pl (U r i) o h e = rw (← some-same e) (h .0)
+output-drives pl (Q r) o h e = rw (← some-same e) h
+output-drives pl (F r i) o h e = rw (← some-same e) h
+output-drives pl (K r i j) o h e = rw (← some-same e) (h .0, h .2)
+
 module _ {pl : Plan} (wired : Wired pl) where
   unit-exists : (k : Kind) (a p hub r : ℕ) → a < A pl → p < P pl → Served pl a p → Fits pl k a p hub (inQueue (Q r)) → r < R pl
   unfolding Ahead Back
@@ -159,13 +161,3 @@ module _ {pl : Plan} (wired : Wired pl) where
       by (Q r) f = unit-exists (x .kind) (x .active) (x .passive) (x .hub .0) r (b .ranges .active) (b .ranges .passive) (b .serves) f
       by (F r o) f = at (F r o) f
       by (K r i o) f = at (K r i o) f
-
-  -- a packet that belongs where it leaves a queue from belongs in the queue that it goes to by that queue's output
-  pub next-belongs : (q y : Queue) (o : Output) (x : Packet) → outputOf q ≡ some o → nextBy pl o x ≡ some y → Belongs pl (leavesFrom q) x → Belongs pl (inQueue y) x
-  unfolding next
-  next-belongs q y o x e n b =
-      record {
-        ranges = b .ranges;
-        serves = b .serves;
-        fits = fits-next wired (x .active) (x .passive) (b .ranges .active) (b .ranges .passive) (b .serves) (x .kind) (x .hub .0) q y (b .fits) (rw e n);
-      }

@@ -1,13 +1,11 @@
 -- What READ and WRITE do to the sum of weights: a packet that goes from a queue to a wire and from a wire to a queue keeps its weight, if the
 -- weight is steady. Delivery, settling and choice keep every weight.
-use mathlib.Core.Path.{_≡_, refl, sym, ap, ap₂, subst, _∙_}
-use mathlib.Core.Logic.{_⊎_, inl, inr, _≢_}
+use mathlib.Core.Path.{_≡_, refl, ap, subst, _∙_}
 use mathlib.Core.Bool.{Bool, true, false}
-use mathlib.Core.List.{List, [], _∷_, _++_}
-use mathlib.Core.Option.{Option, none, some}
-use Prim.Native.Nat.{ℕ, zero, suc, _+_, _≤_, _<_}
+use mathlib.Core.List.{List, _∷_}
+use mathlib.Core.Option.{some}
+use Prim.Native.Nat.{ℕ, suc, _+_, _<_}
 use native.Mathlib.Omega.{arith}
-use Rattle.basis.specs.Choice.{pick, test}
 use Rattle.basis.specs.Fold.{upTo, up-keeps-at}
 use Rattle.packets.specs.declared.Kind.{Kind}
 use Rattle.packets.specs.declared.Kind.the-variants.{Setup, Tdown, Ack, Nack}
@@ -16,14 +14,14 @@ use Rattle.kinds.specs.declared.Slot.{Slot}
 use Rattle.packets.specs.declared.Phase.{Phase}
 use Rattle.packets.specs.declared.Wire.{Wire}
 use Rattle.packets.specs.declared.Wire.the-variants.{Empty, Full}
-use Rattle.plan.specs.Plan.{Plan, R, A, P}
+use Rattle.plan.specs.Plan.{Plan}
 use Rattle.feeding.specs.Queue.{Queue, activeOut, activeIn, passiveIn, passiveOut, U, Q, F, K, Exists, queueAt, queues}
-use Rattle.feeding.specs.Feeds.{Output, Place, inQueue, handledAt, headingOf, Fits, leavesFrom}
+use Rattle.feeding.specs.Feeds.{Output, Place, inQueue, headingOf, Fits, leavesFrom}
 use Rattle.wiring.specs.Wired.{Wired}
 use Rattle.journeys.specs.Places.{may-exist}
 use Rattle.journeys.specs.Fitting.{fits-visits}
 use Rattle.machine.specs.Outputs.{nextBy, senders, outputs, outputAt}
-use Rattle.machine.specs.State.{State, Choice, nobody, sender, withPhase, withSlot, withQueue, withWire, join}
+use Rattle.machine.specs.State.{State, sender, withPhase, withSlot, withQueue, withWire}
 use Rattle.machine.specs.Read.{deliver, lower, settle, doRead}
 use Rattle.machine.specs.Execute.{mayLeave, choose}
 use Rattle.machine.specs.Write.{ofRank, raise, spend, send, doWrite}
@@ -32,7 +30,7 @@ use Rattle.theory.specs.Closure.{unit-booked, unit-no-answer}
 use Rattle.theory.specs.Core.{Core, Sendable}
 use Rattle.theory.specs.Numbers.{drives-at, sender-exists}
 use Rattle.theory.specs.Weights.{Weight, inLine, onWire, weighed, line-in, line-fresh, weighed-queue, weighed-line, weighed-wire, weighed-join}
-use Rattle.theory.specs.Cases.{deliver-none, deliver-one, Heads, afterSent, send-one, SendDoes, none-sent, sent, send-does}
+use Rattle.theory.specs.Cases.{deliver-none, deliver-one, afterSent, send-one, SendDoes, none-sent, sent, send-does}
 
 -- ---- where packets are
 module _ {pl : Plan} (wired : Wired pl) where
@@ -86,6 +84,12 @@ abbrev pub Steady : Plan → Weight → Type 0
 Steady pl w =
     (o : Output) (k : ℕ) (q y : Queue) (x : Packet) → Drives pl o → ofRank (senders o) k ≡ some q → nextBy pl o x ≡ some y → Belongs pl (leavesFrom q) x
     → w (leavesFrom q) x ≡ w (inQueue y) x
+
+-- what a sending needs of the state
+pub record Sends (pl : Plan) (o : Output) (s : State) : Type 0 where
+  pub core : Core pl s
+  pub ready : (k : ℕ) → s .choice o ≡ sender k → Sendable pl s o k
+  pub clear : s .wire o ≡ Empty
 
 -- Raising a flag leaves the wires.
 pub raised-wire : (q : Queue) (s : State) → raise q s .wire ≡ s .wire
@@ -221,15 +225,9 @@ module _ (pl : Plan) (w : Weight) where
       ∙ fold-weighed (λ (i : ℕ) (t : State). Core pl t) (λ i. deliver pl (outputAt pl i)) (outputs pl) s
       (λ i t l g. (keeps (outputAt pl i) t (drives-at pl i l) g, deliver-weighed wired g (outputAt pl i) (drives-at pl i l))) c .1
 
-  -- what a sending needs
-  pub record Sends (o : Output) (s : State) : Type 0 where
-    pub core : Core pl s
-    pub ready : (k : ℕ) → s .choice o ≡ sender k → Sendable pl s o k
-    pub clear : s .wire o ≡ Empty
-
   -- WRITE keeps a steady weight, where a fact gives what each sending needs and each sending hands it on.
   pub write-weighed : Wired pl → Steady pl w → (P : ℕ → State → Type 0) (s : State)
-      → ((i : ℕ) (t : State) → i < outputs pl → P i t → P (suc i) (send pl (outputAt pl i) t) × Sends (outputAt pl i) t) → P 0 s → weighed pl w (doWrite pl s) ≡ weighed pl w s
+      → ((i : ℕ) (t : State) → i < outputs pl → P i t → P (suc i) (send pl (outputAt pl i) t) × Sends pl (outputAt pl i) t) → P 0 s → weighed pl w (doWrite pl s) ≡ weighed pl w s
   unfolding doWrite weighed
   write-weighed wired steady P s keeps p =
       fold-weighed P (λ i. send pl (outputAt pl i)) (outputs pl) s

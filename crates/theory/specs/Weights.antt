@@ -1,18 +1,19 @@
 -- Packets weighed by their places, summed over all queues and wires; and what a change of one queue, one handled mark or one wire does to the
 -- sum. Credits, flags, choices, the table, allowances, phase and slot do not matter.
-use mathlib.Core.Path.{_≡_, refl, sym, ap, ap₂, _∙_}
+use mathlib.Core.Path.{_≡_, refl, sym, ap, ap₂, subst, _∙_}
 use mathlib.Core.Logic.{_⊎_, inl, inr, _≢_}
 use mathlib.Core.Bool.{Bool, true, false}
 use mathlib.Core.List.{List, [], _∷_, _++_}
 use mathlib.Core.Option.{Option, none, some}
-use Prim.Native.Nat.{ℕ, zero, suc, _+_, _≤_, _<_}
+use Prim.Native.Nat.{ℕ, _+_, _<_}
 use native.Mathlib.Omega.{arith}
+use Rattle.basis.specs.Choice.{pick, test}
 use Rattle.packets.specs.declared.Packet.{Packet}
 use Rattle.packets.specs.declared.Wire.{Wire}
 use Rattle.packets.specs.declared.Wire.the-variants.{Empty, Full}
 use Rattle.plan.specs.Plan.{Plan}
 use Rattle.feeding.specs.Queue.{Queue, activeOut, activeIn, passiveIn, passiveOut, U, Q, F, K, Exists, number, queues, queueAt}
-use Rattle.feeding.specs.Feeds.{Output, Place, inQueue, handledAt}
+use Rattle.feeding.specs.Feeds.{Output, Place, inQueue}
 use Rattle.journeys.specs.Numbers.{queue-at, number-below}
 use Rattle.machine.specs.Store.{put, sameQueue, same-queue, queue-same, sameOutput, same-output, output-same, put-here, put-away}
 use Rattle.machine.specs.Outputs.{nextBy, outputs, outputAt}
@@ -40,6 +41,7 @@ abbrev pub inNext : Weight → Packet → Option Queue → ℕ
 inNext w x none = 0
 inNext w x (some y) = w (inQueue y) x
 
+-- an output's wire
 unfoldable pub onWire : Plan → Weight → Output → Wire → ℕ
 onWire pl w o Empty = 0
 onWire pl w o (Full x) = inNext w x (nextBy pl o x)
@@ -51,10 +53,11 @@ lineOf w handled queue q = inLine w q (handled q) (queue q)
 abbrev wireOf : Plan → Weight → (Output → Wire) → Output → ℕ
 wireOf pl w wire o = onWire pl w o (wire o)
 
--- all lines, and all wires
+-- all lines
 unfoldable pub inLines : Plan → Weight → (Queue → Bool) → (Queue → List Packet) → ℕ
 inLines pl w handled queue = sum (queues pl) (λ n. lineOf w handled queue (queueAt pl n))
 
+-- all wires
 unfoldable pub inWires : Plan → Weight → (Output → Wire) → ℕ
 inWires pl w wire = sum (outputs pl) (λ n. wireOf pl w wire (outputAt pl n))
 
@@ -210,3 +213,14 @@ core-bound pl s c o d x e = let k = c .wires o d x e in (k .queue, k .next)
 -- So in a state the sum is the total.
 pub weighed-plain : (pl : Plan) (w : Packet → ℕ) (s : State) → Core pl s → weighed pl (anywhere w) s ≡ total pl w s
 weighed-plain pl w s c = weighed-total pl w s (core-bound pl s c)
+
+-- A wire replaced by one whose packet has a next queue keeps it so.
+pub bound-put : (pl : Plan) (s t : State) (o : Output) (v : Wire) → Bound pl s → ((x : Packet) → v ≡ Full x → (y : Queue) × (nextBy pl o x ≡ some y)) → t .wire ≡ put sameOutput (s .wire) o v → Bound pl t
+bound-put pl s t o v b f q u d x e = by (test (sameOutput u o))
+  where
+    now : pick (sameOutput u o) v (s .wire u) ≡ Full x
+    now = sym (ap (λ (m : Output → Wire). m u) q) ∙ e
+
+    by : (sameOutput u o ≡ true) ⊎ (sameOutput u o ≡ false) → (y : Queue) × (nextBy pl u x ≡ some y)
+    by (inl z) = subst (λ (k : Output). (y : Queue) × (nextBy pl k x ≡ some y)) (sym (same-output u o z)) (f x (sym (ap (λ (z : Bool). pick z v (s .wire u)) z) ∙ now))
+    by (inr z) = b u d x (sym (ap (λ (z : Bool). pick z v (s .wire u)) z) ∙ now)

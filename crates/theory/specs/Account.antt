@@ -70,6 +70,7 @@ feeder-fed pl (Q r) o e = refl
 feeder-fed pl (F r k) o e = refl
 feeder-fed pl (K r i k) o e = refl
 
+-- the queue that an output brings a packet to is fed
 pub next-fed : {pl : Plan} → Wired pl → (o : Output) (x : Packet) (n : Queue) → Drives pl o → nextBy pl o x ≡ some n → isFed n ≡ true
 next-fed {pl} wired o x n d e = feeder-fed pl n o (fed-by wired (headingOf (x .kind)) (x .active) (x .passive) o d n e)
 

@@ -28,6 +28,7 @@ queue-or x y = by (test (sameQueue x y))
 pub queue-here : {X : Type 0} (m : Queue → X) (k : Queue) (a : X) → put sameQueue m k a k ≡ a
 queue-here m k a = put-here sameQueue queue-same same-queue m k a
 
+-- elsewhere the store is as it was
 pub queue-away : {X : Type 0} (m : Queue → X) (k : Queue) (a : X) (x : Queue) → x ≢ k → put sameQueue m k a x ≡ m x
 queue-away m k a x ne = put-away sameQueue queue-same same-queue m k a x ne
 
@@ -35,6 +36,7 @@ queue-away m k a x ne = put-away sameQueue queue-same same-queue m k a x ne
 pub output-here : {X : Type 0} (m : Output → X) (k : Output) (a : X) → put sameOutput m k a k ≡ a
 output-here m k a = put-here sameOutput output-same same-output m k a
 
+-- elsewhere the store is as it was
 pub output-away : {X : Type 0} (m : Output → X) (k : Output) (a : X) (x : Output) → x ≢ k → put sameOutput m k a x ≡ m x
 output-away m k a x ne = put-away sameOutput output-same same-output m k a x ne
 
@@ -63,6 +65,7 @@ cell-sum w m k a g l e q = by (test (sameQueue q k))
     by (inr t) = rw t (omega arith)
 
 -- ---- sums
+-- two sums of the same numbers
 pub sum-same : (n : ℕ) (f g : ℕ → ℕ) → ((j : ℕ) → j < n → f j ≡ g j) → sum n f ≡ sum n g
 unfolding sum
 sum-same zero f g h = refl
@@ -78,6 +81,7 @@ sum-one (suc n) f g i h e = by (λ l. sum-one n f g i l (λ j m. e j (omega arit
     by rec (inl l) = let a = rec l in let b = e n (omega arith) (λ q. omega arith) in omega arith
     by rec (inr q) = let a = sum-same n f g (λ j m. e j (omega arith) (λ r. omega arith)) in rw q (omega arith)
 
+-- a sum of zeros
 pub sum-zero : (n : ℕ) (f : ℕ → ℕ) → ((j : ℕ) → j < n → f j ≡ 0) → sum n f ≡ 0
 unfolding sum
 sum-zero zero f h = refl

@@ -37,3 +37,7 @@ pub mod Interval
 pub mod Still
 pub mod Moving
 pub mod First
+pub mod Phases
+pub mod ShapeCalls
+pub mod ShapeExecute
+pub mod ShapeWrite

@@ -89,6 +89,7 @@ module _ (pl : Plan) where
   at-apart n m h l ne e = ne (sym (at-number n h) ∙ ap (outNumber pl) e ∙ at-number m l)
 
   -- ---- queues: those of the numbers below their count are the plan's
+  -- the four senders of a side are the plan's
   pub sender-exists : (r o k : ℕ) → r < R pl → o < 4 → k < 4 → Exists pl (senderAt r o k)
   sender-exists r o zero h ho hk = (h, ho)
   sender-exists r o (suc k) h ho hk = by (lt-or-ge k o)
@@ -105,6 +106,7 @@ module _ (pl : Plan) where
       by (inr a) (inl c) = rw (le-ltb k 4 a, eq-eqb k 4 (omega arith)) h
       by (inr a) (inr c) = rw (le-ltb k 4 a, ne-eqb k 4 (λ e. omega arith)) (sender-exists r ((k - 5) / 4) ((k - 5) % 4) h (omega arith) (omega arith))
 
+  -- the queue of a number below the count of queues is the plan's
   pub at-exists : (n : ℕ) → n < queues pl → Exists pl (queueAt pl n)
   unfolding queues queueAt
   at-exists n h = by (lt-or-ge n (A pl)) (lt-or-ge n (outs pl)) (lt-or-ge n (inBase pl)) (lt-or-ge n (inBase pl + A pl))

@@ -23,6 +23,7 @@ use Rattle.theory.specs.OutNumbers.{sender-exists}
 use Rattle.theory.specs.AccountCells.{queue-away}
 
 -- ---- what raising a flag leaves
+-- queues stay
 pub raise-queue : (q : Queue) (s : State) → raise q s .queue ≡ s .queue
 raise-queue (activeOut x) s = refl
 raise-queue (passiveOut x) s = refl
@@ -33,6 +34,7 @@ raise-queue (Q r) s = refl
 raise-queue (F r o) s = refl
 raise-queue (K r i o) s = refl
 
+-- credits stay
 pub raise-credit : (q : Queue) (s : State) → raise q s .credit ≡ s .credit
 raise-credit (activeOut x) s = refl
 raise-credit (passiveOut x) s = refl
@@ -43,6 +45,7 @@ raise-credit (Q r) s = refl
 raise-credit (F r o) s = refl
 raise-credit (K r i o) s = refl
 
+-- choices stay
 pub raise-choice : (q : Queue) (s : State) → raise q s .choice ≡ s .choice
 raise-choice (activeOut x) s = refl
 raise-choice (passiveOut x) s = refl
@@ -53,6 +56,7 @@ raise-choice (Q r) s = refl
 raise-choice (F r o) s = refl
 raise-choice (K r i o) s = refl
 
+-- wires stay
 pub raise-wire : (q : Queue) (s : State) → raise q s .wire ≡ s .wire
 raise-wire (activeOut x) s = refl
 raise-wire (passiveOut x) s = refl
@@ -85,6 +89,7 @@ raise-flag (Q r) s f = refl
 raise-flag (F r o) s f = refl
 raise-flag (K r i o) s f = refl
 
+-- an out-queue's flag stays
 pub raise-none : (q : Queue) (s : State) → isFed q ≡ false → raise q s .flag ≡ s .flag
 raise-none (activeOut x) s f = refl
 raise-none (passiveOut x) s f = refl

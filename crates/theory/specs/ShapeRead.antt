@@ -1,30 +1,27 @@
 -- After READ every wire is empty and every flag is down; choices stay as they were.
-use mathlib.Core.Path.{_≡_, refl, sym, ap, subst, _∙_}
-use mathlib.Core.Logic.{_⊎_, inl, inr, _≢_}
+use mathlib.Core.Path.{_≡_, refl, ap, subst, _∙_}
+use mathlib.Core.Logic.{_⊎_, inl, inr}
 use mathlib.Core.Bool.{Bool, true, false}
 use mathlib.Core.Option.{Option, none, some}
-use Prim.Native.Nat.{ℕ, zero, suc, _≤_, _<_}
+use Prim.Native.Nat.{ℕ, suc, _<_}
 use native.Mathlib.Nat.{not-suc-le-zero}
-use native.Mathlib.Omega.{arith}
 use Rattle.basis.specs.Choice.{pick}
 use Rattle.basis.specs.Bounded.{below-suc}
 use Rattle.basis.specs.Fold.{upTo, up-keeps, up-keeps-at}
 use Rattle.packets.specs.declared.Packet.{Packet}
 use Rattle.packets.specs.declared.Wire.{Wire}
 use Rattle.packets.specs.declared.Wire.the-variants.{Empty, Full}
-use Rattle.packets.specs.Counters.{creditUp}
 use Rattle.plan.specs.Plan.{Plan}
-use Rattle.feeding.specs.Queue.{Queue, Exists, number, queues, queueAt}
+use Rattle.feeding.specs.Queue.{Queue, number, queues, queueAt}
 use Rattle.feeding.specs.Feeds.{Output}
 use Rattle.journeys.specs.Numbers.{queue-at, number-below}
-use Rattle.machine.specs.Store.{put, sameOutput, same-output, sameQueue}
+use Rattle.machine.specs.Store.{sameOutput, sameQueue}
 use Rattle.machine.specs.Outputs.{nextBy, outputs, outputAt}
-use Rattle.machine.specs.State.{State, Choice, nobody, withWire, join}
+use Rattle.machine.specs.State.{State, Choice, withWire, join}
 use Rattle.machine.specs.Read.{joinNext, arrive, deliver, lower, settle, doRead}
-use Rattle.machine.specs.Valid.{Drives}
 use Rattle.theory.specs.Core.{WiresEmpty, FlagsDown, NoChoices, Shape, in-execute}
 use Rattle.theory.specs.OutNumbers.{outNumber, output-at, out-below}
-use Rattle.theory.specs.AccountCells.{queue-or, queue-here, queue-away, output-here, output-away}
+use Rattle.theory.specs.AccountCells.{queue-here, output-here}
 
 -- ---- one wire: it empties, and no wire fills
 next-wire : (y : Option Queue) (x : Packet) (s : State) → joinNext y x s .wire ≡ s .wire
@@ -70,7 +67,7 @@ deliver-choice pl o s = by (s .wire o)
     by (Full x) = next-choice (nextBy pl o x) x (withWire o Empty s)
 
 -- ---- one flag: it is lowered, and none rises
--- wires and choices stay
+-- wires stay
 pub settle-wire : (q : Queue) (s : State) → settle q s .wire ≡ s .wire
 unfolding settle lower
 settle-wire q s = by (s .flag q)
@@ -79,6 +76,7 @@ settle-wire q s = by (s .flag q)
     by true = refl
     by false = refl
 
+-- choices stay
 pub settle-choice : (q : Queue) (s : State) → settle q s .choice ≡ s .choice
 unfolding settle lower
 settle-choice q s = by (s .flag q)

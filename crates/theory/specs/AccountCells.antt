@@ -5,7 +5,7 @@ use mathlib.Core.Bool.{Bool, true, false}
 use Prim.Native.Nat.{ℕ, zero, suc, _+_, _*_, _<_}
 use native.Mathlib.Nat.{not-suc-le-zero}
 use native.Mathlib.Omega.{arith}
-use Rattle.basis.specs.Choice.{test, refuted, same-test}
+use Rattle.basis.specs.Choice.{test, same-test}
 use Rattle.basis.specs.Bounded.{below-suc}
 use Rattle.plan.specs.Plan.{Plan}
 use Rattle.feeding.specs.Queue.{Queue}
@@ -46,10 +46,6 @@ same-turn x y = same-test (sameQueue x y) (sameQueue y x) (turn x y) (turn y x)
   where
     turn : (x y : Queue) → sameQueue x y ≡ true → sameQueue y x ≡ true
     turn x y t = rw (same-queue x y t) (queue-same y)
-
--- the bit of two queues that are not one
-pub bit-apart : (x y : Queue) → x ≢ y → bit (sameQueue x y) ≡ 0
-bit-apart x y ne = ap bit (refuted (sameQueue x y) (λ t. ne (same-queue x y t)))
 
 -- an out-queue is no queue that a wire feeds
 pub fed-apart : (q p : Queue) → isFed q ≡ false → isFed p ≡ true → q ≢ p

@@ -41,3 +41,4 @@ pub mod Phases
 pub mod ShapeCalls
 pub mod ShapeExecute
 pub mod ShapeWrite
+pub mod Keeps

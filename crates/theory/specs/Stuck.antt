@@ -170,15 +170,19 @@ pub record Jammed (pl : Plan) (s : State) : Type 0 where
   pub core : Core pl s
   pub wires : WiresEmpty pl s
   pub flags : FlagsDown pl s
-  pub room : PassiveRoom pl s
   pub handled : (r : ℕ) (x : Packet) (rest : List Packet) → r < R pl → s .queue (Q r) ≡ x ∷ rest → s .handled (Q r) ≡ true
   pub blocked : (q y : Queue) (x : Packet) (rest : List Packet) → Exists pl q → isInQueue q ≡ false → s .queue q ≡ x ∷ rest
       → next pl (headingOf (x .kind)) (x .active) (x .passive) q ≡ some y → s .credit y .0 ≡ 0
 
-module _ {pl : Plan} (wired : Wired pl) (range : InRange (pl .head)) (free : FeedRing pl → ⊥) (s : State) (jam : Jammed pl s) where
+-- a set of queues that packets leave only for an in-queue, and for a passive's only where it is not full
+pub record Closed (pl : Plan) (set : Queue → Bool) (s : State) : Type 0 where
+  pub stays : (h : Heading) (a p : ℕ) (q y : Queue) → a < A pl → p < P pl → Served pl a p → set q ≡ true → Visits pl h a p q → next pl h a p q ≡ some y → isInQueue y ≡ false → set y ≡ true
+  pub room : (h : Heading) (a p b : ℕ) (q : Queue) → a < A pl → p < P pl → Served pl a p → set q ≡ true → Visits pl h a p q → next pl h a p q ≡ some (passiveIn b) → b < P pl → length (s .queue (passiveIn b)) < capacity (pl .head) (passiveIn b)
+
+module _ {pl : Plan} (wired : Wired pl) (range : InRange (pl .head)) (free : FeedRing pl → ⊥) (s : State) (jam : Jammed pl s) (set : Queue → Bool) (closed : Closed pl set s) where
   -- a queue with a packet that could leave it
   abbrev Waiting : Queue → Type 0
-  Waiting q = Exists pl q × (isInQueue q ≡ false) × ((x : Packet) × (rest : List Packet) × (s .queue q ≡ x ∷ rest))
+  Waiting q = Exists pl q × (isInQueue q ≡ false) × (set q ≡ true) × ((x : Packet) × (rest : List Packet) × (s .queue q ≡ x ∷ rest))
 
   -- the head is where it leaves from
   head-place : (q : Queue) (x : Packet) (rest : List Packet) → Exists pl q → s .queue q ≡ x ∷ rest → headPlace (s .handled q) q ≡ leavesFrom q
@@ -240,7 +244,7 @@ module _ {pl : Plan} (wired : Wired pl) (range : InRange (pl .head)) (free : Fee
 
   -- ---- so each waiting queue feeds another waiting queue
   step : (q : Queue) → Waiting q → ((y : Queue) × Waiting y × Feeds pl q y) ⊎ ⊥
-  step q (h, ni, (x, rest, e)) = found (next-some wired (x .active) (x .passive) (g .ranges .active) (g .ranges .passive) (g .serves) (headingOf (x .kind)) q v ni)
+  step q (h, ni, b, (x, rest, e)) = found (next-some wired (x .active) (x .passive) (g .ranges .active) (g .ranges .passive) (g .serves) (headingOf (x .kind)) q v ni)
     where
       g : Belongs pl (leavesFrom q) x
       g = head-belongs q x rest h e
@@ -285,7 +289,7 @@ module _ {pl : Plan} (wired : Wired pl) (range : InRange (pl .head)) (free : Fee
           some-packet (z ∷ more) m = (z, more, m)
 
       inner : (y : Queue) (n : next pl (headingOf (x .kind)) (x .active) (x .passive) q ≡ some y) → isInQueue y ≡ false → ((u : Queue) × Waiting u × Feeds pl q u) ⊎ ⊥
-      inner y n i = inl (y, (exists y n, i, filled y (exists y n) (there y n)), feeds-it y n)
+      inner y n i = inl (y, (exists y n, i, closed .stays (headingOf (x .kind)) (x .active) (x .passive) q y (g .ranges .active) (g .ranges .passive) (g .serves) b v n i, filled y (exists y n) (there y n)), feeds-it y n)
 
       into : (y : Queue) (n : next pl (headingOf (x .kind)) (x .active) (x .passive) q ≡ some y) → ((u : Queue) × Waiting u × Feeds pl q u) ⊎ ⊥
       into (activeOut a) n = inner (activeOut a) n refl
@@ -294,15 +298,91 @@ module _ {pl : Plan} (wired : Wired pl) (range : InRange (pl .head)) (free : Fee
       into (Q r) n = inner (Q r) n refl
       into (F r o) n = inner (F r o) n refl
       into (K r i o) n = inner (K r i o) n refl
-      into (passiveIn b) n = inr (let l = jam .room b (exists (passiveIn b) n) in let f = there (passiveIn b) n in omega arith)
-      into (activeIn b) n =
-          let k : Belongs pl (inQueue (activeIn b)) x = record { ranges = g .ranges; serves = g .serves; fits = fits-there (activeIn b) n } in
-          inr (room-at-active q x rest b (exists (activeIn b) n) h ni e (spends-one b x (activeIn b) k refl) (there (activeIn b) n))
+      into (passiveIn c) n =
+          inr (let l = closed .room (headingOf (x .kind)) (x .active) (x .passive) c q (g .ranges .active) (g .ranges .passive) (g .serves) b v n (exists (passiveIn c) n) in let f = there (passiveIn c) n in omega arith)
+      into (activeIn c) n =
+          let k : Belongs pl (inQueue (activeIn c)) x = record { ranges = g .ranges; serves = g .serves; fits = fits-there (activeIn c) n } in
+          inr (room-at-active q x rest c (exists (activeIn c) n) h ni e (spends-one c x (activeIn c) k refl) (there (activeIn c) n))
 
       found : (y : Queue) × (next pl (headingOf (x .kind)) (x .active) (x .passive) q ≡ some y) → ((u : Queue) × Waiting u × Feeds pl q u) ⊎ ⊥
       found (y, n) = into y n
 
-  -- no packet is in a queue other than an in-queue
-  pub none-waits : (q : Queue) (x : Packet) (rest : List Packet) → Exists pl q → isInQueue q ≡ false → s .queue q ≡ x ∷ rest → ⊥
-  none-waits q x rest h ni e =
-      follow (number pl) (queues pl) (Feeds pl) Waiting ⊥ (λ u w. number-below pl u (w .0)) (λ u v w z m. number-same pl u v (w .0) (z .0) m) step free q (h, ni, (x, rest, e))
+  -- no packet is in a queue of the set other than an in-queue
+  pub none-waits : (q : Queue) (x : Packet) (rest : List Packet) → Exists pl q → isInQueue q ≡ false → set q ≡ true → s .queue q ≡ x ∷ rest → ⊥
+  none-waits q x rest h ni b e =
+      follow (number pl) (queues pl) (Feeds pl) Waiting ⊥ (λ u w. number-below pl u (w .0)) (λ u v w z m. number-same pl u v (w .0) (z .0) m) step free q (h, ni, b, (x, rest, e))
+
+-- ---- two such sets
+-- all queues, where no passive in-queue is full
+abbrev pub every : Queue → Bool
+every q = true
+
+pub every-closed : (pl : Plan) (s : State) → PassiveRoom pl s → Closed pl every s
+
+every-closed pl s room = record { stays = λ h a p q y ha hp d b v n i. refl; room = λ h a p b q ha hp d c v n l. room b l }
+
+-- the queues of answers alone: K and the passives' out-queues; an answer never goes to a passive
+abbrev pub answering : Queue → Bool
+answering (activeOut x) = false
+answering (activeIn x) = false
+answering (passiveIn x) = false
+answering (passiveOut x) = true
+answering (U r i) = false
+answering (Q r) = false
+answering (F r o) = false
+answering (K r i o) = true
+
+
+-- what an answer meets beyond a side: a K, or an in-queue
+across-answers : (pl : Plan) (a p : ℕ) (j : Joint) (y : Queue) → across pl back a p j ≡ some y → isInQueue y ≡ false → answering y ≡ true
+across-answers pl a p Nothing y n i = absurd (some-not-none n)
+across-answers pl a p (Router m t) y n i = rw (← some-same n)
+across-answers pl a p (Active m) y n i = absurd (true≢false (ap isInQueue (some-same n) ∙ i))
+across-answers pl a p (Passive m) y n i = absurd (true≢false (ap isInQueue (some-same n) ∙ i))
+
+-- a side beyond which a passive stands is joined to it
+across-passive : (pl : Plan) (a p b : ℕ) (j : Joint) → across pl back a p j ≡ some (passiveIn b) → j ≡ Passive b
+across-passive pl a p b Nothing n = absurd (some-not-none n)
+across-passive pl a p b (Router m t) n = let z : K m t (routeTo pl (active a) m) ≡ passiveIn b = some-same n in cc
+across-passive pl a p b (Active m) n = let z : activeIn m ≡ passiveIn b = some-same n in cc
+across-passive pl a p b (Passive m) n = let z : passiveIn m ≡ passiveIn b = some-same n in let e : m ≡ b = cc in ap Passive e
+
+pub answering-closed : {pl : Plan} (wired : Wired pl) (s : State) → Closed pl answering s
+unfolding next Visits
+answering-closed {pl} wired s = record { stays = stays′; room = room′ }
+  where
+    stays′ : (h : Heading) (a p : ℕ) (q y : Queue) → a < A pl → p < P pl → Served pl a p → answering q ≡ true → Visits pl h a p q → next pl h a p q ≡ some y → isInQueue y ≡ false → answering y ≡ true
+    stays′ ahead a p (passiveOut x) y ha hp d b v n i = absurd v
+    stays′ back a p (passiveOut x) y ha hp d b v n i = rw (← some-same n)
+    stays′ ahead a p (K r j o) y ha hp d b v n i = absurd v
+    stays′ back a p (K r j o) y ha hp d b v n i = across-answers pl a p (pl .joint r o) y n i
+    stays′ h a p (activeOut x) y ha hp d b v n i = absurd (false≢true b)
+    stays′ h a p (activeIn x) y ha hp d b v n i = absurd (false≢true b)
+    stays′ h a p (passiveIn x) y ha hp d b v n i = absurd (false≢true b)
+    stays′ h a p (U r j) y ha hp d b v n i = absurd (false≢true b)
+    stays′ h a p (Q r) y ha hp d b v n i = absurd (false≢true b)
+    stays′ h a p (F r o) y ha hp d b v n i = absurd (false≢true b)
+
+    -- a way back leads to no passive
+    never : (a p r j o c : ℕ) → a < A pl → p < P pl → Served pl a p → Visits pl back a p (K r j o) → across pl back a p (pl .joint r o) ≡ some (passiveIn c) → ⊥
+    never a p r j o c ha hp d (m, g) n = by (returns-on wired a p ha hp d (record { router = r; side = j }) m)
+      where
+        there : pl .joint r (routeTo pl (active a) r) ≡ Passive c
+        there = rw (← g) (across-passive pl a p c (pl .joint r o) n)
+
+        by : ((z : Port) × (onward pl (active a) (record { router = r; side = j }) ≡ on z)) ⊎ (onward pl (active a) (record { router = r; side = j }) ≡ end) → ⊥
+        by (inl (z, q)) = let k : Passive c ≡ Router (z .router) (z .side) = sym there ∙ onward-on pl (active a) (record { router = r; side = j }) z q in let z′ : _≡_ {A = ℕ} 0 1 = cc in omega arith
+        by (inr q) = let k : Passive c ≡ Active a = sym there ∙ onward-end pl (active a) (record { router = r; side = j }) q in let z′ : _≡_ {A = ℕ} 0 1 = cc in omega arith
+
+    room′ : (h : Heading) (a p c : ℕ) (q : Queue) → a < A pl → p < P pl → Served pl a p → answering q ≡ true → Visits pl h a p q → next pl h a p q ≡ some (passiveIn c) → c < P pl
+        → length (s .queue (passiveIn c)) < capacity (pl .head) (passiveIn c)
+    room′ ahead a p c (passiveOut x) ha hp d b v n l = absurd v
+    room′ back a p c (passiveOut x) ha hp d b v n l = let k : K (home pl (passive x) .router) (home pl (passive x) .side) (routeTo pl (active a) (home pl (passive x) .router)) ≡ passiveIn c = some-same n in let z : _≡_ {A = ℕ} 0 1 = cc in absurd (omega arith)
+    room′ ahead a p c (K r j o) ha hp d b v n l = absurd v
+    room′ back a p c (K r j o) ha hp d b v n l = absurd (never a p r j o c ha hp d v n)
+    room′ h a p c (activeOut x) ha hp d b v n l = absurd (false≢true b)
+    room′ h a p c (activeIn x) ha hp d b v n l = absurd (false≢true b)
+    room′ h a p c (passiveIn x) ha hp d b v n l = absurd (false≢true b)
+    room′ h a p c (U r j) ha hp d b v n l = absurd (false≢true b)
+    room′ h a p c (Q r) ha hp d b v n l = absurd (false≢true b)
+    room′ h a p c (F r o) ha hp d b v n l = absurd (false≢true b)

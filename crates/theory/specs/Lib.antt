@@ -42,3 +42,5 @@ pub mod ShapeCalls
 pub mod ShapeExecute
 pub mod ShapeWrite
 pub mod Keeps
+pub mod Undisturbed
+pub mod Progress

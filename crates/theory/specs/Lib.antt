@@ -44,3 +44,4 @@ pub mod ShapeWrite
 pub mod Keeps
 pub mod Undisturbed
 pub mod Progress
+pub mod FromRead

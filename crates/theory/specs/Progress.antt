@@ -455,3 +455,55 @@ module _ {pl : Plan} (wired : Wired pl) (range : InRange (pl .head)) (free : Fee
             head-done : (r : ℕ) (x : Packet) (rest : List Packet) → r < R pl → p .queue (Q r) ≡ x ∷ rest → (p .queue (Q r) ≡ []) ⊎ (p .handled (Q r) ≡ true) → p .handled (Q r) ≡ true
             head-done r x rest h g (inl z) = let w : [] ≡ x ∷ rest = sym z ∙ g in let z′ : _≡_ {A = ℕ} 0 1 = cc in absurd (omega arith)
             head-done r x rest h g (inr b) = b
+
+    -- ---- so a list with S whole rounds moves a packet
+    pub from-execute : (set : Queue → Bool) → Closed pl set e → (q : Queue) (x : Packet) (rest : List Packet) → Exists pl q → isInQueue q ≡ false → set q ≡ true → e .queue q ≡ x ∷ rest
+        → (cs : List Call) → S pl ≤ rounds pl cs e → Moves pl cs e
+    unfolding p
+    from-execute set c q x rest h ni b g cs n = by (units pl e own (R pl) (omega arith))
+      where
+        ended : (r : ℕ) → r < R pl → Ends e r → Moves pl cs e
+        ended r l w =
+            let now : call pl execute e .state ≡ doExecute pl e = ap (λ (o : Outcome). o .state) (execute-now pl e phase) in
+            until-execute (refl, rw now (ends-moves pl e r w l)) cs (omega (arith, range .slots .0))
+
+        -- the packet is still there
+        there : (u : Upto pl e own (R pl) (upTo (unit pl) (R pl) e)) (z : Queue) → e .queue z ≡ x ∷ rest → (y : Packet) × (more : List Packet) × (upTo (unit pl) (R pl) e .queue z ≡ y ∷ more)
+        there u z w = at z w
+          where
+            same : (z : Queue) → e .queue z ≡ x ∷ rest → ((r : ℕ) → z ≢ Q r) → (y : Packet) × (more : List Packet) × (upTo (unit pl) (R pl) e .queue z ≡ y ∷ more)
+            same z w ne = (x, rest, u .others z ne ∙ w)
+
+            long : (r : ℕ) (l : List Packet) → upTo (unit pl) (R pl) e .queue (Q r) ≡ l → e .queue (Q r) ≡ x ∷ rest → (y : Packet) × (more : List Packet) × (upTo (unit pl) (R pl) e .queue (Q r) ≡ y ∷ more)
+            long r [] v w = let a : 0 ≡ length (e .queue (Q r)) = ap length (sym v) ∙ u .long r in let d : length (e .queue (Q r)) ≡ suc (length rest) = ap length w in absurd (omega arith)
+            long r (y ∷ more) v w = (y, more, v)
+
+            at : (z : Queue) → e .queue z ≡ x ∷ rest → (y : Packet) × (more : List Packet) × (upTo (unit pl) (R pl) e .queue z ≡ y ∷ more)
+            at (activeOut a) w = same (activeOut a) w (λ r k. let z : _≡_ {A = ℕ} 0 1 = cc in omega arith)
+            at (activeIn a) w = same (activeIn a) w (λ r k. let z : _≡_ {A = ℕ} 0 1 = cc in omega arith)
+            at (passiveIn a) w = same (passiveIn a) w (λ r k. let z : _≡_ {A = ℕ} 0 1 = cc in omega arith)
+            at (passiveOut a) w = same (passiveOut a) w (λ r k. let z : _≡_ {A = ℕ} 0 1 = cc in omega arith)
+            at (U r i) w = same (U r i) w (λ r k. let z : _≡_ {A = ℕ} 0 1 = cc in omega arith)
+            at (Q r) w = long r (upTo (unit pl) (R pl) e .queue (Q r)) refl w
+            at (F r o) w = same (F r o) w (λ r k. let z : _≡_ {A = ℕ} 0 1 = cc in omega arith)
+            at (K r i o) w = same (K r i o) w (λ r k. let z : _≡_ {A = ℕ} 0 1 = cc in omega arith)
+
+        closed-p : Upto pl e own (R pl) (upTo (unit pl) (R pl) e) → Closed pl set (upTo (unit pl) (R pl) e)
+        closed-p u =
+            record {
+              stays = c .stays;
+              room = λ hd a z b q ha hz d k v m l. rw (u .others (passiveIn b) (λ r w. let z : _≡_ {A = ℕ} 0 1 = cc in omega arith)) (c .room hd a z b q ha hz d k v m l);
+            }
+
+        stuck : (u : Upto pl e own (R pl) (upTo (unit pl) (R pl) e)) → ((j : ℕ) → j < S pl → Seen u j) → ⊥
+        stuck u seen =
+            let w = there u q g in
+            none-waits wired range free (upTo (unit pl) (R pl) e) (jammed u seen) set (closed-p u) q (w .0) (w .1) h ni b (w .2)
+
+        rest-of : (u : Upto pl e own (R pl) (upTo (unit pl) (R pl) e)) → Moves pl cs e ⊎ ((j : ℕ) → j < S pl → Seen u j) → Moves pl cs e
+        rest-of u (inl m) = m
+        rest-of u (inr seen) = absurd (stuck u seen)
+
+        by : ((r : ℕ) × (r < R pl) × Ends e r) ⊎ Upto pl e own (R pl) (upTo (unit pl) (R pl) e) → Moves pl cs e
+        by (inl (r, l, w)) = ended r l w
+        by (inr u) = rest-of u (interval pl (Calm u) (Seen u) (turn u) (S pl) cs e (first refl refl) n)

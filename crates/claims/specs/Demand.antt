@@ -19,7 +19,7 @@ use Rattle.machine.specs.Accepted.{Connection, accept, MadeBy}
 use Rattle.machine.specs.Progress.{Within, Quiet, Waits, Moved, isTimed, endsRound}
 use Rattle.machine.specs.Ruled.{ruledAfter, launchesCall, times}
 use Rattle.layout.specs.Decode.{decode}
-use Rattle.claims.specs.Calls.{Given, callOn, startOn}
+use Rattle.claims.specs.Calls.{Given, isState, callOn, startOn}
 
 -- ---- along the list
 -- the state bytes after the calls, each on the bytes that the last one left
@@ -63,7 +63,8 @@ pub record Agrees (s t : State) : Type 0 where
 
 -- ---- the claim
 pub record Claim (p b : List ℕ) (cs : List Call) : Type 0 where
-  -- 'No state reached from start is refused so'
+  -- 'No state reached from start is refused so': at the start and after each call the bytes pass refusal 7's test, and no call answers 7
+  pub state : (before after : List Call) → cs ≡ before ++ after → isState (planOf p) (bytesAfter p before b) ≡ true
   pub never-7 : (before after : List Call) (c : Call) → cs ≡ before ++ (c ∷ after) → callOn p c (bytesAfter p before b) .answer ≢ Refused NotState
   -- 'at the start and after each call, no queue holds more than its capacity'
   pub capacity : (before after : List Call) → cs ≡ before ++ after → Within (planOf p) (stateOf p (bytesAfter p before b))

@@ -1,2 +1,8 @@
 pub mod Calls
 pub mod Demand
+pub mod Exact
+pub mod Cases
+pub mod Refusals
+pub mod Run
+pub mod Bridge
+pub mod Rounds

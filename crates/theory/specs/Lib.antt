@@ -45,3 +45,12 @@ pub mod Keeps
 pub mod Undisturbed
 pub mod Progress
 pub mod FromRead
+pub mod Indices
+pub mod Launches
+pub mod OwnPackets
+pub mod OwnSteps
+pub mod OwnTable
+pub mod OwnUnits
+pub mod Owners
+pub mod Owning
+pub mod Slots

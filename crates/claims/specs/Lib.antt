@@ -6,3 +6,4 @@ pub mod Refusals
 pub mod Run
 pub mod Bridge
 pub mod Rounds
+pub mod Theorem

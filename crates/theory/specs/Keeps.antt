@@ -128,7 +128,7 @@ module _ {pl : Plan} (wired : Wired pl) (range : InRange (pl .head)) where
   by-test P true w s rest a b = a
   by-test P false w s rest a b = b refl
 
-  is-phase : (x y : Phase) → not (isPhase x y) ≡ false → x ≡ y
+  pub is-phase : (x y : Phase) → not (isPhase x y) ≡ false → x ≡ y
   is-phase Read Read e = refl
   is-phase Read Execute e = absurd (true≢false e)
   is-phase Read Write e = absurd (true≢false e)
@@ -139,7 +139,7 @@ module _ {pl : Plan} (wired : Wired pl) (range : InRange (pl .head)) where
   is-phase Write Execute e = absurd (true≢false e)
   is-phase Write Write e = refl
 
-  not-false : (b : Bool) → not b ≡ false → b ≡ true
+  pub not-false : (b : Bool) → not b ≡ false → b ≡ true
   not-false true e = refl
   not-false false e = absurd (true≢false e)
 
@@ -185,7 +185,7 @@ module _ {pl : Plan} (wired : Wired pl) (range : InRange (pl .head)) where
             shape = launched-shape s a p t e (i .shape);
           }
 
-  reply-kind : (c : ℕ) → (replyKind c ≡ Ack) ⊎ (replyKind c ≡ Nack)
+  pub reply-kind : (c : ℕ) → (replyKind c ≡ Ack) ⊎ (replyKind c ≡ Nack)
   reply-kind c = by (eqb c 1)
     where
       by : (b : Bool) → (pick b Ack Nack ≡ Ack) ⊎ (pick b Ack Nack ≡ Nack)

@@ -54,3 +54,4 @@ pub mod OwnUnits
 pub mod Owners
 pub mod Owning
 pub mod Slots
+pub mod Tracked

@@ -1,1 +1,1 @@
-// The rules of document 01 on an abstract state. All of it is in specs/.
+// The rules of document 01 on an abstract state (specs/), and demand 3 proved of them (proofs/). There is no code here.

@@ -1,0 +1,98 @@
+-- One place of a store changed: what queues and outputs hold after it, what a number of each queue becomes, and what the sum over the wires becomes.
+use mathlib.Core.Path.{_≡_, refl, sym, ap, ap₂, _∙_}
+use mathlib.Core.Logic.{_⊎_, inl, inr, _≢_}
+use mathlib.Core.Bool.{Bool, true, false}
+use Prim.Native.Nat.{ℕ, zero, suc, _+_, _*_, _<_}
+use native.Mathlib.Nat.{not-suc-le-zero}
+use native.Mathlib.Omega.{arith}
+use Rattle.basis.specs.Choice.{test, same-test}
+use Rattle.basis.specs.Bounded.{below-suc}
+use Rattle.plan.specs.Plan.{Plan}
+use Rattle.feeding.specs.Queue.{Queue}
+use Rattle.feeding.specs.Feeds.{Output}
+use Rattle.machine.specs.Store.{put, sameQueue, same-queue, queue-same, sameOutput, same-output, output-same, put-here, put-away}
+use Rattle.machine.specs.Outputs.{outputs, outputAt}
+use Rattle.machine.specs.Valid.{Drives, bit, sum, isFed}
+use Rattle.machine.proofs.OutNumbers.{outNumber, output-at, out-below, at-number}
+
+-- ---- stores of queues and of outputs
+-- two queues are one or not
+pub queue-or : (x y : Queue) → (x ≡ y) ⊎ (x ≢ y)
+queue-or x y = by (test (sameQueue x y))
+  where
+    by : (sameQueue x y ≡ true) ⊎ (sameQueue x y ≡ false) → (x ≡ y) ⊎ (x ≢ y)
+    by (inl t) = inl (same-queue x y t)
+    by (inr t) = inr (λ e. let u : sameQueue x y ≡ true = rw e (queue-same y) in let z : _≡_ {A = Bool} true false = sym u ∙ t in let c : _≡_ {A = ℕ} 0 1 = cc in omega arith)
+
+-- what stands where a queue's value was put, and elsewhere
+pub queue-here : {X : Type 0} (m : Queue → X) (k : Queue) (a : X) → put sameQueue m k a k ≡ a
+queue-here m k a = put-here sameQueue queue-same same-queue m k a
+
+-- elsewhere the store is as it was
+pub queue-away : {X : Type 0} (m : Queue → X) (k : Queue) (a : X) (x : Queue) → x ≢ k → put sameQueue m k a x ≡ m x
+queue-away m k a x ne = put-away sameQueue queue-same same-queue m k a x ne
+
+-- the same of an output's value
+pub output-here : {X : Type 0} (m : Output → X) (k : Output) (a : X) → put sameOutput m k a k ≡ a
+output-here m k a = put-here sameOutput output-same same-output m k a
+
+-- elsewhere the store is as it was
+pub output-away : {X : Type 0} (m : Output → X) (k : Output) (a : X) (x : Output) → x ≢ k → put sameOutput m k a x ≡ m x
+output-away m k a x ne = put-away sameOutput output-same same-output m k a x ne
+
+-- a queue is the other as the other is it
+pub same-turn : (x y : Queue) → sameQueue x y ≡ sameQueue y x
+same-turn x y = same-test (sameQueue x y) (sameQueue y x) (turn x y) (turn y x)
+  where
+    turn : (x y : Queue) → sameQueue x y ≡ true → sameQueue y x ≡ true
+    turn x y t = rw (same-queue x y t) (queue-same y)
+
+-- an out-queue is no queue that a wire feeds
+pub fed-apart : (q p : Queue) → isFed q ≡ false → isFed p ≡ true → q ≢ p
+fed-apart q p f t e = let z : _≡_ {A = Bool} true false = sym t ∙ ap isFed (sym e) ∙ f in let c : _≡_ {A = ℕ} 0 1 = cc in omega arith
+
+-- a number of each queue, where one queue's number grew by g and lost l
+pub cell-sum : {X : Type 0} (w : X → ℕ) (m : Queue → X) (k : Queue) (a : X) (g l : ℕ) → w a + l ≡ w (m k) + g
+    → (q : Queue) → w (put sameQueue m k a q) + l * bit (sameQueue q k) ≡ w (m q) + g * bit (sameQueue q k)
+cell-sum w m k a g l e q = by (test (sameQueue q k))
+  where
+    by : (sameQueue q k ≡ true) ⊎ (sameQueue q k ≡ false) → w (put sameQueue m k a q) + l * bit (sameQueue q k) ≡ w (m q) + g * bit (sameQueue q k)
+    by (inl t) = let z : w (m q) ≡ w (m k) = ap (λ (x : Queue). w (m x)) (same-queue q k t) in rw t (omega arith)
+    by (inr t) = rw t (omega arith)
+
+-- ---- sums
+-- two sums of the same numbers
+pub sum-same : (n : ℕ) (f g : ℕ → ℕ) → ((j : ℕ) → j < n → f j ≡ g j) → sum n f ≡ sum n g
+unfolding sum
+sum-same zero f g h = refl
+sum-same (suc n) f g h = ap₂ (λ (a b : ℕ). a + b) (sum-same n f g (λ j l. h j (omega arith))) (h n (omega arith))
+
+-- two sums that differ at one number
+pub sum-one : (n : ℕ) (f g : ℕ → ℕ) (i : ℕ) → i < n → ((j : ℕ) → j < n → j ≢ i → f j ≡ g j) → sum n f + g i ≡ sum n g + f i
+unfolding sum
+sum-one zero f g i h e = absurd (not-suc-le-zero h)
+sum-one (suc n) f g i h e = by (λ l. sum-one n f g i l (λ j m. e j (omega arith))) (below-suc h)
+  where
+    by : (i < n → sum n f + g i ≡ sum n g + f i) → (i < n) ⊎ (i ≡ n) → sum n f + f n + g i ≡ sum n g + g n + f i
+    by rec (inl l) = let a = rec l in let b = e n (omega arith) (λ q. omega arith) in omega arith
+    by rec (inr q) = let a = sum-same n f g (λ j m. e j (omega arith) (λ r. omega arith)) in rw q (omega arith)
+
+-- a sum of zeros
+pub sum-zero : (n : ℕ) (f : ℕ → ℕ) → ((j : ℕ) → j < n → f j ≡ 0) → sum n f ≡ 0
+unfolding sum
+sum-zero zero f h = refl
+sum-zero (suc n) f h = let a = sum-zero n f (λ j l. h j (omega arith)) in let b = h n (omega arith) in omega arith
+
+-- a sum over the outputs, of what each output's place holds, after one place was changed
+pub outputs-put : {X : Type 0} (pl : Plan) (w : Output → X → ℕ) (m : Output → X) (o : Output) (a : X) → Drives pl o
+    → sum (outputs pl) (λ n. w (outputAt pl n) (put sameOutput m o a (outputAt pl n))) + w o (m o) ≡ sum (outputs pl) (λ n. w (outputAt pl n) (m (outputAt pl n))) + w o a
+outputs-put {X} pl w m o a d =
+    let i : ℕ = outNumber pl o in
+    let one = sum-one (outputs pl) (λ n. w (outputAt pl n) (put sameOutput m o a (outputAt pl n))) (λ n. w (outputAt pl n) (m (outputAt pl n))) (outNumber pl o) (out-below pl o d) away in
+    let old : w (outputAt pl (outNumber pl o)) (m (outputAt pl (outNumber pl o))) ≡ w o (m o) = ap (λ (u : Output). w u (m u)) (output-at pl o d) in
+    let new : w (outputAt pl (outNumber pl o)) (put sameOutput m o a (outputAt pl (outNumber pl o))) ≡ w o a =
+    ap (λ (u : Output). w u (put sameOutput m o a u)) (output-at pl o d) ∙ ap (w o) (output-here m o a) in
+    omega arith
+  where
+    away : (j : ℕ) → j < outputs pl → j ≢ outNumber pl o → w (outputAt pl j) (put sameOutput m o a (outputAt pl j)) ≡ w (outputAt pl j) (m (outputAt pl j))
+    away j h ne = ap (w (outputAt pl j)) (output-away m o a (outputAt pl j) (λ e. ne (sym (at-number pl j h) ∙ ap (outNumber pl) e)))

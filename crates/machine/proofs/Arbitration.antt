@@ -1,0 +1,77 @@
+-- The two laws of arbitration: what an output picks is a candidate among its senders, and an open output that picks nobody has none.
+-- Nothing else looks at how the pick is made.
+use mathlib.Core.Path.{_≡_, refl, sym}
+use mathlib.Core.Logic.{_⊎_, inl, inr}
+use mathlib.Core.Bool.{Bool, true, false}
+use mathlib.Core.List.{List, [], _∷_}
+use mathlib.Core.Option.{some}
+use Prim.Native.Nat.{ℕ, zero, suc, _+_}
+use native.Mathlib.Omega.{arith}
+use Rattle.basis.specs.Choice.{test}
+use Rattle.plan.specs.Plan.{Plan}
+use Rattle.feeding.specs.Queue.{Queue}
+use Rattle.feeding.specs.Feeds.{Output}
+use Rattle.journeys.specs.Places.{some-same, some-not-none}
+use Rattle.machine.specs.Outputs.{senders}
+use Rattle.machine.specs.State.{State, nobody, sender}
+use Rattle.machine.specs.Execute.{candidate, isOpen, firstOf, picked}
+use Rattle.machine.specs.Write.{ofRank}
+
+-- nobody is no sender
+pub nobody-not : {k : ℕ} → nobody ≡ sender k → ⊥
+nobody-not e = let z : _≡_ {A = ℕ} 0 1 = cc in omega arith
+
+sender-same : {k n : ℕ} → sender k ≡ sender n → n ≡ k
+sender-same e = cc
+
+first-found : (ready : Queue → Bool) (n : ℕ) (qs : List Queue) (k : ℕ) → firstOf ready n qs ≡ sender k
+    → (m : ℕ) × (k ≡ n + m) × ((q : Queue) × (ofRank qs m ≡ some q) × (ready q ≡ true))
+unfolding firstOf
+first-found ready n [] k e = absurd (nobody-not e)
+first-found ready n (p ∷ qs) k e = by (λ f. first-found ready (suc n) qs k f) (test (ready p))
+  where
+    later : (m : ℕ) × (k ≡ suc n + m) × ((q : Queue) × (ofRank qs m ≡ some q) × (ready q ≡ true))
+        → (m : ℕ) × (k ≡ n + m) × ((q : Queue) × (ofRank (p ∷ qs) m ≡ some q) × (ready q ≡ true))
+    later (m, l, f) = (suc m, omega arith, f)
+
+    by : (firstOf ready (suc n) qs ≡ sender k → (m : ℕ) × (k ≡ suc n + m) × ((q : Queue) × (ofRank qs m ≡ some q) × (ready q ≡ true)))
+        → (ready p ≡ true) ⊎ (ready p ≡ false) → (m : ℕ) × (k ≡ n + m) × ((q : Queue) × (ofRank (p ∷ qs) m ≡ some q) × (ready q ≡ true))
+    by rec (inl t) = let z : k ≡ n = sender-same (rw (t, firstOf) at e) in (0, omega arith, (p, refl, t))
+    by rec (inr t) = later (rec (rw (t, firstOf) at e))
+
+first-none : (ready : Queue → Bool) (n : ℕ) (qs : List Queue) → firstOf ready n qs ≡ nobody → (k : ℕ) (q : Queue) → ofRank qs k ≡ some q → ready q ≡ false
+unfolding firstOf
+first-none ready n [] e k q r = absurd (some-not-none r)
+first-none ready n (p ∷ qs) e k q r = by (λ f m g. first-none ready (suc n) qs f m q g) (test (ready p))
+  where
+    by : (firstOf ready (suc n) qs ≡ nobody → (m : ℕ) → ofRank qs m ≡ some q → ready q ≡ false) → (ready p ≡ true) ⊎ (ready p ≡ false) → ready q ≡ false
+    by rec (inl t) = absurd (nobody-not (sym (rw (t, firstOf) at e)))
+    by rec (inr t) = at k r
+      where
+        at : (k : ℕ) → ofRank (p ∷ qs) k ≡ some q → ready q ≡ false
+        at zero f = rw (← some-same f) t
+        at (suc m) f = rec (rw (t, firstOf) at e) m f
+
+-- what is picked is a candidate, of an open output
+pub picked-candidate : (pl : Plan) (s : State) (o : Output) (k : ℕ) → picked pl s o ≡ sender k
+    → (isOpen s o ≡ true) × ((q : Queue) × (ofRank (senders o) k ≡ some q) × (candidate pl s o q ≡ true))
+unfolding picked
+picked-candidate pl s o k e = by (test (isOpen s o))
+  where
+    found : (m : ℕ) × (k ≡ 0 + m) × ((q : Queue) × (ofRank (senders o) m ≡ some q) × (candidate pl s o q ≡ true))
+        → (q : Queue) × (ofRank (senders o) k ≡ some q) × (candidate pl s o q ≡ true)
+    found (m, l, (q, r, c)) = let z : k ≡ m = omega arith in (q, rw z r, c)
+
+    by : (isOpen s o ≡ true) ⊎ (isOpen s o ≡ false) → (isOpen s o ≡ true) × ((q : Queue) × (ofRank (senders o) k ≡ some q) × (candidate pl s o q ≡ true))
+    by (inl t) = (t, found (first-found (candidate pl s o) 0 (senders o) k (rw (t, picked) at e)))
+    by (inr t) = absurd (nobody-not (rw (t, picked) at e))
+
+-- where nobody is picked, the output is not open, or no sender is a candidate
+pub picked-none : (pl : Plan) (s : State) (o : Output) → picked pl s o ≡ nobody
+    → (isOpen s o ≡ false) ⊎ ((k : ℕ) (q : Queue) → ofRank (senders o) k ≡ some q → candidate pl s o q ≡ false)
+unfolding picked
+picked-none pl s o e = by (test (isOpen s o))
+  where
+    by : (isOpen s o ≡ true) ⊎ (isOpen s o ≡ false) → (isOpen s o ≡ false) ⊎ ((k : ℕ) (q : Queue) → ofRank (senders o) k ≡ some q → candidate pl s o q ≡ false)
+    by (inl t) = inr (first-none (candidate pl s o) 0 (senders o) (rw (t, picked) at e))
+    by (inr t) = inl t

@@ -1,0 +1,155 @@
+-- Senders: what a raised flag leaves, which queues an output's senders are, and what a candidate has.
+use mathlib.Core.Path.{_≡_, refl, ap, subst, _∙_}
+use mathlib.Core.Logic.{_⊎_, inl, inr, _≢_}
+use mathlib.Core.Bool.{Bool, true, false}
+use mathlib.Core.List.{List, [], _∷_}
+use mathlib.Core.Option.{Option, none, some}
+use Prim.Native.Nat.{ℕ, zero, suc, _<_}
+use native.Mathlib.Omega.{arith}
+use borrow.Author.Tests.{ltb-true}
+use Rattle.basis.specs.Choice.{also-true, not-both, test}
+use Rattle.packets.specs.declared.Packet.{Packet}
+use Rattle.plan.specs.Plan.{Plan}
+use Rattle.feeding.specs.Queue.{Queue, activeOut, activeIn, passiveIn, passiveOut, U, Q, F, K, Exists}
+use Rattle.feeding.specs.Feeds.{Output, ofActive, ofPassive, ofSide, toUnit, fromUnit}
+use Rattle.journeys.specs.Places.{some-same, some-not-none}
+use Rattle.machine.specs.Store.{put, sameQueue}
+use Rattle.machine.specs.Outputs.{nextBy, senders}
+use Rattle.machine.specs.State.{State}
+use Rattle.machine.specs.Execute.{hasCredit, mayLeave, headReady, candidate}
+use Rattle.machine.specs.Write.{ofRank, raise}
+use Rattle.machine.specs.Valid.{Drives, isFed}
+use Rattle.machine.proofs.OutNumbers.{sender-exists}
+use Rattle.machine.proofs.AccountCells.{queue-away}
+
+-- ---- what raising a flag leaves
+-- queues stay
+pub raise-queue : (q : Queue) (s : State) → raise q s .queue ≡ s .queue
+raise-queue (activeOut x) s = refl
+raise-queue (passiveOut x) s = refl
+raise-queue (activeIn x) s = refl
+raise-queue (passiveIn x) s = refl
+raise-queue (U r i) s = refl
+raise-queue (Q r) s = refl
+raise-queue (F r o) s = refl
+raise-queue (K r i o) s = refl
+
+-- credits stay
+pub raise-credit : (q : Queue) (s : State) → raise q s .credit ≡ s .credit
+raise-credit (activeOut x) s = refl
+raise-credit (passiveOut x) s = refl
+raise-credit (activeIn x) s = refl
+raise-credit (passiveIn x) s = refl
+raise-credit (U r i) s = refl
+raise-credit (Q r) s = refl
+raise-credit (F r o) s = refl
+raise-credit (K r i o) s = refl
+
+-- choices stay
+pub raise-choice : (q : Queue) (s : State) → raise q s .choice ≡ s .choice
+raise-choice (activeOut x) s = refl
+raise-choice (passiveOut x) s = refl
+raise-choice (activeIn x) s = refl
+raise-choice (passiveIn x) s = refl
+raise-choice (U r i) s = refl
+raise-choice (Q r) s = refl
+raise-choice (F r o) s = refl
+raise-choice (K r i o) s = refl
+
+-- wires stay
+pub raise-wire : (q : Queue) (s : State) → raise q s .wire ≡ s .wire
+raise-wire (activeOut x) s = refl
+raise-wire (passiveOut x) s = refl
+raise-wire (activeIn x) s = refl
+raise-wire (passiveIn x) s = refl
+raise-wire (U r i) s = refl
+raise-wire (Q r) s = refl
+raise-wire (F r o) s = refl
+raise-wire (K r i o) s = refl
+
+-- another queue's mark stays
+pub raise-handled : (q : Queue) (s : State) (p : Queue) → p ≢ q → raise q s .handled p ≡ s .handled p
+raise-handled (activeOut x) s p ne = refl
+raise-handled (passiveOut x) s p ne = refl
+raise-handled (activeIn x) s p ne = refl
+raise-handled (passiveIn x) s p ne = refl
+raise-handled (U r i) s p ne = refl
+raise-handled (Q r) s p ne = queue-away (s .handled) (Q r) false p ne
+raise-handled (F r o) s p ne = refl
+raise-handled (K r i o) s p ne = refl
+
+-- a fed queue's flag rises, an out-queue's does not
+pub raise-flag : (q : Queue) (s : State) → isFed q ≡ true → raise q s .flag ≡ put sameQueue (s .flag) q true
+raise-flag (activeOut x) s f = absurd (not-both f refl)
+raise-flag (passiveOut x) s f = absurd (not-both f refl)
+raise-flag (activeIn x) s f = refl
+raise-flag (passiveIn x) s f = refl
+raise-flag (U r i) s f = refl
+raise-flag (Q r) s f = refl
+raise-flag (F r o) s f = refl
+raise-flag (K r i o) s f = refl
+
+-- an out-queue's flag stays
+pub raise-none : (q : Queue) (s : State) → isFed q ≡ false → raise q s .flag ≡ s .flag
+raise-none (activeOut x) s f = refl
+raise-none (passiveOut x) s f = refl
+raise-none (activeIn x) s f = absurd (not-both refl f)
+raise-none (passiveIn x) s f = absurd (not-both refl f)
+raise-none (U r i) s f = absurd (not-both refl f)
+raise-none (Q r) s f = absurd (not-both refl f)
+raise-none (F r o) s f = absurd (not-both refl f)
+raise-none (K r i o) s f = absurd (not-both refl f)
+
+-- another queue's flag stays
+pub raise-other : (q : Queue) (s : State) (p : Queue) → p ≢ q → raise q s .flag p ≡ s .flag p
+raise-other q s p ne = by (test (isFed q))
+  where
+    by : (isFed q ≡ true) ⊎ (isFed q ≡ false) → raise q s .flag p ≡ s .flag p
+    by (inl f) = ap (λ (m : Queue → Bool). m p) (raise-flag q s f) ∙ queue-away (s .flag) q true p ne
+    by (inr f) = ap (λ (m : Queue → Bool). m p) (raise-none q s f)
+
+-- ---- senders
+-- the senders of a plan's output are queues of the plan
+pub rank-exists : (pl : Plan) (o : Output) (k : ℕ) (q : Queue) → Drives pl o → ofRank (senders o) k ≡ some q → Exists pl q
+rank-exists pl (ofActive a) zero q d e = subst (Exists pl) (some-same e) d
+rank-exists pl (ofActive a) (suc k) q d e = absurd (some-not-none e)
+rank-exists pl (ofPassive a) zero q d e = subst (Exists pl) (some-same e) d
+rank-exists pl (ofPassive a) (suc k) q d e = absurd (some-not-none e)
+rank-exists pl (ofSide r o) zero q d e = subst (Exists pl) (some-same e) (sender-exists pl r o 0 (d .0) (d .1) (omega arith))
+rank-exists pl (ofSide r o) (suc zero) q d e = subst (Exists pl) (some-same e) (sender-exists pl r o 1 (d .0) (d .1) (omega arith))
+rank-exists pl (ofSide r o) (suc (suc zero)) q d e = subst (Exists pl) (some-same e) (sender-exists pl r o 2 (d .0) (d .1) (omega arith))
+rank-exists pl (ofSide r o) (suc (suc (suc zero))) q d e = subst (Exists pl) (some-same e) (sender-exists pl r o 3 (d .0) (d .1) (omega arith))
+rank-exists pl (ofSide r o) (suc (suc (suc (suc k)))) q d e = absurd (some-not-none e)
+rank-exists pl (toUnit r) zero q d e = subst (Exists pl) (some-same e) (d, omega arith)
+rank-exists pl (toUnit r) (suc zero) q d e = subst (Exists pl) (some-same e) (d, omega arith)
+rank-exists pl (toUnit r) (suc (suc zero)) q d e = subst (Exists pl) (some-same e) (d, omega arith)
+rank-exists pl (toUnit r) (suc (suc (suc zero))) q d e = subst (Exists pl) (some-same e) (d, omega arith)
+rank-exists pl (toUnit r) (suc (suc (suc (suc k)))) q d e = absurd (some-not-none e)
+rank-exists pl (fromUnit r) zero q d e = subst (Exists pl) (some-same e) d
+rank-exists pl (fromUnit r) (suc k) q d e = absurd (some-not-none e)
+
+-- a candidate: its head, and its next queue, which has credit
+pub record Ready (pl : Plan) (s : State) (o : Output) (q : Queue) : Type 0 where
+  pub head : Packet
+  pub rest : List Packet
+  pub queue : s .queue q ≡ head ∷ rest
+  pub leaves : mayLeave s q ≡ true
+  pub next : Queue
+  pub goes : nextBy pl o head ≡ some next
+  pub room : 0 < s .credit next .0
+
+-- a candidate is ready
+pub candidate-ready : (pl : Plan) (s : State) (o : Output) (q : Queue) → candidate pl s o q ≡ true → Ready pl s o q
+unfolding candidate
+candidate-ready pl s o q t = by (s .queue q) refl t
+  where
+    credit : (x : Packet) (n : Option Queue) → nextBy pl o x ≡ n → hasCredit s n ≡ true → (y : Queue) × (nextBy pl o x ≡ some y) × (0 < s .credit y .0)
+    credit x none e h = absurd (not-both h refl)
+    credit x (some y) e h = (y, e, ltb-true 0 (s .credit y .0) h)
+
+    by : (xs : List Packet) → s .queue q ≡ xs → headReady pl s o (mayLeave s q) xs ≡ true → Ready pl s o q
+    by [] e h = absurd (not-both h refl)
+    by (x ∷ rest) e h =
+        let both = also-true {a = mayLeave s q} {b = hasCredit s (nextBy pl o x)} h in
+        let g = credit x (nextBy pl o x) refl (both .1) in
+        record { head = x; rest = rest; queue = e; leaves = both .0; next = g .0; goes = g .1; room = g .2 }

@@ -7,12 +7,12 @@ use lib.ListN.{length}
 use borrow.Author.Tests.{ltb-true}
 use Rattle.packets.specs.declared.Packet.{Packet}
 use Rattle.packets.specs.declared.Entry.{Entry}
-use Rattle.plan.specs.Plan.{Plan}
+use Rattle.plan.specs.Plan.{Plan, S}
 use Rattle.feeding.specs.Queue.{activeOut, activeIn, Q, capacity}
 use Rattle.feeding.specs.Feeds.{Output}
 use Rattle.machine.specs.Store.{put, sameQueue}
 use Rattle.machine.specs.State.{State, withQueue, withFlag, withEntry, join}
-use Rattle.machine.specs.Execute.{handledAs, unit, choose, hasRoom, undo}
+use Rattle.machine.specs.Execute.{handledAs, unit, choose, marked, tdownOf, torn, hasRoom, undo}
 use Rattle.machine.proofs.Core.{Core}
 use Rattle.machine.proofs.AccountCells.{queue-away, fed-apart}
 use Rattle.machine.proofs.Account.{Paid, paid-of, paid-alike, head-paid, left-paid, join-paid}
@@ -49,4 +49,7 @@ module _ {pl : Plan} (s : State) (c : Core pl s) where
 
   -- an active undoes what was declined
   pub undo-paid : (a : ℕ) → Paid pl (undo pl a s)
-  undo-paid a = undo-by pl s (Paid pl) a (paid-of c) (λ x rest e u room. answered-paid a x _ _ rest e room)
+  undo-paid a =
+      undo-by pl s (Paid pl) a (paid-of c)
+      (λ x rest e u room. paid-alike (join (activeOut a) (tdownOf (S pl) x) (withQueue (activeIn a) (marked x ∷ rest) s)) (torn pl a x rest s) refl refl refl refl
+      (answered-paid a x (marked x) (tdownOf (S pl) x) rest e room))

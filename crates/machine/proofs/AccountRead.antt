@@ -19,7 +19,7 @@ use Rattle.wiring.specs.Wired.{Wired}
 use Rattle.machine.specs.Store.{sameQueue}
 use Rattle.machine.specs.Outputs.{nextBy}
 use Rattle.machine.specs.State.{State, withWire, join}
-use Rattle.machine.specs.Read.{joinNext, arrive, deliver, lower, settle}
+use Rattle.machine.specs.Read.{arrived, joinNext, arrive, deliver, lower, settle}
 use Rattle.machine.specs.Valid.{Drives, bit, goesTo, brings, onWires, isFed}
 use Rattle.machine.proofs.Core.{account, Core}
 use Rattle.machine.proofs.AccountCells.{queue-away, same-turn, cell-sum, fed-apart, outputs-put}
@@ -27,14 +27,14 @@ use Rattle.machine.proofs.Account.{Paid, Kept, Spared, paid-by, paid-of
 
 module _ {pl : Plan} (wired : Wired pl) where
   joined-paid : (o : Output) (x : Packet) (n : Queue) (s : State) → Drives pl o → Paid pl s → s .wire o ≡ Full x → nextBy pl o x ≡ some n
-      → Paid pl (join n x (withWire o Empty s))
+      → Paid pl (arrived n x (withWire o Empty s))
   unfolding join account onWires
-  joined-paid o x n s d c e g = paid-by s (join n x (withWire o Empty s)) c kept (λ q f. (refl, refl)) (out-put s c n (s .queue n ++ (x ∷ [])) (λ f. absurd (not-both fed f)))
+  joined-paid o x n s d c e g = paid-by s (arrived n x (withWire o Empty s)) c kept (λ q f. (refl, refl)) (out-put s c n (s .queue n ++ (x ∷ [])) (λ f. absurd (not-both fed f)))
     where
       fed : isFed n ≡ true
       fed = next-fed wired o x n d g
 
-      kept : Kept pl s (join n x (withWire o Empty s))
+      kept : Kept pl s (arrived n x (withWire o Empty s))
       kept q f =
           let wire = outputs-put pl (brings pl q) (s .wire) o Empty d in
           let was : brings pl q o (s .wire o) ≡ bit (sameQueue q n) = ap (brings pl q o) e ∙ ap (goesTo q) g ∙ ap bit (same-turn n q) in

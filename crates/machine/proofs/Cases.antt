@@ -18,8 +18,8 @@ use Rattle.feeding.specs.Queue.{Queue, activeOut, activeIn, Q}
 use Rattle.feeding.specs.Feeds.{Output}
 use Rattle.machine.specs.Outputs.{nextBy, senders}
 use Rattle.machine.specs.State.{State, Choice, nobody, sender, withQueue, withWire, withFlag, withChoice, withEntry, join}
-use Rattle.machine.specs.Read.{joinNext, arrive, deliver}
-use Rattle.machine.specs.Execute.{cameIn, declined, booked, freed, mayBook, handledAs, setUp, tearOne, tearDown, handle, atUnit, unit, hasCredit, mayLeave, headReady, candidate, unmarkedKind, unmarked, marked, tdownOf, hasRoom, answer, atActive, undo}
+use Rattle.machine.specs.Read.{arrived, joinNext, arrive, deliver}
+use Rattle.machine.specs.Execute.{cameIn, declined, booked, freed, mayBook, handledAs, setUp, tearOne, tearDown, handle, atUnit, unit, hasCredit, mayLeave, headReady, candidate, unmarkedKind, unmarked, torn, hasRoom, answer, atActive, undo}
 use Rattle.machine.specs.Write.{ofRank, raise, spend, sendHead, sendFrom, sendBy, send}
 use Rattle.machine.proofs.Core.{Sendable}
 
@@ -31,7 +31,7 @@ module _ (pl : Plan) (o : Output) (s : State) where
   deliver-none e = ap (λ (v : Wire). arrive pl o v s) e
 
   -- A full wire's packet joins its next queue, and the wire empties.
-  pub deliver-one : (x : Packet) (y : Queue) → s .wire o ≡ Full x → nextBy pl o x ≡ some y → deliver pl o s ≡ join y x (withWire o Empty s)
+  pub deliver-one : (x : Packet) (y : Queue) → s .wire o ≡ Full x → nextBy pl o x ≡ some y → deliver pl o s ≡ arrived y x (withWire o Empty s)
   unfolding deliver arrive
   deliver-one x y e n = ap (λ (v : Wire). arrive pl o v s) e ∙ ap (λ (q : Option Queue). joinNext q x (withWire o Empty s)) n
 
@@ -132,7 +132,7 @@ unmarked-nack x u = by (x .kind) u
 module _ (pl : Plan) (a : ℕ) (s : State) where
   -- An unmarked NACK is torn down where the out-queue has room.
   pub undo-tears : (x : Packet) (rest : List Packet) → s .queue (activeIn a) ≡ x ∷ rest → unmarked x ≡ true → hasRoom pl (activeOut a) s ≡ true
-      → undo pl a s ≡ join (activeOut a) (tdownOf (S pl) x) (withQueue (activeIn a) (marked x ∷ rest) s)
+      → undo pl a s ≡ torn pl a x rest s
   unfolding undo atActive answer
   undo-tears x rest e u h = ap (λ (l : List Packet). atActive pl a l s) e ∙ ap₂ (λ (b c : Bool). answer pl a x rest (b && c) s) u h
 

@@ -12,7 +12,7 @@ use Rattle.packets.specs.declared.Packet.{Packet}
 use Rattle.plan.specs.Plan.{Plan, R, A, P, S}
 use Rattle.feeding.specs.Queue.{Queue, activeOut, activeIn, passiveIn, passiveOut, Q, Exists}
 use Rattle.feeding.specs.Feeds.{inQueue, handledAt}
-use Rattle.machine.specs.State.{State, withQueue, withFlag}
+use Rattle.machine.specs.State.{State, withQueue, withFlag, join}
 use Rattle.machine.specs.Execute.{declined, booked, freed, handledAs, unit, unmarked, marked, tdownOf, hasRoom, undo}
 use Rattle.machine.specs.Calls.{setupOf, launched, repliedAs, replied, removed}
 use Rattle.machine.specs.Valid.{headPlace, inAll}
@@ -91,10 +91,12 @@ module _ (pl : Plan) (w : Weight) where
     -- An unmarked NACK is marked, and its tear-down joins the out-queue.
     pub torn-weighed : (a : ℕ) → a < A pl → (x : Packet) (rest : List Packet) → s .queue (activeIn a) ≡ x ∷ rest → unmarked x ≡ true → hasRoom pl (activeOut a) s ≡ true
         → weighed pl w (undo pl a s) + w (inQueue (activeIn a)) x ≡ weighed pl w s + w (inQueue (activeIn a)) (marked x) + w (inQueue (activeOut a)) (tdownOf (S pl) x)
+    unfolding weighed
     torn-weighed a h x rest e u g =
         let joined = weighed-join pl w (activeOut a) h (tdownOf (S pl) x) (withQueue (activeIn a) (marked x ∷ rest) s) (λ m. c .marks (activeOut a) h m .2) in
         let swapped = swapped-weighed (activeIn a) h s refl x (marked x) rest e in
-        let is = ap (weighed pl w) (undo-tears pl a s x rest e u g) in
+        let is : weighed pl w (undo pl a s) ≡ weighed pl w (join (activeOut a) (tdownOf (S pl) x) (withQueue (activeIn a) (marked x ∷ rest) s))
+        = ap (weighed pl w) (undo-tears pl a s x rest e u g) in
         omega arith
 
     -- A launched set-up joins the out-queue.

@@ -25,9 +25,10 @@ use Rattle.machine.proofs.Closure.{stands-below, span-short, fits-next,
 use Rattle.machine.proofs.CameIn.{stands-inside, stands-exit, came-in}
 
 -- what keeps a packet's pair belongs where its kind and hub fit
-belongs-as : (pl : Plan) (from at : Place) (x : Packet) (kind : Kind) (slot : Slot) (hub : Hub) → Belongs pl from x → slot .0 < S pl → hub .0 ≤ 16
-    → Fits pl kind (x .active) (x .passive) (hub .0) at → Belongs pl at (record { kind = kind; active = x .active; passive = x .passive; slot = slot; hub = hub })
-belongs-as pl from at x kind slot hub b t h f =
+belongs-as : (pl : Plan) (from at : Place) (x : Packet) (kind : Kind) (slot : Slot) (hub : Hub) → Belongs pl from x
+    → Fits pl kind (x .active) (x .passive) (hub .0) at → slot .0 < S pl → hub .0 ≤ 16
+    → Belongs pl at (record { kind = kind; active = x .active; passive = x .passive; slot = slot; hub = hub })
+belongs-as pl from at x kind slot hub b f t h =
     record { ranges = record { active = b .ranges .active; passive = b .ranges .passive; slot = t; hub = h }; serves = b .serves; fits = f }
 
 module _ {pl : Plan} (wired : Wired pl) (range : InRange (pl .head)) where
@@ -93,26 +94,26 @@ module _ {pl : Plan} (wired : Wired pl) (range : InRange (pl .head)) where
           let s = unit-setup wired a p ha hp served r (x .hub .0) f in
           let before = stands-below wired a p ha hp served (x .hub .0) (record { router = r; side = s .0 }) (s .1) in
           let short = span-short wired a p ha hp served in
-          belongs-as pl from (handledAt r) x (x .kind) (slotNext (x .slot) (S pl)) (hubUp (x .hub)) here (slot-in (x .slot .0 + 1)) (omega (arith, range .routers))
-          (rw q (unit-booked wired a p ha hp served r (x .hub .0) f))
+          belongs-as pl from (handledAt r) x (x .kind) (booked (S pl) x .slot) (booked (S pl) x .hub) here
+          (rw q (unit-booked wired a p ha hp served r (x .hub .0) f)) (slot-in (x .slot .0 + 1)) (omega (arith, range .routers))
 
       -- so does the NACK that a SETUP becomes
       pub declined-belongs : x .kind ≡ Setup → Belongs pl (handledAt r) (declined x)
       declined-belongs q =
-          belongs-as pl from (handledAt r) x Nack (x .slot) (x .hub) here (here .ranges .slot) (here .ranges .hub)
-          (unit-declined wired a p ha hp served r (x .hub .0) (rw (unit, q) at (here .fits)))
+          belongs-as pl from (handledAt r) x Nack (declined x .slot) (declined x .hub) here
+          (unit-declined wired a p ha hp served r (x .hub .0) (rw (unit, q) at (here .fits))) (here .ranges .slot) (here .ranges .hub)
 
       -- and a TDOWN that has more to free
       pub freed-belongs : x .kind ≡ Tdown → (x .hub .0 ≡ 1 → ⊥) → Belongs pl (handledAt r) (freed (S pl) x)
       freed-belongs q more =
           let f : Fits pl Tdown a p (x .hub .0) (inQueue (Q r)) = rw (unit, q) at (here .fits) in
-          belongs-as pl from (handledAt r) x (x .kind) (slotNext (x .slot) (S pl)) (hubDown (x .hub)) here (slot-in (x .slot .0 + 1)) (omega (arith, here .ranges .hub))
-          (rw q (unit-freed wired a p ha hp served r (x .hub .0) (omega (arith, f .2)) f))
+          belongs-as pl from (handledAt r) x (x .kind) (freed (S pl) x .slot) (freed (S pl) x .hub) here
+          (rw q (unit-freed wired a p ha hp served r (x .hub .0) (omega (arith, f .2)) f)) (slot-in (x .slot .0 + 1)) (omega (arith, here .ranges .hub))
 
     -- ---- at a passive
     -- the answer to a SETUP belongs in the out-queue
     pub replied-belongs : (y : ℕ) (kind : Kind) → from ≡ inQueue (passiveIn y) → (kind ≡ Ack) ⊎ (kind ≡ Nack) → Belongs pl (inQueue (passiveOut y)) (repliedAs kind x)
-    replied-belongs y kind there answer = belongs-as pl from (inQueue (passiveOut y)) x kind (x .slot) (x .hub) here (here .ranges .slot) (here .ranges .hub) (fits answer)
+    replied-belongs y kind there answer = belongs-as pl from (inQueue (passiveOut y)) x kind (x .slot) (x .hub) here (fits answer) (here .ranges .slot) (here .ranges .hub)
       where
         own : (x .kind ≡ Setup) × (y ≡ p) × (x .hub .0 ≡ span pl a p)
         own = passive-setup wired a p ha hp served (x .kind) (x .hub .0) y (rw there at (here .fits))
@@ -129,12 +130,12 @@ module _ {pl : Plan} (wired : Wired pl) (range : InRange (pl .head)) where
       -- a NACK that is marked belongs where it was
       pub marked-belongs : x .kind ≡ Nack → Belongs pl (inQueue (activeIn y)) (marked x)
       marked-belongs q =
-          belongs-as pl from (inQueue (activeIn y)) x (x .kind) (x .slot) (record { 0 = 0 }) here (here .ranges .slot) (omega arith)
-          (rw (q, own .0) (active-marked wired a p ha hp served))
+          belongs-as pl from (inQueue (activeIn y)) x (x .kind) (x .slot) (marked x .hub) here (rw (q, own .0) (active-marked wired a p ha hp served))
+          (here .ranges .slot) (omega arith)
 
       -- its TDOWN belongs in the out-queue
       pub tdown-belongs : 1 ≤ x .hub .0 → Belongs pl (inQueue (activeOut y)) (tdownOf (S pl) x)
       tdown-belongs h =
-          belongs-as pl from (inQueue (activeOut y)) x Tdown (startSlot (x .slot) (x .hub) (S pl)) (x .hub) here
-          (slot-in (x .slot .0 + (S pl - x .hub .0 % S pl))) (here .ranges .hub)
-          (rw (own .0) (active-tdown wired a p ha hp served (x .hub .0) h (own .1)))
+          let slot = slot-in (x .slot .0 + (S pl - x .hub .0 % S pl)) in
+          belongs-as pl from (inQueue (activeOut y)) x Tdown (tdownOf (S pl) x .slot) (tdownOf (S pl) x .hub) here
+          (rw (own .0) (active-tdown wired a p ha hp served (x .hub .0) h (own .1))) (omega (arith, here .ranges .slot)) (here .ranges .hub)

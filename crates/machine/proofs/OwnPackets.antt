@@ -85,7 +85,7 @@ module _ (pl : Plan) (r o t : ℕ) (v : Claim) where
   torn-owns a from at x e h =
       let none = owns-of Nack at (marked x) e ∙ up-none (marked x) refl in
       let down : owns pl r o t v (inQueue (activeOut a)) (tdownOf (S pl) x) ≡ ownsDown pl r o t v 0 (tdownOf (S pl) x) = owns-of Tdown (inQueue (activeOut a)) (tdownOf (S pl) x) refl in
-      let first = start-none (S pl) (startSlot (x .slot) (x .hub) (S pl)) (start-below (S pl) (x .slot) (x .hub) (omega arith)) in
+      let first : startSlot (tdownOf (S pl) x .slot) (record { 0 = 0 }) (S pl) ≡ startSlot (x .slot) (x .hub) (S pl) = start-none (S pl) (startSlot (x .slot) (x .hub) (S pl)) (start-below (S pl) (x .slot) (x .hub) (omega arith)) in
       let size : 0 + x .hub .0 ≡ x .hub .0 = omega arith in
       let same : ownsDown pl r o t v 0 (tdownOf (S pl) x) ≡ ownsUp pl r o t v x = ap₂ (λ (b : Slot) (n : ℕ). owning pl r o t v (x .active) (x .passive) b 0 n) first size in
       let was = owns-of Nack from x e in

@@ -13,7 +13,7 @@ use Rattle.packets.specs.declared.Entry.the-variants.{Free, Booked}
 use Rattle.plan.specs.Plan.{Plan, passive, S, routeTo}
 use Rattle.feeding.specs.Queue.{activeOut, activeIn, Q}
 use Rattle.machine.specs.State.{State, withQueue, withFlag, withEntry, join}
-use Rattle.machine.specs.Execute.{cameIn, declined, booked, freed, mayBook, handledAs, setUp, tearOne, tearDown, handle, atUnit, unit, unmarked, marked, tdownOf, hasRoom, answer, atActive, undo}
+use Rattle.machine.specs.Execute.{cameIn, declined, booked, freed, mayBook, handledAs, setUp, tearOne, tearDown, handle, atUnit, unit, unmarked, torn, hasRoom, answer, atActive, undo}
 
 module _ (pl : Plan) (s : State) (P : State → Type 0) where
   -- a unit does nothing; or its unhandled head becomes another packet, with or without a change of one entry; or the head ends
@@ -47,17 +47,17 @@ module _ (pl : Plan) (s : State) (P : State → Type 0) where
   -- an active does nothing; or its in-queue's unmarked head is marked and a tear-down joins its out-queue, which has room
   pub undo-by : (a : ℕ) → P s
       → ((x : Packet) (rest : List Packet) → s .queue (activeIn a) ≡ x ∷ rest → unmarked x ≡ true → hasRoom pl (activeOut a) s ≡ true
-      → P (join (activeOut a) (tdownOf (S pl) x) (withQueue (activeIn a) (marked x ∷ rest) s)))
+      → P (torn pl a x rest s))
       → P (undo pl a s)
   unfolding undo atActive answer
-  undo-by a same torn = by (s .queue (activeIn a)) refl
+  undo-by a same tears = by (s .queue (activeIn a)) refl
     where
       both : (b c : Bool) → (b && c) ≡ true → (b ≡ true) × (c ≡ true)
       both true c e = (refl, e)
       both false c e = absurd (not-both e refl)
 
       given : (x : Packet) (rest : List Packet) → s .queue (activeIn a) ≡ x ∷ rest → (b : Bool) → (unmarked x && hasRoom pl (activeOut a) s) ≡ b → P (answer pl a x rest b s)
-      given x rest e true t = let g = both (unmarked x) (hasRoom pl (activeOut a) s) t in torn x rest e (g .0) (g .1)
+      given x rest e true t = let g = both (unmarked x) (hasRoom pl (activeOut a) s) t in tears x rest e (g .0) (g .1)
       given x rest e false t = same
 
       by : (xs : List Packet) → s .queue (activeIn a) ≡ xs → P (atActive pl a xs s)

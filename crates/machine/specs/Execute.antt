@@ -154,8 +154,11 @@ tdownOf slots x = record { kind = Tdown; active = x .active; passive = x .passiv
 abbrev pub hasRoom : Plan → Queue → State → Bool
 hasRoom pl q s = ltb (length (s .queue q)) (capacity (pl .head) q)
 
+abbrev pub torn : Plan → ℕ → Packet → List Packet → State → State
+torn pl a x rest s = join (activeOut a) (tdownOf (S pl) x) (withQueue (activeIn a) (marked x ∷ rest) s)
+
 unfoldable pub answer : Plan → ℕ → Packet → List Packet → Bool → State → State
-answer pl a x rest true s = join (activeOut a) (tdownOf (S pl) x) (withQueue (activeIn a) (marked x ∷ rest) s)
+answer pl a x rest true s = torn pl a x rest s
 answer pl a x rest false s = s
 
 unfoldable pub atActive : Plan → ℕ → List Packet → State → State

@@ -14,10 +14,14 @@ use Rattle.feeding.specs.Feeds.{Output}
 use Rattle.machine.specs.Outputs.{nextBy, outputs, outputAt}
 use Rattle.machine.specs.State.{State, withPhase, withWire, withCredit, withFlag, join}
 
--- a packet joins its next queue; in a state every packet on a wire has one
+-- a packet joins its queue
+abbrev pub arrived : Queue → Packet → State → State
+arrived q x s = join q x s
+
+-- its next queue; in a state every packet on a wire has one
 abbrev pub joinNext : Option Queue → Packet → State → State
 joinNext none x s = s
-joinNext (some q) x s = join q x s
+joinNext (some q) x s = arrived q x s
 
 unfoldable pub arrive : Plan → Output → Wire → State → State
 arrive pl o Empty s = s

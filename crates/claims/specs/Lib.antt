@@ -1,9 +1,2 @@
 pub mod Calls
 pub mod Demand
-pub mod Exact
-pub mod Cases
-pub mod Refusals
-pub mod Run
-pub mod Bridge
-pub mod Rounds
-pub mod Theorem

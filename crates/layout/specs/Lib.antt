@@ -5,9 +5,5 @@ pub mod Codes
 pub mod Places
 pub mod Encode
 pub mod Decode
-pub mod Standing
-pub mod Round
 pub mod Canonical
-pub mod Numbering
-pub mod Bytes
 pub mod Figures

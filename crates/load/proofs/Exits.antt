@@ -23,8 +23,8 @@ use Rattle.paths.specs.Steps.{sizeOr0}
 use Rattle.feeding.specs.Edges.{cellsOf}
 use Rattle.feeding.specs.Numbered.{Counts, queuesIn, queues-in}
 use Rattle.feeding.specs.RingTest.{hasRing}
-use Rattle.wiring.specs.Heads.{head-ok}
-use Rattle.wiring.specs.Tables.{tables-ok, table-plan, named-alike, interfaces-alike}
+use Rattle.wiring.proofs.Heads.{head-ok}
+use Rattle.wiring.proofs.Tables.{tables-ok, table-plan, named-alike, interfaces-alike}
 use Rattle.load.specs.declared.Loaded.{Loaded}
 use Rattle.load.specs.declared.Loaded.the-variants.{Accepted, Refused}
 use Rattle.load.specs.Load.{lengthOk, jointsOk, loadOf, loadRoutes, loadJoints, loadHomes}

@@ -11,8 +11,8 @@ use Rattle.plan.specs.Head.{InRange, headOf, destinations}
 use Rattle.plan.specs.Plan.{Plan, active, planOf}
 use Rattle.plan.specs.Rules.{portOf, portsOf, portOr0, home}
 use Rattle.plan.specs.Tables.{interfaceAt, tablePlan, homesOf, routesOf, jointsOf}
-use Rattle.wiring.specs.Heads.{head-ok}
-use Rattle.wiring.specs.Tables.{table-plan}
+use Rattle.wiring.proofs.Heads.{head-ok}
+use Rattle.wiring.proofs.Tables.{table-plan}
 use Rattle.load.specs.declared.Loaded.{Loaded}
 use Rattle.load.specs.declared.Loaded.the-variants.{Accepted}
 use Rattle.load.specs.Load.{loadOf, loadRoutes, loadJoints, loadHomes}

@@ -16,10 +16,11 @@ use Rattle.plan.specs.Plan.{Plan, planOf}
 use Rattle.plan.specs.Rules.{Filled, FieldsFit, JointsMatch, fillOk, fieldsOk, namedOk, interfacesOk}
 use Rattle.feeding.specs.Feeds.{FeedRing}
 use Rattle.feeding.specs.RingTest.{hasRing}
-use Rattle.wiring.specs.Heads.{head-ok, ok-head, and-both, and-of}
-use Rattle.wiring.specs.Fields.{fill-ok, ok-fill, fields-ok, ok-fields}
-use Rattle.wiring.specs.Wired.{Wired, wired, plan-match, match-plan}
-use Rattle.journeys.specs.Rings.{ring-test, test-ring}
+use Rattle.wiring.proofs.Heads.{head-ok, ok-head, and-both, and-of}
+use Rattle.wiring.proofs.Fields.{fill-ok, ok-fill, fields-ok, ok-fields}
+use Rattle.wiring.specs.Wired.{Wired}
+use Rattle.wiring.proofs.Wires.{wired, plan-match, match-plan}
+use Rattle.journeys.proofs.Rings.{ring-test, test-ring}
 use Rattle.load.specs.declared.Loaded.{Loaded}
 use Rattle.load.specs.declared.Loaded.the-variants.{Accepted, Refused}
 use Rattle.load.specs.Load.{lengthOk, jointsOk, loadOf, loadNumber}

@@ -16,7 +16,7 @@ use Rattle.plan.specs.Plan.{Plan}
 use Rattle.feeding.specs.Queue.{Queue, activeOut, activeIn, passiveIn, passiveOut, U, Q, F, K, Exists, capacity}
 use Rattle.feeding.specs.Feeds.{Output, headingOf}
 use Rattle.wiring.specs.Wired.{Wired}
-use Rattle.journeys.specs.Places.{some-not-none}
+use Rattle.journeys.proofs.Places.{some-not-none}
 use Rattle.machine.specs.Store.{put, sameQueue}
 use Rattle.machine.specs.Outputs.{nextBy, outputs, outputAt}
 use Rattle.machine.specs.State.{State, start, withPhase, withSlot, withQueue, withFlag, join}

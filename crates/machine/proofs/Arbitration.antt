@@ -11,7 +11,7 @@ use Rattle.basis.specs.Choice.{test}
 use Rattle.plan.specs.Plan.{Plan}
 use Rattle.feeding.specs.Queue.{Queue}
 use Rattle.feeding.specs.Feeds.{Output}
-use Rattle.journeys.specs.Places.{some-same, some-not-none}
+use Rattle.journeys.proofs.Places.{some-same, some-not-none}
 use Rattle.machine.specs.Outputs.{senders}
 use Rattle.machine.specs.State.{State, nobody, sender}
 use Rattle.machine.specs.Execute.{candidate, isOpen, firstOf, picked}

@@ -13,8 +13,9 @@ use Rattle.paths.specs.Walk.{onward, routerOf, walked}
 use Rattle.paths.specs.Served.{Served}
 use Rattle.paths.specs.Steps.{standsOn, indexIn, indexOn}
 use Rattle.feeding.specs.Feeds.{Stands}
-use Rattle.wiring.specs.Wired.{Wired, home-inside}
-use Rattle.journeys.specs.Places.{meets-inside, exit-inside}
+use Rattle.wiring.specs.Wired.{Wired}
+use Rattle.wiring.proofs.Wires.{home-inside}
+use Rattle.journeys.proofs.Places.{meets-inside, exit-inside}
 use Rattle.machine.specs.Execute.{cameBy, cameIn}
 use Rattle.machine.proofs.Closure.{stands-below, span-short}
 

@@ -15,9 +15,10 @@ use Rattle.paths.specs.Walk.{onward, routerOf, walked, walkSize, Walk}
 use Rattle.paths.specs.Served.{Served}
 use Rattle.feeding.specs.Queue.{Queue, activeOut, activeIn, passiveIn, passiveOut, U, Q, F, K}
 use Rattle.feeding.specs.Feeds.{Heading, ahead, back, headingOf, next, Place, inQueue, handledAt, Meets, Stands, span, Ahead, Returns, Back, Fits, leavesFrom}
-use Rattle.wiring.specs.Wired.{Wired, home-inside}
-use Rattle.journeys.specs.Walks.{onward-on, onward-end, walk-short, size-is}
-use Rattle.journeys.specs.Places.{meets-here, meets-next, goes-from, back-walk, nack-walk, next-walk, some-same, some-not-none}
+use Rattle.wiring.specs.Wired.{Wired}
+use Rattle.wiring.proofs.Wires.{home-inside}
+use Rattle.journeys.proofs.Walks.{onward-on, onward-end, walk-short, size-is}
+use Rattle.journeys.proofs.Places.{meets-here, meets-next, goes-from, back-walk, nack-walk, next-walk, some-same, some-not-none}
 
 module _ {pl : Plan} (wired : Wired pl) (a p : ℕ) (ha : a < A pl) (hp : p < P pl) (s : Served pl a p) where
   abbrev start : Port

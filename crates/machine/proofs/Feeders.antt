@@ -13,7 +13,7 @@ use Rattle.plan.specs.Rules.{home}
 use Rattle.feeding.specs.Queue.{Queue, activeOut, activeIn, passiveIn, passiveOut, U, Q, F, K}
 use Rattle.feeding.specs.Feeds.{Heading, ahead, back, Output, ofActive, ofPassive, ofSide, toUnit, fromUnit, enters, across, beyond, outputOf}
 use Rattle.wiring.specs.Wired.{Wired}
-use Rattle.journeys.specs.Places.{some-same, some-not-none}
+use Rattle.journeys.proofs.Places.{some-same, some-not-none}
 use Rattle.machine.specs.Outputs.{senders}
 use Rattle.machine.specs.Valid.{Drives}
 use Rattle.machine.specs.Write.{ofRank}

@@ -22,9 +22,9 @@ use Rattle.plan.specs.Plan.{Plan, R, A, P, S}
 use Rattle.paths.specs.Served.{Served, served}
 use Rattle.feeding.specs.Queue.{Queue, activeOut, activeIn, passiveIn, passiveOut, Q, Exists}
 use Rattle.feeding.specs.Feeds.{Output}
-use Rattle.wiring.specs.Heads.{and-both}
+use Rattle.wiring.proofs.Heads.{and-both}
 use Rattle.wiring.specs.Wired.{Wired}
-use Rattle.journeys.specs.Walks.{served-of}
+use Rattle.journeys.proofs.Walks.{served-of}
 use Rattle.machine.specs.State.{State, sender, start, withPhase, withSlot}
 use Rattle.machine.specs.Read.{deliver, settle, doRead}
 use Rattle.machine.specs.Execute.{unit, choose, undo, doExecute, hasRoom, unmarked}

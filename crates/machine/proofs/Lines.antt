@@ -19,8 +19,8 @@ use Rattle.paths.specs.Served.{Served}
 use Rattle.feeding.specs.Queue.{Queue, activeOut, activeIn, passiveIn, passiveOut, U, Q, F, K, Exists, senderAt}
 use Rattle.feeding.specs.Feeds.{Output, ofActive, ofPassive, ofSide, toUnit, fromUnit, headingOf, outputOf, inQueue, Ahead, Back, Fits, leavesFrom}
 use Rattle.wiring.specs.Wired.{Wired}
-use Rattle.journeys.specs.Places.{may-exist, some-same, some-not-none}
-use Rattle.journeys.specs.Fitting.{fits-visits}
+use Rattle.journeys.proofs.Places.{may-exist, some-same, some-not-none}
+use Rattle.journeys.proofs.Fitting.{fits-visits}
 use Rattle.machine.specs.Outputs.{senders}
 use Rattle.machine.specs.Execute.{mayLeave}
 use Rattle.machine.specs.State.{State}

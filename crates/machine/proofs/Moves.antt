@@ -18,8 +18,8 @@ use Rattle.plan.specs.Plan.{Plan}
 use Rattle.feeding.specs.Queue.{Queue, activeOut, activeIn, passiveIn, passiveOut, U, Q, F, K, Exists, queueAt, queues}
 use Rattle.feeding.specs.Feeds.{Output, Place, inQueue, headingOf, Fits, leavesFrom}
 use Rattle.wiring.specs.Wired.{Wired}
-use Rattle.journeys.specs.Places.{may-exist}
-use Rattle.journeys.specs.Fitting.{fits-visits}
+use Rattle.journeys.proofs.Places.{may-exist}
+use Rattle.journeys.proofs.Fitting.{fits-visits}
 use Rattle.machine.specs.Outputs.{nextBy, senders, outputs, outputAt}
 use Rattle.machine.specs.State.{State, sender, withPhase, withSlot, withQueue, withWire}
 use Rattle.machine.specs.Read.{deliver, lower, settle, doRead}

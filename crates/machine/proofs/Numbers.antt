@@ -9,8 +9,8 @@ use Rattle.basis.specs.Bounded.{lt-or-ge}
 use Rattle.plan.specs.Plan.{Plan, R, A, P}
 use Rattle.feeding.specs.Queue.{Queue, activeOut, activeIn, passiveIn, passiveOut, U, Q, F, K, Exists, outs, routerBase, inBase, number, queues, senderAt, queueAt}
 use Rattle.feeding.specs.Feeds.{Output, ofActive, ofPassive, ofSide, toUnit, fromUnit}
-use Rattle.journeys.specs.Numbers.{queue-at}
-use Rattle.journeys.specs.Places.{some-same, some-not-none}
+use Rattle.journeys.proofs.Numbers.{queue-at}
+use Rattle.journeys.proofs.Places.{some-same, some-not-none}
 use Rattle.machine.specs.Outputs.{senders, outputs, routerOutput, outputAt}
 use Rattle.machine.specs.Write.{ofRank}
 use Rattle.machine.specs.Valid.{Drives}

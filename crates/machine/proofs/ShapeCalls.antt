@@ -11,7 +11,7 @@ use Rattle.packets.specs.declared.Phase.the-variants.{Read, Execute, Write}
 use Rattle.plan.specs.Plan.{Plan}
 use Rattle.feeding.specs.Queue.{activeIn, passiveIn, passiveOut}
 use Rattle.feeding.specs.Feeds.{Output}
-use Rattle.journeys.specs.Places.{some-not-none}
+use Rattle.journeys.proofs.Places.{some-not-none}
 use Rattle.machine.specs.State.{State, Choice, withQueue, withFlag, join}
 use Rattle.machine.specs.Calls.{launched, repliedAs, replied, removed}
 use Rattle.machine.proofs.Core.{WiresEmpty, FlagsDown, NoChoices, ChoicesSendable, Shape, in-read, in-execute, in-write}

@@ -14,7 +14,7 @@ use Rattle.packets.specs.declared.Wire.{Wire}
 use Rattle.plan.specs.Plan.{Plan, R, A, S}
 use Rattle.feeding.specs.Queue.{Queue, activeOut, activeIn, Q, Exists}
 use Rattle.feeding.specs.Feeds.{Output}
-use Rattle.journeys.specs.Places.{some-not-none}
+use Rattle.journeys.proofs.Places.{some-not-none}
 use Rattle.machine.specs.Store.{put, sameQueue}
 use Rattle.machine.specs.Outputs.{outputs, outputAt}
 use Rattle.machine.specs.State.{State, Choice, sender, withQueue, withFlag, withEntry, join}

@@ -14,7 +14,7 @@ use Rattle.packets.specs.declared.Wire.the-variants.{Empty, Full}
 use Rattle.plan.specs.Plan.{Plan}
 use Rattle.feeding.specs.Queue.{Queue, number, queues, queueAt}
 use Rattle.feeding.specs.Feeds.{Output}
-use Rattle.journeys.specs.Numbers.{queue-at, number-below}
+use Rattle.journeys.proofs.Numbers.{queue-at, number-below}
 use Rattle.machine.specs.Store.{sameOutput, sameQueue}
 use Rattle.machine.specs.Outputs.{nextBy, outputs, outputAt}
 use Rattle.machine.specs.State.{State, Choice, withWire, join}

@@ -16,7 +16,7 @@ use Rattle.plan.specs.Plan.{Plan}
 use Rattle.feeding.specs.Queue.{Queue}
 use Rattle.feeding.specs.Feeds.{Output, headingOf, outputOf}
 use Rattle.wiring.specs.Wired.{Wired}
-use Rattle.journeys.specs.Places.{some-same}
+use Rattle.journeys.proofs.Places.{some-same}
 use Rattle.machine.specs.Outputs.{nextBy, senders, outputs, outputAt}
 use Rattle.machine.specs.State.{State, Choice, nobody, sender, withQueue, withWire, withChoice}
 use Rattle.machine.specs.Write.{ofRank, raise, spend, sendHead, sendFrom, sendBy, send, doWrite}

@@ -30,12 +30,12 @@ use Rattle.paths.specs.Served.{Served}
 use Rattle.feeding.specs.Queue.{Queue, activeOut, activeIn, passiveIn, passiveOut, U, Q, F, K, Exists, capacity, number, queues, queueAt}
 use Rattle.feeding.specs.Feeds.{Output, outputOf, Heading, ahead, back, headingOf, destination, enters, across, next, beyond, span, leavesFrom, Fits, Place, inQueue, handledAt, Feeds, FeedRing}
 use Rattle.wiring.specs.Wired.{Wired}
-use Rattle.wiring.specs.Joints.{router-some, interface-some}
-use Rattle.journeys.specs.Numbers.{queue-at, number-same, number-below}
-use Rattle.journeys.specs.Places.{may-exist, may-next, goes-from, nack-walk, returns-on, meets-here, some-same, some-not-none}
+use Rattle.wiring.proofs.Joints.{router-some, interface-some}
+use Rattle.journeys.proofs.Numbers.{queue-at, number-same, number-below}
+use Rattle.journeys.proofs.Places.{may-exist, may-next, goes-from, nack-walk, returns-on, meets-here, some-same, some-not-none}
 use Rattle.journeys.specs.Visits.{Visits}
-use Rattle.journeys.specs.Walks.{onward-on, onward-end}
-use Rattle.journeys.specs.Fitting.{fits-visits}
+use Rattle.journeys.proofs.Walks.{onward-on, onward-end}
+use Rattle.journeys.proofs.Fitting.{fits-visits}
 use Rattle.machine.specs.Outputs.{nextBy, senders}
 use Rattle.machine.specs.State.{State, startAllowance}
 use Rattle.machine.specs.Valid.{PacketOk, Belongs, headPlace, Lined, Drives, brings, bit, isFed, sum, onWires, inAll, inWire, total, spends}

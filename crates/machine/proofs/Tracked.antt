@@ -24,7 +24,7 @@ use Rattle.plan.specs.Plan.{Plan, R, A, P, S}
 use Rattle.paths.specs.Served.{served}
 use Rattle.feeding.specs.Queue.{Queue, activeOut, activeIn, passiveIn, passiveOut, Q, Exists}
 use Rattle.feeding.specs.Feeds.{Output, FeedRing}
-use Rattle.wiring.specs.Heads.{and-both}
+use Rattle.wiring.proofs.Heads.{and-both}
 use Rattle.wiring.specs.Wired.{Wired}
 use Rattle.machine.specs.State.{State, sender, start, withPhase, withSlot}
 use Rattle.machine.specs.Read.{deliver, settle, doRead}

@@ -14,7 +14,7 @@ use Rattle.packets.specs.declared.Wire.the-variants.{Empty, Full}
 use Rattle.plan.specs.Plan.{Plan}
 use Rattle.feeding.specs.Queue.{Queue, activeOut, activeIn, passiveIn, passiveOut, U, Q, F, K, Exists, number, queues, queueAt}
 use Rattle.feeding.specs.Feeds.{Output, Place, inQueue}
-use Rattle.journeys.specs.Numbers.{queue-at, number-below}
+use Rattle.journeys.proofs.Numbers.{queue-at, number-below}
 use Rattle.machine.specs.Store.{put, sameQueue, same-queue, queue-same, sameOutput, same-output, output-same, put-here, put-away}
 use Rattle.machine.specs.Outputs.{nextBy, outputs, outputAt}
 use Rattle.machine.specs.State.{State, start, withQueue, withWire, withHandled, join}

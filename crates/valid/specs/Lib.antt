@@ -1,8 +1,2 @@
-pub mod Decides
-pub mod Numbers
 pub mod Test
-pub mod Fitting
-pub mod Packets
-pub mod Parts
-pub mod Law
 pub mod Runs

@@ -29,7 +29,11 @@ use Rattle.machine.specs.Execute.{candidate}
 use Rattle.machine.specs.Write.{ofRank}
 use Rattle.machine.specs.Calls.{isPhase, isEmpty}
 use Rattle.machine.specs.Valid.{headPlace, bit, onWires, total, spends, isFed}
-use Rattle.valid.specs.Decides.{allIn}
+
+-- every one of a list passes
+abbrev pub allIn : {X : Type 0} → (X → Bool) → List X → Bool
+allIn f [] = true
+allIn f (x ∷ xs) = also (f x) (allIn f xs)
 
 -- ---- where a walk stands
 -- on router r, entered by side i

@@ -1,5 +1,1 @@
-pub mod Heads
-pub mod Fields
-pub mod Tables
-pub mod Joints
 pub mod Wired

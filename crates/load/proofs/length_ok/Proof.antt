@@ -1,5 +1,5 @@
 use native.Mathlib.Omega.{arith}
-use Rattle.wiring.specs.Heads.{counts-most}
+use Rattle.wiring.proofs.Heads.{counts-most}
 use Rattle.load.proofs.Exits.{length-wrong, length-fits}
 use borrow.Author.Needs.{needs}
 use Rattle.load.proofs.length_ok.Statement.{statement}

@@ -7,7 +7,7 @@ use Rattle.packets.specs.declared.Entry.{Entry}
 use Rattle.plan.specs.Plan.{Plan, A, R}
 use Rattle.feeding.specs.Queue.{Queue, Exists, number, queues, queueAt}
 use Rattle.feeding.specs.Feeds.{Output}
-use Rattle.journeys.specs.Numbers.{queue-at, number-below}
+use Rattle.journeys.proofs.Numbers.{queue-at, number-below}
 use Rattle.machine.specs.Outputs.{outputs, outputAt}
 use Rattle.machine.specs.State.{State}
 use Rattle.machine.specs.Valid.{Drives}

@@ -19,7 +19,7 @@ use Rattle.plan.specs.Head.{InRange, headOf, destinations, routesAt}
 use Rattle.plan.specs.Plan.{Interface, noSide, jointAt, routeAt, jointFrom, jointIn, planOf}
 use Rattle.plan.specs.Rules.{jointOk, routeOk, jointThere, routeThere, fieldsOk, jointOfPort, backOk, namedOk, portsOf, home, interfacesOk}
 use Rattle.plan.specs.Tables.{jointByte, jointOfByte, jointByteOk, jointsOf, rowOf, routesOf, tablePlan, jointBytesOk, rowOk, routesOk}
-use Rattle.wiring.specs.Heads.{counts-most}
+use Rattle.wiring.proofs.Heads.{counts-most}
 use Rattle.fields.specs.Laws.{field-lt}
 
 -- ---- entries of the tables

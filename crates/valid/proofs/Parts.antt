@@ -23,10 +23,10 @@ use Rattle.machine.specs.Execute.{candidate}
 use Rattle.machine.specs.Write.{ofRank}
 use Rattle.machine.specs.Calls.{isPhase, isEmpty}
 use Rattle.machine.specs.Valid.{Drives}
-use Rattle.journeys.specs.Numbers.{queue-at, number-below}
-use Rattle.journeys.specs.Places.{some-not-none, some-same}
-use Rattle.valid.specs.Decides.{Decides, like, never, always, so, not-so, less, both, given, unless, all-below}
-use Rattle.valid.specs.Numbers.{queue-exists, outputNumber, output-at, output-below, output-exists}
+use Rattle.journeys.proofs.Numbers.{queue-at, number-below}
+use Rattle.journeys.proofs.Places.{some-not-none, some-same}
+use Rattle.valid.proofs.Decides.{Decides, like, never, always, so, not-so, less, both, given, unless, all-below}
+use Rattle.valid.proofs.Numbers.{queue-exists, outputNumber, output-at, output-below, output-exists}
 use Rattle.valid.specs.Test.{everyQueue, everyOutput, mayTest, choiceTest, downTest, pickedTest, isUnit, entryTest}
 
 -- ---- every queue and every output of the plan, by number

@@ -18,9 +18,9 @@ use Rattle.layout.specs.Encode.{encode}
 use Rattle.layout.specs.Decode.{decode}
 use Rattle.claims.specs.Calls.{Given, isState, callOn, startOn}
 use Rattle.claims.specs.Demand.{bytesAfter, stateOf, roundsIn, MovesIn, Claim, Demand3}
-use Rattle.claims.specs.Exact.{accepted-wired, accepted-range, state-encode}
-use Rattle.claims.specs.Cases.{rule-never-7}
-use Rattle.claims.specs.Run.{decode-good, on-encode, start-encode, good-after, run-encode, accepted-encode, rounds-encode, launches-encode}
+use Rattle.claims.proofs.Exact.{accepted-wired, accepted-range, state-encode}
+use Rattle.claims.proofs.Cases.{rule-never-7}
+use Rattle.claims.proofs.Run.{decode-good, on-encode, start-encode, good-after, run-encode, accepted-encode, rounds-encode, launches-encode}
 
 module _ (p : List ℕ) (h : Head) (loads : loadOf p ≡ Accepted h) (ruled : Ruled (planOf p)) where
   -- ---- from any good state's bytes

@@ -15,7 +15,7 @@ use Rattle.plan.specs.declared.Ports.{Ports}
 use Rattle.plan.specs.declared.Ports.the-variants.{Missing, One, Several}
 use Rattle.plan.specs.Plan.{Plan, Port, Interface, active, passive, R, A, P, Has, jointOf}
 use Rattle.plan.specs.Rules.{NamedBack, JoinedAt, JointsMatch, portOf, jointOfPort, isRouterAt, backOk, namedOk, leadsTo, meet, portsOf, isOne, portOr0, home, interfacesOk}
-use Rattle.wiring.specs.Heads.{and-both, and-of}
+use Rattle.wiring.proofs.Heads.{and-both, and-of}
 
 -- ---- a joint by itself
 -- A joint to a router is not nothing.

@@ -17,10 +17,11 @@ use Rattle.feeding.specs.Queue.{Queue, activeOut, activeIn, passiveIn, passiveO
 use Rattle.feeding.specs.Feeds.{Heading, ahead, back, next, Meets}
 use Rattle.journeys.specs.Visits.{OnWalk, Comes, Visits}
 use Rattle.feeding.specs.Edges.{Edge, edge, aheadEdges, backEdges, nackEdges, nacksEdges, pairEdges}
-use Rattle.wiring.specs.Wired.{Wired, near, home-inside}
-use Rattle.journeys.specs.Walks.{onward-on, onward-end, walk-short}
-use Rattle.journeys.specs.Places.{meets-here, meets-next, goes-from, back-walk, nack-walk, next-walk, some-same, some-not-none}
-use Rattle.journeys.specs.Chains.{GoesOn, chain, chain-sound, chain-enters, chain-inner, chain-moves, chain-ends}
+use Rattle.wiring.specs.Wired.{Wired}
+use Rattle.wiring.proofs.Wires.{near, home-inside}
+use Rattle.journeys.proofs.Walks.{onward-on, onward-end, walk-short}
+use Rattle.journeys.proofs.Places.{meets-here, meets-next, goes-from, back-walk, nack-walk, next-walk, some-same, some-not-none}
+use Rattle.journeys.proofs.Chains.{GoesOn, chain, chain-sound, chain-enters, chain-inner, chain-moves, chain-ends}
 
 -- ---- the queues of a router on the way ahead and on the way back
 abbrev unitIn : Port → Queue

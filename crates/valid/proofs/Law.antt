@@ -20,10 +20,10 @@ use Rattle.machine.specs.Execute.{candidate}
 use Rattle.machine.specs.Write.{ofRank}
 use Rattle.machine.specs.Valid.{Lined, Drives, Carries, bit, onWires, total, spends, isFed, Valid}
 use Rattle.wiring.specs.Wired.{Wired}
-use Rattle.valid.specs.Decides.{Decides, like, not-so, less, most, same, given, unless, all-below, any-below}
+use Rattle.valid.proofs.Decides.{Decides, like, not-so, less, most, same, given, unless, all-below, any-below}
 use Rattle.valid.specs.Test.{slotTest, entriesTest, capacitiesTest, placesTest, wiresTest, wiresEmptyTest, choicesTest, flagsDownTest, pickedDownTest, outFlagsTest, marksTest, freeEntryTest, creditsTest, outCreditsTest, allowancesTest, validTest}
-use Rattle.valid.specs.Packets.{lined-decides, wire-decides}
-use Rattle.valid.specs.Parts.{every-queue, every-output, in-phase, out-of-phase, empty-decides, choice-decides, picked-decides, mark-decides, entry-decides, free-decides}
+use Rattle.valid.proofs.Packets.{lined-decides, wire-decides}
+use Rattle.valid.proofs.Parts.{every-queue, every-output, in-phase, out-of-phase, empty-decides, choice-decides, picked-decides, mark-decides, entry-decides, free-decides}
 
 -- ---- the parts of Valid, in its order
 module _ (pl : Plan) (s : State) where

@@ -12,7 +12,7 @@ use Rattle.kinds.specs.declared.Refusal.{Refusal}
 use Rattle.kinds.specs.declared.Refusal.the-variants.{NotState}
 use Rattle.packets.specs.declared.Answer.the-variants.{Refused, Done}
 use Rattle.plan.specs.Plan.{Plan, planOf}
-use Rattle.wiring.specs.Heads.{and-both}
+use Rattle.wiring.proofs.Heads.{and-both}
 use Rattle.load.specs.declared.Loaded.{Loaded}
 use Rattle.load.specs.declared.Loaded.the-variants.{Accepted, Refused as Unloaded}
 use Rattle.load.specs.Load.{loadOf}
@@ -22,9 +22,9 @@ use Rattle.layout.specs.Rows.{past}
 use Rattle.layout.specs.Offsets.{size}
 use Rattle.layout.specs.Encode.{encode, encode-append, length-encode}
 use Rattle.layout.specs.Decode.{decode}
-use Rattle.layout.specs.Canonical.{encode-canonical, past-encode}
+use Rattle.layout.proofs.StateBytes.{encode-canonical, past-encode}
 use Rattle.claims.specs.Calls.{Given, given, onPlan, isState, stored, onState, startOn, readOn, executeOn, writeOn, launchOn, replyOn, consumeOn, entryOn, callOn}
-use Rattle.claims.specs.Cases.{rule-refused}
+use Rattle.claims.proofs.Cases.{rule-refused}
 
 -- every call on bytes in one form: Load, then refusal 7, then its rule
 pub call-on : (p : List ℕ) (c : Call) (b : List ℕ) → callOn p c b ≡ onPlan p b (λ pl. onState (call pl c) b pl) (loadOf p)

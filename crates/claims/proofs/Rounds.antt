@@ -20,7 +20,7 @@ use Rattle.machine.specs.Write.{doWrite}
 use Rattle.machine.specs.Calls.{Outcome, gives, launched, replyKind, replied, removed, Call, read, execute, write, launch, reply, consume, entry, call}
 use Rattle.machine.specs.Progress.{isDone, endsRound}
 use Rattle.machine.specs.Ruled.{ruledAfter, rounds}
-use Rattle.claims.specs.Cases.{Refuses, Accepts, rule-cases}
+use Rattle.claims.proofs.Cases.{Refuses, Accepts, rule-cases}
 
 -- ---- accepted Reads and Executes, beside `rounds`, which counts the accepted Writes
 abbrev pub readsCall : Call → Answer → ℕ

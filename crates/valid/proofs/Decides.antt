@@ -9,6 +9,7 @@ use borrow.Author.Tests.{ltb-true, lt-ltb, leb-true, le-leb, eqb-true, eq-eqb}
 use Rattle.basis.specs.Choice.{also, also-true, also-of}
 use Rattle.basis.specs.Bounded.{anyBelow, any-true, any-of, allBelow, all-at, all-of, or-cases, or-right}
 use Rattle.basis.specs.Among.{In}
+use Rattle.valid.specs.Test.{allIn}
 
 pub record Decides (t : Bool) (X : Type 0) : Type 0 where
   -- the test passes, so the claim holds
@@ -82,10 +83,6 @@ any-below n f X d = record { holds = λ e. by (any-true n f e); passes = λ x. a
   where
     by : (i : ℕ) × (i < n) × (f i ≡ true) → (i : ℕ) × (i < n) × X i
     by (i, h, e) = (i, h, d i h .holds e)
-
-abbrev pub allIn : {X : Type 0} → (X → Bool) → List X → Bool
-allIn f [] = true
-allIn f (x ∷ xs) = also (f x) (allIn f xs)
 
 pub all-in : {X : Type 0} (f : X → Bool) (Y : X → Type 0) → ((x : X) → Decides (f x) (Y x)) → (xs : List X) → Decides (allIn f xs) ((x : X) → In x xs → Y x)
 all-in f Y d [] = always (λ x i. absurd i)

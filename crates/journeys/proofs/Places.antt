@@ -16,9 +16,10 @@ use Rattle.paths.specs.Served.{Served}
 use Rattle.feeding.specs.Queue.{Queue, activeOut, activeIn, passiveIn, passiveOut, U, Q, F, K, Exists}
 use Rattle.feeding.specs.Feeds.{Heading, ahead, back, destination, enters, across, next, Meets}
 use Rattle.journeys.specs.Visits.{OnWalk, Comes, Visits}
-use Rattle.wiring.specs.Wired.{Wired, near, home-inside}
-use Rattle.journeys.specs.Walks.{onward-on, onward-end, end-onward, alike, stops-inside}
-use Rattle.journeys.specs.Sides.{leads, turns, turns-later, home-turns}
+use Rattle.wiring.specs.Wired.{Wired}
+use Rattle.wiring.proofs.Wires.{near, home-inside}
+use Rattle.journeys.proofs.Walks.{onward-on, onward-end, end-onward, alike, stops-inside}
+use Rattle.journeys.proofs.Sides.{leads, turns, turns-later, home-turns}
 
 pub some-not-none : {X : Type 0} {x : X} → none ≡ some x → ⊥
 some-not-none e = let z : _≡_ {A = ℕ} 0 1 = cc in omega arith

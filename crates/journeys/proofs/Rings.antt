@@ -22,14 +22,14 @@ use Rattle.feeding.specs.Feeds.{Heading, ahead, back, headingOf, destination, e
 use Rattle.feeding.specs.Edges.{Edge, edge, cellOf, marks, cellsOf, pairEdges}
 use Rattle.feeding.specs.RingTest.{hasRing}
 use Rattle.wiring.specs.Wired.{Wired}
-use Rattle.wiring.specs.Tables.{replicate-at}
-use Rattle.journeys.specs.Walks.{serves-of, served-of}
-use Rattle.journeys.specs.Numbers.{queue-at, number-same, number-below}
-use Rattle.journeys.specs.Places.{may-exist, may-next, some-same, some-not-none}
+use Rattle.wiring.proofs.Tables.{replicate-at}
+use Rattle.journeys.proofs.Walks.{serves-of, served-of}
+use Rattle.journeys.proofs.Numbers.{queue-at, number-same, number-below}
+use Rattle.journeys.proofs.Places.{may-exist, may-next, some-same, some-not-none}
 use Rattle.journeys.specs.Visits.{Visits}
-use Rattle.journeys.specs.Fitting.{Somehow, fits-visits, visits-fit}
-use Rattle.journeys.specs.Edges.{Steps, edge-step, step-edge}
-use Rattle.journeys.specs.Cells.{place, target, allEdges, cells-are, all-in, in-all, marks-from, marks-has}
+use Rattle.journeys.proofs.Fitting.{Somehow, fits-visits, visits-fit}
+use Rattle.journeys.proofs.Edges.{Steps, edge-step, step-edge}
+use Rattle.journeys.proofs.Cells.{place, target, allEdges, cells-are, all-in, in-all, marks-from, marks-has}
 
 -- ---- two queues that one queue feeds have different cells
 cell-small : (pl : Plan) (q : Queue) → Exists pl q → cellOf q < 4

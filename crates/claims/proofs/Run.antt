@@ -23,11 +23,11 @@ use Rattle.layout.specs.Rows.{past}
 use Rattle.layout.specs.Offsets.{size}
 use Rattle.layout.specs.Encode.{encode}
 use Rattle.layout.specs.Decode.{decode}
-use Rattle.layout.specs.Canonical.{past-encode}
+use Rattle.layout.proofs.StateBytes.{past-encode}
 use Rattle.claims.specs.Calls.{Given, given, onState, startOn, callOn}
 use Rattle.claims.specs.Demand.{bytesAfter, acceptedBy, roundsIn, launchesIn}
-use Rattle.claims.specs.Exact.{accepted-wired, accepted-range, read-back, state-encode}
-use Rattle.claims.specs.Refusals.{call-on}
+use Rattle.claims.proofs.Exact.{accepted-wired, accepted-range, read-back, state-encode}
+use Rattle.claims.proofs.Refusals.{call-on}
 
 -- ---- one call, and Start, on a plan that Load accepts
 module _ (p : List ℕ) (h : Head) (loads : loadOf p ≡ Accepted h) where

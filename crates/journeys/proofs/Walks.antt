@@ -15,7 +15,8 @@ use Rattle.plan.specs.Plan.{Plan, Port, Interface, active, passive, R, A, P, Ha
 use Rattle.plan.specs.Rules.{leadsTo, home, JoinedAt}
 use Rattle.paths.specs.Walk.{into, through, onward, routerOf, Walk, walked, arrives, walkSize}
 use Rattle.paths.specs.Served.{Served, served, servedFrom, backArrives, backsArrive}
-use Rattle.wiring.specs.Wired.{Wired, near, home-inside}
+use Rattle.wiring.specs.Wired.{Wired}
+use Rattle.wiring.proofs.Wires.{near, home-inside}
 
 -- ---- one step of a walk
 leads-joint : (e : Interface) (j : Joint) → leadsTo e j ≡ true → j ≡ jointOf e

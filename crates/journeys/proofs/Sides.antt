@@ -12,7 +12,7 @@ use Rattle.plan.specs.Plan.{Plan, Port, Interface, active, passive, R, Has, joi
 use Rattle.plan.specs.Rules.{home}
 use Rattle.paths.specs.Walk.{onward, Walk}
 use Rattle.wiring.specs.Wired.{Wired}
-use Rattle.journeys.specs.Walks.{onward-on, onward-end}
+use Rattle.journeys.proofs.Walks.{onward-on, onward-end}
 
 pub router-not-end : (e : Interface) {n t : ℕ} → Router n t ≡ jointOf e → ⊥
 router-not-end (active a) q = let z : _≡_ {A = ℕ} 0 1 = cc in omega arith

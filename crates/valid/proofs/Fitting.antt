@@ -12,10 +12,11 @@ use Rattle.paths.specs.Served.{Served}
 use Rattle.paths.specs.Steps.{standsOn}
 use Rattle.feeding.specs.Queue.{activeOut, activeIn, passiveIn, passiveOut, U, Q, F, K}
 use Rattle.feeding.specs.Feeds.{Place, inQueue, handledAt, Meets, Stands, span, Ahead, Returns, Back, Fits}
-use Rattle.wiring.specs.Wired.{Wired, near, home-inside}
-use Rattle.journeys.specs.Walks.{onward-on, walk-short}
-use Rattle.journeys.specs.Places.{back-walk, next-walk}
-use Rattle.valid.specs.Decides.{Decides, like, never, most, same, both, either, any-below}
+use Rattle.wiring.specs.Wired.{Wired}
+use Rattle.wiring.proofs.Wires.{near, home-inside}
+use Rattle.journeys.proofs.Walks.{onward-on, walk-short}
+use Rattle.journeys.proofs.Places.{back-walk, next-walk}
+use Rattle.valid.proofs.Decides.{Decides, like, never, most, same, both, either, any-below}
 use Rattle.valid.specs.Test.{standsAt, reached, leftTest, meetsTest, aheadTest, onMeets, nackMeets, returnsTest, backTest, fitsTest}
 
 -- ---- where a walk stands

@@ -17,7 +17,7 @@ use Rattle.plan.specs.declared.Head.{Head}
 use Rattle.plan.specs.Head.{headOf, destinations, bitCount}
 use Rattle.plan.specs.Plan.{jointAt, routeAt, noSide}
 use Rattle.plan.specs.Rules.{Filled, fillOk, JointFits, jointOk, RouteFits, routeOk, FieldsFit, jointThere, routeThere, fieldsOk}
-use Rattle.wiring.specs.Heads.{and-both, and-of}
+use Rattle.wiring.proofs.Heads.{and-both, and-of}
 
 -- A field of one bit is that bit.
 pub field-one : (b : List ℕ) (p : ℕ) → fieldOf b p 1 ≡ bitAt b p

@@ -24,7 +24,7 @@ use Rattle.machine.specs.State.{State, Choice, nobody, sender, start}
 use Rattle.machine.specs.Write.{ofRank}
 use Rattle.machine.specs.Valid.{PacketOk, Lined, Drives, isFed, Valid, Bounded}
 use Rattle.layout.specs.Rows.{span}
-use Rattle.layout.specs.Numbering.{queue-named, output-named, entry-named}
+use Rattle.layout.proofs.Numbering.{queue-named, output-named, entry-named}
 use Rattle.layout.specs.Offsets.{places, entries, routerEntries, slotRoom}
 use Rattle.layout.specs.Codes.{phase-small, kind-small, flag-small, choiceCode}
 use Rattle.layout.specs.Places.{packetBytes, blank, placeBytes}

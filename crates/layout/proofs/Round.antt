@@ -23,7 +23,7 @@ use Rattle.layout.specs.Offsets.{places, creditByte, flagByte, handledBy
 use Rattle.layout.specs.Codes.{phase-code, flagCode, flagOf, flag-code, choiceCode, choiceOf, choice-code, entryOf, entry-code}
 use Rattle.layout.specs.Places.{packetBytes, placeBytes, packetAt, packet-read, packets-read}
 use Rattle.layout.specs.Encode.{queueBytes, wireBytes, outputBytes, allowanceBytes, entryBytes, encode, length-wire}
-use Rattle.layout.specs.Standing.{queue-stands, output-stands, allowance-stands, entry-stands}
+use Rattle.layout.proofs.Standing.{queue-stands, output-stands, allowance-stands, entry-stands}
 use Rattle.layout.specs.Decode.{creditAt, flagAt, handledAt, lengthAt, queueIn, wireOf, wireAt, choiceAt, entryAt, decode, Small}
 
 -- ---- one row is read where it stands

@@ -2,8 +2,8 @@
 use Rattle.load.specs.Rules.{accepted-obeys}
 use Rattle.machine.proofs.Tracked.{ruled}
 use Rattle.claims.specs.Demand.{Demand3}
-use Rattle.claims.specs.Exact.{accepted-wired, accepted-range}
-use Rattle.claims.specs.Bridge.{bridge}
+use Rattle.claims.proofs.Exact.{accepted-wired, accepted-range}
+use Rattle.claims.proofs.Bridge.{bridge}
 
 pub demand3 : Demand3
 demand3 = bridge (λ p h e. ruled (accepted-wired p h e) (accepted-range p h e) (accepted-obeys p h e .ringless))

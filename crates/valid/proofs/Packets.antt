@@ -15,11 +15,11 @@ use Rattle.feeding.specs.Feeds.{Output, Place, inQueue}
 use Rattle.machine.specs.Outputs.{nextBy}
 use Rattle.machine.specs.Valid.{PacketOk, Belongs, headPlace, Lined, Carries}
 use Rattle.wiring.specs.Wired.{Wired}
-use Rattle.journeys.specs.Walks.{served-of, serves-of}
-use Rattle.journeys.specs.Places.{some-not-none, some-same}
-use Rattle.valid.specs.Decides.{Decides, like, never, always, less, most, both, all-in}
+use Rattle.journeys.proofs.Walks.{served-of, serves-of}
+use Rattle.journeys.proofs.Places.{some-not-none, some-same}
+use Rattle.valid.proofs.Decides.{Decides, like, never, always, less, most, both, all-in}
 use Rattle.valid.specs.Test.{packetTest, belongsTest, linedTest, boundTest, wireTest}
-use Rattle.valid.specs.Fitting.{fits-decides}
+use Rattle.valid.proofs.Fitting.{fits-decides}
 
 empty-full : {x : Packet} → Empty ≡ Full x → ⊥
 empty-full e = let z : _≡_ {A = ℕ} 0 1 = cc in omega arith

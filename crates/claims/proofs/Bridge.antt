@@ -20,40 +20,41 @@ use Rattle.claims.specs.Calls.{Given, isState, callOn, startOn}
 use Rattle.claims.specs.Demand.{bytesAfter, stateOf, roundsIn, MovesIn, Claim, Demand3}
 use Rattle.claims.proofs.Exact.{accepted-wired, accepted-range, state-encode}
 use Rattle.claims.proofs.Cases.{rule-never-7}
-use Rattle.claims.proofs.Run.{decode-good, on-encode, start-encode, good-after, run-encode, accepted-encode, rounds-encode, launches-encode}
+use Rattle.claims.proofs.Run.{reached-after, decode-good, on-encode, start-encode, good-after, run-encode, accepted-encode, rounds-encode, launches-encode}
 
 module _ (p : List ℕ) (h : Head) (loads : loadOf p ≡ Accepted h) (ruled : Ruled (planOf p)) where
-  -- ---- from any good state's bytes
+  -- ---- from the bytes of any state that the rules keep good
   -- the state read after the calls is the rules'
-  pub state-after : (cs : List Call) (s : State) (rest : List ℕ) → Good (planOf p) s → stateOf p (bytesAfter p cs (encode (planOf p) s rest)) ≡ ruledAfter (planOf p) cs s
+  pub state-after : (cs : List Call) (s : State) (rest : List ℕ) → ruled .Reached s → stateOf p (bytesAfter p cs (encode (planOf p) s rest)) ≡ ruledAfter (planOf p) cs s
   state-after cs s rest g =
-      ap (decode (planOf p)) (run-encode p h loads (ruled .keeps) cs s rest g)
-      ∙ decode-good p h loads (ruledAfter (planOf p) cs s) rest (good-after p h loads (ruled .keeps) cs s g)
+      ap (decode (planOf p)) (run-encode p h loads ruled cs s rest g)
+      ∙ decode-good p h loads (ruledAfter (planOf p) cs s) rest (good-after p h loads ruled cs s g)
 
   -- the call after them gives the rule's answer
-  pub answer-after : (cs : List Call) (c : Call) (s : State) (rest : List ℕ) → Good (planOf p) s
+  pub answer-after : (cs : List Call) (c : Call) (s : State) (rest : List ℕ) → ruled .Reached s
       → callOn p c (bytesAfter p cs (encode (planOf p) s rest)) .answer ≡ call (planOf p) c (ruledAfter (planOf p) cs s) .answer
   answer-after cs c s rest g =
-      ap (λ (b : List ℕ). callOn p c b .answer) (run-encode p h loads (ruled .keeps) cs s rest g)
-      ∙ ap (λ (x : Given). x .answer) (on-encode p h loads c (ruledAfter (planOf p) cs s) rest (good-after p h loads (ruled .keeps) cs s g))
+      ap (λ (b : List ℕ). callOn p c b .answer) (run-encode p h loads ruled cs s rest g)
+      ∙ ap (λ (x : Given). x .answer) (on-encode p h loads c (ruledAfter (planOf p) cs s) rest (good-after p h loads ruled cs s g))
 
   -- and leaves bytes from which the rule's state is read
-  pub called-after : (cs : List Call) (c : Call) (s : State) (rest : List ℕ) → Good (planOf p) s
+  pub called-after : (cs : List Call) (c : Call) (s : State) (rest : List ℕ) → ruled .Reached s
       → stateOf p (callOn p c (bytesAfter p cs (encode (planOf p) s rest)) .bytes) ≡ call (planOf p) c (ruledAfter (planOf p) cs s) .state
   called-after cs c s rest g =
-      let t : Good (planOf p) (ruledAfter (planOf p) cs s) = good-after p h loads (ruled .keeps) cs s g in
-      ap (λ (b : List ℕ). stateOf p (callOn p c b .bytes)) (run-encode p h loads (ruled .keeps) cs s rest g)
+      let r : ruled .Reached (ruledAfter (planOf p) cs s) = reached-after p h loads ruled cs s g in
+      let t : Good (planOf p) (ruledAfter (planOf p) cs s) = good-after p h loads ruled cs s g in
+      ap (λ (b : List ℕ). stateOf p (callOn p c b .bytes)) (run-encode p h loads ruled cs s rest g)
       ∙ ap (λ (x : Given). stateOf p (x .bytes)) (on-encode p h loads c (ruledAfter (planOf p) cs s) rest t)
-      ∙ decode-good p h loads (call (planOf p) c (ruledAfter (planOf p) cs s) .state) rest (ruled .keeps c (ruledAfter (planOf p) cs s) t)
+      ∙ decode-good p h loads (call (planOf p) c (ruledAfter (planOf p) cs s) .state) rest (ruled .good (call (planOf p) c (ruledAfter (planOf p) cs s) .state) (ruled .keeps c (ruledAfter (planOf p) cs s) r))
 
   -- the bytes after the calls are a state's
-  pub state-reached : (cs : List Call) (s : State) (rest : List ℕ) → Good (planOf p) s → isState (planOf p) (bytesAfter p cs (encode (planOf p) s rest)) ≡ true
+  pub state-reached : (cs : List Call) (s : State) (rest : List ℕ) → ruled .Reached s → isState (planOf p) (bytesAfter p cs (encode (planOf p) s rest)) ≡ true
   state-reached cs s rest g =
-      rw (run-encode p h loads (ruled .keeps) cs s rest g)
-      (state-encode (planOf p) (accepted-wired p h loads) (accepted-range p h loads) (ruledAfter (planOf p) cs s) rest (good-after p h loads (ruled .keeps) cs s g))
+      rw (run-encode p h loads ruled cs s rest g)
+      (state-encode (planOf p) (accepted-wired p h loads) (accepted-range p h loads) (ruledAfter (planOf p) cs s) rest (good-after p h loads ruled cs s g))
 
   -- a move of the rules is one in the bytes
-  pub moves-in : (cs : List Call) (s : State) (rest : List ℕ) → Good (planOf p) s → Moves (planOf p) cs s → MovesIn p cs (encode (planOf p) s rest)
+  pub moves-in : (cs : List Call) (s : State) (rest : List ℕ) → ruled .Reached s → Moves (planOf p) cs s → MovesIn p cs (encode (planOf p) s rest)
   moves-in cs s rest g m =
       record {
         before = m .before;
@@ -65,9 +66,9 @@ module _ (p : List ℕ) (h : Head) (loads : loadOf p ≡ Accepted h) (ruled : Ru
       }
 
   -- progress from any good state's bytes
-  pub progress-in : (cs : List Call) (s : State) (rest : List ℕ) → Good (planOf p) s → Waits (planOf p) s → S (planOf p) ≤ roundsIn p cs (encode (planOf p) s rest)
+  pub progress-in : (cs : List Call) (s : State) (rest : List ℕ) → ruled .Reached s → Waits (planOf p) s → S (planOf p) ≤ roundsIn p cs (encode (planOf p) s rest)
       → MovesIn p cs (encode (planOf p) s rest)
-  progress-in cs s rest g w l = moves-in cs s rest g (ruled .progress s g w cs (rw (rounds-encode p h loads (ruled .keeps) cs s rest g) at l))
+  progress-in cs s rest g w l = moves-in cs s rest g (ruled .progress s (ruled .good s g) w cs (rw (rounds-encode p h loads ruled cs s rest g) at l))
 
   -- ---- from the start state's bytes, whatever is past them
   module _ (rest : List ℕ) where
@@ -77,11 +78,14 @@ module _ (p : List ℕ) (h : Head) (loads : loadOf p ≡ Accepted h) (ruled : Ru
     abbrev after : List Call → State
     after cs = ruledAfter (planOf p) cs (start (planOf p))
 
+    reached : (cs : List Call) → ruled .Reached (after cs)
+    reached cs = reached-after p h loads ruled cs (start (planOf p)) (ruled .starts)
+
     good : (cs : List Call) → Good (planOf p) (after cs)
-    good cs = good-after p h loads (ruled .keeps) cs (start (planOf p)) (ruled .starts)
+    good cs = good-after p h loads ruled cs (start (planOf p)) (ruled .starts)
 
     runs : (cs : List Call) → bytesAfter p cs begun ≡ encode (planOf p) (after cs) rest
-    runs cs = run-encode p h loads (ruled .keeps) cs (start (planOf p)) rest (ruled .starts)
+    runs cs = run-encode p h loads ruled cs (start (planOf p)) rest (ruled .starts)
 
     reads : (cs : List Call) → stateOf p (bytesAfter p cs begun) ≡ after cs
     reads cs = state-after cs (start (planOf p)) rest (ruled .starts)
@@ -94,19 +98,19 @@ module _ (p : List ℕ) (h : Head) (loads : loadOf p ≡ Accepted h) (ruled : Ru
           never-7 = λ before more c e k. rule-never-7 (planOf p) c (after before) (sym (answer-after before c (start (planOf p)) rest (ruled .starts)) ∙ k);
           capacity = λ before more e. subst⁻¹ (Within (planOf p)) (reads before) (good before .valid .capacities);
           table = λ before more e q.
-              rw (reads before, accepted-encode p h loads (ruled .keeps) before (start (planOf p)) rest [] (ruled .starts))
+              rw (reads before, accepted-encode p h loads ruled before (start (planOf p)) rest [] (ruled .starts))
               (ruled .table before (subst (Quiet (planOf p)) (reads before) q));
           progress = λ before during more e w l.
               subst⁻¹ (MovesIn p during) (runs before)
-              (progress-in during (after before) rest (good before) (subst (Waits (planOf p)) (reads before) w)
+              (progress-in during (after before) rest (reached before) (subst (Waits (planOf p)) (reads before) w)
               (subst (λ (b : List ℕ). S (planOf p) ≤ roundsIn p during b) (runs before) l));
           agrees = λ before more e.
               record { queues = ap (λ (s : State). s .queue) (reads before); wires = ap (λ (s : State). s .wire) (reads before); table = ap (λ (s : State). s .table) (reads before) };
           answers = λ before more c e. answer-after before c (start (planOf p)) rest (ruled .starts);
           launches = λ before more e d.
               rw (
-                accepted-encode p h loads (ruled .keeps) before (start (planOf p)) rest [] (ruled .starts),
-                launches-encode p h loads (ruled .keeps) d before (start (planOf p)) rest (ruled .starts),
+                accepted-encode p h loads ruled before (start (planOf p)) rest [] (ruled .starts),
+                launches-encode p h loads ruled d before (start (planOf p)) rest (ruled .starts),
               ) (ruled .launched before d);
         }
 
@@ -124,7 +128,7 @@ module _ (p : List ℕ) (h : Head) (loads : loadOf p ≡ Accepted h) (ruled : Ru
     pub reached-rounds : (before during : List Call) → roundsIn p during (bytesAfter p before (startOn p buffer .bytes)) ≡ rounds (planOf p) during (ruledAfter (planOf p) before (start (planOf p)))
     reached-rounds before during =
         rw (reached-bytes before)
-        (rounds-encode p h loads (ruled .keeps) during (ruledAfter (planOf p) before (start (planOf p))) (past (size (planOf p)) buffer) (good (past (size (planOf p)) buffer) before))
+        (rounds-encode p h loads ruled during (ruledAfter (planOf p) before (start (planOf p))) (past (size (planOf p)) buffer) (reached (past (size (planOf p)) buffer) before))
 
     -- demand 3's claim
     pub reached-claim : (cs : List Call) → Claim p (startOn p buffer .bytes) cs

@@ -18,7 +18,7 @@ use Rattle.machine.specs.State.{State, start}
 use Rattle.machine.specs.Calls.{Call, call}
 use Rattle.machine.specs.Accepted.{Connection, accept}
 use Rattle.machine.specs.Progress.{endsRound}
-use Rattle.machine.specs.Ruled.{Good, ruledAfter, acceptedAfter, rounds, launchesCall, launches}
+use Rattle.machine.specs.Ruled.{Good, Ruled, ruledAfter, acceptedAfter, rounds, launchesCall, launches}
 use Rattle.layout.specs.Rows.{past}
 use Rattle.layout.specs.Offsets.{size}
 use Rattle.layout.specs.Encode.{encode}
@@ -70,38 +70,42 @@ module _ (p : List ℕ) (h : Head) (loads : loadOf p ≡ Accepted h) where
   unfolding startOn
   start-done buffer l = rw (loads, le-ltb (length buffer) (size (planOf p)) l)
 
--- ---- a list of calls, where the rules keep good states good
-module _ (p : List ℕ) (h : Head) (loads : loadOf p ≡ Accepted h) (keeps : (c : Call) (s : State) → Good (planOf p) s → Good (planOf p) (call (planOf p) c s .state)) where
-  -- every state along the list is good
-  pub good-after : (cs : List Call) (s : State) → Good (planOf p) s → Good (planOf p) (ruledAfter (planOf p) cs s)
-  good-after [] s g = g
-  good-after (c ∷ cs) s g = good-after cs (call (planOf p) c s .state) (keeps c s g)
+-- ---- a list of calls, from a state that is one of those that the rules keep good
+module _ (p : List ℕ) (h : Head) (loads : loadOf p ≡ Accepted h) (ruled : Ruled (planOf p)) where
+  -- every state along the list is one of them
+  pub reached-after : (cs : List Call) (s : State) → ruled .Reached s → ruled .Reached (ruledAfter (planOf p) cs s)
+  reached-after [] s g = g
+  reached-after (c ∷ cs) s g = reached-after cs (call (planOf p) c s .state) (ruled .keeps c s g)
+
+  -- and good
+  pub good-after : (cs : List Call) (s : State) → ruled .Reached s → Good (planOf p) (ruledAfter (planOf p) cs s)
+  good-after cs s g = ruled .good (ruledAfter (planOf p) cs s) (reached-after cs s g)
 
   -- the bytes after the calls are those of the rules' state
-  pub run-encode : (cs : List Call) (s : State) (rest : List ℕ) → Good (planOf p) s → bytesAfter p cs (encode (planOf p) s rest) ≡ encode (planOf p) (ruledAfter (planOf p) cs s) rest
+  pub run-encode : (cs : List Call) (s : State) (rest : List ℕ) → ruled .Reached s → bytesAfter p cs (encode (planOf p) s rest) ≡ encode (planOf p) (ruledAfter (planOf p) cs s) rest
   run-encode [] s rest g = refl
   run-encode (c ∷ cs) s rest g =
-      ap (λ (x : Given). bytesAfter p cs (x .bytes)) (on-encode p h loads c s rest g) ∙ run-encode cs (call (planOf p) c s .state) rest (keeps c s g)
+      ap (λ (x : Given). bytesAfter p cs (x .bytes)) (on-encode p h loads c s rest (ruled .good s g)) ∙ run-encode cs (call (planOf p) c s .state) rest (ruled .keeps c s g)
 
   -- the connections accepted are the rules'
-  pub accepted-encode : (cs : List Call) (s : State) (rest : List ℕ) (acc : List Connection) → Good (planOf p) s
+  pub accepted-encode : (cs : List Call) (s : State) (rest : List ℕ) (acc : List Connection) → ruled .Reached s
       → acceptedBy p cs (encode (planOf p) s rest) acc ≡ acceptedAfter (planOf p) cs s acc
   accepted-encode [] s rest acc g = refl
   accepted-encode (c ∷ cs) s rest acc g =
-      ap (λ (x : Given). acceptedBy p cs (x .bytes) (accept (planOf p) c (x .answer) acc)) (on-encode p h loads c s rest g)
-      ∙ accepted-encode cs (call (planOf p) c s .state) rest (accept (planOf p) c (call (planOf p) c s .answer) acc) (keeps c s g)
+      ap (λ (x : Given). acceptedBy p cs (x .bytes) (accept (planOf p) c (x .answer) acc)) (on-encode p h loads c s rest (ruled .good s g))
+      ∙ accepted-encode cs (call (planOf p) c s .state) rest (accept (planOf p) c (call (planOf p) c s .answer) acc) (ruled .keeps c s g)
 
   -- the whole rounds are the rules'
-  pub rounds-encode : (cs : List Call) (s : State) (rest : List ℕ) → Good (planOf p) s → roundsIn p cs (encode (planOf p) s rest) ≡ rounds (planOf p) cs s
+  pub rounds-encode : (cs : List Call) (s : State) (rest : List ℕ) → ruled .Reached s → roundsIn p cs (encode (planOf p) s rest) ≡ rounds (planOf p) cs s
   rounds-encode [] s rest g = refl
   rounds-encode (c ∷ cs) s rest g =
-      ap (λ (x : Given). endsRound c (x .answer) + roundsIn p cs (x .bytes)) (on-encode p h loads c s rest g)
-      ∙ ap (λ (n : ℕ). endsRound c (call (planOf p) c s .answer) + n) (rounds-encode cs (call (planOf p) c s .state) rest (keeps c s g))
+      ap (λ (x : Given). endsRound c (x .answer) + roundsIn p cs (x .bytes)) (on-encode p h loads c s rest (ruled .good s g))
+      ∙ ap (λ (n : ℕ). endsRound c (call (planOf p) c s .answer) + n) (rounds-encode cs (call (planOf p) c s .state) rest (ruled .keeps c s g))
 
   -- the accepted Launches of a triple are the rules'
-  pub launches-encode : (d : Connection) (cs : List Call) (s : State) (rest : List ℕ) → Good (planOf p) s
+  pub launches-encode : (d : Connection) (cs : List Call) (s : State) (rest : List ℕ) → ruled .Reached s
       → launchesIn p d cs (encode (planOf p) s rest) ≡ launches (planOf p) d cs s
   launches-encode d [] s rest g = refl
   launches-encode d (c ∷ cs) s rest g =
-      ap (λ (x : Given). launchesCall d c (x .answer) + launchesIn p d cs (x .bytes)) (on-encode p h loads c s rest g)
-      ∙ ap (λ (n : ℕ). launchesCall d c (call (planOf p) c s .answer) + n) (launches-encode d cs (call (planOf p) c s .state) rest (keeps c s g))
+      ap (λ (x : Given). launchesCall d c (x .answer) + launchesIn p d cs (x .bytes)) (on-encode p h loads c s rest (ruled .good s g))
+      ∙ ap (λ (n : ℕ). launchesCall d c (call (planOf p) c s .answer) + n) (launches-encode d cs (call (planOf p) c s .state) rest (ruled .keeps c s g))

@@ -43,7 +43,7 @@ use Rattle.machine.proofs.OwnSteps.{start-owned, phase-owned, slot-owne
 use Rattle.machine.proofs.OwnUnits.{unit-owned}
 use Rattle.machine.proofs.OwnTable.{owned-table}
 use Rattle.machine.proofs.Launches.{Counted, start-counted, counted-times, phase-counted, slot-counted, settle-counted, choose-counted, removed-counted, deliver-counted, send-counted, unit-counted, undo-counted, launched-counted, replied-counted}
-use Rattle.machine.proofs.Keeps.{Inv, start-inv, call-inv, starts-good, keeps-good, by-test, is-phase, not-false, reply-kind, phase-core, turn-core, deliver-core, settle-core, unit-core, choose-core, undo-core, send-core}
+use Rattle.machine.proofs.Keeps.{Inv, good-of, start-inv, call-inv, by-test, is-phase, not-false, reply-kind, phase-core, turn-core, deliver-core, settle-core, unit-core, choose-core, undo-core, send-core}
 use Rattle.machine.proofs.FromRead.{progress}
 
 -- inside a phase: the core, who owns what, and what is on its way to be accepted
@@ -236,12 +236,21 @@ module _ {pl : Plan} (wired : Wired pl) (range : InRange (pl .head)) where
       let g = list-tracked cs (accept pl c (call pl c s .answer) acc) (λ d. launchesCall d c (call pl c s .answer) + n d) (call pl c s .state) (call-tracked acc n s k c) in
       record { inv = g .inv; owned = g .owned; counted = λ d. record { count = omega (arith, g .counted d .count) } }
 
+  -- ---- what every call keeps: core, shape and ownership, with some connections accepted and some launches
+  abbrev pub Held : State → Type 0
+  Held s = (acc : List Connection) × (n : Connection → ℕ) × Tracked pl acc n s
+
+  pub held-kept : (c : Call) (s : State) → Held s → Held (call pl c s .state)
+  held-kept c s (acc, n, k) = (accept pl c (call pl c s .answer) acc, (λ d. launchesCall d c (call pl c s .answer) + n d), call-tracked acc n s k c)
+
   -- ---- demand 3 on the rules
   pub ruled : (FeedRing pl → ⊥) → Ruled pl
   ruled free =
       record {
-        starts = starts-good wired range;
-        keeps = keeps-good wired range;
+        Reached = Held;
+        starts = ([], (λ d. 0), start-tracked);
+        keeps = held-kept;
+        good = λ s k. good-of pl s (k .2 .inv);
         table = λ cs q. owned-table wired (ruledAfter pl cs (start pl)) (list-tracked cs [] (λ d. 0) (start pl) start-tracked .owned) q;
         progress = λ s g w cs l. progress wired range free s g w cs l;
         launched = λ cs d. let m = counted-times pl d (list-tracked cs [] (λ d. 0) (start pl) start-tracked .counted d) in omega arith;

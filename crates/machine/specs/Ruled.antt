@@ -65,10 +65,12 @@ pub record Good (pl : Plan) (s : State) : Type 0 where
   pub bounded : Bounded pl s
 
 -- ---- what is to be shown
-pub record Ruled (pl : Plan) : Type 0 where
-  -- what refusal 7 asks holds at the start and is kept by every call, from every valid state
-  pub starts : Good pl (start pl)
-  pub keeps : (c : Call) (s : State) → Good pl s → Good pl (call pl c s .state)
+pub record Ruled (pl : Plan) : Type 1 where
+  -- what holds at the start and is kept by every call; such a state is not refused 7
+  pub Reached : State → Type 0
+  pub starts : Reached (start pl)
+  pub keeps : (c : Call) (s : State) → Reached s → Reached (call pl c s .state)
+  pub good : (s : State) → Reached s → Good pl s
   pub table : (cs : List Call) → Quiet pl (ruledAfter pl cs (start pl)) → MadeBy pl (acceptedAfter pl cs (start pl) []) (ruledAfter pl cs (start pl) .table)
   -- from every valid state
   pub progress : (s : State) → Good pl s → Waits pl s → (cs : List Call) → S pl ≤ rounds pl cs s → Moves pl cs s

@@ -52,6 +52,7 @@ gather-in x f (suc n) j = by (λ k. gather-in x f n k) (in-either x (gather f n)
     up : (i : ℕ) × (i < n) × In x (f i) → (i : ℕ) × (i < suc n) × In x (f i)
     up (i, h, k) = (i, omega arith, k)
 
-    by : (In x (gather f n) → (i : ℕ) × (i < n) × In x (f i)) → In x (gather f n) ⊎ In x (f n) → (i : ℕ) × (i < suc n) × In x (f i)
+    by : (In x (gather f n) → (i : ℕ) × (i < n) × In x (f i)) → In x (gather f n) ⊎ In x (f n)
+        → (i : ℕ) × (i < suc n) × In x (f i)
     by rec (inl k) = up (rec k)
     by rec (inr k) = (n, omega arith, k)

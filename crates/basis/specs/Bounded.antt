@@ -39,7 +39,8 @@ pub find : (n : ℕ) (f : ℕ → Bool) → Found n f ⊎ ((i : ℕ) → i < n �
 find zero f = inr (λ i h. absurd (not-suc-le-zero h))
 find (suc n) f = at (test (f n)) (find n f)
   where
-    at : (f n ≡ true) ⊎ (f n ≡ false) → Found n f ⊎ ((i : ℕ) → i < n → f i ≡ false) → Found (suc n) f ⊎ ((i : ℕ) → i < suc n → f i ≡ false)
+    at : (f n ≡ true) ⊎ (f n ≡ false) → Found n f ⊎ ((i : ℕ) → i < n → f i ≡ false)
+        → Found (suc n) f ⊎ ((i : ℕ) → i < suc n → f i ≡ false)
     at (inl e) r = inl (n, omega arith, e)
     at (inr e) (inl (i, h, t)) = inl (i, omega arith, t)
     at (inr e) (inr none) = inr (λ i h. last i (below-suc h))
@@ -87,7 +88,8 @@ pub any-none : (f : ℕ → Bool) → anyBelow 0 f ≡ false
 unfolding anyBelow
 any-none f = refl
 
-pub any-more : (f : ℕ → Bool) (i : ℕ) {b : Bool} → anyBelow i f ≡ false → b ≡ f i → b ≡ false → anyBelow (i + 1) f ≡ false
+pub any-more : (f : ℕ → Bool) (i : ℕ) {b : Bool} → anyBelow i f ≡ false → b ≡ f i → b ≡ false
+    → anyBelow (i + 1) f ≡ false
 unfolding anyBelow
 any-more f i e g h = rw (add-one, ← g, h, e)
 
@@ -101,7 +103,8 @@ unfolding allBelow
 all-at zero f e i h = absurd (not-suc-le-zero h)
 all-at (suc n) f e i h = by (λ g l. all-at n f g i l) (test (allBelow n f)) (below-suc h)
   where
-    by : (allBelow n f ≡ true → i < n → f i ≡ true) → (allBelow n f ≡ true) ⊎ (allBelow n f ≡ false) → (i < n) ⊎ (i ≡ n) → f i ≡ true
+    by : (allBelow n f ≡ true → i < n → f i ≡ true) → (allBelow n f ≡ true) ⊎ (allBelow n f ≡ false)
+        → (i < n) ⊎ (i ≡ n) → f i ≡ true
     by rec (inl t) (inl l) = rec t l
     by rec (inl t) (inr q) = rw q (rw t at e)
     by rec (inr t) c = absurd (false≢true (rw t at e))
@@ -133,4 +136,5 @@ all-done f e q = rw (← q) e
 pub all-same : (n : ℕ) (f g : ℕ → Bool) → ((i : ℕ) → i < n → f i ≡ g i) → allBelow n f ≡ allBelow n g
 unfolding allBelow
 all-same zero f g h = refl
-all-same (suc n) f g h = ap₂ (λ (a b : Bool). pick a b false) (all-same n f g (λ i l. h i (omega arith))) (h n (omega arith))
+all-same (suc n) f g h =
+    ap₂ (λ (a b : Bool). pick a b false) (all-same n f g (λ i l. h i (omega arith))) (h n (omega arith))

@@ -44,7 +44,8 @@ pigeon (suc n) f h = by (λ g k. pigeon n g k) (find (suc n) (λ i. eqb (f i) (f
 
     by : ((g : ℕ → ℕ) → ((i : ℕ) → i < suc n → g i < n) → Twice g (suc n))
         → Found (suc n) (λ i. eqb (f i) y) ⊎ ((i : ℕ) → i < suc n → eqb (f i) y ≡ false) → Twice f (suc (suc n))
-    by rec (inl (i, l, e)) = record { first = i; second = suc n; order = l; bound = omega arith; same = eqb-true (f i) y e }
+    by rec (inl (i, l, e)) =
+        record { first = i; second = suc n; order = l; bound = omega arith; same = eqb-true (f i) y e }
     by rec (inr none) = again (rec (λ i. rename n y (f i)) small)
       where
         other : (i : ℕ) → i < suc n → f i ≢ y
@@ -78,7 +79,8 @@ pigeon (suc n) f h = by (λ g k. pigeon n g k) (find (suc n) (λ i. eqb (f i) (f
                 pair (inr a) (inr b) = omega (arith, t .same)
 
 -- a list longer than n, all below n, has two equal elements
-pub pigeon-list : (n : ℕ) (xs : List ℕ) → n < length xs → ((i : ℕ) → i < length xs → getD xs i 0 < n) → Twice (λ i. getD xs i 0) (length xs)
+pub pigeon-list : (n : ℕ) (xs : List ℕ) → n < length xs → ((i : ℕ) → i < length xs → getD xs i 0 < n)
+    → Twice (λ i. getD xs i 0) (length xs)
 pigeon-list n xs l h =
     let t = pigeon n (λ i. getD xs i 0) (λ i k. h i (omega arith)) in
     record { first = t .first; second = t .second; order = t .order; bound = omega arith; same = t .same }

@@ -20,7 +20,8 @@ pub record Ring {X : Type 0} (Next : X → X → Type 0) : Type 0 where
   pub linked : (i : ℕ) → i < size → Next (node i) (node (suc i))
 
 -- a ring stays one where each step is also a step of another relation
-pub ring-map : {X Y : Type 0} (R : X → X → Type 0) (T : Y → Y → Type 0) (f : X → Y) → ((x y : X) → R x y → T (f x) (f y)) → Ring R → Ring T
+pub ring-map : {X Y : Type 0} (R : X → X → Type 0) (T : Y → Y → Type 0) (f : X → Y)
+    → ((x y : X) → R x y → T (f x) (f y)) → Ring R → Ring T
 ring-map R T f h r = record {
   size = r .size;
   node = λ i. f (r .node i);
@@ -96,10 +97,14 @@ module _ (n : ℕ) (feeds : ℕ → ℕ → Bool) where
   pub chain-of-live : (k x : ℕ) → x < n → getD (live k) x false ≡ true → Chain k x
   unfolding anyNext
   chain-of-live zero x l t = still x l
-  chain-of-live (suc k) x l t = go (λ y m u. chain-of-live k y m u) (any-true n (λ y. feeds x y && getD (live k) y false) (sym (live-more k x l) ∙ t))
+  chain-of-live (suc k) x l t =
+      go (λ y m u. chain-of-live k y m u)
+      (any-true n (λ y. feeds x y && getD (live k) y false) (sym (live-more k x l) ∙ t))
     where
-      go : ((y : ℕ) → y < n → getD (live k) y false ≡ true → Chain k y) → Found n (λ y. feeds x y && getD (live k) y false) → Chain (suc k) x
-      go rec (y, m, e) = let b = and-eq-true-iff (feeds x y) (getD (live k) y false) .0 e in longer l (b .0) (rec y m (b .1))
+      go : ((y : ℕ) → y < n → getD (live k) y false ≡ true → Chain k y)
+          → Found n (λ y. feeds x y && getD (live k) y false) → Chain (suc k) x
+      go rec (y, m, e) =
+          let b = and-eq-true-iff (feeds x y) (getD (live k) y false) .0 e in longer l (b .0) (rec y m (b .1))
 
   -- round a ring one can go for as long as one likes
   pub live-in-ring : (r : Ring (Leads n feeds)) (k i : ℕ) → i ≤ r .size → getD (live k) (r .node i) false ≡ true
@@ -111,14 +116,16 @@ module _ (n : ℕ) (feeds : ℕ → ℕ → Bool) where
       inside (inr e) = rw (e, r .closed) (r .linked 0 (r .some) .from)
   live-in-ring r (suc k) i h = go (λ j m. live-in-ring r k j m) (below-suc {n = r .size} (omega arith))
     where
-      link : (j : ℕ) → j < r .size → getD (live k) (r .node (suc j)) false ≡ true → getD (live (suc k)) (r .node j) false ≡ true
+      link : (j : ℕ) → j < r .size → getD (live k) (r .node (suc j)) false ≡ true
+          → getD (live (suc k)) (r .node j) false ≡ true
       link j m t =
           let l = r .linked j m in
           live-more k (r .node j) (l .from)
           ∙ any-of n (λ y. feeds (r .node j) y && getD (live k) y false) (r .node (suc j)) (l .to)
           (and-eq-true-iff (feeds (r .node j) (r .node (suc j))) (getD (live k) (r .node (suc j)) false) .1 (l .step, t))
 
-      go : ((j : ℕ) → j ≤ r .size → getD (live k) (r .node j) false ≡ true) → (i < r .size) ⊎ (i ≡ r .size) → getD (live (suc k)) (r .node i) false ≡ true
+      go : ((j : ℕ) → j ≤ r .size → getD (live k) (r .node j) false ≡ true) → (i < r .size) ⊎ (i ≡ r .size)
+          → getD (live (suc k)) (r .node i) false ≡ true
       go rec (inl m) = link i m (rec (suc i) m)
       go rec (inr e) = rw (e, r .closed) (link 0 (r .some) (rec 1 (r .some)))
 
@@ -136,7 +143,8 @@ module _ (n : ℕ) (feeds : ℕ → ℕ → Bool) where
 
   pub test-of-ring : Ring (Leads n feeds) → ringTest ≡ true
   unfolding ringTest
-  test-of-ring r = any-of n (λ x. getD (live n) x false) (r .node 0) (r .linked 0 (r .some) .from) (live-in-ring r n 0 (omega arith))
+  test-of-ring r =
+      any-of n (λ x. getD (live n) x false) (r .node 0) (r .linked 0 (r .some) .from) (live-in-ring r n 0 (omega arith))
 
   -- ---- following the next: each step comes to what is wanted, or to another node that the relation leads to
   module _ (D : Type 0) (B : ℕ → Type 0)
@@ -162,7 +170,8 @@ module _ (n : ℕ) (feeds : ℕ → ℕ → Bool) where
         go (inr d) = d
 
 -- two relations that agree below n have rings together
-pub ring-same : (n : ℕ) (f g : ℕ → ℕ → Bool) → ((x y : ℕ) → x < n → y < n → f x y ≡ g x y) → Ring (Leads n f) → Ring (Leads n g)
+pub ring-same : (n : ℕ) (f g : ℕ → ℕ → Bool) → ((x y : ℕ) → x < n → y < n → f x y ≡ g x y) → Ring (Leads n f)
+    → Ring (Leads n g)
 ring-same n f g h r =
     ring-map (Leads n f) (Leads n g) (λ x. x)
     (λ x y l. record { from = l .from; to = l .to; step = sym (h x y (l .from) (l .to)) ∙ l .step }) r

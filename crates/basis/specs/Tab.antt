@@ -48,7 +48,9 @@ module _ {A : Type 0} where
 
   -- a put, seen in the list, is a set
   pub tab-put : (n : ℕ) (m : ℕ → A) (i : ℕ) (a d : A) → i < n → tab n (put m i a) ≡ set (tab n m) i a
-  tab-put n m i a d h = ext-getD d (tab n (put m i a)) (set (tab n m) i a) (length-tab n (put m i a) ∙ sym (length-set (tab n m) i a ∙ length-tab n m)) cells
+  tab-put n m i a d h =
+      ext-getD d (tab n (put m i a)) (set (tab n m) i a)
+      (length-tab n (put m i a) ∙ sym (length-set (tab n m) i a ∙ length-tab n m)) cells
     where
       cells : (j : ℕ) → j < length (tab n (put m i a)) → getD (tab n (put m i a)) j d ≡ getD (set (tab n m) i a) j d
       cells j l = by (test (eqb j i))
@@ -59,10 +61,12 @@ module _ {A : Type 0} where
           by : (eqb j i ≡ true) ⊎ (eqb j i ≡ false) → getD (tab n (put m i a)) j d ≡ getD (set (tab n m) i a) j d
           by (inl t) =
               let e : j ≡ i = eqb-true j i t in
-              getD-tab n (put m i a) j d lt ∙ rw e (put-same m i a ∙ sym (getD-set-same (tab n m) i a d (rw length-tab h)))
+              getD-tab n (put m i a) j d lt
+              ∙ rw e (put-same m i a ∙ sym (getD-set-same (tab n m) i a d (rw length-tab h)))
           by (inr t) =
               let ne : j ≢ i = eqb-false j i t in
-              getD-tab n (put m i a) j d lt ∙ put-other m i a j ne ∙ sym (getD-tab n m j d lt) ∙ sym (getD-set-other (tab n m) i j a d ne)
+              getD-tab n (put m i a) j d lt ∙ put-other m i a j ne ∙ sym (getD-tab n m j d lt)
+              ∙ sym (getD-set-other (tab n m) i j a d ne)
 
   -- two stores that agree below n are one list
   pub tab-ext : (n : ℕ) (f g : ℕ → A) (d : A) → ((i : ℕ) → i < n → f i ≡ g i) → tab n f ≡ tab n g
@@ -82,5 +86,6 @@ module _ {A : Type 0} where
       by i (inr g) = List·getD-eq-default (tab n f) d (rw length-tab g) ∙ sym (h i g)
 
   -- what a put inside the bound keeps
-  pub put-past : (n : ℕ) (m : ℕ → A) (i : ℕ) (a d : A) → i < n → ((j : ℕ) → n ≤ j → m j ≡ d) → (j : ℕ) → n ≤ j → put m i a j ≡ d
+  pub put-past : (n : ℕ) (m : ℕ → A) (i : ℕ) (a d : A) → i < n → ((j : ℕ) → n ≤ j → m j ≡ d) → (j : ℕ) → n ≤ j
+      → put m i a j ≡ d
   put-past n m i a d h c j g = put-other m i a j (omega arith) ∙ c j g

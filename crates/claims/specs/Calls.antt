@@ -1,4 +1,5 @@
--- The calls on bytes: plan bytes, state bytes and arguments give the answer and the state bytes. 'Load (and first in every call)'; then refusal 7;
+-- The calls on bytes: plan bytes, state bytes and arguments give the answer and the state bytes. 'Load (and first in
+-- every call)'; then refusal 7;
 -- then the call's own refusals. Bytes past the state are never written, and a refusal alters no byte.
 use mathlib.Core.Path.{_≡_}
 use mathlib.Core.Bool.{Bool, true, false, _&&_}
@@ -51,8 +52,12 @@ onState rule b pl = pick (isState pl b) (stored pl b (rule (decode pl b))) (give
 
 -- ---- one definition for each call
 -- '**Start**: 7 state buffer too short'
+abbrev pub startIn : List ℕ → Plan → Given
+startIn b pl =
+    pick (ltb (length b) (size pl)) (given (Refused NotState) b) (given Done (encode pl (start pl) (past (size pl) b)))
+
 unfoldable pub startOn : List ℕ → List ℕ → Given
-startOn p b = onPlan p b (λ pl. pick (ltb (length b) (size pl)) (given (Refused NotState) b) (given Done (encode pl (start pl) (past (size pl) b)))) (loadOf p)
+startOn p b = onPlan p b (startIn b) (loadOf p)
 
 unfoldable pub readOn : List ℕ → List ℕ → Given
 readOn p b = onPlan p b (λ pl. onState (readCall pl) b pl) (loadOf p)

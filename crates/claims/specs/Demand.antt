@@ -1,5 +1,6 @@
--- Demand 3, 'a single claim about the whole list': plan bytes that Load accepts, the state bytes that an accepted Start left, and any list of the
--- calls Read, Execute, Write, Launch, Reply, Consume and Entry, each on the bytes as the last one left them.
+-- Demand 3, 'a single claim about the whole list': plan bytes that Load accepts, the state bytes that an accepted
+-- Start left, and any list of the calls Read, Execute, Write, Launch, Reply, Consume and Entry, each on the bytes as
+-- the last one left them.
 use mathlib.Core.Path.{_≡_}
 use mathlib.Core.Logic.{_≢_}
 use mathlib.Core.Bool.{Bool, true, false, _&&_}
@@ -46,14 +47,16 @@ abbrev pub launchesIn : List ℕ → Connection → List Call → List ℕ → �
 launchesIn p d [] b = 0
 launchesIn p d (c ∷ cs) b = launchesCall d c (callOn p c b .answer) + launchesIn p d cs (callOn p c b .bytes)
 
--- 'at least one packet changes its queue or wire, or ends, by a Read, an Execute or a Write': a call of the list that takes it out
+-- 'at least one packet changes its queue or wire, or ends, by a Read, an Execute or a Write': a call of the list that
+-- takes it out
 pub record MovesIn (p : List ℕ) (cs : List Call) (b : List ℕ) : Type 0 where
   pub before : List Call
   pub at : Call
   pub rest : List Call
   pub split : cs ≡ before ++ (at ∷ rest)
   pub timed : isTimed at ≡ true
-  pub moved : Moved (planOf p) (stateOf p (bytesAfter p before b)) (stateOf p (callOn p at (bytesAfter p before b) .bytes))
+  pub moved : Moved (planOf p) (stateOf p (bytesAfter p before b))
+      (stateOf p (callOn p at (bytesAfter p before b) .bytes))
 
 -- the same queues, wires and table
 pub record Agrees (s t : State) : Type 0 where
@@ -63,24 +66,35 @@ pub record Agrees (s t : State) : Type 0 where
 
 -- ---- the claim
 pub record Claim (p b : List ℕ) (cs : List Call) : Type 0 where
-  -- 'No state reached from start is refused so': at the start and after each call the bytes pass refusal 7's test, and no call answers 7
+  -- 'No state reached from start is refused so': at the start and after each call the bytes pass refusal 7's test,
+  -- and no call answers 7
   pub state : (before after : List Call) → cs ≡ before ++ after → isState (planOf p) (bytesAfter p before b) ≡ true
-  pub never-7 : (before after : List Call) (c : Call) → cs ≡ before ++ (c ∷ after) → callOn p c (bytesAfter p before b) .answer ≢ Refused NotState
+  pub never-7 : (before after : List Call) (c : Call) → cs ≡ before ++ (c ∷ after)
+      → callOn p c (bytesAfter p before b) .answer ≢ Refused NotState
   -- 'at the start and after each call, no queue holds more than its capacity'
-  pub capacity : (before after : List Call) → cs ≡ before ++ after → Within (planOf p) (stateOf p (bytesAfter p before b))
-  -- 'Whenever every queue and wire is empty, the slot table equals, entry by entry, the one that the connections accepted so far make'
+  pub capacity : (before after : List Call) → cs ≡ before ++ after
+      → Within (planOf p) (stateOf p (bytesAfter p before b))
+  -- 'Whenever every queue and wire is empty, the slot table equals, entry by entry, the one that the connections
+  -- accepted so far make'
   pub table : (before after : List Call) → cs ≡ before ++ after → Quiet (planOf p) (stateOf p (bytesAfter p before b))
       → MadeBy (planOf p) (acceptedBy p before b []) (stateOf p (bytesAfter p before b) .table)
-  -- 'and the list goes on for S whole rounds': whatever stands between them, and with the S-th Write as the last call of `during` if one likes
-  pub progress : (before during after : List Call) → cs ≡ before ++ (during ++ after) → Waits (planOf p) (stateOf p (bytesAfter p before b))
+  -- 'and the list goes on for S whole rounds': whatever stands between them, and with the S-th Write as the last call
+  -- of `during` if one likes
+  pub progress : (before during after : List Call) → cs ≡ before ++ (during ++ after)
+      → Waits (planOf p) (stateOf p (bytesAfter p before b))
       → S (planOf p) ≤ roundsIn p during (bytesAfter p before b) → MovesIn p during (bytesAfter p before b)
   -- 'the rules above, run from Start on the same list, give after each call the same queues, wires, table and answer'
-  pub agrees : (before after : List Call) → cs ≡ before ++ after → Agrees (stateOf p (bytesAfter p before b)) (ruledAfter (planOf p) before (start (planOf p)))
+  pub agrees : (before after : List Call) → cs ≡ before ++ after
+      → Agrees (stateOf p (bytesAfter p before b)) (ruledAfter (planOf p) before (start (planOf p)))
   pub answers : (before after : List Call) (c : Call) → cs ≡ before ++ (c ∷ after)
-      → callOn p c (bytesAfter p before b) .answer ≡ call (planOf p) c (ruledAfter (planOf p) before (start (planOf p))) .answer
+      → callOn p c (bytesAfter p before b) .answer
+      ≡ call (planOf p) c (ruledAfter (planOf p) before (start (planOf p))) .answer
   -- 'the list has at least as many accepted Launches of those three numbers as Consumes that accepted them'
-  pub launches : (before after : List Call) → cs ≡ before ++ after → (d : Connection) → times d (acceptedBy p before b []) ≤ launchesIn p d before b
+  pub launches : (before after : List Call) → cs ≡ before ++ after → (d : Connection)
+      → times d (acceptedBy p before b []) ≤ launchesIn p d before b
 
 -- demand 3: for every loadable plan, every buffer in which Start is accepted, and every list of calls
 abbrev pub Demand3 : Type 0
-Demand3 = (p buffer : List ℕ) (h : Head) → loadOf p ≡ Accepted h → startOn p buffer .answer ≡ Done → (cs : List Call) → Claim p (startOn p buffer .bytes) cs
+Demand3 =
+    (p buffer : List ℕ) (h : Head) → loadOf p ≡ Accepted h → startOn p buffer .answer ≡ Done → (cs : List Call)
+    → Claim p (startOn p buffer .bytes) cs

@@ -24,7 +24,8 @@ edge x y = record { from = x; to = y }
 -- from queue x into the router at y, through its unit and to its side o; and the edges after that
 abbrev pub throughUnit : Queue → Port → ℕ → List Edge → List Edge
 throughUnit x y o rest =
-    edge x (U (y .router) (y .side)) ∷ edge (U (y .router) (y .side)) (Q (y .router)) ∷ edge (Q (y .router)) (F (y .router) o) ∷ rest
+    edge x (U (y .router) (y .side)) ∷ edge (U (y .router) (y .side)) (Q (y .router)) ∷ edge (Q (y .router))
+    (F (y .router) o) ∷ rest
 
 -- set-ups and tear-downs to passive p: from queue x into the router at y, and on, at most n routers
 unfoldable pub aheadEdges : Plan → ℕ → ℕ → Queue → Port → List Edge

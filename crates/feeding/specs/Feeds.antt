@@ -1,5 +1,6 @@
--- 'Queue X *feeds* Y if a packet of a served pair can go next from X to Y: set-ups and tear-downs along the walk, ACKs back from the
--- passive, NACKs back from Q of each router on it or from the passive.' Two definitions say it: where a packet may be, and where it goes next.
+-- 'Queue X *feeds* Y if a packet of a served pair can go next from X to Y: set-ups and tear-downs along the walk,
+-- ACKs back from the passive, NACKs back from Q of each router on it or from the passive.' Two definitions say it:
+-- where a packet may be, and where it goes next.
 use mathlib.Core.Path.{_≡_}
 use mathlib.Core.Logic.{_⊎_}
 use mathlib.Core.Option.{Option, none, some}
@@ -110,7 +111,8 @@ Ahead pl a p (inQueue (activeIn x)) n = ⊥
 Ahead pl a p (inQueue (passiveOut x)) n = ⊥
 Ahead pl a p (inQueue (K r i o)) n = ⊥
 
--- an answer comes in by y: back from the passive, n the walk's length, or from the unit of the n-th router x by the next router z
+-- an answer comes in by y: back from the passive, n the walk's length, or from the unit of the n-th router x by the
+-- next router z
 abbrev pub Returns : Plan → ℕ → ℕ → ℕ → Port → Type 0
 Returns pl a p n y =
     (Meets pl (active a) (home pl (passive p)) y × (n ≡ span pl a p))
@@ -128,7 +130,8 @@ Back pl a p (inQueue (U r i)) n = ⊥
 Back pl a p (inQueue (activeOut x)) n = ⊥
 Back pl a p (inQueue (passiveIn x)) n = ⊥
 
--- 'a hub that fits that place (SETUP: routers booked on the way there; TDOWN: 1 to the routers still ahead; ACK: the walk's length;
+-- 'a hub that fits that place (SETUP: routers booked on the way there; TDOWN: 1 to the routers still ahead; ACK: the
+-- walk's length;
 -- NACK: that length if it can come from the passive, or the index, from 0, of a router whose NACK passes there)'
 abbrev pub Fits : Plan → Kind → ℕ → ℕ → ℕ → Place → Type 0
 Fits pl Setup a p hub x = Ahead pl a p x hub

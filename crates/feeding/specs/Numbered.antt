@@ -54,10 +54,12 @@ queues-in pl = refl
 pub marks-in : (pl : Plan) (es : List Edge) (cells : List ℕ) → marks pl es cells ≡ marks (bare (pl .head)) es cells
 unfolding marks
 marks-in pl [] cells = refl
-marks-in pl (e ∷ es) cells = rw (number-in pl (e .from), number-in pl (e .to), number-in (bare (pl .head)) (e .from), number-in (bare (pl .head)) (e .to)) (marks-in pl es _)
+marks-in pl (e ∷ es) cells =
+    rw (number-in pl (e .from), number-in pl (e .to), number-in (bare (pl .head)) (e .from), number-in (bare (pl .head)) (e .to)) (marks-in pl es _)
 
 -- of the plan that tables give
-pub number-table : (h : Head) (routes : List (List ℕ)) (joints : List ℕ) (x : Queue) → number (tablePlan h routes joints) x ≡ numberIn h x
+pub number-table : (h : Head) (routes : List (List ℕ)) (joints : List ℕ) (x : Queue)
+    → number (tablePlan h routes joints) x ≡ numberIn h x
 unfolding tablePlan
 number-table h routes joints x = number-in (tablePlan h routes joints) x
 

@@ -1,4 +1,5 @@
--- Refusal 6 as a test: a ring in the table of successors. (journeys.Rings shows that it finds exactly the rings of feeding queues.)
+-- Refusal 6 as a test: a ring in the table of successors. (journeys.Rings shows that it finds exactly the rings of
+-- feeding queues.)
 use mathlib.Core.Bool.{Bool}
 use Rattle.basis.specs.Ring.{ringTest}
 use Rattle.rings.specs.Edges.{edge}

@@ -13,7 +13,8 @@ use Rattle.feeding.specs.Feeds.{Heading, ahead, back, Meets}
 abbrev pub OnWalk : Plan → ℕ → ℕ → ℕ → Type 0
 OnWalk pl a p r = (i : ℕ) × Meets pl (passive p) (home pl (active a)) (record { router = r; side = i })
 
--- an answer of the pair comes in by y: back from the passive, or from the unit of a router x on the walk by the next router z
+-- an answer of the pair comes in by y: back from the passive, or from the unit of a router x on the walk by the next
+-- router z
 abbrev pub Comes : Plan → ℕ → ℕ → Port → Type 0
 Comes pl a p y =
     Meets pl (active a) (home pl (passive p)) y

@@ -38,11 +38,14 @@ lent b t j o {h} {l} {routes} {joints} {homes} e a f g k =
     record { range = rw (p .1) range; plan = same; ports = k ∙ ap (loadHomes b o) accepted ∙ ap homesOf (sym same) }
 
 -- ---- the table of homes
-homes-at : (pl : Plan) (d : ℕ) → destinations (pl .head) ≤ 32 → d < destinations (pl .head) → getD (homesOf pl) d 0 ≡ portOr0 (portsOf pl (interfaceAt (pl .head) d))
+homes-at : (pl : Plan) (d : ℕ) → destinations (pl .head) ≤ 32 → d < destinations (pl .head)
+    → getD (homesOf pl) d 0 ≡ portOr0 (portsOf pl (interfaceAt (pl .head) d))
 unfolding homesOf
 homes-at pl d m l =
-    fill-at (λ d. portOr0 (portsOf pl (interfaceAt (pl .head) d))) (destinations (pl .head)) (replicate 32 0) d 0 l (rw length-replicate (omega arith))
+    fill-at (λ d. portOr0 (portsOf pl (interfaceAt (pl .head) d))) (destinations (pl .head)) (replicate 32 0) d 0 l
+    (rw length-replicate (omega arith))
 
-pub active-home : (pl : Plan) (a : ℕ) → destinations (pl .head) ≤ 32 → a < pl .head .actives → home pl (active a) ≡ portOf (getD (homesOf pl) a 0)
+pub active-home : (pl : Plan) (a : ℕ) → destinations (pl .head) ≤ 32 → a < pl .head .actives
+    → home pl (active a) ≡ portOf (getD (homesOf pl) a 0)
 unfolding home
 active-home pl a m l = ap portOf (sym (homes-at pl a m (omega arith) ∙ rw (lt-ltb a (pl .head .actives) l)))

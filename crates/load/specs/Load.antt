@@ -1,6 +1,7 @@
 -- Load's answer, one definition by cases in document 01's order:
 -- '1 fewer than six bytes; 2 R, A, P, S or a capacity outside its range; 3 wrong length or a fill bit set;
--- 4 a later field outside its range; 5 a router joint not named back, a joint to the same router, or an interface without exactly one joint; 6 a ring.'
+-- 4 a later field outside its range; 5 a router joint not named back, a joint to the same router, or an interface
+-- without exactly one joint; 6 a ring.'
 use mathlib.Core.Bool.{Bool, not, _&&_}
 use mathlib.Core.List.{List}
 use Prim.Native.Nat.{ℕ}

@@ -52,7 +52,8 @@ refused-not : {h : Head} {w : Refusal} → Refused w ≡ Accepted h → ⊥
 refused-not e = let z : _≡_ {A = ℕ} 0 1 = cc in omega arith
 
 -- a choice of a refusal or something else that is an acceptance took its second case
-past : {h : Head} (t : Bool) (w : Refusal) (y : Loaded) → pick t (Refused w) y ≡ Accepted h → (t ≡ false) × (y ≡ Accepted h)
+past : {h : Head} (t : Bool) (w : Refusal) (y : Loaded) → pick t (Refused w) y ≡ Accepted h
+    → (t ≡ false) × (y ≡ Accepted h)
 past true w y e = absurd (refused-not e)
 past false w y e = (refl, e)
 

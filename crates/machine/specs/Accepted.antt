@@ -1,5 +1,6 @@
--- 'The *accepted connections* .. Told by the calls and their answers: each accepted Consume that returns an ACK accepts one, with that packet's
--- active and passive and, as its start slot, the packet's slot minus hub modulo S.' And the table that they make.
+-- 'The *accepted connections* .. Told by the calls and their answers: each accepted Consume that returns an ACK
+-- accepts one, with that packet's active and passive and, as its start slot, the packet's slot minus hub modulo S.'
+-- And the table that they make.
 use mathlib.Core.Path.{_≡_}
 use mathlib.Core.List.{List, [], _∷_}
 use Prim.Native.Nat.{ℕ, _<_}
@@ -47,7 +48,8 @@ accept pl (consume a) Done cs = cs
 accept pl (consume a) (Holds e) cs = cs
 accept pl (consume a) (Taken x) cs = acceptKind pl (x .kind) x cs
 
--- 'At its n-th router, n from 0, an accepted connection makes the entry (walk's side, start slot + n modulo S), holding the side the walk came in by'
+-- 'At its n-th router, n from 0, an accepted connection makes the entry (walk's side, start slot + n modulo S),
+-- holding the side the walk came in by'
 pub record Makes (pl : Plan) (c : Connection) (r o t i : ℕ) : Type 0 where
   pub index : ℕ
   pub at : Stands pl (c .active) (c .passive) index r i
@@ -57,4 +59,5 @@ pub record Makes (pl : Plan) (c : Connection) (r o t i : ℕ) : Type 0 where
 -- 'The table they make has these entries, and every other one is free'
 pub record MadeBy (pl : Plan) (cs : List Connection) (table : ℕ → ℕ → ℕ → Entry) : Type 0 where
   pub made : (c : Connection) → In c cs → (r o t i : ℕ) → Makes pl c r o t i → table r o t ≡ Booked i
-  pub else-free : (r o t : ℕ) → r < R pl → o < 4 → t < S pl → ((c : Connection) (i : ℕ) → In c cs → Makes pl c r o t i → ⊥) → table r o t ≡ Free
+  pub else-free : (r o t : ℕ) → r < R pl → o < 4 → t < S pl
+      → ((c : Connection) (i : ℕ) → In c cs → Makes pl c r o t i → ⊥) → table r o t ≡ Free

@@ -75,7 +75,8 @@ launchCall pl a p t s =
     (refuse (not (hasRoom pl (activeOut a) s)) QueueFull s
     (gives Done (launched a p t s))))))
 
--- '**Reply** (passive, 1 accept or 0 decline) .. the head becomes ACK or NACK, slot and hub kept, in the out-queue; the flag rises'
+-- '**Reply** (passive, 1 accept or 0 decline) .. the head becomes ACK or NACK, slot and hub kept, in the out-queue;
+-- the flag rises'
 abbrev pub replyKind : ℕ → Kind
 replyKind c = pick (eqb c 1) Ack Nack
 
@@ -84,7 +85,8 @@ repliedAs k x = record { kind = k; active = x .active; passive = x .passive; slo
 
 abbrev pub replied : ℕ → Kind → List Packet → State → State
 replied p k [] s = s
-replied p k (x ∷ rest) s = join (passiveOut p) (repliedAs k x) (withFlag (passiveIn p) true (withQueue (passiveIn p) rest s))
+replied p k (x ∷ rest) s =
+    join (passiveOut p) (repliedAs k x) (withFlag (passiveIn p) true (withQueue (passiveIn p) rest s))
 
 unfoldable pub replyCall : Plan → ℕ → ℕ → State → Outcome
 replyCall pl p c s =
@@ -95,7 +97,8 @@ replyCall pl p c s =
     (refuse (not (hasRoom pl (passiveOut p) s)) QueueFull s
     (gives Done (replied p (replyKind c) (s .queue (passiveIn p)) s))))))
 
--- '**Consume** (active) .. the packet is returned and removed, the flag rises, the allowance grows by one': the head, and its removal
+-- '**Consume** (active) .. the packet is returned and removed, the flag rises, the allowance grows by one': the head,
+-- and its removal
 unfoldable pub removed : ℕ → List Packet → State → State
 removed a rest s = withAllowance a (s .allowance a + 1) (withFlag (activeIn a) true (withQueue (activeIn a) rest s))
 
@@ -112,7 +115,8 @@ consumeCall pl a s =
 
 -- '**Entry** (router, side, slot): 9. Else the entry'
 unfoldable pub entryCall : Plan → ℕ → ℕ → ℕ → State → Outcome
-entryCall pl r o t s = refuse (not (ltb r (R pl) && ltb o 4 && ltb t (S pl))) BadNumber s (gives (Holds (s .table r o t)) s)
+entryCall pl r o t s =
+    refuse (not (ltb r (R pl) && ltb o 4 && ltb t (S pl))) BadNumber s (gives (Holds (s .table r o t)) s)
 
 -- ---- a list of calls
 pub data Call : Type 0 where

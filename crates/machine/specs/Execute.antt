@@ -1,4 +1,5 @@
--- '*EXECUTE*, in this order': (1) each unit handles its head, (2) each output picks a sender, (3) each active tears down what was declined.
+-- '*EXECUTE*, in this order': (1) each unit handles its head, (2) each output picks a sender, (3) each active tears
+-- down what was declined.
 use mathlib.Core.Bool.{Bool, true, false, not, _&&_}
 use mathlib.Core.List.{List, [], _∷_}
 use mathlib.Core.Option.{Option, none, some}
@@ -42,11 +43,25 @@ declined x = record { kind = Nack; active = x .active; passive = x .passive; slo
 
 -- 'hub and slot each grow by one, the slot modulo S'
 abbrev pub booked : ℕ → Packet → Packet
-booked slots x = record { kind = x .kind; active = x .active; passive = x .passive; slot = slotNext (x .slot) slots; hub = hubUp (x .hub) }
+booked slots x =
+    record {
+      kind = x .kind;
+      active = x .active;
+      passive = x .passive;
+      slot = slotNext (x .slot) slots;
+      hub = hubUp (x .hub);
+    }
 
 -- 'hub falls and slot grows by one modulo S'
 abbrev pub freed : ℕ → Packet → Packet
-freed slots x = record { kind = x .kind; active = x .active; passive = x .passive; slot = slotNext (x .slot) slots; hub = hubDown (x .hub) }
+freed slots x =
+    record {
+      kind = x .kind;
+      active = x .active;
+      passive = x .passive;
+      slot = slotNext (x .slot) slots;
+      hub = hubDown (x .hub);
+    }
 
 -- another entry of the side than that of slot t is free
 unfoldable pub otherFree : ℕ → (ℕ → Entry) → ℕ → Bool
@@ -60,10 +75,11 @@ mayBook slots entries t = isFree (entries t) && otherFree slots entries t
 abbrev pub handledAs : ℕ → Packet → List Packet → State → State
 handledAs r x rest s = withHandled (Q r) true (withQueue (Q r) (x ∷ rest) s)
 
--- 'SETUP: o is the walk's side. If entry (o, slot) is booked, or is the only free entry of o, the packet becomes a NACK .. Else the entry is
--- booked with the side the walk came in by'
+-- 'SETUP: o is the walk's side. If entry (o, slot) is booked, or is the only free entry of o, the packet becomes a
+-- NACK .. Else the entry is booked with the side the walk came in by'
 unfoldable pub setUp : Plan → ℕ → ℕ → Packet → List Packet → Bool → State → State
-setUp pl r o x rest true s = handledAs r (booked (S pl) x) rest (withEntry r o (x .slot .0) (Booked (cameIn pl (x .active) (x .passive) r)) s)
+setUp pl r o x rest true s =
+    handledAs r (booked (S pl) x) rest (withEntry r o (x .slot .0) (Booked (cameIn pl (x .active) (x .passive) r)) s)
 setUp pl r o x rest false s = handledAs r (declined x) rest s
 
 -- 'TDOWN: the entry is freed; with hub 1 the packet ends and Q's flag rises, else hub falls ..'
@@ -133,8 +149,8 @@ picked pl s o = pick (isOpen s o) (firstOf (candidate pl s o) 0 (senders o)) nob
 unfoldable pub choose : Plan → Output → State → State
 choose pl o s = withChoice o (picked pl s o) s
 
--- ---- (3) 'If an active's in-queue starts with an unmarked NACK and its out-queue is not full, a TDOWN joins the out-queue with the NACK's hub and
--- with slot minus hub modulo S, and the NACK is marked'
+-- ---- (3) 'If an active's in-queue starts with an unmarked NACK and its out-queue is not full, a TDOWN joins the
+-- out-queue with the NACK's hub and with slot minus hub modulo S, and the NACK is marked'
 -- 'A NACK with hub 0 is *marked*'
 abbrev pub unmarkedKind : Kind → ℕ → Bool
 unmarkedKind Setup hub = false
@@ -149,7 +165,14 @@ abbrev pub marked : Packet → Packet
 marked x = record { kind = x .kind; active = x .active; passive = x .passive; slot = x .slot; hub = record { 0 = 0 } }
 
 abbrev pub tdownOf : ℕ → Packet → Packet
-tdownOf slots x = record { kind = Tdown; active = x .active; passive = x .passive; slot = startSlot (x .slot) (x .hub) slots; hub = x .hub }
+tdownOf slots x =
+    record {
+      kind = Tdown;
+      active = x .active;
+      passive = x .passive;
+      slot = startSlot (x .slot) (x .hub) slots;
+      hub = x .hub;
+    }
 
 abbrev pub hasRoom : Plan → Queue → State → Bool
 hasRoom pl q s = ltb (length (s .queue q)) (capacity (pl .head) q)
@@ -170,4 +193,6 @@ undo pl a s = atActive pl a (s .queue (activeIn a)) s
 
 -- ---- the three steps
 unfoldable pub doExecute : Plan → State → State
-doExecute pl s = withPhase Write (upTo (undo pl) (A pl) (upTo (λ n. choose pl (outputAt pl n)) (outputs pl) (upTo (unit pl) (R pl) s)))
+doExecute pl s =
+    withPhase Write
+    (upTo (undo pl) (A pl) (upTo (λ n. choose pl (outputAt pl n)) (outputs pl) (upTo (unit pl) (R pl) s)))

@@ -1,4 +1,5 @@
--- '*READ*: each wire's packet joins its queue and the wire empties. Each raised flag adds one credit to its queue and is lowered.'
+-- '*READ*: each wire's packet joins its queue and the wire empties. Each raised flag adds one credit to its queue and
+-- is lowered.'
 use mathlib.Core.Bool.{Bool, true, false}
 use mathlib.Core.Option.{Option, none, some}
 use Prim.Native.Nat.{ℕ}
@@ -38,4 +39,6 @@ unfoldable pub settle : Queue → State → State
 settle q s = lower q (s .flag q) s
 
 unfoldable pub doRead : Plan → State → State
-doRead pl s = withPhase Execute (upTo (λ n. settle (queueAt pl n)) (queues pl) (upTo (λ n. deliver pl (outputAt pl n)) (outputs pl) s))
+doRead pl s =
+    withPhase Execute
+    (upTo (λ n. settle (queueAt pl n)) (queues pl) (upTo (λ n. deliver pl (outputAt pl n)) (outputs pl) s))

@@ -1,4 +1,5 @@
--- Demand 3 on the rules alone: what is to be shown of every list of calls on the abstract state. The claim on bytes follows from it.
+-- Demand 3 on the rules alone: what is to be shown of every list of calls on the abstract state. The claim on bytes
+-- follows from it.
 use mathlib.Core.Path.{_≡_}
 use mathlib.Core.Bool.{Bool, true, false, _&&_}
 use mathlib.Core.List.{List, [], _∷_, _++_}
@@ -71,7 +72,9 @@ pub record Ruled (pl : Plan) : Type 1 where
   pub starts : Reached (start pl)
   pub keeps : (c : Call) (s : State) → Reached s → Reached (call pl c s .state)
   pub good : (s : State) → Reached s → Good pl s
-  pub table : (cs : List Call) → Quiet pl (ruledAfter pl cs (start pl)) → MadeBy pl (acceptedAfter pl cs (start pl) []) (ruledAfter pl cs (start pl) .table)
+  pub table : (cs : List Call) → Quiet pl (ruledAfter pl cs (start pl))
+      → MadeBy pl (acceptedAfter pl cs (start pl) []) (ruledAfter pl cs (start pl) .table)
   -- from every valid state
   pub progress : (s : State) → Good pl s → Waits pl s → (cs : List Call) → S pl ≤ rounds pl cs s → Moves pl cs s
-  pub launched : (cs : List Call) (d : Connection) → times d (acceptedAfter pl cs (start pl) []) ≤ launches pl d cs (start pl)
+  pub launched : (cs : List Call) (d : Connection)
+      → times d (acceptedAfter pl cs (start pl) []) ≤ launches pl d cs (start pl)

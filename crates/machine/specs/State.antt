@@ -60,28 +60,124 @@ start pl =
 
 -- ---- one part changed
 abbrev pub withPhase : Phase → State → State
-withPhase x s = record { phase = x; slot = s .slot; queue = s .queue; wire = s .wire; credit = s .credit; flag = s .flag; handled = s .handled; choice = s .choice; table = s .table; allowance = s .allowance }
+withPhase x s =
+    record {
+      phase = x;
+      slot = s .slot;
+      queue = s .queue;
+      wire = s .wire;
+      credit = s .credit;
+      flag = s .flag;
+      handled = s .handled;
+      choice = s .choice;
+      table = s .table;
+      allowance = s .allowance;
+    }
 
 abbrev pub withSlot : Slot → State → State
-withSlot x s = record { phase = s .phase; slot = x; queue = s .queue; wire = s .wire; credit = s .credit; flag = s .flag; handled = s .handled; choice = s .choice; table = s .table; allowance = s .allowance }
+withSlot x s =
+    record {
+      phase = s .phase;
+      slot = x;
+      queue = s .queue;
+      wire = s .wire;
+      credit = s .credit;
+      flag = s .flag;
+      handled = s .handled;
+      choice = s .choice;
+      table = s .table;
+      allowance = s .allowance;
+    }
 
 abbrev pub withQueue : Queue → List Packet → State → State
-withQueue q x s = record { phase = s .phase; slot = s .slot; queue = put sameQueue (s .queue) q x; wire = s .wire; credit = s .credit; flag = s .flag; handled = s .handled; choice = s .choice; table = s .table; allowance = s .allowance }
+withQueue q x s =
+    record {
+      phase = s .phase;
+      slot = s .slot;
+      queue = put sameQueue (s .queue) q x;
+      wire = s .wire;
+      credit = s .credit;
+      flag = s .flag;
+      handled = s .handled;
+      choice = s .choice;
+      table = s .table;
+      allowance = s .allowance;
+    }
 
 abbrev pub withWire : Output → Wire → State → State
-withWire o x s = record { phase = s .phase; slot = s .slot; queue = s .queue; wire = put sameOutput (s .wire) o x; credit = s .credit; flag = s .flag; handled = s .handled; choice = s .choice; table = s .table; allowance = s .allowance }
+withWire o x s =
+    record {
+      phase = s .phase;
+      slot = s .slot;
+      queue = s .queue;
+      wire = put sameOutput (s .wire) o x;
+      credit = s .credit;
+      flag = s .flag;
+      handled = s .handled;
+      choice = s .choice;
+      table = s .table;
+      allowance = s .allowance;
+    }
 
 abbrev pub withCredit : Queue → Credit → State → State
-withCredit q x s = record { phase = s .phase; slot = s .slot; queue = s .queue; wire = s .wire; credit = put sameQueue (s .credit) q x; flag = s .flag; handled = s .handled; choice = s .choice; table = s .table; allowance = s .allowance }
+withCredit q x s =
+    record {
+      phase = s .phase;
+      slot = s .slot;
+      queue = s .queue;
+      wire = s .wire;
+      credit = put sameQueue (s .credit) q x;
+      flag = s .flag;
+      handled = s .handled;
+      choice = s .choice;
+      table = s .table;
+      allowance = s .allowance;
+    }
 
 abbrev pub withFlag : Queue → Bool → State → State
-withFlag q x s = record { phase = s .phase; slot = s .slot; queue = s .queue; wire = s .wire; credit = s .credit; flag = put sameQueue (s .flag) q x; handled = s .handled; choice = s .choice; table = s .table; allowance = s .allowance }
+withFlag q x s =
+    record {
+      phase = s .phase;
+      slot = s .slot;
+      queue = s .queue;
+      wire = s .wire;
+      credit = s .credit;
+      flag = put sameQueue (s .flag) q x;
+      handled = s .handled;
+      choice = s .choice;
+      table = s .table;
+      allowance = s .allowance;
+    }
 
 abbrev pub withHandled : Queue → Bool → State → State
-withHandled q x s = record { phase = s .phase; slot = s .slot; queue = s .queue; wire = s .wire; credit = s .credit; flag = s .flag; handled = put sameQueue (s .handled) q x; choice = s .choice; table = s .table; allowance = s .allowance }
+withHandled q x s =
+    record {
+      phase = s .phase;
+      slot = s .slot;
+      queue = s .queue;
+      wire = s .wire;
+      credit = s .credit;
+      flag = s .flag;
+      handled = put sameQueue (s .handled) q x;
+      choice = s .choice;
+      table = s .table;
+      allowance = s .allowance;
+    }
 
 abbrev pub withChoice : Output → Choice → State → State
-withChoice o x s = record { phase = s .phase; slot = s .slot; queue = s .queue; wire = s .wire; credit = s .credit; flag = s .flag; handled = s .handled; choice = put sameOutput (s .choice) o x; table = s .table; allowance = s .allowance }
+withChoice o x s =
+    record {
+      phase = s .phase;
+      slot = s .slot;
+      queue = s .queue;
+      wire = s .wire;
+      credit = s .credit;
+      flag = s .flag;
+      handled = s .handled;
+      choice = put sameOutput (s .choice) o x;
+      table = s .table;
+      allowance = s .allowance;
+    }
 
 -- the one change of the table
 abbrev pub withEntry : ℕ → ℕ → ℕ → Entry → State → State
@@ -100,7 +196,19 @@ withEntry r o t x s =
     }
 
 abbrev pub withAllowance : ℕ → ℕ → State → State
-withAllowance a x s = record { phase = s .phase; slot = s .slot; queue = s .queue; wire = s .wire; credit = s .credit; flag = s .flag; handled = s .handled; choice = s .choice; table = s .table; allowance = put eqb (s .allowance) a x }
+withAllowance a x s =
+    record {
+      phase = s .phase;
+      slot = s .slot;
+      queue = s .queue;
+      wire = s .wire;
+      credit = s .credit;
+      flag = s .flag;
+      handled = s .handled;
+      choice = s .choice;
+      table = s .table;
+      allowance = put eqb (s .allowance) a x;
+    }
 
 -- ---- queues, first in first out
 -- a packet joins a queue

@@ -56,7 +56,9 @@ third (F r o) = 0
 third (K r i o) = o
 
 abbrev pub sameQueue : Queue → Queue → Bool
-sameQueue x y = also (eqb (kindOf x) (kindOf y)) (also (eqb (first x) (first y)) (also (eqb (second x) (second y)) (eqb (third x) (third y))))
+sameQueue x y =
+    also (eqb (kindOf x) (kindOf y))
+    (also (eqb (first x) (first y)) (also (eqb (second x) (second y)) (eqb (third x) (third y))))
 
 -- the queue of a kind and its numbers
 queueOf : ℕ → ℕ → ℕ → ℕ → Queue
@@ -89,11 +91,15 @@ same-queue x y e =
     let b : first x ≡ first y = eqb-true (first x) (first y) (q .0) in
     let c : second x ≡ second y = eqb-true (second x) (second y) (r .0) in
     let d : third x ≡ third y = eqb-true (third x) (third y) (r .1) in
-    sym (queue-of x) ∙ ap (λ (k : ℕ). queueOf k (first x) (second x) (third x)) a ∙ ap (λ (k : ℕ). queueOf (kindOf y) k (second x) (third x)) b
-    ∙ ap (λ (k : ℕ). queueOf (kindOf y) (first y) k (third x)) c ∙ ap (queueOf (kindOf y) (first y) (second y)) d ∙ queue-of y
+    sym (queue-of x) ∙ ap (λ (k : ℕ). queueOf k (first x) (second x) (third x)) a
+    ∙ ap (λ (k : ℕ). queueOf (kindOf y) k (second x) (third x)) b
+    ∙ ap (λ (k : ℕ). queueOf (kindOf y) (first y) k (third x)) c ∙ ap (queueOf (kindOf y) (first y) (second y)) d
+    ∙ queue-of y
 
 pub queue-same : (x : Queue) → sameQueue x x ≡ true
-queue-same x = also-of (eq-eqb (kindOf x) (kindOf x) refl) (also-of (eq-eqb (first x) (first x) refl) (also-of (eq-eqb (second x) (second x) refl) (eq-eqb (third x) (third x) refl)))
+queue-same x =
+    also-of (eq-eqb (kindOf x) (kindOf x) refl)
+    (also-of (eq-eqb (first x) (first x) refl) (also-of (eq-eqb (second x) (second x) refl) (eq-eqb (third x) (third x) refl)))
 
 -- ---- when two outputs are one
 abbrev outKind : Output → ℕ
@@ -118,7 +124,8 @@ outSecond (toUnit r) = 0
 outSecond (fromUnit r) = 0
 
 abbrev pub sameOutput : Output → Output → Bool
-sameOutput x y = also (eqb (outKind x) (outKind y)) (also (eqb (outFirst x) (outFirst y)) (eqb (outSecond x) (outSecond y)))
+sameOutput x y =
+    also (eqb (outKind x) (outKind y)) (also (eqb (outFirst x) (outFirst y)) (eqb (outSecond x) (outSecond y)))
 
 outputFrom : ℕ → ℕ → ℕ → Output
 outputFrom zero a b = ofActive a
@@ -142,11 +149,14 @@ same-output x y e =
     let a : outKind x ≡ outKind y = eqb-true (outKind x) (outKind y) (p .0) in
     let b : outFirst x ≡ outFirst y = eqb-true (outFirst x) (outFirst y) (q .0) in
     let c : outSecond x ≡ outSecond y = eqb-true (outSecond x) (outSecond y) (q .1) in
-    sym (output-from x) ∙ ap (λ (k : ℕ). outputFrom k (outFirst x) (outSecond x)) a ∙ ap (λ (k : ℕ). outputFrom (outKind y) k (outSecond x)) b
+    sym (output-from x) ∙ ap (λ (k : ℕ). outputFrom k (outFirst x) (outSecond x)) a
+    ∙ ap (λ (k : ℕ). outputFrom (outKind y) k (outSecond x)) b
     ∙ ap (outputFrom (outKind y) (outFirst y)) c ∙ output-from y
 
 pub output-same : (x : Output) → sameOutput x x ≡ true
-output-same x = also-of (eq-eqb (outKind x) (outKind x) refl) (also-of (eq-eqb (outFirst x) (outFirst x) refl) (eq-eqb (outSecond x) (outSecond x) refl))
+output-same x =
+    also-of (eq-eqb (outKind x) (outKind x) refl)
+    (also-of (eq-eqb (outFirst x) (outFirst x) refl) (eq-eqb (outSecond x) (outSecond x) refl))
 
 -- ---- what a store holds after a change
 module _ {X A : Type 0} (same : X → X → Bool) (one : (x : X) → same x x ≡ true) (same-one : (x y : X) → same x y ≡ true → x ≡ y) where

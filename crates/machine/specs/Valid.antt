@@ -1,4 +1,5 @@
--- Refusal 7, 'not a state', on the abstract state: what a state must have, a part for each condition of document 01's sentence.
+-- Refusal 7, 'not a state', on the abstract state: what a state must have, a part for each condition of document 01's
+-- sentence.
 use mathlib.Core.Path.{_≡_}
 use mathlib.Core.Logic.{_≢_}
 use mathlib.Core.Bool.{Bool, true, false}
@@ -103,7 +104,9 @@ inWire w Empty = 0
 inWire w (Full x) = w x
 
 unfoldable pub total : Plan → (Packet → ℕ) → State → ℕ
-total pl w s = sum (queues pl) (λ n. inAll w (s .queue (queueAt pl n))) + sum (outputs pl) (λ n. inWire w (s .wire (outputAt pl n)))
+total pl w s =
+    sum (queues pl) (λ n. inAll w (s .queue (queueAt pl n))) + sum (outputs pl)
+    (λ n. inWire w (s .wire (outputAt pl n)))
 
 -- 'its SETUPs, ACKs and NACKs'
 abbrev pub spendsKind : Kind → ℕ
@@ -134,23 +137,27 @@ pub record Valid (pl : Plan) (s : State) : Type 0 where
   pub entries : (r o t i : ℕ) → r < R pl → o < 4 → t < S pl → s .table r o t ≡ Booked i → i < 4
   -- 'a queue over capacity'
   pub capacities : (q : Queue) → Exists pl q → length (s .queue q) ≤ capacity (pl .head) q
-  -- 'a packet where no journey of its pair puts it, or with a hub that doesn't fit that place'; 'an answer in Q that is not its handled head'
+  -- 'a packet where no journey of its pair puts it, or with a hub that doesn't fit that place'; 'an answer in Q that
+  -- is not its handled head'
   pub places : (q : Queue) → Exists pl q → Lined pl q (s .handled q) (s .queue q)
   pub wires : (o : Output) → Drives pl o → (x : Packet) → s .wire o ≡ Full x → Carries pl o x
   -- 'a wire full outside READ'
   pub wires-empty : s .phase ≢ Read → (o : Output) → Drives pl o → s .wire o ≡ Empty
   -- 'a choice outside WRITE or of no candidate'
-  pub choices : (o : Output) (k : ℕ) → Drives pl o → s .choice o ≡ sender k → (s .phase ≡ Write) × ((q : Queue) × (ofRank (senders o) k ≡ some q) × (candidate pl s o q ≡ true))
+  pub choices : (o : Output) (k : ℕ) → Drives pl o → s .choice o ≡ sender k
+      → (s .phase ≡ Write) × ((q : Queue) × (ofRank (senders o) k ≡ some q) × (candidate pl s o q ≡ true))
   -- 'a flag up in EXECUTE or on a queue whose head is picked'; an out-queue has none
   pub flags-down : s .phase ≡ Execute → (q : Queue) → Exists pl q → s .flag q ≡ false
-  pub picked-down : (o : Output) (k : ℕ) (q : Queue) → Drives pl o → s .choice o ≡ sender k → ofRank (senders o) k ≡ some q → s .flag q ≡ false
+  pub picked-down : (o : Output) (k : ℕ) (q : Queue) → Drives pl o → s .choice o ≡ sender k
+      → ofRank (senders o) k ≡ some q → s .flag q ≡ false
   pub out-flags : (q : Queue) → Exists pl q → isFed q ≡ false → s .flag q ≡ false
   -- 'a handled mark on an empty Q'
   pub marks : (q : Queue) → Exists pl q → s .handled q ≡ true → (r : ℕ) × (q ≡ Q r) × (s .queue q ≢ [])
   -- 'a side with no free entry'
   pub free-entry : (r o : ℕ) → r < R pl → o < 4 → (t : ℕ) × (t < S pl) × (s .table r o t ≡ Free)
   -- 'credit + queued + wire + raised flag ≠ capacity of a queue fed by a wire'; an out-queue's credit is not used
-  pub credits : (q : Queue) → Exists pl q → isFed q ≡ true → s .credit q .0 + length (s .queue q) + onWires pl q s + bit (s .flag q) ≡ capacity (pl .head) q
+  pub credits : (q : Queue) → Exists pl q → isFed q ≡ true
+      → s .credit q .0 + length (s .queue q) + onWires pl q s + bit (s .flag q) ≡ capacity (pl .head) q
   pub out-credits : (q : Queue) → Exists pl q → isFed q ≡ false → s .credit q .0 ≡ capacity (pl .head) q
   -- 'an active's allowance + its SETUPs, ACKs and NACKs ≠ its start allowance'
   pub allowances : (a : ℕ) → a < A pl → s .allowance a + total pl (spends a) s ≡ startAllowance pl

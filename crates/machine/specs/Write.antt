@@ -1,5 +1,6 @@
--- '*WRITE*: each picked head enters its wire, its queue's flag rises (none for out-queues), the next queue's credit falls by one, choices are
--- cleared. The slot grows by one modulo S.' 'The handled mark goes when that head leaves or ends'.
+-- '*WRITE*: each picked head enters its wire, its queue's flag rises (none for out-queues), the next queue's credit
+-- falls by one, choices are cleared. The slot grows by one modulo S.' 'The handled mark goes when that head leaves or
+-- ends'.
 use mathlib.Core.Bool.{Bool, true, false}
 use mathlib.Core.List.{List, [], _∷_}
 use mathlib.Core.Option.{Option, none, some}
@@ -52,4 +53,5 @@ unfoldable pub send : Plan → Output → State → State
 send pl o s = sendBy pl o (s .choice o) s
 
 unfoldable pub doWrite : Plan → State → State
-doWrite pl s = withPhase Read (withSlot (slotNext (s .slot) (S pl)) (upTo (λ n. send pl (outputAt pl n)) (outputs pl) s))
+doWrite pl s =
+    withPhase Read (withSlot (slotNext (s .slot) (S pl)) (upTo (λ n. send pl (outputAt pl n)) (outputs pl) s))

@@ -1,4 +1,5 @@
--- 'A slot, a hub count and a credit are three counters, never added or compared without a stated rule': these are the rules.
+-- 'A slot, a hub count and a credit are three counters, never added or compared without a stated rule': these are the
+-- rules.
 use Prim.Native.Nat.{ℕ, _+_, _-_, _%_}
 use Rattle.kinds.specs.declared.Slot.{Slot}
 use Rattle.kinds.specs.declared.Hub.{Hub}

@@ -1,4 +1,5 @@
--- Over the tables a walk that starts on a port stands only on ports: a router below 16, a side below 4, so a number below 64.
+-- Over the tables a walk that starts on a port stands only on ports: a router below 16, a side below 4, so a number
+-- below 64.
 use mathlib.Core.Path.{_≡_, refl, sym, ap, _∙_}
 use mathlib.Core.Logic.{_⊎_, inl, inr}
 use mathlib.Core.Bool.{true, false}
@@ -82,7 +83,8 @@ module _ (h : Head) (routes : List (List ℕ)) (joints : List ℕ) (j : Interfac
       by lost q = absurd (on-lost (sym e ∙ ap (go (onward (tablePlan h routes joints) j)) q))
 
 -- ---- what a step's answer tells of the spot: it is on the port of that number
-pub on-of-step : (z : Spot Port) {s : Step} {n : ℕ} → ((y : Port) → z ≡ on y → Inside y) → s ≡ stepOf z → s ≡ On n → (z ≡ on (portOf n)) × (n < 64)
+pub on-of-step : (z : Spot Port) {s : Step} {n : ℕ} → ((y : Port) → z ≡ on y → Inside y) → s ≡ stepOf z → s ≡ On n
+    → (z ≡ on (portOf n)) × (n < 64)
 on-of-step (on y) {s} {n} f e q =
     let same : portNumber y ≡ n = cc in
     let i = f y refl in
@@ -103,7 +105,8 @@ lost-of-step end e q = cc
 lost-of-step lost e q = refl
 
 -- ---- so what the code tells of a walk from a port is the port that the walk stands on
-pub on-of-walk : (h : Head) (routes : List (List ℕ)) (joints : List ℕ) (j : Interface) (from k : ℕ) {s : Step} {n : ℕ} → from < 64
+pub on-of-walk : (h : Head) (routes : List (List ℕ)) (joints : List ℕ) (j : Interface) (from k : ℕ) {s : Step} {n : ℕ}
+    → from < 64
     → s ≡ stepOf (walked (tablePlan h routes joints) j k (portOf from)) → s ≡ On n
     → (walked (tablePlan h routes joints) j k (portOf from) ≡ on (portOf n)) × (n < 64)
 on-of-walk h routes joints j from k l e q =

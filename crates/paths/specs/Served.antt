@@ -1,4 +1,5 @@
--- 'A pair is **served** if the walk from the active's router to the passive arrives, and from each router on it the walk back to the active arrives.'
+-- 'A pair is **served** if the walk from the active's router to the passive arrives, and from each router on it the
+-- walk back to the active arrives.'
 use mathlib.Core.Path.{_≡_}
 use mathlib.Core.Bool.{Bool, true, false}
 use Prim.Native.Nat.{ℕ, _<_}

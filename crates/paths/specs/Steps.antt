@@ -29,10 +29,12 @@ stepOf lost = Lost
 unfoldable pub wantedOf : Head → ℕ → ℕ
 wantedOf h d = pick (ltb d (h .actives)) (32 + d) (48 + (d - h .actives))
 
--- s is the step from the port numbered at to the interface of column d, under every head for which that joint's byte over four is `want`
+-- s is the step from the port numbered at to the interface of column d, under every head for which that joint's byte
+-- over four is `want`
 abbrev pub Stepped : List (List ℕ) → List ℕ → ℕ → ℕ → ℕ → Step → Type 0
 Stepped routes joints d want at s =
-    (h : Head) → h .actives ≤ 16 → want ≡ wantedOf h d → s ≡ stepOf (onward (tablePlan h routes joints) (interfaceAt h d) (portOf at))
+    (h : Head) → h .actives ≤ 16 → want ≡ wantedOf h d
+    → s ≡ stepOf (onward (tablePlan h routes joints) (interfaceAt h d) (portOf at))
 
 -- the routers on a walk, or 0 for one that does not arrive
 unfoldable pub sizeOr0 : Plan → Interface → Port → ℕ

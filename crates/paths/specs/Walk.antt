@@ -1,4 +1,5 @@
--- 'A *walk* leaves a router by the side given for a destination, and so on. It arrives if it reaches that interface with no router met twice.'
+-- 'A *walk* leaves a router by the side given for a destination, and so on. It arrives if it reaches that interface
+-- with no router met twice.'
 use mathlib.Core.Path.{_≡_}
 use mathlib.Core.Bool.{Bool}
 use Prim.Native.Nat.{ℕ}
@@ -28,7 +29,8 @@ onward pl e x = through e (pl .joint (x .router) (routeTo pl e (x .router)))
 abbrev pub routerOf : Port → ℕ
 routerOf x = x .router
 
--- A walk to e that arrives, as what it is: its routers in order, each with the side it is entered by, no router met twice
+-- A walk to e that arrives, as what it is: its routers in order, each with the side it is entered by, no router met
+-- twice
 abbrev pub Walk : Plan → Interface → Port → Type 0
 Walk pl e from = Way routerOf (onward pl e) from
 

@@ -1,4 +1,5 @@
--- How the code finds an interface's ports: by numbers instead of cases, and all interfaces in one pass over the joints' bytes.
+-- How the code finds an interface's ports: by numbers instead of cases, and all interfaces in one pass over the
+-- joints' bytes.
 use mathlib.Core.List.{List}
 use Prim.Native.Nat.{ℕ, _+_, _*_, _-_, _/_, _%_}
 use lib.Dec.{eqb, ltb}
@@ -37,7 +38,8 @@ portOfCell cell = pick (ltb cell 64) cell 0
 
 unfoldable pub foundStep : ℕ → ℕ → List ℕ → ℕ → List ℕ → List ℕ
 foundStep actives passives joints i t =
-    set t (columnOf actives passives (getD joints i 0)) (markOf (getD t (columnOf actives passives (getD joints i 0)) 0) i)
+    set t (columnOf actives passives (getD joints i 0))
+    (markOf (getD t (columnOf actives passives (getD joints i 0)) 0) i)
 
 -- the cell of every column, and one more for joints that name no interface
 unfoldable pub foundOf : Head → List ℕ → List ℕ

@@ -44,18 +44,21 @@ S pl = pl .head .slots
 abbrev pub noSide : ℕ
 noSide = 7
 
--- ---- 'Per router, per side, a joint: kind (2 bits: 0 nothing, 1 router, 2 active, 3 passive), number (4), partner's side (2)'
+-- ---- 'Per router, per side, a joint: kind (2 bits: 0 nothing, 1 router, 2 active, 3 passive), number (4), partner's
+-- side (2)'
 abbrev pub jointAt : ℕ → ℕ → ℕ
 jointAt r s = 45 + 32 * r + 8 * s
 
 abbrev pub jointFrom : ℕ → ℕ → ℕ → Joint
 jointFrom kind number side =
-    pick (eqb kind 1) (Router number side) (pick (eqb kind 2) (Active number) (pick (eqb kind 3) (Passive number) Nothing))
+    pick (eqb kind 1) (Router number side)
+    (pick (eqb kind 2) (Active number) (pick (eqb kind 3) (Passive number) Nothing))
 
 unfoldable pub jointIn : List ℕ → ℕ → Joint
 jointIn b at = jointFrom (fieldOf b at 2) (fieldOf b (at + 2) 4) (fieldOf b (at + 6) 2)
 
--- ---- 'Then for each router and each destination the plan gives one side, 3 bits: 0 to 3, or 7 for none; actives first'
+-- ---- 'Then for each router and each destination the plan gives one side, 3 bits: 0 to 3, or 7 for none; actives
+-- first'
 abbrev pub routeAt : Head → ℕ → ℕ → ℕ
 routeAt h r d = routesAt h + 3 * (destinations h * r + d)
 
@@ -66,7 +69,8 @@ planOf b =
     record {
       head = h;
       joint = λ r s. pick (ltb r (h .routers)) (pick (ltb s 4) (jointIn b (jointAt r s)) Nothing) Nothing;
-      route = λ r d. pick (ltb r (h .routers)) (pick (ltb d (destinations h)) (fieldOf b (routeAt h r d) 3) noSide) noSide;
+      route =
+          λ r d. pick (ltb r (h .routers)) (pick (ltb d (destinations h)) (fieldOf b (routeAt h r d) 3) noSide) noSide;
     }
 
 -- ---- interfaces

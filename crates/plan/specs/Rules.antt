@@ -49,7 +49,8 @@ routeOk side = ltb side 4 || eqb side noSide
 pub record FieldsFit (b : List ℕ) : Type 0 where
   pub joints : (r s : ℕ) → r < headOf b .routers → s < 4
       → JointFits (headOf b) (fieldOf b (jointAt r s) 2) (fieldOf b (jointAt r s + 2) 4) (fieldOf b (jointAt r s + 6) 2)
-  pub routes : (r d : ℕ) → r < headOf b .routers → d < destinations (headOf b) → RouteFits (fieldOf b (routeAt (headOf b) r d) 3)
+  pub routes : (r d : ℕ) → r < headOf b .routers → d < destinations (headOf b)
+      → RouteFits (fieldOf b (routeAt (headOf b) r d) 3)
 
 -- the test of the joint at a bit position
 abbrev pub jointThere : List ℕ → ℕ → Bool
@@ -64,7 +65,8 @@ fieldsOk b =
     allBelow (4 * headOf b .routers) (λ i. jointThere b (45 + 8 * i))
     && allBelow (headOf b .routers) (λ r. allBelow (destinations (headOf b)) (routeThere b r))
 
--- ---- refusal 5: 'a router joint not named back, a joint to the same router, or an interface without exactly one joint'
+-- ---- refusal 5: 'a router joint not named back, a joint to the same router, or an interface without exactly one
+-- joint'
 abbrev pub NamedBack : Plan → Type 0
 NamedBack pl = (r s n t : ℕ) → pl .joint r s ≡ Router n t → (n ≢ r) × (pl .joint n t ≡ Router r s)
 
@@ -133,4 +135,5 @@ unfoldable pub home : Plan → Interface → Port
 home pl e = portOf (portOr0 (portsOf pl e))
 
 unfoldable pub interfacesOk : Plan → Bool
-interfacesOk pl = allBelow (A pl) (λ a. isOne (portsOf pl (active a))) && allBelow (P pl) (λ p. isOne (portsOf pl (passive p)))
+interfacesOk pl =
+    allBelow (A pl) (λ a. isOne (portsOf pl (active a))) && allBelow (P pl) (λ p. isOne (portsOf pl (passive p)))

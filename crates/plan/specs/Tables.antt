@@ -1,4 +1,5 @@
--- The tables that Load builds of a plan's bytes: joints by port, routes by router and destination; and the plan that tables give.
+-- The tables that Load builds of a plan's bytes: joints by port, routes by router and destination; and the plan that
+-- tables give.
 use mathlib.Core.Path.{_≡_}
 use mathlib.Core.Bool.{Bool, _&&_}
 use mathlib.Core.List.{List, []}
@@ -35,7 +36,9 @@ unfoldable pub rowOf : List ℕ → ℕ → ℕ → List ℕ
 rowOf b n at = upTo (fill (λ d. fieldOf b (at + 3 * d) 3)) n (replicate 32 noSide)
 
 unfoldable pub routesOf : List ℕ → Head → List (List ℕ)
-routesOf b h = upTo (fill (λ r. rowOf b (destinations h) (routesAt h + 3 * (destinations h * r)))) (h .routers) (replicate 16 (replicate 32 noSide))
+routesOf b h =
+    upTo (fill (λ r. rowOf b (destinations h) (routesAt h + 3 * (destinations h * r)))) (h .routers)
+    (replicate 16 (replicate 32 noSide))
 
 -- the plan that tables give
 unfoldable pub tablePlan : Head → List (List ℕ) → List ℕ → Plan
@@ -62,4 +65,5 @@ interfaceAt h d = pick (ltb d (h .actives)) (active d) (passive (d - h .actives)
 
 -- the port number of every interface, by column
 unfoldable pub homesOf : Plan → List ℕ
-homesOf pl = upTo (fill (λ d. portOr0 (portsOf pl (interfaceAt (pl .head) d)))) (destinations (pl .head)) (replicate 32 0)
+homesOf pl =
+    upTo (fill (λ d. portOr0 (portsOf pl (interfaceAt (pl .head) d)))) (destinations (pl .head)) (replicate 32 0)

@@ -81,32 +81,39 @@ nackMeets pl a y end = false
 nackMeets pl a y lost = false
 
 unfoldable pub returnsTest : Plan → ℕ → ℕ → ℕ → Port → Bool
-returnsTest pl a p n y = also (eqb n (span pl a p)) (meetsTest pl (active a) (home pl (passive p)) y) || nackMeets pl a y (reached pl a p n)
+returnsTest pl a p n y =
+    also (eqb n (span pl a p)) (meetsTest pl (active a) (home pl (passive p)) y) || nackMeets pl a y (reached pl a p n)
 
 unfoldable pub backTest : Plan → ℕ → ℕ → Place → ℕ → Bool
 backTest pl a p (inQueue (passiveOut x)) n = also (eqb x p) (eqb n (span pl a p))
 backTest pl a p (handledAt r) n = standsOn r (reached pl a p n)
 backTest pl a p (inQueue (F r o)) n = also (standsOn r (reached pl a p n)) (eqb o (routeTo pl (active a) r))
-backTest pl a p (inQueue (K r i o)) n = also (eqb o (routeTo pl (active a) r)) (returnsTest pl a p n (record { router = r; side = i }))
+backTest pl a p (inQueue (K r i o)) n =
+    also (eqb o (routeTo pl (active a) r)) (returnsTest pl a p n (record { router = r; side = i }))
 backTest pl a p (inQueue (activeIn x)) n = also (eqb x a) (leb n (span pl a p))
 backTest pl a p (inQueue (Q r)) n = false
 backTest pl a p (inQueue (U r i)) n = false
 backTest pl a p (inQueue (activeOut x)) n = false
 backTest pl a p (inQueue (passiveIn x)) n = false
 
--- a packet of this kind, pair and hub may be at this place; the hub of a tear-down and the routers behind it are at most the walk's length
+-- a packet of this kind, pair and hub may be at this place; the hub of a tear-down and the routers behind it are at
+-- most the walk's length
 unfoldable pub fitsTest : Plan → Kind → ℕ → ℕ → ℕ → Place → Bool
 fitsTest pl Setup a p hub x = aheadTest pl a p x hub
-fitsTest pl Tdown a p hub x = also (leb 1 hub) (anyBelow (span pl a p) (λ n. also (leb (n + hub) (span pl a p)) (aheadTest pl a p x n)))
+fitsTest pl Tdown a p hub x =
+    also (leb 1 hub) (anyBelow (span pl a p) (λ n. also (leb (n + hub) (span pl a p)) (aheadTest pl a p x n)))
 fitsTest pl Ack a p hub x = also (eqb hub (span pl a p)) (backTest pl a p x hub)
 fitsTest pl Nack a p hub x = backTest pl a p x hub
 
 -- ---- packets
 unfoldable pub packetTest : Plan → Packet → Bool
-packetTest pl x = also (ltb (x .active) (A pl)) (also (ltb (x .passive) (P pl)) (also (ltb (x .slot .0) (S pl)) (leb (x .hub .0) 16)))
+packetTest pl x =
+    also (ltb (x .active) (A pl)) (also (ltb (x .passive) (P pl)) (also (ltb (x .slot .0) (S pl)) (leb (x .hub .0) 16)))
 
 unfoldable pub belongsTest : Plan → Place → Packet → Bool
-belongsTest pl at x = also (packetTest pl x) (also (served pl (x .active) (x .passive)) (fitsTest pl (x .kind) (x .active) (x .passive) (x .hub .0) at))
+belongsTest pl at x =
+    also (packetTest pl x)
+    (also (served pl (x .active) (x .passive)) (fitsTest pl (x .kind) (x .active) (x .passive) (x .hub .0) at))
 
 -- the head where it may be, and all behind it in the queue itself
 abbrev pub linedTest : Plan → Queue → Bool → List Packet → Bool
@@ -173,7 +180,8 @@ entriesTest pl s = allBelow (R pl) (λ r. allBelow 4 (λ o. allBelow (S pl) (λ 
 unfoldable pub capacitiesTest : Plan → State → Bool
 capacitiesTest pl s = everyQueue pl (λ q. leb (length (s .queue q)) (capacity (pl .head) q))
 
--- 'a packet where no journey of its pair puts it, or with a hub that doesn't fit that place'; 'an answer in Q that is not its handled head'
+-- 'a packet where no journey of its pair puts it, or with a hub that doesn't fit that place'; 'an answer in Q that is
+-- not its handled head'
 unfoldable pub placesTest : Plan → State → Bool
 placesTest pl s = everyQueue pl (λ q. linedTest pl q (s .handled q) (s .queue q))
 
@@ -208,7 +216,9 @@ freeEntryTest pl s = allBelow (R pl) (λ r. allBelow 4 (λ o. anyBelow (S pl) (�
 
 -- 'credit + queued + wire + raised flag ≠ capacity of a queue fed by a wire'; an out-queue's credit is not used
 unfoldable pub creditsTest : Plan → State → Bool
-creditsTest pl s = everyQueue pl (λ q. not (isFed q) || eqb (s .credit q .0 + length (s .queue q) + onWires pl q s + bit (s .flag q)) (capacity (pl .head) q))
+creditsTest pl s =
+    everyQueue pl
+    (λ q. not (isFed q) || eqb (s .credit q .0 + length (s .queue q) + onWires pl q s + bit (s .flag q)) (capacity (pl .head) q))
 
 unfoldable pub outCreditsTest : Plan → State → Bool
 outCreditsTest pl s = everyQueue pl (λ q. isFed q || eqb (s .credit q .0) (capacity (pl .head) q))
@@ -220,6 +230,7 @@ allowancesTest pl s = allBelow (A pl) (λ a. eqb (s .allowance a + total pl (spe
 -- ---- a state
 unfoldable pub validTest : Plan → State → Bool
 validTest pl s =
-    also (slotTest pl s) (also (entriesTest pl s) (also (capacitiesTest pl s) (also (placesTest pl s) (also (wiresTest pl s)
+    also (slotTest pl s)
+    (also (entriesTest pl s) (also (capacitiesTest pl s) (also (placesTest pl s) (also (wiresTest pl s)
     (also (wiresEmptyTest pl s) (also (choicesTest pl s) (also (flagsDownTest pl s) (also (pickedDownTest pl s) (also (outFlagsTest pl s)
     (also (marksTest pl s) (also (freeEntryTest pl s) (also (creditsTest pl s) (also (outCreditsTest pl s) (allowancesTest pl s))))))))))))))

@@ -5,7 +5,8 @@ use Rattle.plan.specs.declared.Joint.the-variants.{Nothing}
 use Rattle.plan.specs.Plan.{Plan, Interface, R, Has, jointOf}
 use Rattle.plan.specs.Rules.{NamedBack, JoinedAt, home}
 
--- Joints stand inside the plan, router joints are named back by another router, each interface is joined at its home alone, and each joined interface is the plan's.
+-- Joints stand inside the plan, router joints are named back by another router, each interface is joined at its home
+-- alone, and each joined interface is the plan's.
 pub record Wired (pl : Plan) : Type 0 where
   pub inside : (r s : ℕ) → (pl .joint r s ≡ Nothing → ⊥) → (r < R pl) × (s < 4)
   pub named : NamedBack pl

@@ -11,9 +11,9 @@ use Rattle.plan.specs.Plan.{Plan}
 use Rattle.feeding.specs.Queue.{Queue}
 use Rattle.feeding.specs.Feeds.{Output}
 use Rattle.machine.specs.Store.{put, sameQueue, same-queue, queue-same, sameOutput, same-output, output-same, put-here, put-away}
-use Rattle.machine.specs.Outputs.{outputs, outputAt}
+use Rattle.machine.specs.Outputs.{outputs, outputAt, outputNumber}
 use Rattle.machine.specs.Valid.{Drives, bit, sum, isFed}
-use Rattle.machine.proofs.OutNumbers.{outNumber, output-at, out-below, at-number}
+use Rattle.machine.proofs.OutNumbers.{output-at, output-below, at-output}
 
 -- ---- stores of queues and of outputs
 -- two queues are one or not
@@ -87,12 +87,12 @@ sum-zero (suc n) f h = let a = sum-zero n f (λ j l. h j (omega arith)) in let b
 pub outputs-put : {X : Type 0} (pl : Plan) (w : Output → X → ℕ) (m : Output → X) (o : Output) (a : X) → Drives pl o
     → sum (outputs pl) (λ n. w (outputAt pl n) (put sameOutput m o a (outputAt pl n))) + w o (m o) ≡ sum (outputs pl) (λ n. w (outputAt pl n) (m (outputAt pl n))) + w o a
 outputs-put {X} pl w m o a d =
-    let i : ℕ = outNumber pl o in
-    let one = sum-one (outputs pl) (λ n. w (outputAt pl n) (put sameOutput m o a (outputAt pl n))) (λ n. w (outputAt pl n) (m (outputAt pl n))) (outNumber pl o) (out-below pl o d) away in
-    let old : w (outputAt pl (outNumber pl o)) (m (outputAt pl (outNumber pl o))) ≡ w o (m o) = ap (λ (u : Output). w u (m u)) (output-at pl o d) in
-    let new : w (outputAt pl (outNumber pl o)) (put sameOutput m o a (outputAt pl (outNumber pl o))) ≡ w o a =
+    let i : ℕ = outputNumber pl o in
+    let one = sum-one (outputs pl) (λ n. w (outputAt pl n) (put sameOutput m o a (outputAt pl n))) (λ n. w (outputAt pl n) (m (outputAt pl n))) (outputNumber pl o) (output-below pl o d) away in
+    let old : w (outputAt pl (outputNumber pl o)) (m (outputAt pl (outputNumber pl o))) ≡ w o (m o) = ap (λ (u : Output). w u (m u)) (output-at pl o d) in
+    let new : w (outputAt pl (outputNumber pl o)) (put sameOutput m o a (outputAt pl (outputNumber pl o))) ≡ w o a =
     ap (λ (u : Output). w u (put sameOutput m o a u)) (output-at pl o d) ∙ ap (w o) (output-here m o a) in
     omega arith
   where
-    away : (j : ℕ) → j < outputs pl → j ≢ outNumber pl o → w (outputAt pl j) (put sameOutput m o a (outputAt pl j)) ≡ w (outputAt pl j) (m (outputAt pl j))
-    away j h ne = ap (w (outputAt pl j)) (output-away m o a (outputAt pl j) (λ e. ne (sym (at-number pl j h) ∙ ap (outNumber pl) e)))
+    away : (j : ℕ) → j < outputs pl → j ≢ outputNumber pl o → w (outputAt pl j) (put sameOutput m o a (outputAt pl j)) ≡ w (outputAt pl j) (m (outputAt pl j))
+    away j h ne = ap (w (outputAt pl j)) (output-away m o a (outputAt pl j) (λ e. ne (sym (at-output pl j h) ∙ ap (outputNumber pl) e)))

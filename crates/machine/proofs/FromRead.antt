@@ -24,7 +24,7 @@ use Rattle.feeding.specs.Queue.{Queue, activeOut, activeIn, passiveIn, passiveO
 use Rattle.feeding.specs.Feeds.{Output, FeedRing}
 use Rattle.wiring.specs.Wired.{Wired}
 use Rattle.machine.specs.Store.{put, sameQueue, same-queue}
-use Rattle.machine.specs.Outputs.{outputs, outputAt}
+use Rattle.machine.specs.Outputs.{outputs, outputAt, outputNumber}
 use Rattle.machine.specs.State.{State, isFull, join}
 use Rattle.machine.specs.Read.{deliver, settle, lower, doRead}
 use Rattle.machine.specs.Execute.{hasRoom}
@@ -33,7 +33,7 @@ use Rattle.machine.specs.Valid.{Drives}
 use Rattle.machine.specs.Progress.{isInQueue, UnderWay, PassiveRoom, Waits, Moved, isTimed, endsRound}
 use Rattle.machine.specs.Ruled.{rounds, Moves, Good}
 use Rattle.machine.proofs.Core.{WiresEmpty}
-use Rattle.machine.proofs.Numbers.{outNumber, out-at, out-below, drives-at}
+use Rattle.machine.proofs.OutNumbers.{output-at, output-below, drives-at}
 use Rattle.machine.proofs.ShapeRead.{read-wires}
 use Rattle.machine.proofs.Interval.{MovesNow, moves-now, moves-later}
 use Rattle.machine.proofs.Stuck.{Closed, every, every-closed, answering, answering-closed}
@@ -136,7 +136,7 @@ some-wire pl s = by (find (outputs pl) (λ n. isFull (s .wire (outputAt pl n))))
 
     by : Found (outputs pl) (λ n. isFull (s .wire (outputAt pl n))) ⊎ ((n : ℕ) → n < outputs pl → isFull (s .wire (outputAt pl n)) ≡ false) → ((o : Output) × (x : Packet) × Drives pl o × (s .wire o ≡ Full x)) ⊎ WiresEmpty pl s
     by (inl (n, h, b)) = inl (full n h (s .wire (outputAt pl n)) refl b)
-    by (inr f) = inr (λ o h. ap (s .wire) (sym (out-at pl o h)) ∙ empty (s .wire (outputAt pl (outNumber pl o))) (f (outNumber pl o) (out-below pl o h)))
+    by (inr f) = inr (λ o h. ap (s .wire) (sym (output-at pl o h)) ∙ empty (s .wire (outputAt pl (outputNumber pl o))) (f (outputNumber pl o) (output-below pl o h)))
 
 module _ {pl : Plan} (wired : Wired pl) (range : InRange (pl .head)) (free : FeedRing pl → ⊥) where
   -- a packet under way: on a wire, or in a queue of the set

@@ -2,6 +2,7 @@ pub mod Closure
 pub mod Core
 pub mod Feeders
 pub mod Numbers
+pub mod OutNumbers
 pub mod Sums
 pub mod Weights
 pub mod Cases
@@ -20,7 +21,6 @@ pub mod KeptExecute
 pub mod KeptWrite
 pub mod KeptCalls
 pub mod Arbitration
-pub mod OutNumbers
 pub mod AccountCells
 pub mod Account
 pub mod AccountRead

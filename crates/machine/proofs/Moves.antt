@@ -28,7 +28,8 @@ use Rattle.machine.specs.Write.{ofRank, raise, spend, send, doWrite}
 use Rattle.machine.specs.Valid.{Belongs, headPlace, Lined, Drives, Carries, inAll}
 use Rattle.machine.proofs.Closure.{unit-booked, unit-no-answer}
 use Rattle.machine.proofs.Core.{Core, Sendable}
-use Rattle.machine.proofs.Numbers.{drives-at, sender-exists}
+use Rattle.machine.proofs.Numbers.{sender-exists}
+use Rattle.machine.proofs.OutNumbers.{drives-at}
 use Rattle.machine.proofs.Weights.{Weight, inLine, onWire, weighed, line-in, line-fresh, weighed-queue, weighed-line, weighed-wire, weighed-join}
 use Rattle.machine.proofs.Cases.{deliver-none, deliver-one, afterSent, send-one, SendDoes, none-sent, sent, send-does}
 

@@ -1,25 +1,22 @@
 -- Senders: what a raised flag leaves, which queues an output's senders are, and what a candidate has.
-use mathlib.Core.Path.{_≡_, refl, ap, subst, _∙_}
+use mathlib.Core.Path.{_≡_, refl, ap, _∙_}
 use mathlib.Core.Logic.{_⊎_, inl, inr, _≢_}
 use mathlib.Core.Bool.{Bool, true, false}
 use mathlib.Core.List.{List, [], _∷_}
 use mathlib.Core.Option.{Option, none, some}
-use Prim.Native.Nat.{ℕ, zero, suc, _<_}
-use native.Mathlib.Omega.{arith}
+use Prim.Native.Nat.{_<_}
 use borrow.Author.Tests.{ltb-true}
 use Rattle.basis.specs.Choice.{also-true, not-both, test}
 use Rattle.packets.specs.declared.Packet.{Packet}
 use Rattle.plan.specs.Plan.{Plan}
-use Rattle.feeding.specs.Queue.{Queue, activeOut, activeIn, passiveIn, passiveOut, U, Q, F, K, Exists}
-use Rattle.feeding.specs.Feeds.{Output, ofActive, ofPassive, ofSide, toUnit, fromUnit}
-use Rattle.journeys.proofs.Places.{some-same, some-not-none}
+use Rattle.feeding.specs.Queue.{Queue, activeOut, activeIn, passiveIn, passiveOut, U, Q, F, K}
+use Rattle.feeding.specs.Feeds.{Output}
 use Rattle.machine.specs.Store.{put, sameQueue}
-use Rattle.machine.specs.Outputs.{nextBy, senders}
+use Rattle.machine.specs.Outputs.{nextBy}
 use Rattle.machine.specs.State.{State}
 use Rattle.machine.specs.Execute.{hasCredit, mayLeave, headReady, candidate}
-use Rattle.machine.specs.Write.{ofRank, raise}
-use Rattle.machine.specs.Valid.{Drives, isFed}
-use Rattle.machine.proofs.OutNumbers.{sender-exists}
+use Rattle.machine.specs.Write.{raise}
+use Rattle.machine.specs.Valid.{isFed}
 use Rattle.machine.proofs.AccountCells.{queue-away}
 
 -- ---- what raising a flag leaves
@@ -109,25 +106,6 @@ raise-other q s p ne = by (test (isFed q))
     by (inr f) = ap (λ (m : Queue → Bool). m p) (raise-none q s f)
 
 -- ---- senders
--- the senders of a plan's output are queues of the plan
-pub rank-exists : (pl : Plan) (o : Output) (k : ℕ) (q : Queue) → Drives pl o → ofRank (senders o) k ≡ some q → Exists pl q
-rank-exists pl (ofActive a) zero q d e = subst (Exists pl) (some-same e) d
-rank-exists pl (ofActive a) (suc k) q d e = absurd (some-not-none e)
-rank-exists pl (ofPassive a) zero q d e = subst (Exists pl) (some-same e) d
-rank-exists pl (ofPassive a) (suc k) q d e = absurd (some-not-none e)
-rank-exists pl (ofSide r o) zero q d e = subst (Exists pl) (some-same e) (sender-exists pl r o 0 (d .0) (d .1) (omega arith))
-rank-exists pl (ofSide r o) (suc zero) q d e = subst (Exists pl) (some-same e) (sender-exists pl r o 1 (d .0) (d .1) (omega arith))
-rank-exists pl (ofSide r o) (suc (suc zero)) q d e = subst (Exists pl) (some-same e) (sender-exists pl r o 2 (d .0) (d .1) (omega arith))
-rank-exists pl (ofSide r o) (suc (suc (suc zero))) q d e = subst (Exists pl) (some-same e) (sender-exists pl r o 3 (d .0) (d .1) (omega arith))
-rank-exists pl (ofSide r o) (suc (suc (suc (suc k)))) q d e = absurd (some-not-none e)
-rank-exists pl (toUnit r) zero q d e = subst (Exists pl) (some-same e) (d, omega arith)
-rank-exists pl (toUnit r) (suc zero) q d e = subst (Exists pl) (some-same e) (d, omega arith)
-rank-exists pl (toUnit r) (suc (suc zero)) q d e = subst (Exists pl) (some-same e) (d, omega arith)
-rank-exists pl (toUnit r) (suc (suc (suc zero))) q d e = subst (Exists pl) (some-same e) (d, omega arith)
-rank-exists pl (toUnit r) (suc (suc (suc (suc k)))) q d e = absurd (some-not-none e)
-rank-exists pl (fromUnit r) zero q d e = subst (Exists pl) (some-same e) d
-rank-exists pl (fromUnit r) (suc k) q d e = absurd (some-not-none e)
-
 -- a candidate: its head, and its next queue, which has credit
 pub record Ready (pl : Plan) (s : State) (o : Output) (q : Queue) : Type 0 where
   pub head : Packet

@@ -16,15 +16,16 @@ use Rattle.feeding.specs.Queue.{Queue, activeOut, activeIn, Q, Exists}
 use Rattle.feeding.specs.Feeds.{Output}
 use Rattle.journeys.proofs.Places.{some-not-none}
 use Rattle.machine.specs.Store.{put, sameQueue}
-use Rattle.machine.specs.Outputs.{outputs, outputAt}
+use Rattle.machine.specs.Outputs.{outputs, outputAt, outputNumber}
 use Rattle.machine.specs.State.{State, Choice, sender, withQueue, withFlag, withEntry, join}
 use Rattle.machine.specs.Execute.{handledAs, unit, mayLeave, picked, choose, marked, tdownOf, undo, doExecute}
 use Rattle.machine.specs.Valid.{Drives}
+use Rattle.machine.proofs.Numbers.{sender-exists}
 use Rattle.machine.proofs.Core.{WiresEmpty, FlagsDown, Sendable, ChoicesSendable, Shape, in-write}
 use Rattle.machine.proofs.Arbitration.{picked-candidate}
-use Rattle.machine.proofs.OutNumbers.{outNumber, output-at, out-below, at-drives, at-apart}
+use Rattle.machine.proofs.OutNumbers.{output-at, output-below, drives-at, at-apart}
 use Rattle.machine.proofs.AccountCells.{queue-or, queue-away, output-here, output-away}
-use Rattle.machine.proofs.Senders.{rank-exists, candidate-ready}
+use Rattle.machine.proofs.Senders.{candidate-ready}
 use Rattle.machine.proofs.Units.{unit-by, undo-by}
 use Rattle.machine.proofs.ShapeSenders.{Spares, spared-sendable, spares-alike, spares-then, join-spares, turn-spares}
 
@@ -103,7 +104,7 @@ module _ (pl : Plan) where
   pub picked-sendable : (s : State) → Quiet pl (R pl) s → (o : Output) (k : ℕ) → Drives pl o → picked pl s o ≡ sender k → Sendable pl s o k
   picked-sendable s g o k d e =
       let c = picked-candidate pl s o k e .1 in
-      record { queue = c .0; rank = c .1; ready = c .2; down = refuted (s .flag (c .0)) (λ up. not-both (leaves (c .0) (g (c .0) (rank-exists pl o k (c .0) d (c .1)) up) (candidate-ready pl s o (c .0) (c .2) .leaves)) (g (c .0) (rank-exists pl o k (c .0) d (c .1)) up .3)) }
+      record { queue = c .0; rank = c .1; ready = c .2; down = refuted (s .flag (c .0)) (λ up. not-both (leaves (c .0) (g (c .0) (sender-exists pl o k (c .0) d (c .1)) up) (candidate-ready pl s o (c .0) (c .2) .leaves)) (g (c .0) (sender-exists pl o k (c .0) d (c .1)) up .3)) }
     where
       leaves : (q : Queue) → (r : ℕ) × (r < R pl) × (q ≡ Q r) × (s .handled q ≡ false) → mayLeave s q ≡ true → s .handled q ≡ true
       leaves q (r, l, e, m) h = rw e (rw e at h)
@@ -130,7 +131,7 @@ module _ (pl : Plan) where
           last : choose pl (outputAt pl n) s .choice (outputAt pl n) ≡ sender k → Sendable pl (choose pl (outputAt pl n) s) (outputAt pl n) k
           last f =
               spared-sendable (choose-spares (outputAt pl n) (outputAt pl n) s) k
-              (picked-sendable s (g .0) (outputAt pl n) k (at-drives pl n h) (sym (output-here (s .choice) (outputAt pl n) (picked pl s (outputAt pl n))) ∙ f))
+              (picked-sendable s (g .0) (outputAt pl n) k (drives-at pl n h) (sym (output-here (s .choice) (outputAt pl n) (picked pl s (outputAt pl n))) ∙ f))
 
   abbrev chooses : ℕ → State → State
   chooses n = choose pl (outputAt pl n)
@@ -139,7 +140,7 @@ module _ (pl : Plan) where
   pub picks-sendable : (s : State) → Quiet pl (R pl) s → ChoicesSendable pl (upTo chooses (outputs pl) s)
   picks-sendable s g o k d e =
       let all = up-keeps-at Picked chooses (outputs pl) s (λ i t h p. choose-picked i t h p) (g, λ j l. absurd (not-suc-le-zero l)) in
-      subst (λ (u : Output). Sendable pl (upTo chooses (outputs pl) s) u k) (output-at pl o d) (all .1 (outNumber pl o) (out-below pl o d) k (rw (output-at pl o d) e))
+      subst (λ (u : Output). Sendable pl (upTo chooses (outputs pl) s) u k) (output-at pl o d) (all .1 (outputNumber pl o) (output-below pl o d) k (rw (output-at pl o d) e))
 
   -- and wires are still empty
   pub picks-wires : (s : State) → WiresEmpty pl s → WiresEmpty pl (upTo chooses (outputs pl) s)

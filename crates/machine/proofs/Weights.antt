@@ -16,11 +16,12 @@ use Rattle.feeding.specs.Queue.{Queue, activeOut, activeIn, passiveIn, passiveO
 use Rattle.feeding.specs.Feeds.{Output, Place, inQueue}
 use Rattle.journeys.proofs.Numbers.{queue-at, number-below}
 use Rattle.machine.specs.Store.{put, sameQueue, same-queue, queue-same, sameOutput, same-output, output-same, put-here, put-away}
-use Rattle.machine.specs.Outputs.{nextBy, outputs, outputAt}
+use Rattle.machine.specs.Outputs.{nextBy, outputs, outputAt, outputNumber}
 use Rattle.machine.specs.State.{State, start, withQueue, withWire, withHandled, join}
 use Rattle.machine.specs.Valid.{headPlace, Drives, sum, inAll, inWire, total}
 use Rattle.machine.proofs.Core.{Core}
-use Rattle.machine.proofs.Numbers.{outNumber, at-number, out-at, out-below, drives-at, at-out}
+use Rattle.machine.proofs.Numbers.{at-number}
+use Rattle.machine.proofs.OutNumbers.{output-at, output-below, drives-at, at-output}
 use Rattle.machine.proofs.Sums.{sum-same, sum-but, sum-nought}
 
 -- what a packet weighs at a place
@@ -122,13 +123,13 @@ module _ (pl : Plan) (w : Weight) where
       → inWires pl w cable + onWire pl w o (wire o) ≡ inWires pl w wire + onWire pl w o (cable o)
   unfolding inWires
   wires-but o d wire cable e =
-      let old : wireOf pl w wire (outputAt pl (outNumber pl o)) ≡ wireOf pl w wire o = ap (wireOf pl w wire) (out-at pl o d) in
-      let new : wireOf pl w cable (outputAt pl (outNumber pl o)) ≡ wireOf pl w cable o = ap (wireOf pl w cable) (out-at pl o d) in
-      let all = sum-but (outputs pl) (outNumber pl o) (λ n. wireOf pl w cable (outputAt pl n)) (λ n. wireOf pl w wire (outputAt pl n)) (out-below pl o d) same in
+      let old : wireOf pl w wire (outputAt pl (outputNumber pl o)) ≡ wireOf pl w wire o = ap (wireOf pl w wire) (output-at pl o d) in
+      let new : wireOf pl w cable (outputAt pl (outputNumber pl o)) ≡ wireOf pl w cable o = ap (wireOf pl w cable) (output-at pl o d) in
+      let all = sum-but (outputs pl) (outputNumber pl o) (λ n. wireOf pl w cable (outputAt pl n)) (λ n. wireOf pl w wire (outputAt pl n)) (output-below pl o d) same in
       omega arith
     where
-      same : (n : ℕ) → n < outputs pl → n ≢ outNumber pl o → wireOf pl w cable (outputAt pl n) ≡ wireOf pl w wire (outputAt pl n)
-      same n l ne = ap (onWire pl w (outputAt pl n)) (e (outputAt pl n) (λ p. ne (sym (at-out pl n l) ∙ ap (outNumber pl) p)))
+      same : (n : ℕ) → n < outputs pl → n ≢ outputNumber pl o → wireOf pl w cable (outputAt pl n) ≡ wireOf pl w wire (outputAt pl n)
+      same n l ne = ap (onWire pl w (outputAt pl n)) (e (outputAt pl n) (λ p. ne (sym (at-output pl n l) ∙ ap (outputNumber pl) p)))
 
   -- One queue's packets replaced.
   pub weighed-queue : (q : Queue) → Exists pl q → (xs : List Packet) (s : State) → weighed pl w (withQueue q xs s) + inLine w q (s .handled q) (s .queue q) ≡ weighed pl w s + inLine w q (s .handled q) xs

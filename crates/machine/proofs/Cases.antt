@@ -4,7 +4,7 @@ use mathlib.Core.Logic.{_⊎_, inl, inr}
 use mathlib.Core.Bool.{Bool, true, false, _&&_, false≢true}
 use mathlib.Core.List.{List, [], _∷_}
 use mathlib.Core.Option.{Option, none, some}
-use Prim.Native.Nat.{ℕ}
+use Prim.Native.Nat.{ℕ, _≤_}
 use lib.Dec.{eqb, ltb}
 use Rattle.basis.specs.Choice.{also-true, test}
 use Rattle.packets.specs.declared.Kind.{Kind}
@@ -21,6 +21,8 @@ use Rattle.machine.specs.State.{State, Choice, nobody, sender, withQueue
 use Rattle.machine.specs.Read.{arrived, joinNext, arrive, deliver}
 use Rattle.machine.specs.Execute.{cameIn, declined, booked, freed, mayBook, handledAs, setUp, tearOne, tearDown, handle, atUnit, unit, hasCredit, mayLeave, headReady, candidate, unmarkedKind, unmarked, torn, hasRoom, answer, atActive, undo}
 use Rattle.machine.specs.Write.{ofRank, raise, spend, sendHead, sendFrom, sendBy, send}
+use borrow.Author.Tests.{eqb-false, not-true}
+use native.Mathlib.Omega.{arith}
 use Rattle.machine.proofs.Core.{Sendable}
 
 -- ---- a wire
@@ -119,15 +121,15 @@ module _ (pl : Plan) (r : ℕ) (s : State) where
       by (x ∷ rest) e (inr f) = of-kind x rest e f (x .kind) refl (mayBookAt pl r s x) refl (eqb (x .hub .0) 1) refl
 
 -- ---- an active
--- Only a NACK is unmarked.
+-- An unmarked packet is a NACK with a hub.
+pub unmarked-kind : (kind : Kind) (hub : ℕ) → unmarkedKind kind hub ≡ true → (kind ≡ Nack) × (1 ≤ hub)
+unmarked-kind Setup hub t = absurd (false≢true t)
+unmarked-kind Tdown hub t = absurd (false≢true t)
+unmarked-kind Ack hub t = absurd (false≢true t)
+unmarked-kind Nack hub t = let n : hub ≡ 0 → ⊥ = eqb-false hub 0 (not-true (eqb hub 0) t) in (refl, omega arith)
+
 pub unmarked-nack : (x : Packet) → unmarked x ≡ true → x .kind ≡ Nack
-unmarked-nack x u = by (x .kind) u
-  where
-    by : (k : Kind) → unmarkedKind k (x .hub .0) ≡ true → k ≡ Nack
-    by Setup e = absurd (false≢true e)
-    by Tdown e = absurd (false≢true e)
-    by Ack e = absurd (false≢true e)
-    by Nack e = refl
+unmarked-nack x u = unmarked-kind (x .kind) (x .hub .0) u .0
 
 module _ (pl : Plan) (a : ℕ) (s : State) where
   -- An unmarked NACK is torn down where the out-queue has room.

@@ -10,7 +10,7 @@ use Rattle.kinds.specs.declared.Slot.{Slot}
 use Rattle.kinds.specs.declared.Credit.{Credit}
 use Rattle.packets.specs.declared.Packet.{Packet}
 use Rattle.packets.specs.declared.Wire.{Wire}
-use Rattle.packets.specs.declared.Wire.the-variants.{Empty, Full}
+use Rattle.packets.specs.declared.Wire.the-variants.{Full}
 use Rattle.packets.specs.declared.Phase.{Phase}
 use Rattle.packets.specs.declared.Entry.{Entry}
 use Rattle.packets.specs.declared.Entry.the-variants.{Free, Booked}
@@ -21,6 +21,7 @@ use Rattle.feeding.specs.Feeds.{Output}
 use Rattle.machine.specs.Store.{put, sameQueue, same-queue, queue-same, sameOutput, same-output, output-same}
 use Rattle.machine.specs.State.{State, Choice, start, withPhase, withSlot, withWire, withCredit, withFlag, withChoice, withEntry, withAllowance}
 use Rattle.machine.specs.Valid.{Drives, Carries, Bounded}
+use Rattle.machine.proofs.Apart.{full-not, booked-not}
 use Rattle.machine.proofs.Core.{Core, SlotIn, EntriesIn, Places, Wires, Marks, FreeEntry}
 use Rattle.machine.proofs.Puts.{put-cases, put-outside, number-one, entry-cases}
 
@@ -38,14 +39,6 @@ pub record Kept (pl : Plan) (s : State) : Type 0 where
 pub kept-of : (pl : Plan) (s : State) → Core pl s → Kept pl s
 kept-of pl s c =
     record { slot = c .slot; entries = c .entries; places = c .places; wires = c .wires; marks = c .marks; free-entry = c .free-entry; bounded = c .bounded }
-
--- an empty wire is not full
-pub full-not : {x : Packet} → Empty ≡ Full x → ⊥
-full-not e = let z : _≡_ {A = ℕ} 0 1 = cc in omega arith
-
--- a free entry is not booked
-pub booked-not : {i : ℕ} → Free ≡ Booked i → ⊥
-booked-not e = let z : _≡_ {A = ℕ} 0 1 = cc in omega arith
 
 -- Start has them
 pub start-kept : (pl : Plan) → InRange (pl .head) → Kept pl (start pl)

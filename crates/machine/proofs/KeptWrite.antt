@@ -21,6 +21,7 @@ use Rattle.machine.specs.State.{State, Choice, nobody, sender, withSlot,
 use Rattle.machine.specs.Execute.{hasCredit, mayLeave, candidate}
 use Rattle.machine.specs.Write.{ofRank, raise, spend, sendHead, sendFrom, sendBy, send}
 use Rattle.machine.specs.Valid.{Belongs, headPlace, Drives}
+use Rattle.machine.proofs.Apart.{full-same}
 use Rattle.machine.proofs.Numbers.{sender-exists}
 use Rattle.machine.proofs.Core.{Sendable}
 use Rattle.machine.proofs.Feeders.{sender-leaves}
@@ -28,9 +29,6 @@ use Rattle.machine.proofs.Lines.{isUnit, no-mark, head-leaves, line-of,
 use Rattle.machine.proofs.Makes.{next-belongs}
 use Rattle.machine.proofs.Kept.{Kept, slot-kept, choice-kept, credit-kept, flag-kept, wire-kept}
 use Rattle.machine.proofs.KeptLines.{head-belongs, behind-belong, mark-kept, gone-kept}
-
-full-same : {x y : Packet} → Full x ≡ Full y → x ≡ y
-full-same e = cc
 
 module _ {pl : Plan} (wired : Wired pl) (range : InRange (pl .head)) where
   -- the head of a queue goes, its flag rises, and with the head of a unit's queue its mark goes

@@ -11,7 +11,7 @@ use native.Mathlib.Nat.{mod-add-mod, mod-eq-of-lt, mod-eq-sub-mod, add-zero}
 use native.Mathlib.Omega.{arith}
 use lib.Dec.{eqb, ltb}
 use lib.ListN.{length}
-use borrow.Author.Tests.{ltb-false, lt-ltb}
+use borrow.Author.Tests.{ltb-false, lt-ltb, not-true, not-false}
 use Rattle.basis.specs.Choice.{pick, also, test}
 use Rattle.basis.specs.Bounded.{Found, find, lt-or-ge}
 use Rattle.basis.specs.Fold.{upTo, up-keeps-at}
@@ -121,7 +121,7 @@ unfolding next
 next-by pl q o x e = rw e
 
 -- the phases' ends
-execute-phase : (pl : Plan) (s : State) → doRead pl s .phase ≡ Execute
+pub execute-phase : (pl : Plan) (s : State) → doRead pl s .phase ≡ Execute
 unfolding doRead
 execute-phase pl s = refl
 
@@ -345,14 +345,6 @@ module _ {pl : Plan} (wired : Wired pl) (range : InRange (pl .head)) (free : Fee
         at-writing : (c : Call) → Next j c s
         at-writing write = by (find (outputs pl) (λ n. not (isNobody (s .choice (outputAt pl n)))))
           where
-            not-true : (b : Bool) → not b ≡ true → b ≡ false
-            not-true true g = absurd (false≢true g)
-            not-true false g = refl
-
-            not-false : (b : Bool) → not b ≡ false → b ≡ true
-            not-false true g = refl
-            not-false false g = absurd (true≢false g)
-
             by : Found (outputs pl) (λ n. not (isNobody (s .choice (outputAt pl n)))) ⊎ ((n : ℕ) → n < outputs pl → not (isNobody (s .choice (outputAt pl n))) ≡ false) → Next j write s
             by (inl (n, h, b)) = moves (sends n h (s .choice (outputAt pl n)) refl (not-true _ b))
             by (inr nil) = unsent (λ n h. not-false _ (nil n h))

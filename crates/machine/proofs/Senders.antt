@@ -13,56 +13,40 @@ use Rattle.feeding.specs.Queue.{Queue, activeOut, activeIn, passiveIn, passiveO
 use Rattle.feeding.specs.Feeds.{Output}
 use Rattle.machine.specs.Store.{put, sameQueue}
 use Rattle.machine.specs.Outputs.{nextBy}
-use Rattle.machine.specs.State.{State}
+use Rattle.machine.specs.State.{State, withFlag, withHandled}
 use Rattle.machine.specs.Execute.{hasCredit, mayLeave, headReady, candidate}
 use Rattle.machine.specs.Write.{raise}
 use Rattle.machine.specs.Valid.{isFed}
 use Rattle.machine.proofs.AccountCells.{queue-away}
 
 -- ---- what raising a flag leaves
--- queues stay
+-- what neither a flag nor a mark changes stays as a flag is raised
+raise-leaves : {X : Type 0} (f : State → X) → ((q : Queue) (b : Bool) (s : State) → f (withFlag q b s) ≡ f s) → ((q : Queue) (b : Bool) (s : State) → f (withHandled q b s) ≡ f s)
+    → (q : Queue) (s : State) → f (raise q s) ≡ f s
+raise-leaves f flags marks (activeOut x) s = refl
+raise-leaves f flags marks (passiveOut x) s = refl
+raise-leaves f flags marks (activeIn x) s = flags (activeIn x) true s
+raise-leaves f flags marks (passiveIn x) s = flags (passiveIn x) true s
+raise-leaves f flags marks (U r i) s = flags (U r i) true s
+raise-leaves f flags marks (Q r) s = flags (Q r) true (withHandled (Q r) false s) ∙ marks (Q r) false s
+raise-leaves f flags marks (F r o) s = flags (F r o) true s
+raise-leaves f flags marks (K r i o) s = flags (K r i o) true s
+
+-- queues, credits, choices, wires and allowances stay
 pub raise-queue : (q : Queue) (s : State) → raise q s .queue ≡ s .queue
-raise-queue (activeOut x) s = refl
-raise-queue (passiveOut x) s = refl
-raise-queue (activeIn x) s = refl
-raise-queue (passiveIn x) s = refl
-raise-queue (U r i) s = refl
-raise-queue (Q r) s = refl
-raise-queue (F r o) s = refl
-raise-queue (K r i o) s = refl
+raise-queue = raise-leaves (λ s. s .queue) (λ q b s. refl) (λ q b s. refl)
 
--- credits stay
 pub raise-credit : (q : Queue) (s : State) → raise q s .credit ≡ s .credit
-raise-credit (activeOut x) s = refl
-raise-credit (passiveOut x) s = refl
-raise-credit (activeIn x) s = refl
-raise-credit (passiveIn x) s = refl
-raise-credit (U r i) s = refl
-raise-credit (Q r) s = refl
-raise-credit (F r o) s = refl
-raise-credit (K r i o) s = refl
+raise-credit = raise-leaves (λ s. s .credit) (λ q b s. refl) (λ q b s. refl)
 
--- choices stay
 pub raise-choice : (q : Queue) (s : State) → raise q s .choice ≡ s .choice
-raise-choice (activeOut x) s = refl
-raise-choice (passiveOut x) s = refl
-raise-choice (activeIn x) s = refl
-raise-choice (passiveIn x) s = refl
-raise-choice (U r i) s = refl
-raise-choice (Q r) s = refl
-raise-choice (F r o) s = refl
-raise-choice (K r i o) s = refl
+raise-choice = raise-leaves (λ s. s .choice) (λ q b s. refl) (λ q b s. refl)
 
--- wires stay
 pub raise-wire : (q : Queue) (s : State) → raise q s .wire ≡ s .wire
-raise-wire (activeOut x) s = refl
-raise-wire (passiveOut x) s = refl
-raise-wire (activeIn x) s = refl
-raise-wire (passiveIn x) s = refl
-raise-wire (U r i) s = refl
-raise-wire (Q r) s = refl
-raise-wire (F r o) s = refl
-raise-wire (K r i o) s = refl
+raise-wire = raise-leaves (λ s. s .wire) (λ q b s. refl) (λ q b s. refl)
+
+pub raise-allowance : (q : Queue) (s : State) → raise q s .allowance ≡ s .allowance
+raise-allowance = raise-leaves (λ s. s .allowance) (λ q b s. refl) (λ q b s. refl)
 
 -- another queue's mark stays
 pub raise-handled : (q : Queue) (s : State) (p : Queue) → p ≢ q → raise q s .handled p ≡ s .handled p

@@ -20,6 +20,7 @@ use Rattle.machine.specs.Outputs.{outputs, outputAt, outputNumber}
 use Rattle.machine.specs.State.{State, Choice, sender, withQueue, withFlag, withEntry, join}
 use Rattle.machine.specs.Execute.{handledAs, unit, mayLeave, picked, choose, marked, tdownOf, undo, doExecute}
 use Rattle.machine.specs.Valid.{Drives}
+use Rattle.machine.proofs.Apart.{unit-same}
 use Rattle.machine.proofs.Numbers.{sender-exists}
 use Rattle.machine.proofs.Core.{WiresEmpty, FlagsDown, Sendable, ChoicesSendable, Shape, in-write}
 use Rattle.machine.proofs.Arbitration.{picked-candidate}
@@ -34,9 +35,6 @@ use Rattle.machine.proofs.ShapeSenders.{Spares, spared-sendable, spares
 abbrev pub Quiet : Plan → ℕ → State → Type 0
 Quiet pl n s = (q : Queue) → Exists pl q → s .flag q ≡ true → (r : ℕ) × (r < n) × (q ≡ Q r) × (s .handled q ≡ false)
 
-router-same : {r n : ℕ} → Q r ≡ Q n → r ≡ n
-router-same e = cc
-
 module _ (pl : Plan) where
   -- before the first unit's turn
   pub quiet-start : (s : State) → FlagsDown pl s → Quiet pl 0 s
@@ -47,7 +45,7 @@ module _ (pl : Plan) where
   quiet-down n s h g = refuted (s .flag (Q n)) (λ up. by (g (Q n) h up))
     where
       by : (r : ℕ) × (r < n) × (Q n ≡ Q r) × (s .handled (Q n) ≡ false) → ⊥
-      by (r, l, e, m) = let z : n ≡ r = router-same e in omega arith
+      by (r, l, e, m) = let z : n ≡ r = unit-same e in omega arith
 
   quiet-same : (n : ℕ) (s t : State) → t .flag ≡ s .flag → t .handled ≡ s .handled → Quiet pl n s → Quiet pl n t
   quiet-same n s t f m g q h up =
@@ -66,7 +64,7 @@ module _ (pl : Plan) where
     where
       by : (r : ℕ) × (r < n) × (q ≡ Q r) × (s .handled q ≡ false) → (r : ℕ) × (r < suc n) × (q ≡ Q r) × (t .handled q ≡ false)
       by (r, l, e, d) =
-          let ne : q ≢ Q n = λ z. let i : r ≡ n = router-same (sym e ∙ z) in omega arith in
+          let ne : q ≢ Q n = λ z. let i : r ≡ n = unit-same (sym e ∙ z) in omega arith in
           (r, omega arith, e, ap (λ (m : Queue → Bool). m q) m ∙ queue-away (s .handled) (Q n) true q ne ∙ d)
 
   -- the head of Q n ended

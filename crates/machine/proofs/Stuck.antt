@@ -5,15 +5,14 @@ use mathlib.Core.Logic.{_⊎_, inl, inr, _≢_}
 use mathlib.Core.Bool.{Bool, true, false, false≢true, true≢false}
 use mathlib.Core.List.{List, [], _∷_}
 use mathlib.Core.Option.{Option, none, some}
-use Prim.Native.Nat.{ℕ, zero, suc, _+_, _-_, _/_, _%_, _≤_, _<_}
+use Prim.Native.Nat.{ℕ, zero, suc, _+_, _≤_, _<_}
 use native.Mathlib.Nat.{min-le-right}
 use native.Mathlib.Omega.{arith}
 use lib.ListN.{length}
-use lib.Dec.{eqb, ltb}
-use borrow.Author.Tests.{eq-eqb, ltb-true, ltb-false}
+use borrow.Author.Tests.{eq-eqb}
 use Rattle.basis.specs.Among.{In}
 use Rattle.basis.specs.Bounded.{below-suc}
-use Rattle.basis.specs.Choice.{pick, test}
+use Rattle.basis.specs.Choice.{pick}
 use Rattle.basis.specs.Walk.{on, end}
 use Rattle.packets.specs.declared.Kind.{Kind}
 use Rattle.packets.specs.declared.Kind.the-variants.{Setup, Tdown, Ack, Nack}
@@ -38,9 +37,10 @@ use Rattle.journeys.proofs.Walks.{onward-on, onward-end}
 use Rattle.journeys.proofs.Fitting.{fits-visits}
 use Rattle.machine.specs.Outputs.{nextBy, senders}
 use Rattle.machine.specs.State.{State, startAllowance}
-use Rattle.machine.specs.Valid.{PacketOk, Belongs, headPlace, Lined, Drives, brings, bit, isFed, sum, onWires, inAll, inWire, total, spends}
-use Rattle.machine.specs.Outputs.{outputs, outputAt, routerOutput}
+use Rattle.machine.specs.Valid.{PacketOk, Belongs, headPlace, Lined, brings, bit, isFed, sum, onWires, inAll, inWire, total, spends}
+use Rattle.machine.specs.Outputs.{outputs, outputAt}
 use Rattle.machine.specs.Progress.{isInQueue, PassiveRoom}
+use Rattle.machine.proofs.OutNumbers.{drives-at}
 use Rattle.machine.proofs.Core.{Core, WiresEmpty, FlagsDown, account}
 use Rattle.machine.proofs.Closure.{fits-next, active-answer}
 use Rattle.machine.proofs.Follow.{follow}
@@ -130,29 +130,6 @@ next-fed pl h a p (U r i) y e = rw (← some-same e)
 next-fed pl h a p (Q r) y e = rw (← some-same e)
 next-fed pl h a p (F r o) y e = across-fed pl h a p (pl .joint r o) y e
 next-fed pl h a p (K r i o) y e = across-fed pl h a p (pl .joint r o) y e
-
--- the outputs by number are the plan's
-pub drives-at : (pl : Plan) (n : ℕ) → n < outputs pl → Drives pl (outputAt pl n)
-unfolding outputAt
-drives-at pl n h = first (test (ltb n (A pl)))
-  where
-    six : (r k : ℕ) → r < R pl → k < 6 → Drives pl (routerOutput r k)
-    six r k hr hk = at (test (ltb k 4)) (test (eqb k 4))
-      where
-        at : (ltb k 4 ≡ true) ⊎ (ltb k 4 ≡ false) → (eqb k 4 ≡ true) ⊎ (eqb k 4 ≡ false) → Drives pl (routerOutput r k)
-        at (inl t) u = rw t (hr, ltb-true k 4 t)
-        at (inr t) (inl u) = rw (t, u) hr
-        at (inr t) (inr u) = rw (t, u) hr
-
-    second : ltb n (A pl) ≡ false → (ltb n (A pl + P pl) ≡ true) ⊎ (ltb n (A pl + P pl) ≡ false) → Drives pl (outputAt pl n)
-    second t (inl u) = rw (t, u, outputAt) (let a = ltb-false n (A pl) t in let b = ltb-true n (A pl + P pl) u in omega arith)
-    second t (inr u) =
-        rw (t, u, outputAt)
-        (six ((n - (A pl + P pl)) / 6) ((n - (A pl + P pl)) % 6) (let b = ltb-false n (A pl + P pl) u in omega arith) (omega arith))
-
-    first : (ltb n (A pl) ≡ true) ⊎ (ltb n (A pl) ≡ false) → Drives pl (outputAt pl n)
-    first (inl t) = rw (t, outputAt) (ltb-true n (A pl) t)
-    first (inr t) = second t (test (ltb n (A pl + P pl)))
 
 -- every capacity is at least 1
 pub capacity-some : (h : Head) → InRange h → (q : Queue) → 1 ≤ capacity h q

@@ -12,13 +12,14 @@ use Rattle.packets.specs.declared.Packet.{Packet}
 use Rattle.packets.specs.declared.Wire.{Wire}
 use Rattle.packets.specs.declared.Wire.the-variants.{Empty, Full}
 use Rattle.plan.specs.Plan.{Plan}
-use Rattle.feeding.specs.Queue.{Queue, activeOut, activeIn, passiveIn, passiveOut, U, Q, F, K, Exists, number, queues, queueAt}
+use Rattle.feeding.specs.Queue.{Queue, Exists, number, queues, queueAt}
 use Rattle.feeding.specs.Feeds.{Output, Place, inQueue}
 use Rattle.journeys.proofs.Numbers.{queue-at, number-below}
 use Rattle.machine.specs.Store.{put, sameQueue, same-queue, queue-same, sameOutput, same-output, output-same, put-here, put-away}
 use Rattle.machine.specs.Outputs.{nextBy, outputs, outputAt, outputNumber}
 use Rattle.machine.specs.State.{State, start, withQueue, withWire, withHandled, join}
 use Rattle.machine.specs.Valid.{headPlace, Drives, sum, inAll, inWire, total}
+use Rattle.machine.proofs.Lines.{head-unhandled}
 use Rattle.machine.proofs.Core.{Core}
 use Rattle.machine.proofs.Numbers.{at-number}
 use Rattle.machine.proofs.OutNumbers.{output-at, output-below, drives-at, at-output}
@@ -67,17 +68,6 @@ unfoldable pub weighed : Plan → Weight → State → ℕ
 weighed pl w s = inLines pl w (s .handled) (s .queue) + inWires pl w (s .wire)
 
 -- ---- one line
--- The head of an unhandled queue is in the queue.
-pub fresh-place : (q : Queue) → headPlace false q ≡ inQueue q
-fresh-place (activeOut x) = refl
-fresh-place (activeIn x) = refl
-fresh-place (passiveIn x) = refl
-fresh-place (passiveOut x) = refl
-fresh-place (U r i) = refl
-fresh-place (Q r) = refl
-fresh-place (F r o) = refl
-fresh-place (K r i o) = refl
-
 -- A line whose head is in the queue weighs what its packets weigh there.
 pub line-in : (w : Weight) (q : Queue) (done : Bool) (xs : List Packet) → headPlace done q ≡ inQueue q → inLine w q done xs ≡ inAll (w (inQueue q)) xs
 unfolding inLine
@@ -86,7 +76,7 @@ line-in w q done (x ∷ xs) e = rw e
 
 -- So does an unhandled line.
 pub line-fresh : (w : Weight) (q : Queue) (xs : List Packet) → inLine w q false xs ≡ inAll (w (inQueue q)) xs
-line-fresh w q xs = line-in w q false xs (fresh-place q)
+line-fresh w q xs = line-in w q false xs (head-unhandled q)
 
 in-all-joins : (w : Packet → ℕ) (xs : List Packet) (x : Packet) → inAll w (xs ++ (x ∷ [])) ≡ inAll w xs + w x
 in-all-joins w [] x = omega arith
@@ -96,7 +86,7 @@ in-all-joins w (y ∷ ys) x = let h = in-all-joins w ys x in omega arith
 pub line-joins : (w : Weight) (q : Queue) (done : Bool) (xs : List Packet) (x : Packet) → (done ≡ true → xs ≢ []) → inLine w q done (xs ++ (x ∷ [])) ≡ inLine w q done xs + w (inQueue q) x
 unfolding inLine
 line-joins w q true [] x h = absurd (h refl refl)
-line-joins w q false [] x h = rw (fresh-place q) (omega arith)
+line-joins w q false [] x h = rw (head-unhandled q) (omega arith)
 line-joins w q done (y ∷ ys) x h = let e = in-all-joins (w (inQueue q)) ys x in omega arith
 
 -- ---- a change of one line, or of one wire

@@ -25,6 +25,7 @@ use Rattle.machine.specs.Calls.{isPhase, isEmpty}
 use Rattle.machine.specs.Valid.{Drives}
 use Rattle.journeys.proofs.Numbers.{queue-at, number-below}
 use Rattle.journeys.proofs.Places.{some-not-none, some-same}
+use Rattle.machine.proofs.Apart.{nobody-not, sender-same}
 use Rattle.machine.proofs.Numbers.{exists-at}
 use Rattle.machine.proofs.OutNumbers.{output-at, output-below, drives-at}
 use Rattle.valid.proofs.Decides.{Decides, like, never, always, so, not-so, less, both, given, unless, all-below}
@@ -70,12 +71,6 @@ empty-decides Empty = always refl
 empty-decides (Full x) = never (λ e. let z : _≡_ {A = ℕ} 0 1 = cc in omega arith)
 
 -- ---- one choice
-nobody-not : {k : ℕ} → nobody ≡ sender k → ⊥
-nobody-not e = let z : _≡_ {A = ℕ} 0 1 = cc in omega arith
-
-sender-same : {j k : ℕ} → sender j ≡ sender k → j ≡ k
-sender-same e = cc
-
 module _ (pl : Plan) (s : State) (o : Output) where
   may-decides : (t : Option Queue) → Decides (mayTest pl s o t) ((q : Queue) × (t ≡ some q) × (candidate pl s o q ≡ true))
   may-decides none = never (λ f. some-not-none (f .1))

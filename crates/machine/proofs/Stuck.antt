@@ -5,13 +5,12 @@ use mathlib.Core.Logic.{_⊎_, inl, inr, _≢_}
 use mathlib.Core.Bool.{Bool, true, false, false≢true, true≢false}
 use mathlib.Core.List.{List, [], _∷_}
 use mathlib.Core.Option.{Option, none, some}
-use Prim.Native.Nat.{ℕ, zero, suc, _+_, _≤_, _<_}
+use Prim.Native.Nat.{ℕ, _≤_, _<_}
 use native.Mathlib.Nat.{min-le-right}
 use native.Mathlib.Omega.{arith}
 use lib.ListN.{length}
 use borrow.Author.Tests.{eq-eqb}
 use Rattle.basis.specs.Among.{In}
-use Rattle.basis.specs.Bounded.{below-suc}
 use Rattle.basis.specs.Choice.{pick}
 use Rattle.basis.specs.Walk.{on, end}
 use Rattle.packets.specs.declared.Kind.{Kind}
@@ -37,40 +36,14 @@ use Rattle.journeys.proofs.Walks.{onward-on, onward-end}
 use Rattle.journeys.proofs.Fitting.{fits-visits}
 use Rattle.machine.specs.Outputs.{nextBy, senders}
 use Rattle.machine.specs.State.{State, startAllowance}
-use Rattle.machine.specs.Valid.{PacketOk, Belongs, headPlace, Lined, brings, bit, isFed, sum, onWires, inAll, inWire, total, spends}
+use Rattle.machine.specs.Valid.{PacketOk, Belongs, headPlace, Lined, brings, bit, isFed, onWires, inAll, inWire, total, spends}
 use Rattle.machine.specs.Outputs.{outputs, outputAt}
 use Rattle.machine.specs.Progress.{isInQueue, PassiveRoom}
+use Rattle.machine.proofs.Sums.{sum-two, sum-nought}
 use Rattle.machine.proofs.OutNumbers.{drives-at}
 use Rattle.machine.proofs.Core.{Core, WiresEmpty, FlagsDown, account}
 use Rattle.machine.proofs.Closure.{fits-next, active-answer}
 use Rattle.machine.proofs.Follow.{follow}
-
--- ---- sums
--- two terms of a sum are at most the sum
-pub sum-one : (n : ℕ) (f : ℕ → ℕ) (i : ℕ) → i < n → f i ≤ sum n f
-unfolding sum
-sum-one zero f i h = absurd (omega arith)
-sum-one (suc n) f i h = by (λ l. sum-one n f i l) (below-suc h)
-  where
-    by : (i < n → f i ≤ sum n f) → (i < n) ⊎ (i ≡ n) → f i ≤ sum n f + f n
-    by rec (inl l) = omega (arith, rec l)
-    by rec (inr e) = rw e (omega arith)
-
-pub sum-two : (n : ℕ) (f : ℕ → ℕ) (i j : ℕ) → i < n → j < n → i ≢ j → f i + f j ≤ sum n f
-unfolding sum
-sum-two zero f i j h k ne = absurd (omega arith)
-sum-two (suc n) f i j h k ne = by (λ l m. sum-two n f i j l m ne) (below-suc h) (below-suc k)
-  where
-    by : (i < n → j < n → f i + f j ≤ sum n f) → (i < n) ⊎ (i ≡ n) → (j < n) ⊎ (j ≡ n) → f i + f j ≤ sum n f + f n
-    by rec (inl l) (inl m) = omega (arith, rec l m)
-    by rec (inl l) (inr e) = rw e (omega (arith, sum-one n f i l))
-    by rec (inr e) (inl m) = rw e (omega (arith, sum-one n f j m))
-    by rec (inr e) (inr g) = absurd (ne (e ∙ sym g))
-
-sum-none : (n : ℕ) (f : ℕ → ℕ) → ((i : ℕ) → i < n → f i ≡ 0) → sum n f ≡ 0
-unfolding sum
-sum-none zero f h = refl
-sum-none (suc n) f h = let a = sum-none n f (λ i l. h i (omega arith)) in let b = h n (omega arith) in omega arith
 
 all-one : (w : Packet → ℕ) (l : List Packet) → ((z : Packet) → In z l → w z ≡ 1) → inAll w l ≡ length l
 all-one w [] h = refl
@@ -177,7 +150,7 @@ module _ {pl : Plan} (wired : Wired pl) (range : InRange (pl .head)) (free : Fee
 
   no-wires : (y : Queue) → onWires pl y s ≡ 0
   unfolding onWires
-  no-wires y = sum-none (outputs pl) _ (λ n l. rw (jam .wires (outputAt pl n) (drives-at pl n l)))
+  no-wires y = sum-nought (outputs pl) _ (λ n l. rw (jam .wires (outputAt pl n) (drives-at pl n l)))
 
   full : (y : Queue) → Exists pl y → isFed y ≡ true → s .credit y .0 ≡ 0 → length (s .queue y) ≡ capacity (pl .head) y
   unfolding account

@@ -22,9 +22,9 @@ use Rattle.machine.specs.Outputs.{nextBy, outputs, outputAt}
 use Rattle.machine.specs.State.{State, start, withPhase, withSlot, withQueue, withFlag, join}
 use Rattle.machine.specs.Valid.{Drives, bit, brings, onWires, isFed}
 use Rattle.machine.proofs.Sums.{sum-nought}
+use Rattle.machine.proofs.AccountCells.{queue-here, queue-away, queue-or, cell-sum, fed-apart}
 use Rattle.machine.proofs.Core.{OutCapacities, OutFlags, OutCredits, Credits, account, Core}
 use Rattle.machine.proofs.Feeders.{feeder, fed-by}
-use Rattle.machine.proofs.AccountCells.{queue-here, queue-away, queue-or, cell-sum, fed-apart}
 
 -- the four parts of the core that speak of credits, room and flags
 pub record Paid (pl : Plan) (s : State) : Type 0 where

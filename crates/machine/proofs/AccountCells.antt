@@ -11,8 +11,8 @@ use Rattle.feeding.specs.Feeds.{Output}
 use Rattle.machine.specs.Store.{put, sameQueue, same-queue, queue-same, sameOutput, same-output, output-same, put-here, put-away}
 use Rattle.machine.specs.Outputs.{outputs, outputAt, outputNumber}
 use Rattle.machine.specs.Valid.{Drives, bit, sum, isFed}
-use Rattle.machine.proofs.Sums.{sum-but}
 use Rattle.machine.proofs.OutNumbers.{output-at, output-below, at-output}
+use Rattle.machine.proofs.Sums.{sum-but}
 
 -- ---- stores of queues and of outputs
 -- two queues are one or not

@@ -23,10 +23,10 @@ use Rattle.machine.specs.State.{State, Choice, nobody, sender, withQueue
 use Rattle.machine.specs.Write.{ofRank, raise, spend, sendHead, sendFrom, sendBy, send}
 use Rattle.machine.specs.Valid.{Drives, bit, goesTo, brings, onWires, isFed}
 use Rattle.machine.proofs.Numbers.{sender-exists}
-use Rattle.machine.proofs.Core.{account, Core, Sendable}
 use Rattle.machine.proofs.AccountCells.{queue-away, same-turn, cell-sum, fed-apart, outputs-put}
-use Rattle.machine.proofs.Account.{Paid, Kept, Spared, paid-by, paid-of, paid-alike, next-fed, left-paid, out-paid}
+use Rattle.machine.proofs.Core.{account, Core, Sendable}
 use Rattle.machine.proofs.Senders.{raise-queue, raise-credit, raise-wire, raise-flag, raise-none, Ready, candidate-ready}
+use Rattle.machine.proofs.Account.{Paid, Kept, Spared, paid-by, paid-of, paid-alike, next-fed, left-paid, out-paid}
 
 module _ {pl : Plan} (wired : Wired pl) where
   -- ---- the two halves of a sending: out of the queue, and on to the wire

@@ -28,15 +28,15 @@ use Rattle.machine.specs.Execute.{declined, unit, tdownOf, choose, undo}
 use Rattle.machine.specs.Write.{send}
 use Rattle.machine.specs.Calls.{launched, repliedAs, replied, removed}
 use Rattle.machine.specs.Valid.{Drives, Carries, spendsKind, spends}
-use Rattle.machine.proofs.Senders.{raise-wire, raise-allowance}
 use Rattle.machine.proofs.Apart.{full-not}
-use Rattle.machine.proofs.Closure.{passive-setup, active-answer}
 use Rattle.machine.proofs.Core.{Core, Sendable, Allowances}
-use Rattle.machine.proofs.Weights.{anywhere, weighed, Bound, weighed-total, core-bound, weighed-plain, start-weighed, bound-put}
-use Rattle.machine.proofs.Spending.{tdown-spends, kinds-spend, mine, fallen, grown}
+use Rattle.machine.proofs.Closure.{passive-setup, active-answer}
+use Rattle.machine.proofs.Senders.{raise-wire, raise-allowance}
 use Rattle.machine.proofs.Cases.{deliver-none, deliver-one, UnitDoes, rests, books, declines, ends, frees, unit-does, unit-books, unit-declines, unit-ends, unit-frees, ActiveDoes, waits, tears, undo-does, undo-tears, SendDoes, none-sent, sent, send-does, send-one}
+use Rattle.machine.proofs.Weights.{anywhere, weighed, Bound, weighed-total, core-bound, weighed-plain, start-weighed, bound-put}
 use Rattle.machine.proofs.Moves.{head-belongs, phase-weighed, slot-weighed, settle-weighed, choose-weighed, deliver-weighed, send-weighed}
 use Rattle.machine.proofs.Changes.{booked-weighed, declined-weighed, freed-weighed, ended-weighed, torn-weighed, launched-weighed, replied-weighed, removed-weighed}
+use Rattle.machine.proofs.Spending.{tdown-spends, kinds-spend, mine, fallen, grown}
 
 -- Start has every allowance whole.
 pub start-allowances : (pl : Plan) → Allowances pl (start pl)

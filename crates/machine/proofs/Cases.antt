@@ -5,7 +5,9 @@ use mathlib.Core.Bool.{Bool, true, false, _&&_, false≢true}
 use mathlib.Core.List.{List, [], _∷_}
 use mathlib.Core.Option.{Option, none, some}
 use Prim.Native.Nat.{ℕ, _≤_}
+use native.Mathlib.Omega.{arith}
 use lib.Dec.{eqb, ltb}
+use borrow.Author.Tests.{eqb-false, not-true}
 use Rattle.basis.specs.Choice.{also-true, test}
 use Rattle.packets.specs.declared.Kind.{Kind}
 use Rattle.packets.specs.declared.Kind.the-variants.{Setup, Tdown, Ack, Nack}
@@ -21,8 +23,6 @@ use Rattle.machine.specs.State.{State, Choice, nobody, sender, withQueue
 use Rattle.machine.specs.Read.{arrived, joinNext, arrive, deliver}
 use Rattle.machine.specs.Execute.{cameIn, declined, booked, freed, mayBook, handledAs, setUp, tearOne, tearDown, handle, atUnit, unit, hasCredit, mayLeave, headReady, candidate, unmarkedKind, unmarked, torn, hasRoom, answer, atActive, undo}
 use Rattle.machine.specs.Write.{ofRank, raise, spend, sendHead, sendFrom, sendBy, send}
-use borrow.Author.Tests.{eqb-false, not-true}
-use native.Mathlib.Omega.{arith}
 use Rattle.machine.proofs.Core.{Sendable}
 
 -- ---- a wire

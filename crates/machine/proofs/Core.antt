@@ -17,12 +17,12 @@ use Rattle.packets.specs.declared.Entry.the-variants.{Free, Booked}
 use Rattle.plan.specs.Plan.{Plan, R, A, P, S}
 use Rattle.feeding.specs.Queue.{Queue, Q, Exists, capacity}
 use Rattle.feeding.specs.Feeds.{Output}
+use Rattle.journeys.proofs.Places.{some-same}
 use Rattle.machine.specs.Outputs.{senders}
 use Rattle.machine.specs.State.{State, Choice, nobody, sender, startAllowance}
 use Rattle.machine.specs.Execute.{candidate}
 use Rattle.machine.specs.Write.{ofRank}
 use Rattle.machine.specs.Valid.{Lined, Drives, Carries, bit, onWires, total, spends, isFed, Valid, Bounded}
-use Rattle.journeys.proofs.Places.{some-same}
 use Rattle.machine.proofs.Apart.{nobody-not, read-execute, read-write, execute-write}
 
 -- ---- the core's parts

@@ -6,8 +6,8 @@ use mathlib.Core.List.{List, [], _∷_, _++_}
 use Prim.Native.Nat.{ℕ, zero, suc, _+_, _≤_, _<_}
 use native.Mathlib.Omega.{arith}
 use lib.Dec.{eqb}
-use borrow.Author.Tests.{eqb-true, eqb-false}
 use lib.ListN.{length}
+use borrow.Author.Tests.{eqb-true, eqb-false}
 use Rattle.basis.specs.Choice.{test}
 use Rattle.basis.specs.Bounded.{below-suc, lt-or-ge}
 use Rattle.basis.specs.Fold.{upTo, up-keeps, up-keeps-at}
@@ -21,8 +21,8 @@ use Rattle.machine.specs.Outputs.{outputs, outputAt}
 use Rattle.machine.specs.State.{State, withQueue, join}
 use Rattle.machine.specs.Execute.{booked, declined, freed, marked, tdownOf, unit, choose, undo, doExecute}
 use Rattle.machine.specs.Progress.{Moved}
-use Rattle.machine.proofs.AccountCells.{queue-here, queue-away}
 use Rattle.machine.proofs.Apart.{unit-same}
+use Rattle.machine.proofs.AccountCells.{queue-here, queue-away}
 use Rattle.machine.proofs.Core.{Core}
 use Rattle.machine.proofs.Cases.{UnitDoes, rests, books, declines, ends, frees, unit-does, unit-books, unit-declines, unit-ends, unit-frees, unit-handled, mayBookAt, afterBooked, afterFreed, afterEnded, ActiveDoes, waits, tears, undo-does, undo-tears}
 use Rattle.machine.proofs.Still.{all-chosen}

@@ -32,14 +32,14 @@ use Rattle.machine.specs.Valid.{Drives}
 use Rattle.machine.specs.Progress.{isInQueue, UnderWay, PassiveRoom, Waits, Moved, isTimed, endsRound}
 use Rattle.machine.specs.Ruled.{rounds, Moves, Good}
 use Rattle.machine.proofs.Apart.{full-not}
-use Rattle.machine.proofs.Core.{WiresEmpty}
 use Rattle.machine.proofs.OutNumbers.{output-at, output-below, drives-at}
+use Rattle.machine.proofs.Core.{WiresEmpty}
 use Rattle.machine.proofs.ShapeRead.{read-wires}
-use Rattle.machine.proofs.Interval.{MovesNow, moves-now, moves-later}
+use Rattle.machine.proofs.Keeps.{Inv, inv-of, call-inv}
 use Rattle.machine.proofs.Stuck.{Closed, every, every-closed, answering, answering-closed}
+use Rattle.machine.proofs.Interval.{MovesNow, moves-now, moves-later}
 use Rattle.machine.proofs.Still.{none-delivered}
 use Rattle.machine.proofs.Undisturbed.{read-now, execute-not, write-not, out-of-phase, by-refusal}
-use Rattle.machine.proofs.Keeps.{Inv, inv-of, call-inv}
 use Rattle.machine.proofs.Progress.{from-execute, execute-phase}
 
 -- ---- what calls other than Read do in READ

@@ -34,6 +34,8 @@ use Rattle.machine.specs.Valid.{Drives, Valid, Bounded}
 use Rattle.machine.specs.Ruled.{Good}
 use Rattle.machine.proofs.Apart.{phase-of}
 use Rattle.machine.proofs.Core.{Core, Shape, in-read, in-execute, in-write, Sendable, NoChoices, WiresEmpty, FlagsDown, ChoicesSendable, Allowances, core-of, shape-of, valid-of}
+use Rattle.machine.proofs.Spending.{reply-spends}
+use Rattle.machine.proofs.Allowance.{start-allowances, phase-allowances, slot-allowances, deliver-allowances, settle-allowances, unit-allowances, choose-allowances, undo-allowances, send-allowances, launched-allowances, replied-allowances, removed-allowances}
 use Rattle.machine.proofs.Kept.{Kept, kept-of, start-kept, phase-kept, slot-kept}
 use Rattle.machine.proofs.KeptRead.{deliver-kept, settle-kept}
 use Rattle.machine.proofs.KeptExecute.{unit-kept, choose-kept, undo-kept}
@@ -44,13 +46,11 @@ use Rattle.machine.proofs.AccountRead.{deliver-paid, settle-paid}
 use Rattle.machine.proofs.AccountExecute.{unit-paid, choose-paid, undo-paid}
 use Rattle.machine.proofs.AccountWrite.{send-paid}
 use Rattle.machine.proofs.AccountCalls.{launched-paid, replied-paid, removed-paid}
-use Rattle.machine.proofs.Spending.{reply-spends}
-use Rattle.machine.proofs.Allowance.{start-allowances, phase-allowances, slot-allowances, deliver-allowances, settle-allowances, unit-allowances, choose-allowances, undo-allowances, send-allowances, launched-allowances, replied-allowances, removed-allowances}
-use Rattle.machine.proofs.Phases.{read-keeps, execute-keeps, write-keeps}
 use Rattle.machine.proofs.ShapeRead.{read-shape}
 use Rattle.machine.proofs.ShapeExecute.{execute-shape}
 use Rattle.machine.proofs.ShapeWrite.{write-shape}
 use Rattle.machine.proofs.ShapeCalls.{read-has, execute-has, write-has, launched-shape, replied-shape, removed-shape}
+use Rattle.machine.proofs.Phases.{read-keeps, execute-keeps, write-keeps}
 
 -- the core from its parts
 pub core-by : {pl : Plan} {s : State} → Kept pl s → Paid pl s → Allowances pl s → Core pl s

@@ -2,6 +2,8 @@
 -- change of one part of a state keeps them under its condition.
 use mathlib.Core.Path.{_≡_, refl}
 use mathlib.Core.Bool.{Bool, true, false≢true}
+use mathlib.Core.List.{List, []}
+use mathlib.Core.Logic.{_≢_}
 use Prim.Native.Nat.{ℕ, _<_}
 use native.Mathlib.Omega.{arith}
 use lib.Dec.{eqb}
@@ -21,11 +23,9 @@ use Rattle.feeding.specs.Feeds.{Output}
 use Rattle.machine.specs.Store.{put, sameQueue, same-queue, queue-same, sameOutput, same-output, output-same}
 use Rattle.machine.specs.State.{State, Choice, start, withPhase, withSlot, withWire, withCredit, withFlag, withChoice, withEntry, withAllowance}
 use Rattle.machine.specs.Valid.{Drives, Carries, Bounded, Lined}
-use mathlib.Core.List.{List, []}
-use mathlib.Core.Logic.{_≢_}
 use Rattle.machine.proofs.Apart.{full-not, booked-not}
-use Rattle.machine.proofs.Core.{Core, SlotIn, EntriesIn, Places, Wires, Marks, FreeEntry}
 use Rattle.machine.proofs.Puts.{put-cases, put-outside, number-one, entry-cases}
+use Rattle.machine.proofs.Core.{Core, SlotIn, EntriesIn, Places, Wires, Marks, FreeEntry}
 
 -- what the steps keep of the places
 pub record Kept (pl : Plan) (s : State) : Type 0 where

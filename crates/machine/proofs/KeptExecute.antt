@@ -26,12 +26,12 @@ use Rattle.machine.specs.State.{State, nobody, start, withEntry, isFree}
 use Rattle.machine.specs.Execute.{cameIn, declined, booked, freed, otherFree, mayBook, handledAs, setUp, tearOne, tearDown, handle, atUnit, unit, candidate, isOpen, firstOf, picked, choose, unmarked, marked, tdownOf, hasRoom, answer, atActive, undo}
 use Rattle.machine.specs.Write.{ofRank}
 use Rattle.machine.specs.Valid.{Belongs, Drives, Bounded}
-use Rattle.machine.proofs.Cases.{unmarked-kind}
 use Rattle.machine.proofs.Apart.{booked-not, booked-same}
+use Rattle.machine.proofs.Puts.{number-one}
 use Rattle.machine.proofs.Feeders.{sender-leaves}
 use Rattle.machine.proofs.Lines.{head-some, output-drives}
 use Rattle.machine.proofs.Makes.{side-out, side-in, booked-belongs, declined-belongs, freed-belongs, marked-belongs, tdown-belongs}
-use Rattle.machine.proofs.Puts.{number-one}
+use Rattle.machine.proofs.Cases.{unmarked-kind}
 use Rattle.machine.proofs.Kept.{Kept, choice-kept, flag-kept, entry-kept}
 use Rattle.machine.proofs.KeptLines.{head-belongs, behind-belong, line-kept, mark-kept, join-kept, gone-kept}
 

@@ -13,8 +13,8 @@ use Rattle.feeding.specs.Feeds.{inQueue}
 use Rattle.machine.specs.Store.{sameQueue, same-queue, queue-same}
 use Rattle.machine.specs.State.{State, start, withQueue, withHandled, join}
 use Rattle.machine.specs.Valid.{Belongs, headPlace, Lined, Bounded}
-use Rattle.machine.proofs.Lines.{empty-mark, line-of, line-joined, joined-some}
 use Rattle.machine.proofs.Puts.{put-cases, put-outside, put-both}
+use Rattle.machine.proofs.Lines.{empty-mark, line-of, line-joined, joined-some}
 use Rattle.machine.proofs.Kept.{Kept, lines-kept}
 
 module _ {pl : Plan} {s : State} (k : Kept pl s) where

@@ -22,13 +22,13 @@ use Rattle.machine.specs.Read.{deliver, lower, settle, doRead}
 use Rattle.machine.specs.Execute.{mayLeave, choose}
 use Rattle.machine.specs.Write.{ofRank, raise, spend, send, doWrite}
 use Rattle.machine.specs.Valid.{Belongs, headPlace, Lined, Drives, Carries, inAll}
-use Rattle.machine.proofs.Senders.{raise-wire}
-use Rattle.machine.proofs.Lines.{head-leaves, belongs-exists}
-use Rattle.machine.proofs.Core.{Core, Sendable}
 use Rattle.machine.proofs.Numbers.{sender-exists}
 use Rattle.machine.proofs.OutNumbers.{drives-at}
-use Rattle.machine.proofs.Weights.{Weight, inLine, onWire, weighed, line-in, line-fresh, weighed-queue, weighed-line, weighed-wire, weighed-join}
+use Rattle.machine.proofs.Core.{Core, Sendable}
+use Rattle.machine.proofs.Lines.{head-leaves, belongs-exists}
+use Rattle.machine.proofs.Senders.{raise-wire}
 use Rattle.machine.proofs.Cases.{deliver-none, deliver-one, afterSent, send-one, SendDoes, none-sent, sent, send-does}
+use Rattle.machine.proofs.Weights.{Weight, inLine, onWire, weighed, line-in, line-fresh, weighed-queue, weighed-line, weighed-wire, weighed-join}
 
 -- ---- where packets are
 -- A queue's head belongs where the handled mark puts it.

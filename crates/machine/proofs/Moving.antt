@@ -14,15 +14,15 @@ use Rattle.packets.specs.declared.Wire.the-variants.{Full}
 use Rattle.plan.specs.Plan.{Plan}
 use Rattle.feeding.specs.Queue.{Queue}
 use Rattle.feeding.specs.Feeds.{Output}
+use Rattle.journeys.proofs.Places.{some-same, some-not-none}
 use Rattle.machine.specs.Store.{put, sameQueue, queue-same, sameOutput, same-output, output-same}
 use Rattle.machine.specs.Outputs.{nextBy, senders, outputs, outputAt}
 use Rattle.machine.specs.State.{State, Choice, nobody, sender, withQueue, withChoice}
 use Rattle.machine.specs.Write.{ofRank, raise, spend, sendHead, sendFrom, sendBy, send, doWrite}
-use Rattle.journeys.proofs.Places.{some-same, some-not-none}
-use Rattle.machine.proofs.Senders.{raise-queue, raise-choice}
-use Rattle.machine.proofs.AccountCells.{queue-away, output-away}
 use Rattle.machine.proofs.Apart.{nobody-not, sender-same}
+use Rattle.machine.proofs.AccountCells.{queue-away, output-away}
 use Rattle.machine.proofs.Feeders.{one-output}
+use Rattle.machine.proofs.Senders.{raise-queue, raise-choice}
 
 spend-queue : (y : Option Queue) (s : State) → (spend y s .queue ≡ s .queue) × (spend y s .choice ≡ s .choice)
 spend-queue none s = (refl, refl)

@@ -16,9 +16,9 @@ use Rattle.machine.specs.Read.{deliver, settle, doRead}
 use Rattle.machine.specs.Execute.{unit, choose, undo, doExecute}
 use Rattle.machine.specs.Write.{send, doWrite}
 use Rattle.machine.specs.Valid.{Drives}
-use Rattle.machine.proofs.Core.{WiresEmpty, FlagsDown, Sendable, ChoicesSendable}
 use Rattle.machine.proofs.Numbers.{exists-at}
 use Rattle.machine.proofs.OutNumbers.{drives-at}
+use Rattle.machine.proofs.Core.{WiresEmpty, FlagsDown, Sendable, ChoicesSendable}
 use Rattle.machine.proofs.ShapeExecute.{Quiet, quiet-start, quiet-down, unit-quiet}
 use Rattle.machine.proofs.ShapeWrite.{Pending, pending-start, pending-now, send-pending}
 

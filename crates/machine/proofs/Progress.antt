@@ -37,21 +37,21 @@ use Rattle.machine.specs.Valid.{Belongs, Drives, isFed}
 use Rattle.machine.specs.Progress.{isInQueue, Moved, isTimed, endsRound}
 use Rattle.machine.specs.Ruled.{rounds, Moves}
 use Rattle.machine.proofs.Numbers.{sender-exists}
+use Rattle.machine.proofs.OutNumbers.{output-at, output-below, drives-at}
 use Rattle.machine.proofs.Core.{Core, Shape, WiresEmpty, FlagsDown, NoChoices, ChoicesSendable, Sendable}
 use Rattle.machine.proofs.Closure.{unit-no-answer}
-use Rattle.machine.proofs.OutNumbers.{output-at, output-below, drives-at}
 use Rattle.machine.proofs.Lines.{output-drives}
-use Rattle.machine.proofs.Arbitration.{picked-none}
 use Rattle.machine.proofs.Senders.{candidate-ready}
+use Rattle.machine.proofs.Arbitration.{picked-none}
 use Rattle.machine.proofs.ShapeExecute.{Quiet, quiet-start, quiet-down, unit-quiet, units-wires}
 use Rattle.machine.proofs.ShapeCalls.{execute-has, write-has}
-use Rattle.machine.proofs.Interval.{MovesNow, moves-now, moves-later, Turn, moves, stays, ends, interval}
+use Rattle.machine.proofs.Keeps.{Inv, unit-core, call-inv}
 use Rattle.machine.proofs.Stuck.{Jammed, Closed, none-waits}
+use Rattle.machine.proofs.Interval.{MovesNow, moves-now, moves-later, Turn, moves, stays, ends, interval}
 use Rattle.machine.proofs.Still.{Same, same-self, AllHandled, Picks, read-stays, execute-rest, execute-picks, write-stays}
 use Rattle.machine.proofs.Moving.{write-takes}
 use Rattle.machine.proofs.First.{Ends, Upto, units, ends-moves}
 use Rattle.machine.proofs.Undisturbed.{Undisturbed, read-now, execute-now, write-now, read-not, execute-not, write-not, launch-undisturbed, reply-undisturbed, consume-undisturbed, entry-undisturbed, only-execute}
-use Rattle.machine.proofs.Keeps.{Inv, unit-core, call-inv}
 
 -- ---- every slot comes within S rounds
 pub slot-reached : (n s t : ℕ) → s < n → t < n → (j : ℕ) × (j < n) × ((s + j) % n ≡ t)

@@ -22,12 +22,12 @@ use Rattle.machine.specs.Execute.{handledAs, unit, mayLeave, picked, cho
 use Rattle.machine.specs.Valid.{Drives}
 use Rattle.machine.proofs.Apart.{unit-same}
 use Rattle.machine.proofs.Numbers.{sender-exists}
-use Rattle.machine.proofs.Core.{WiresEmpty, FlagsDown, Sendable, ChoicesSendable, Shape, in-write}
-use Rattle.machine.proofs.Arbitration.{picked-candidate}
 use Rattle.machine.proofs.OutNumbers.{output-at, output-below, drives-at, at-apart}
 use Rattle.machine.proofs.AccountCells.{queue-or, queue-away, output-here, output-away}
+use Rattle.machine.proofs.Core.{WiresEmpty, FlagsDown, Sendable, ChoicesSendable, Shape, in-write}
 use Rattle.machine.proofs.Senders.{candidate-ready}
 use Rattle.machine.proofs.Units.{unit-by, undo-by}
+use Rattle.machine.proofs.Arbitration.{picked-candidate}
 use Rattle.machine.proofs.ShapeSenders.{Spares, spared-sendable, spares-alike, spares-then, join-spares, turn-spares}
 
 -- ---- (1) units

@@ -19,9 +19,9 @@ use Rattle.machine.specs.Store.{sameOutput, sameQueue}
 use Rattle.machine.specs.Outputs.{nextBy, outputs, outputAt, outputNumber}
 use Rattle.machine.specs.State.{State, Choice, withWire, join}
 use Rattle.machine.specs.Read.{joinNext, arrive, deliver, lower, settle, doRead}
-use Rattle.machine.proofs.Core.{WiresEmpty, FlagsDown, NoChoices, Shape, in-execute}
 use Rattle.machine.proofs.OutNumbers.{output-at, output-below}
 use Rattle.machine.proofs.AccountCells.{queue-here, output-here}
+use Rattle.machine.proofs.Core.{WiresEmpty, FlagsDown, NoChoices, Shape, in-execute}
 
 -- ---- one wire: it empties, and no wire fills
 next-wire : (y : Option Queue) (x : Packet) (s : State) → joinNext y x s .wire ≡ s .wire

@@ -21,10 +21,10 @@ use Rattle.machine.specs.Outputs.{nextBy, senders, outputs, outputAt, ou
 use Rattle.machine.specs.State.{State, Choice, nobody, sender, withQueue, withWire, withChoice}
 use Rattle.machine.specs.Write.{ofRank, raise, spend, sendHead, sendFrom, sendBy, send, doWrite}
 use Rattle.machine.specs.Valid.{Drives}
-use Rattle.machine.proofs.Core.{WiresEmpty, NoChoices, Sendable, ChoicesSendable, Shape, in-read}
-use Rattle.machine.proofs.Feeders.{one-feeder, sender-leaves}
 use Rattle.machine.proofs.OutNumbers.{output-at, output-below, drives-at, at-apart}
 use Rattle.machine.proofs.AccountCells.{output-here, output-away}
+use Rattle.machine.proofs.Core.{WiresEmpty, NoChoices, Sendable, ChoicesSendable, Shape, in-read}
+use Rattle.machine.proofs.Feeders.{one-feeder, sender-leaves}
 use Rattle.machine.proofs.Senders.{raise-wire, raise-choice}
 use Rattle.machine.proofs.ShapeSenders.{Spares, spared-sendable, spares-alike, spares-then, turn-spares, raise-spares, spend-spares}
 

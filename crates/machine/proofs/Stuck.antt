@@ -39,8 +39,8 @@ use Rattle.machine.specs.State.{State, startAllowance}
 use Rattle.machine.specs.Valid.{PacketOk, Belongs, headPlace, Lined, brings, bit, isFed, onWires, inAll, inWire, total, spends}
 use Rattle.machine.specs.Outputs.{outputs, outputAt}
 use Rattle.machine.specs.Progress.{isInQueue, PassiveRoom}
-use Rattle.machine.proofs.Sums.{sum-two, sum-nought}
 use Rattle.machine.proofs.OutNumbers.{drives-at}
+use Rattle.machine.proofs.Sums.{sum-two, sum-nought}
 use Rattle.machine.proofs.Core.{Core, WiresEmpty, FlagsDown, account}
 use Rattle.machine.proofs.Closure.{fits-next, active-answer}
 use Rattle.machine.proofs.Follow.{follow}

@@ -37,15 +37,15 @@ use Rattle.machine.specs.Progress.{Quiet}
 use Rattle.machine.specs.Ruled.{Ruled, ruledAfter, acceptedAfter, launchesCall, launches, times}
 use Rattle.machine.proofs.Apart.{phase-of}
 use Rattle.machine.proofs.Core.{Core, Shape, Sendable, FlagsDown, WiresEmpty, ChoicesSendable}
-use Rattle.machine.proofs.Phases.{read-keeps, execute-keeps, write-keeps}
 use Rattle.machine.proofs.ShapeCalls.{execute-has, write-has}
+use Rattle.machine.proofs.Phases.{read-keeps, execute-keeps, write-keeps}
+use Rattle.machine.proofs.Keeps.{Inv, start-inv, call-inv, starts-good, keeps-good, by-test, reply-kind, phase-core, turn-core, deliver-core, settle-core, unit-core, choose-core, undo-core, send-core}
+use Rattle.machine.proofs.FromRead.{progress}
 use Rattle.machine.proofs.Owners.{Owned}
 use Rattle.machine.proofs.OwnSteps.{start-owned, phase-owned, slot-owned, settle-owned, choose-owned, deliver-owned, send-owned, undo-owned, launched-owned, replied-owned, removed-owned}
 use Rattle.machine.proofs.OwnUnits.{unit-owned}
 use Rattle.machine.proofs.OwnTable.{owned-table}
 use Rattle.machine.proofs.Launches.{Counted, start-counted, counted-times, phase-counted, slot-counted, settle-counted, choose-counted, removed-counted, deliver-counted, send-counted, unit-counted, undo-counted, launched-counted, replied-counted}
-use Rattle.machine.proofs.Keeps.{Inv, start-inv, call-inv, starts-good, keeps-good, by-test, reply-kind, phase-core, turn-core, deliver-core, settle-core, unit-core, choose-core, undo-core, send-core}
-use Rattle.machine.proofs.FromRead.{progress}
 
 -- inside a phase: the core, who owns what, and what is on its way to be accepted
 pub record Midway (pl : Plan) (acc : List Connection) (n : Connection → ℕ) (s : State) : Type 0 where

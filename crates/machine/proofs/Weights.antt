@@ -19,11 +19,11 @@ use Rattle.machine.specs.Store.{put, sameQueue, same-queue, queue-same, 
 use Rattle.machine.specs.Outputs.{nextBy, outputs, outputAt, outputNumber}
 use Rattle.machine.specs.State.{State, start, withQueue, withWire, withHandled, join}
 use Rattle.machine.specs.Valid.{headPlace, Drives, sum, inAll, inWire, total}
-use Rattle.machine.proofs.Lines.{head-unhandled}
-use Rattle.machine.proofs.Core.{Core}
 use Rattle.machine.proofs.Numbers.{at-number}
 use Rattle.machine.proofs.OutNumbers.{output-at, output-below, drives-at, at-output}
 use Rattle.machine.proofs.Sums.{sum-same, sum-but, sum-nought}
+use Rattle.machine.proofs.Core.{Core}
+use Rattle.machine.proofs.Lines.{head-unhandled}
 
 -- what a packet weighs at a place
 abbrev pub Weight : Type 0

@@ -1,7 +1,7 @@
 -- The cases of every call of the rules: refused, with a number other than 7 and the state left, or accepted, with its answer and its step.
 use mathlib.Core.Path.{_≡_, refl, sym, ap, _∙_}
 use mathlib.Core.Logic.{_≢_, _⊎_, inl, inr}
-use mathlib.Core.Bool.{Bool, true, false, not, _&&_, true≢false}
+use mathlib.Core.Bool.{Bool, true, false, not, _&&_}
 use mathlib.Core.List.{List, [], _∷_}
 use Prim.Native.Nat.{ℕ}
 use native.Mathlib.Omega.{arith}
@@ -11,7 +11,6 @@ use Rattle.kinds.specs.Refusals.{refusalNumber}
 use Rattle.kinds.specs.declared.Refusal.{Refusal}
 use Rattle.kinds.specs.declared.Refusal.the-variants.{NotState, WrongPhase, BadNumber, NotServed, NoAllowance, QueueFull, QueueEmpty, FlagUp, Unmarked}
 use Rattle.packets.specs.declared.Packet.{Packet}
-use Rattle.packets.specs.declared.Phase.{Phase}
 use Rattle.packets.specs.declared.Phase.the-variants.{Read, Execute, Write}
 use Rattle.packets.specs.declared.Answer.{Answer}
 use Rattle.packets.specs.declared.Answer.the-variants.{Refused, Done, Taken, Holds}
@@ -23,6 +22,7 @@ use Rattle.machine.specs.Read.{doRead}
 use Rattle.machine.specs.Execute.{doExecute, hasRoom, unmarked}
 use Rattle.machine.specs.Write.{doWrite}
 use Rattle.machine.specs.Calls.{Outcome, gives, refuse, isPhase, isEmpty, launched, replyKind, replied, removed, consumed, Call, read, execute, write, launch, reply, consume, entry, readCall, executeCall, writeCall, launchCall, replyCall, consumeCall, entryCall, call}
+use Rattle.machine.proofs.Apart.{phase-of}
 
 -- refused: not as 'not a state', which is asked before the rule, and the state is left
 pub record Refuses (s : State) (o : Outcome) : Type 0 where
@@ -44,17 +44,6 @@ refuse-case : (F : Outcome → Type 0) (t : Bool) (w : Refusal) (s : State) (res
     → Refuses s (refuse t w s rest) ⊎ F (refuse t w s rest)
 refuse-case F true w s rest n f = inl (record { why = w; not-7 = n; same = refl })
 refuse-case F false w s rest n f = f refl
-
-phase-of : (x y : Phase) → not (isPhase x y) ≡ false → x ≡ y
-phase-of Read Read e = refl
-phase-of Read Execute e = absurd (true≢false e)
-phase-of Read Write e = absurd (true≢false e)
-phase-of Execute Read e = absurd (true≢false e)
-phase-of Execute Execute e = refl
-phase-of Execute Write e = absurd (true≢false e)
-phase-of Write Read e = absurd (true≢false e)
-phase-of Write Execute e = absurd (true≢false e)
-phase-of Write Write e = refl
 
 consumed-case : (pl : Plan) (a : ℕ) (s : State) (xs : List Packet) → s .queue (activeIn a) ≡ xs → Refuses s (consumed a xs s) ⊎ Accepts pl (consume a) s (consumed a xs s)
 consumed-case pl a s [] e = inl (record { why = QueueEmpty; not-7 = refl; same = refl })

@@ -23,8 +23,10 @@ use Rattle.machine.specs.Outputs.{senders, outputs, outputAt}
 use Rattle.machine.specs.State.{State, Choice, nobody, sender, start}
 use Rattle.machine.specs.Write.{ofRank}
 use Rattle.machine.specs.Valid.{PacketOk, Lined, Drives, isFed, Valid, Bounded}
+use Rattle.machine.proofs.Numbers.{exists-at}
+use Rattle.machine.proofs.OutNumbers.{drives-at}
 use Rattle.layout.specs.Rows.{span}
-use Rattle.layout.proofs.Numbering.{queue-named, output-named, entry-named}
+use Rattle.layout.proofs.Numbering.{entry-named}
 use Rattle.layout.specs.Offsets.{places, entries, routerEntries, slotRoom}
 use Rattle.layout.specs.Codes.{phase-small, kind-small, flag-small, choiceCode}
 use Rattle.layout.specs.Places.{packetBytes, blank, placeBytes}
@@ -139,9 +141,9 @@ module _ (pl : Plan) (s : State) (range : InRange (pl .head)) (v : Valid pl s) (
         (
           omega arith,
           bytes-append (queuePart pl s) (outputPart pl s ++ (allowancePart pl s ++ (tablePart pl s ++ [])))
-              (bytes-span 0 (queues pl) _ (λ n a b. queue-small (queueAt pl n) (queue-named pl n (omega arith) .0)))
+              (bytes-span 0 (queues pl) _ (λ n a b. queue-small (queueAt pl n) (exists-at pl n (omega arith))))
               (bytes-append (outputPart pl s) (allowancePart pl s ++ (tablePart pl s ++ []))
-              (bytes-span 0 (outputs pl) _ (λ n a b. output-small (outputAt pl n) (output-named pl n (omega arith) .0)))
+              (bytes-span 0 (outputs pl) _ (λ n a b. output-small (outputAt pl n) (drives-at pl n (omega arith))))
               (bytes-append (allowancePart pl s) (tablePart pl s ++ [])
               (bytes-span 0 (A pl) _ (λ n a b. allowance-small n (omega arith)))
               (bytes-append (tablePart pl s) []

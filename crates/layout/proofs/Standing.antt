@@ -8,11 +8,11 @@ use Rattle.plan.specs.Plan.{Plan, A, R}
 use Rattle.feeding.specs.Queue.{Queue, Exists, number, queues, queueAt}
 use Rattle.feeding.specs.Feeds.{Output}
 use Rattle.journeys.proofs.Numbers.{queue-at, number-below}
-use Rattle.machine.specs.Outputs.{outputs, outputAt}
+use Rattle.machine.specs.Outputs.{outputs, outputAt, outputNumber}
 use Rattle.machine.specs.State.{State}
 use Rattle.machine.specs.Valid.{Drives}
+use Rattle.machine.proofs.OutNumbers.{output-at, output-below}
 use Rattle.layout.specs.Rows.{Stands, stands-whole, stands-left, stands-right, stands-row}
-use Rattle.layout.specs.Named.{outputNumber, output-at, output-below}
 use Rattle.layout.specs.Offsets.{queueWidth, outputWidth, entryWidth, routerEntries, slotRoom, entryNumber, entries, queuesAt, outputsAt, allowancesAt, tableAt, queueRow, outputRow, allowanceRow, entryRow}
 use Rattle.layout.specs.Encode.{queueBytes, outputBytes, allowanceBytes, entryBytes, entryOfNumber, header, queuePart, outputPart, allowancePart, tablePart, encode, length-queue, length-output, length-queues, length-outputs, length-allowances}
 

@@ -9,10 +9,9 @@ use Rattle.plan.specs.Head.{capacityAt, headOf}
 use Rattle.plan.specs.Plan.{Plan, jointIn, planOf}
 use Rattle.feeding.specs.Queue.{Queue, activeOut, activeIn, passiveIn, passiveOut, U, Q, F, K, number, queues, queueAt}
 use Rattle.feeding.specs.Feeds.{Output, ofActive, ofPassive, ofSide, toUnit, fromUnit}
-use Rattle.machine.specs.Outputs.{outputAt}
+use Rattle.machine.specs.Outputs.{outputAt, outputNumber}
 use Rattle.machine.specs.State.{start}
 use Rattle.layout.specs.Rows.{span, front}
-use Rattle.layout.specs.Named.{outputNumber}
 use Rattle.layout.specs.Offsets.{outputsAt, allowancesAt, tableAt, size, queueRow, outputRow, allowanceRow, entryRow}
 use Rattle.layout.specs.Places.{placeBytes, packetAt, packetsAt}
 use Rattle.layout.specs.Encode.{queueBytes, outputBytes, encode}

@@ -1,16 +1,14 @@
--- Which queues, outputs and entries a plan has, as tests; the numbers of outputs and entries; and what each number names.
-use mathlib.Core.Path.{_≡_, refl, sym, ap, _∙_}
+-- Which queues, outputs and entries a plan has, as tests.
+use mathlib.Core.Path.{_≡_, refl, sym}
 use mathlib.Core.Logic.{_≢_}
 use mathlib.Core.Bool.{Bool, true, false, not}
-use Prim.Native.Nat.{ℕ, _+_, _*_, _-_, _/_, _%_, _<_}
-use native.Mathlib.Omega.{arith}
+use Prim.Native.Nat.{ℕ, _<_}
 use lib.Dec.{eqb, ltb}
-use borrow.Author.Tests.{ltb-true, lt-ltb, le-ltb, eqb-false, ne-eqb}
+use borrow.Author.Tests.{ltb-true, lt-ltb, eqb-false, ne-eqb}
 use Rattle.basis.specs.Choice.{also, also-true, also-of}
 use Rattle.plan.specs.Plan.{Plan, R, A, P, S}
 use Rattle.feeding.specs.Queue.{Queue, activeOut, activeIn, passiveIn, passiveOut, U, Q, F, K, Exists, queues}
 use Rattle.feeding.specs.Feeds.{Output, ofActive, ofPassive, ofSide, toUnit, fromUnit}
-use Rattle.machine.specs.Outputs.{outputs, outputAt, routerOutput}
 use Rattle.machine.specs.Valid.{Drives}
 
 -- ---- the plan has a queue
@@ -94,37 +92,3 @@ test-entry pl r o t e = let p = also-true e in let q = also-true (p .1) in (ltb-
 -- and by each of them
 pub entry-test : (pl : Plan) (r o t : ℕ) → HasEntry pl r o t → entryTest pl r o t ≡ true
 entry-test pl r o t (h, k, l) = also-of (lt-ltb r (R pl) h) (also-of (lt-ltb o 4 k) (lt-ltb t (S pl) l))
-
--- ---- numbers of outputs: interfaces' first, then each router's four sides, to its unit, and back
-unfoldable pub outputNumber : Plan → Output → ℕ
-outputNumber pl (ofActive a) = a
-outputNumber pl (ofPassive p) = A pl + p
-outputNumber pl (ofSide r o) = A pl + P pl + 6 * r + o
-outputNumber pl (toUnit r) = A pl + P pl + 6 * r + 4
-outputNumber pl (fromUnit r) = A pl + P pl + 6 * r + 5
-
-module _ (pl : Plan) where
-  router-output : (r k : ℕ) → k < 6 → outputAt pl (A pl + P pl + 6 * r + k) ≡ routerOutput r k
-  unfolding outputAt
-  router-output r k l =
-      let d : (A pl + P pl + 6 * r + k - (A pl + P pl)) / 6 ≡ r = omega arith in
-      let m : (A pl + P pl + 6 * r + k - (A pl + P pl)) % 6 ≡ k = omega arith in
-      rw (le-ltb (A pl + P pl + 6 * r + k) (A pl) (omega arith), le-ltb (A pl + P pl + 6 * r + k) (A pl + P pl) (omega arith), outputAt, d, m)
-
-  -- the output of an output's number is that output
-  pub output-at : (o : Output) → Drives pl o → outputAt pl (outputNumber pl o) ≡ o
-  unfolding outputNumber outputAt
-  output-at (ofActive a) h = rw (lt-ltb a (A pl) h, outputAt)
-  output-at (ofPassive p) h = rw (le-ltb (A pl + p) (A pl) (omega arith), lt-ltb (A pl + p) (A pl + P pl) (omega arith), outputAt) (ap ofPassive (omega arith))
-  output-at (ofSide r o) (h, l) = router-output r o (omega arith) ∙ rw (lt-ltb o 4 l)
-  output-at (toUnit r) h = router-output r 4 (omega arith)
-  output-at (fromUnit r) h = router-output r 5 (omega arith)
-
-  -- every number is below the count of outputs
-  pub output-below : (o : Output) → Drives pl o → outputNumber pl o < outputs pl
-  unfolding outputNumber
-  output-below (ofActive a) h = omega arith
-  output-below (ofPassive p) h = omega arith
-  output-below (ofSide r o) (h, l) = omega arith
-  output-below (toUnit r) h = omega arith
-  output-below (fromUnit r) h = omega arith

@@ -6,8 +6,7 @@ use Rattle.plan.specs.Head.{InRange}
 use Rattle.plan.specs.Plan.{Plan, R, A}
 use Rattle.feeding.specs.Queue.{Queue, number, queues}
 use Rattle.feeding.specs.Feeds.{Output}
-use Rattle.machine.specs.Outputs.{outputs}
-use Rattle.layout.specs.Named.{outputNumber}
+use Rattle.machine.specs.Outputs.{outputs, outputNumber}
 
 -- ---- the header
 abbrev pub phaseByte : ℕ

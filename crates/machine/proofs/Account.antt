@@ -21,9 +21,10 @@ use Rattle.machine.specs.Store.{put, sameQueue}
 use Rattle.machine.specs.Outputs.{nextBy, outputs, outputAt}
 use Rattle.machine.specs.State.{State, start, withPhase, withSlot, withQueue, withFlag, join}
 use Rattle.machine.specs.Valid.{Drives, bit, brings, onWires, isFed}
+use Rattle.machine.proofs.Sums.{sum-nought}
+use Rattle.machine.proofs.AccountCells.{queue-here, queue-away, queue-or, cell-sum, fed-apart}
 use Rattle.machine.proofs.Core.{OutCapacities, OutFlags, OutCredits, Credits, account, Core}
 use Rattle.machine.proofs.Feeders.{feeder, fed-by}
-use Rattle.machine.proofs.AccountCells.{queue-here, queue-away, queue-or, cell-sum, fed-apart, sum-zero}
 
 -- the four parts of the core that speak of credits, room and flags
 pub record Paid (pl : Plan) (s : State) : Type 0 where
@@ -127,7 +128,7 @@ pub start-paid : (pl : Plan) → Paid pl (start pl)
 unfolding start account onWires
 start-paid pl =
     record {
-      credits = λ q h f. let z = sum-zero (outputs pl) (λ n. brings pl q (outputAt pl n) Empty) (λ j l. refl) in omega arith;
+      credits = λ q h f. let z = sum-nought (outputs pl) (λ n. brings pl q (outputAt pl n) Empty) (λ j l. refl) in omega arith;
       out-credits = λ q h f. refl;
       out-capacities = λ q h f. omega arith;
       out-flags = λ q h f. refl;

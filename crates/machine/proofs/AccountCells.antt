@@ -1,19 +1,18 @@
 -- One place of a store changed: what queues and outputs hold after it, what a number of each queue becomes, and what the sum over the wires becomes.
-use mathlib.Core.Path.{_≡_, refl, sym, ap, ap₂, _∙_}
+use mathlib.Core.Path.{_≡_, sym, ap, _∙_}
 use mathlib.Core.Logic.{_⊎_, inl, inr, _≢_}
 use mathlib.Core.Bool.{Bool, true, false}
-use Prim.Native.Nat.{ℕ, zero, suc, _+_, _*_, _<_}
-use native.Mathlib.Nat.{not-suc-le-zero}
+use Prim.Native.Nat.{ℕ, _+_, _*_, _<_}
 use native.Mathlib.Omega.{arith}
 use Rattle.basis.specs.Choice.{test, same-test}
-use Rattle.basis.specs.Bounded.{below-suc}
 use Rattle.plan.specs.Plan.{Plan}
 use Rattle.feeding.specs.Queue.{Queue}
 use Rattle.feeding.specs.Feeds.{Output}
 use Rattle.machine.specs.Store.{put, sameQueue, same-queue, queue-same, sameOutput, same-output, output-same, put-here, put-away}
-use Rattle.machine.specs.Outputs.{outputs, outputAt}
+use Rattle.machine.specs.Outputs.{outputs, outputAt, outputNumber}
 use Rattle.machine.specs.Valid.{Drives, bit, sum, isFed}
-use Rattle.machine.proofs.OutNumbers.{outNumber, output-at, out-below, at-number}
+use Rattle.machine.proofs.OutNumbers.{output-at, output-below, at-output}
+use Rattle.machine.proofs.Sums.{sum-but}
 
 -- ---- stores of queues and of outputs
 -- two queues are one or not
@@ -61,38 +60,15 @@ cell-sum w m k a g l e q = by (test (sameQueue q k))
     by (inr t) = rw t (omega arith)
 
 -- ---- sums
--- two sums of the same numbers
-pub sum-same : (n : ℕ) (f g : ℕ → ℕ) → ((j : ℕ) → j < n → f j ≡ g j) → sum n f ≡ sum n g
-unfolding sum
-sum-same zero f g h = refl
-sum-same (suc n) f g h = ap₂ (λ (a b : ℕ). a + b) (sum-same n f g (λ j l. h j (omega arith))) (h n (omega arith))
-
--- two sums that differ at one number
-pub sum-one : (n : ℕ) (f g : ℕ → ℕ) (i : ℕ) → i < n → ((j : ℕ) → j < n → j ≢ i → f j ≡ g j) → sum n f + g i ≡ sum n g + f i
-unfolding sum
-sum-one zero f g i h e = absurd (not-suc-le-zero h)
-sum-one (suc n) f g i h e = by (λ l. sum-one n f g i l (λ j m. e j (omega arith))) (below-suc h)
-  where
-    by : (i < n → sum n f + g i ≡ sum n g + f i) → (i < n) ⊎ (i ≡ n) → sum n f + f n + g i ≡ sum n g + g n + f i
-    by rec (inl l) = let a = rec l in let b = e n (omega arith) (λ q. omega arith) in omega arith
-    by rec (inr q) = let a = sum-same n f g (λ j m. e j (omega arith) (λ r. omega arith)) in rw q (omega arith)
-
--- a sum of zeros
-pub sum-zero : (n : ℕ) (f : ℕ → ℕ) → ((j : ℕ) → j < n → f j ≡ 0) → sum n f ≡ 0
-unfolding sum
-sum-zero zero f h = refl
-sum-zero (suc n) f h = let a = sum-zero n f (λ j l. h j (omega arith)) in let b = h n (omega arith) in omega arith
-
 -- a sum over the outputs, of what each output's place holds, after one place was changed
 pub outputs-put : {X : Type 0} (pl : Plan) (w : Output → X → ℕ) (m : Output → X) (o : Output) (a : X) → Drives pl o
     → sum (outputs pl) (λ n. w (outputAt pl n) (put sameOutput m o a (outputAt pl n))) + w o (m o) ≡ sum (outputs pl) (λ n. w (outputAt pl n) (m (outputAt pl n))) + w o a
 outputs-put {X} pl w m o a d =
-    let i : ℕ = outNumber pl o in
-    let one = sum-one (outputs pl) (λ n. w (outputAt pl n) (put sameOutput m o a (outputAt pl n))) (λ n. w (outputAt pl n) (m (outputAt pl n))) (outNumber pl o) (out-below pl o d) away in
-    let old : w (outputAt pl (outNumber pl o)) (m (outputAt pl (outNumber pl o))) ≡ w o (m o) = ap (λ (u : Output). w u (m u)) (output-at pl o d) in
-    let new : w (outputAt pl (outNumber pl o)) (put sameOutput m o a (outputAt pl (outNumber pl o))) ≡ w o a =
+    let one = sum-but (outputs pl) (outputNumber pl o) (λ n. w (outputAt pl n) (put sameOutput m o a (outputAt pl n))) (λ n. w (outputAt pl n) (m (outputAt pl n))) (output-below pl o d) away in
+    let old : w (outputAt pl (outputNumber pl o)) (m (outputAt pl (outputNumber pl o))) ≡ w o (m o) = ap (λ (u : Output). w u (m u)) (output-at pl o d) in
+    let new : w (outputAt pl (outputNumber pl o)) (put sameOutput m o a (outputAt pl (outputNumber pl o))) ≡ w o a =
     ap (λ (u : Output). w u (put sameOutput m o a u)) (output-at pl o d) ∙ ap (w o) (output-here m o a) in
     omega arith
   where
-    away : (j : ℕ) → j < outputs pl → j ≢ outNumber pl o → w (outputAt pl j) (put sameOutput m o a (outputAt pl j)) ≡ w (outputAt pl j) (m (outputAt pl j))
-    away j h ne = ap (w (outputAt pl j)) (output-away m o a (outputAt pl j) (λ e. ne (sym (at-number pl j h) ∙ ap (outNumber pl) e)))
+    away : (j : ℕ) → j < outputs pl → j ≢ outputNumber pl o → w (outputAt pl j) (put sameOutput m o a (outputAt pl j)) ≡ w (outputAt pl j) (m (outputAt pl j))
+    away j h ne = ap (w (outputAt pl j)) (output-away m o a (outputAt pl j) (λ e. ne (sym (at-output pl j h) ∙ ap (outputNumber pl) e)))

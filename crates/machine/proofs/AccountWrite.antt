@@ -22,10 +22,11 @@ use Rattle.machine.specs.Outputs.{nextBy, senders}
 use Rattle.machine.specs.State.{State, Choice, nobody, sender, withQueue, withWire, withCredit, withFlag, withChoice}
 use Rattle.machine.specs.Write.{ofRank, raise, spend, sendHead, sendFrom, sendBy, send}
 use Rattle.machine.specs.Valid.{Drives, bit, goesTo, brings, onWires, isFed}
-use Rattle.machine.proofs.Core.{account, Core, Sendable}
+use Rattle.machine.proofs.Numbers.{sender-exists}
 use Rattle.machine.proofs.AccountCells.{queue-away, same-turn, cell-sum, fed-apart, outputs-put}
+use Rattle.machine.proofs.Core.{account, Core, Sendable}
+use Rattle.machine.proofs.Senders.{raise-queue, raise-credit, raise-wire, raise-flag, raise-none, Ready, candidate-ready}
 use Rattle.machine.proofs.Account.{Paid, Kept, Spared, paid-by, paid-of, paid-alike, next-fed, left-paid, out-paid}
-use Rattle.machine.proofs.Senders.{raise-queue, raise-credit, raise-wire, raise-flag, raise-none, rank-exists, Ready, candidate-ready}
 
 module _ {pl : Plan} (wired : Wired pl) where
   -- ---- the two halves of a sending: out of the queue, and on to the wire
@@ -78,6 +79,6 @@ module _ {pl : Plan} (wired : Wired pl) where
       by nobody e = paid-of c
       by (sender k) e =
           let g = ok k e in
-          let p = sent-paid o (g .queue) s d (rank-exists pl o k (g .queue) d (g .rank)) (paid-of c) w (g .down) (candidate-ready pl s o (g .queue) (g .ready)) in
+          let p = sent-paid o (g .queue) s d (sender-exists pl o k (g .queue) d (g .rank)) (paid-of c) w (g .down) (candidate-ready pl s o (g .queue) (g .ready)) in
           paid-alike (sendFrom pl o (ofRank (senders o) k) s) (withChoice o nobody (sendFrom pl o (ofRank (senders o) k) s)) refl refl refl refl
           (subst (λ (y : Option Queue). Paid pl (sendFrom pl o y s)) (sym (g .rank)) p)

@@ -17,7 +17,7 @@ use Rattle.packets.specs.declared.Phase.{Phase}
 use Rattle.packets.specs.declared.Wire.{Wire}
 use Rattle.packets.specs.declared.Wire.the-variants.{Empty, Full}
 use Rattle.plan.specs.Plan.{Plan, R, A, P, S}
-use Rattle.feeding.specs.Queue.{Queue, activeOut, activeIn, passiveIn, passiveOut, U, Q, F, K}
+use Rattle.feeding.specs.Queue.{Queue, activeIn, passiveIn}
 use Rattle.feeding.specs.Feeds.{Output}
 use Rattle.wiring.specs.Wired.{Wired}
 use Rattle.machine.specs.Store.{put, sameOutput}
@@ -25,36 +25,24 @@ use Rattle.machine.specs.Outputs.{nextBy}
 use Rattle.machine.specs.State.{State, sender, start, withPhase, withSlot, withQueue, join}
 use Rattle.machine.specs.Read.{deliver, lower, settle}
 use Rattle.machine.specs.Execute.{declined, unit, tdownOf, choose, undo}
-use Rattle.machine.specs.Write.{raise, send}
+use Rattle.machine.specs.Write.{send}
 use Rattle.machine.specs.Calls.{launched, repliedAs, replied, removed}
 use Rattle.machine.specs.Valid.{Drives, Carries, spendsKind, spends}
-use Rattle.machine.proofs.Closure.{passive-setup, active-answer}
+use Rattle.machine.proofs.Apart.{full-not}
 use Rattle.machine.proofs.Core.{Core, Sendable, Allowances}
-use Rattle.machine.proofs.Weights.{anywhere, weighed, Bound, weighed-total, core-bound, weighed-plain, start-weighed, bound-put}
-use Rattle.machine.proofs.Spending.{tdown-spends, kinds-spend, mine, fallen, grown}
+use Rattle.machine.proofs.Closure.{passive-setup, active-answer}
+use Rattle.machine.proofs.Senders.{raise-wire, raise-allowance}
 use Rattle.machine.proofs.Cases.{deliver-none, deliver-one, UnitDoes, rests, books, declines, ends, frees, unit-does, unit-books, unit-declines, unit-ends, unit-frees, ActiveDoes, waits, tears, undo-does, undo-tears, SendDoes, none-sent, sent, send-does, send-one}
-use Rattle.machine.proofs.Moves.{head-belongs, raised-wire, phase-weighed, slot-weighed, settle-weighed, choose-weighed, deliver-weighed, send-weighed}
+use Rattle.machine.proofs.Weights.{anywhere, weighed, Bound, weighed-total, core-bound, weighed-plain, start-weighed, bound-put}
+use Rattle.machine.proofs.Moves.{head-belongs, phase-weighed, slot-weighed, settle-weighed, choose-weighed, deliver-weighed, send-weighed}
 use Rattle.machine.proofs.Changes.{booked-weighed, declined-weighed, freed-weighed, ended-weighed, torn-weighed, launched-weighed, replied-weighed, removed-weighed}
-
-empty-not : {x : Packet} → Empty ≡ Full x → ⊥
-empty-not e = let z : _≡_ {A = ℕ} 0 1 = cc in omega arith
-
--- raising a flag leaves the allowances
-raised-allowance : (q : Queue) (s : State) → raise q s .allowance ≡ s .allowance
-raised-allowance (activeOut x) s = refl
-raised-allowance (activeIn x) s = refl
-raised-allowance (passiveIn x) s = refl
-raised-allowance (passiveOut x) s = refl
-raised-allowance (U r i) s = refl
-raised-allowance (Q r) s = refl
-raised-allowance (F r o) s = refl
-raised-allowance (K r i o) s = refl
+use Rattle.machine.proofs.Spending.{tdown-spends, kinds-spend, mine, fallen, grown}
 
 -- Start has every allowance whole.
 pub start-allowances : (pl : Plan) → Allowances pl (start pl)
 unfolding start
 start-allowances pl a h =
-    let all = weighed-total pl (spends a) (start pl) (λ o d x e. absurd (empty-not e)) in
+    let all = weighed-total pl (spends a) (start pl) (λ o d x e. absurd (full-not e)) in
     let none = start-weighed pl (anywhere (spends a)) in
     omega arith
 
@@ -93,7 +81,7 @@ module _ {pl : Plan} {s : State} (c : Core pl s) where
       by (Full x) e =
           let k : Carries pl o x = c .wires o d x e in
           let is = deliver-one pl o s x (k .queue) e (k .next) in
-          allowances-from (deliver pl o s) (bound-put pl s (deliver pl o s) o Empty (core-bound pl s c) (λ x q. absurd (empty-not q)) (ap (λ (t : State). t .wire) is))
+          allowances-from (deliver pl o s) (bound-put pl s (deliver pl o s) o Empty (core-bound pl s c) (λ x q. absurd (full-not q)) (ap (λ (t : State). t .wire) is))
           (λ a h. ap₂ (λ (m n : ℕ). m + n) (ap (λ (t : State). t .allowance a) is) (deliver-weighed pl (anywhere (spends a)) wired c o d))
 
   -- The settling of a flag keeps the allowances.
@@ -159,10 +147,10 @@ module _ {pl : Plan} {s : State} (c : Core pl s) where
       by (sent k q e r g) =
           let is = send-one pl o s k q e r g in
           allowances-from (send pl o s)
-          (bound-put pl s (send pl o s) o (Full (g .packet)) (core-bound pl s c) onto (ap (λ (t : State). t .wire) is ∙ ap (λ (m : Output → Wire). put sameOutput m o (Full (g .packet))) (raised-wire q (withQueue q (g .rest) s))))
+          (bound-put pl s (send pl o s) o (Full (g .packet)) (core-bound pl s c) onto (ap (λ (t : State). t .wire) is ∙ ap (λ (m : Output → Wire). put sameOutput m o (Full (g .packet))) (raise-wire q (withQueue q (g .rest) s))))
           (λ a h.
           ap₂ (λ (m n : ℕ). m + n)
-          (ap (λ (t : State). t .allowance a) is ∙ ap (λ (m : ℕ → ℕ). m a) (raised-allowance q (withQueue q (g .rest) s)))
+          (ap (λ (t : State). t .allowance a) is ∙ ap (λ (m : ℕ → ℕ). m a) (raise-allowance q (withQueue q (g .rest) s)))
           (send-weighed pl (anywhere (spends a)) wired c o d (λ u i p y x l m n v. refl) ready z))
         where
           onto : (x : Packet) → Full (g .packet) ≡ Full x → (y : Queue) × (nextBy pl o x ≡ some y)

@@ -16,13 +16,7 @@ use Rattle.machine.specs.Outputs.{senders}
 use Rattle.machine.specs.State.{State, nobody, sender}
 use Rattle.machine.specs.Execute.{candidate, isOpen, firstOf, picked}
 use Rattle.machine.specs.Write.{ofRank}
-
--- nobody is no sender
-pub nobody-not : {k : ℕ} → nobody ≡ sender k → ⊥
-nobody-not e = let z : _≡_ {A = ℕ} 0 1 = cc in omega arith
-
-sender-same : {k n : ℕ} → sender k ≡ sender n → n ≡ k
-sender-same e = cc
+use Rattle.machine.proofs.Apart.{nobody-not, sender-same}
 
 first-found : (ready : Queue → Bool) (n : ℕ) (qs : List Queue) (k : ℕ) → firstOf ready n qs ≡ sender k
     → (m : ℕ) × (k ≡ n + m) × ((q : Queue) × (ofRank qs m ≡ some q) × (ready q ≡ true))
@@ -36,7 +30,7 @@ first-found ready n (p ∷ qs) k e = by (λ f. first-found ready (suc n) qs k f)
 
     by : (firstOf ready (suc n) qs ≡ sender k → (m : ℕ) × (k ≡ suc n + m) × ((q : Queue) × (ofRank qs m ≡ some q) × (ready q ≡ true)))
         → (ready p ≡ true) ⊎ (ready p ≡ false) → (m : ℕ) × (k ≡ n + m) × ((q : Queue) × (ofRank (p ∷ qs) m ≡ some q) × (ready q ≡ true))
-    by rec (inl t) = let z : k ≡ n = sender-same (rw (t, firstOf) at e) in (0, omega arith, (p, refl, t))
+    by rec (inl t) = let z : n ≡ k = sender-same (rw (t, firstOf) at e) in (0, omega arith, (p, refl, t))
     by rec (inr t) = later (rec (rw (t, firstOf) at e))
 
 first-none : (ready : Queue → Bool) (n : ℕ) (qs : List Queue) → firstOf ready n qs ≡ nobody → (k : ℕ) (q : Queue) → ofRank qs k ≡ some q → ready q ≡ false

@@ -4,8 +4,10 @@ use mathlib.Core.Logic.{_⊎_, inl, inr}
 use mathlib.Core.Bool.{Bool, true, false, _&&_, false≢true}
 use mathlib.Core.List.{List, [], _∷_}
 use mathlib.Core.Option.{Option, none, some}
-use Prim.Native.Nat.{ℕ}
+use Prim.Native.Nat.{ℕ, _≤_}
+use native.Mathlib.Omega.{arith}
 use lib.Dec.{eqb, ltb}
+use borrow.Author.Tests.{eqb-false, not-true}
 use Rattle.basis.specs.Choice.{also-true, test}
 use Rattle.packets.specs.declared.Kind.{Kind}
 use Rattle.packets.specs.declared.Kind.the-variants.{Setup, Tdown, Ack, Nack}
@@ -119,15 +121,15 @@ module _ (pl : Plan) (r : ℕ) (s : State) where
       by (x ∷ rest) e (inr f) = of-kind x rest e f (x .kind) refl (mayBookAt pl r s x) refl (eqb (x .hub .0) 1) refl
 
 -- ---- an active
--- Only a NACK is unmarked.
+-- An unmarked packet is a NACK with a hub.
+pub unmarked-kind : (kind : Kind) (hub : ℕ) → unmarkedKind kind hub ≡ true → (kind ≡ Nack) × (1 ≤ hub)
+unmarked-kind Setup hub t = absurd (false≢true t)
+unmarked-kind Tdown hub t = absurd (false≢true t)
+unmarked-kind Ack hub t = absurd (false≢true t)
+unmarked-kind Nack hub t = let n : hub ≡ 0 → ⊥ = eqb-false hub 0 (not-true (eqb hub 0) t) in (refl, omega arith)
+
 pub unmarked-nack : (x : Packet) → unmarked x ≡ true → x .kind ≡ Nack
-unmarked-nack x u = by (x .kind) u
-  where
-    by : (k : Kind) → unmarkedKind k (x .hub .0) ≡ true → k ≡ Nack
-    by Setup e = absurd (false≢true e)
-    by Tdown e = absurd (false≢true e)
-    by Ack e = absurd (false≢true e)
-    by Nack e = refl
+unmarked-nack x u = unmarked-kind (x .kind) (x .hub .0) u .0
 
 module _ (pl : Plan) (a : ℕ) (s : State) where
   -- An unmarked NACK is torn down where the out-queue has room.

@@ -17,11 +17,13 @@ use Rattle.packets.specs.declared.Entry.the-variants.{Free, Booked}
 use Rattle.plan.specs.Plan.{Plan, R, A, P, S}
 use Rattle.feeding.specs.Queue.{Queue, Q, Exists, capacity}
 use Rattle.feeding.specs.Feeds.{Output}
+use Rattle.journeys.proofs.Places.{some-same}
 use Rattle.machine.specs.Outputs.{senders}
 use Rattle.machine.specs.State.{State, Choice, nobody, sender, startAllowance}
 use Rattle.machine.specs.Execute.{candidate}
 use Rattle.machine.specs.Write.{ofRank}
 use Rattle.machine.specs.Valid.{Lined, Drives, Carries, bit, onWires, total, spends, isFed, Valid, Bounded}
+use Rattle.machine.proofs.Apart.{nobody-not, read-execute, read-write, execute-write}
 
 -- ---- the core's parts
 abbrev pub SlotIn : Plan → State → Type 0
@@ -107,18 +109,6 @@ phases Read = inl refl
 phases Execute = inr (inl refl)
 phases Write = inr (inr refl)
 
-nobody-not : {k : ℕ} → nobody ≡ sender k → ⊥
-nobody-not e = let z : _≡_ {A = ℕ} 0 1 = cc in omega arith
-
-read-execute : Read ≡ Execute → ⊥
-read-execute e = let z : _≡_ {A = ℕ} 0 1 = cc in omega arith
-
-read-write : Read ≡ Write → ⊥
-read-write e = let z : _≡_ {A = ℕ} 0 1 = cc in omega arith
-
-execute-write : Execute ≡ Write → ⊥
-execute-write e = let z : _≡_ {A = ℕ} 0 1 = cc in omega arith
-
 pub core-of : (pl : Plan) (s : State) → Valid pl s → Bounded pl s → Core pl s
 unfolding account
 core-of pl s v b =
@@ -196,9 +186,6 @@ valid-of pl s c t =
     flags′ (in-read e n) p = absurd (read-execute (sym e ∙ p))
     flags′ (in-execute e n w f) p = f
     flags′ (in-write e w d) p = absurd (execute-write (sym p ∙ e))
-
-    some-same : {x y : Queue} → some x ≡ some y → x ≡ y
-    some-same q = cc
 
     picked′ : Shape pl s → (o : Output) (k : ℕ) (q : Queue) → Drives pl o → s .choice o ≡ sender k → ofRank (senders o) k ≡ some q → s .flag q ≡ false
     picked′ (in-read e n) o k q h d r = absurd (nobody-not (sym (n o h) ∙ d))

@@ -6,9 +6,9 @@ use mathlib.Core.List.{List, [], _∷_, _++_}
 use Prim.Native.Nat.{ℕ, zero, suc, _+_, _≤_, _<_}
 use native.Mathlib.Omega.{arith}
 use lib.Dec.{eqb}
-use borrow.Author.Tests.{eqb-true, eqb-false}
 use lib.ListN.{length}
-use Rattle.basis.specs.Choice.{pick, test, refuted}
+use borrow.Author.Tests.{eqb-true, eqb-false}
+use Rattle.basis.specs.Choice.{test}
 use Rattle.basis.specs.Bounded.{below-suc, lt-or-ge}
 use Rattle.basis.specs.Fold.{upTo, up-keeps, up-keeps-at}
 use Rattle.packets.specs.declared.Kind.the-variants.{Setup, Tdown, Ack, Nack}
@@ -16,23 +16,16 @@ use Rattle.packets.specs.declared.Packet.{Packet}
 use Rattle.packets.specs.declared.Phase.the-variants.{Write}
 use Rattle.plan.specs.Plan.{Plan, R, A, S}
 use Rattle.feeding.specs.Queue.{Queue, activeOut, activeIn, passiveIn, passiveOut, U, Q, F, K, Exists}
-use Rattle.machine.specs.Store.{put, sameQueue, same-queue, queue-same}
+use Rattle.machine.specs.Store.{put, sameQueue}
 use Rattle.machine.specs.Outputs.{outputs, outputAt}
 use Rattle.machine.specs.State.{State, withQueue, join}
 use Rattle.machine.specs.Execute.{booked, declined, freed, marked, tdownOf, unit, choose, undo, doExecute}
 use Rattle.machine.specs.Progress.{Moved}
+use Rattle.machine.proofs.Apart.{unit-same}
+use Rattle.machine.proofs.AccountCells.{queue-here, queue-away}
 use Rattle.machine.proofs.Core.{Core}
 use Rattle.machine.proofs.Cases.{UnitDoes, rests, books, declines, ends, frees, unit-does, unit-books, unit-declines, unit-ends, unit-frees, unit-handled, mayBookAt, afterBooked, afterFreed, afterEnded, ActiveDoes, waits, tears, undo-does, undo-tears}
 use Rattle.machine.proofs.Still.{all-chosen}
-
-q-same : {r n : ℕ} → Q r ≡ Q n → r ≡ n
-q-same e = cc
-
-put-else : {B : Type 0} (m : Queue → B) (k x : Queue) (b : B) → x ≢ k → put sameQueue m k b x ≡ m x
-put-else m k x b ne = rw (refuted (sameQueue x k) (λ t. ne (same-queue x k t)), pick)
-
-put-at : {B : Type 0} (m : Queue → B) (k : Queue) (b : B) → put sameQueue m k b k ≡ b
-put-at m k b = rw (queue-same k, pick)
 
 -- a tear-down with hub 1 is at router r's unit, not yet handled
 pub record Ends (s : State) (r : ℕ) : Type 0 where
@@ -70,20 +63,20 @@ module _ (pl : Plan) (r : ℕ) (s : State) where
       by : UnitDoes pl r s → Turned pl r s
       by (rests e) = as-turned s e (λ q n. refl) (λ q n. refl) refl refl refl
       by (books x l e f k t) =
-          as-turned (afterBooked pl r x l s) (unit-books pl r s x l e f k t) (λ q n. put-else (s .queue) (Q r) q (booked (S pl) x ∷ l) n) (λ q n. put-else (s .handled) (Q r) q true n) refl refl refl
+          as-turned (afterBooked pl r x l s) (unit-books pl r s x l e f k t) (λ q n. queue-away (s .queue) (Q r) (booked (S pl) x ∷ l) q n) (λ q n. queue-away (s .handled) (Q r) true q n) refl refl refl
       by (declines x l e f k t) =
-          as-turned _ (unit-declines pl r s x l e f k t) (λ q n. put-else (s .queue) (Q r) q (declined x ∷ l) n) (λ q n. put-else (s .handled) (Q r) q true n) refl refl refl
-      by (ends x l e f k t) = as-turned (afterEnded pl r x l s) (unit-ends pl r s x l e f k t) (λ q n. put-else (s .queue) (Q r) q l n) (λ q n. refl) refl refl refl
+          as-turned _ (unit-declines pl r s x l e f k t) (λ q n. queue-away (s .queue) (Q r) (declined x ∷ l) q n) (λ q n. queue-away (s .handled) (Q r) true q n) refl refl refl
+      by (ends x l e f k t) = as-turned (afterEnded pl r x l s) (unit-ends pl r s x l e f k t) (λ q n. queue-away (s .queue) (Q r) l q n) (λ q n. refl) refl refl refl
       by (frees x l e f k t) =
-          as-turned (afterFreed pl r x l s) (unit-frees pl r s x l e f k t) (λ q n. put-else (s .queue) (Q r) q (freed (S pl) x ∷ l) n) (λ q n. put-else (s .handled) (Q r) q true n) refl refl refl
+          as-turned (afterFreed pl r x l s) (unit-frees pl r s x l e f k t) (λ q n. queue-away (s .queue) (Q r) (freed (S pl) x ∷ l) q n) (λ q n. queue-away (s .handled) (Q r) true q n) refl refl refl
 
   -- a head replaced and marked
   as-handled : (t : State) (x y : Packet) (l : List Packet) → unit pl r s ≡ t → s .queue (Q r) ≡ x ∷ l → t .queue ≡ put sameQueue (s .queue) (Q r) (y ∷ l)
       → t .handled ≡ put sameQueue (s .handled) (Q r) true → t .flag ≡ s .flag → Handled pl r s
   as-handled t x y l e q a b c =
       record {
-        done = inr (rw e (ap (λ (m : Queue → Bool). m (Q r)) b ∙ put-at (s .handled) (Q r) true));
-        long = rw e (ap (λ (m : Queue → List Packet). length (m (Q r))) a ∙ ap length (put-at (s .queue) (Q r) (y ∷ l)) ∙ sym (ap length q));
+        done = inr (rw e (ap (λ (m : Queue → Bool). m (Q r)) b ∙ queue-here (s .handled) (Q r) true));
+        long = rw e (ap (λ (m : Queue → List Packet). length (m (Q r))) a ∙ ap length (queue-here (s .queue) (Q r) (y ∷ l)) ∙ sym (ap length q));
         flag = rw e c;
       }
 
@@ -107,7 +100,7 @@ module _ (pl : Plan) (r : ℕ) (s : State) where
             where
               frees-it : (eqb (x .hub .0) 1 ≡ true) ⊎ (eqb (x .hub .0) 1 ≡ false) → Handled pl r s
               frees-it (inl t) =
-                  let g : s .queue (Q r) ≡ l = sym (ap (λ (u : State). u .queue (Q r)) e) ∙ ap (λ (u : State). u .queue (Q r)) (unit-ends pl r s x l q h k t) ∙ put-at (s .queue) (Q r) l in
+                  let g : s .queue (Q r) ≡ l = sym (ap (λ (u : State). u .queue (Q r)) e) ∙ ap (λ (u : State). u .queue (Q r)) (unit-ends pl r s x l q h k t) ∙ queue-here (s .queue) (Q r) l in
                   let n : length (x ∷ l) ≡ length l = ap length (sym q ∙ g) in
                   absurd (omega arith)
               frees-it (inr t) = as-handled (afterFreed pl r x l s) x (freed (S pl) x) l (unit-frees pl r s x l q h k t) q refl refl refl
@@ -162,13 +155,13 @@ module _ (pl : Plan) (e : State) (own : (r : ℕ) (x : Packet) (l : List Packet)
       k = turned pl n t
 
       apart : (r : ℕ) → suc n ≤ r → Q r ≢ Q n
-      apart r l d = let m : r ≡ n = q-same d in omega arith
+      apart r l d = let m : r ≡ n = unit-same d in omega arith
 
       done′ : (r : ℕ) → (r < n) ⊎ (r ≡ n) → (unit pl n t .queue (Q r) ≡ []) ⊎ (unit pl n t .handled (Q r) ≡ true)
       done′ r (inl l) = by (u .done r l)
         where
           ne : Q r ≢ Q n
-          ne d = let m : r ≡ n = q-same d in omega arith
+          ne d = let m : r ≡ n = unit-same d in omega arith
 
           by : (t .queue (Q r) ≡ []) ⊎ (t .handled (Q r) ≡ true) → (unit pl n t .queue (Q r) ≡ []) ⊎ (unit pl n t .handled (Q r) ≡ true)
           by (inl a) = inl (k .queue (Q r) ne ∙ a)
@@ -177,7 +170,7 @@ module _ (pl : Plan) (e : State) (own : (r : ℕ) (x : Packet) (l : List Packet)
 
       long′ : (r : ℕ) → (eqb r n ≡ true) ⊎ (eqb r n ≡ false) → length (unit pl n t .queue (Q r)) ≡ length (e .queue (Q r))
       long′ r (inl b) = let m : r ≡ n = eqb-true r n b in rw m (h .long ∙ u .long n)
-      long′ r (inr b) = ap length (k .queue (Q r) (λ d. eqb-false r n b (q-same d))) ∙ u .long r
+      long′ r (inr b) = ap length (k .queue (Q r) (λ d. eqb-false r n b (unit-same d))) ∙ u .long r
 
   -- some unit ends a packet, or none does
   pub units : (n : ℕ) → n ≤ R pl → ((r : ℕ) × (r < n) × Ends e r) ⊎ Upto n (upTo (unit pl) n e)
@@ -219,13 +212,13 @@ module _ (pl : Plan) (e : State) (r : ℕ) (x : Ends e r) where
       by : (eqb n r ≡ true) ⊎ (eqb n r ≡ false) → ((n ≤ r) × Waits t) ⊎ ((r < n) × (t .queue (Q r) ≡ x .rest)) → ((suc n ≤ r) × Waits (unit pl n t)) ⊎ ((r < suc n) × (unit pl n t .queue (Q r) ≡ x .rest))
       by (inl b) (inl (l, w)) =
           let m : n ≡ r = eqb-true n r b in
-          inr (omega arith, rw m (ap (λ (u : State). u .queue (Q r)) (unit-ends pl r t (x .packet) (x .rest) (w .queue) (w .fresh) (x .kind) (x .last)) ∙ put-at (t .queue) (Q r) (x .rest)))
+          inr (omega arith, rw m (ap (λ (u : State). u .queue (Q r)) (unit-ends pl r t (x .packet) (x .rest) (w .queue) (w .fresh) (x .kind) (x .last)) ∙ queue-here (t .queue) (Q r) (x .rest)))
       by (inl b) (inr (l, q)) = let m : n ≡ r = eqb-true n r b in absurd (omega arith)
       by (inr b) (inl (l, w)) =
           let ne : n ≢ r = eqb-false n r b in
-          let d : Q r ≢ Q n = λ g. ne (sym (q-same g)) in
+          let d : Q r ≢ Q n = λ g. ne (sym (unit-same g)) in
           inl (omega arith, record { queue = k .queue (Q r) d ∙ w .queue; fresh = k .handled (Q r) d ∙ w .fresh })
-      by (inr b) (inr (l, q)) = let d : Q r ≢ Q n = λ g. eqb-false n r b (sym (q-same g)) in inr (omega arith, k .queue (Q r) d ∙ q)
+      by (inr b) (inr (l, q)) = let d : Q r ≢ Q n = λ g. eqb-false n r b (sym (unit-same g)) in inr (omega arith, k .queue (Q r) d ∙ q)
 
   after-units : r < R pl → upTo (unit pl) (R pl) e .queue (Q r) ≡ x .rest
   unfolding Passed
@@ -247,14 +240,14 @@ module _ (pl : Plan) (e : State) (r : ℕ) (x : Ends e r) where
       out-not g = let z : _≡_ {A = ℕ} 0 1 = cc in omega arith
 
       joined : (s : State) (y : Packet) → join (activeOut a) y s .queue (Q r) ≡ s .queue (Q r)
-      joined s y = put-else (s .queue) (activeOut a) (Q r) (s .queue (activeOut a) ++ (y ∷ [])) out-not
+      joined s y = queue-away (s .queue) (activeOut a) (s .queue (activeOut a) ++ (y ∷ [])) (Q r) out-not
 
       by : ActiveDoes pl a t → undo pl a t .queue (Q r) ≡ t .queue (Q r)
       by (waits g) = ap (λ (u : State). u .queue (Q r)) g
       by (tears y l q m h) =
           ap (λ (u : State). u .queue (Q r)) (undo-tears pl a t y l q m h)
           ∙ joined (withQueue (activeIn a) (marked y ∷ l) t) (tdownOf (S pl) y)
-          ∙ put-else (t .queue) (activeIn a) (Q r) (marked y ∷ l) active-not
+          ∙ queue-away (t .queue) (activeIn a) (marked y ∷ l) (Q r) active-not
 
   pub ends-moves : r < R pl → Moved pl e (doExecute pl e)
   unfolding doExecute

@@ -10,7 +10,6 @@ use lib.ListN.{length}
 use Rattle.basis.specs.Choice.{pick, test, refuted}
 use Rattle.basis.specs.Bounded.{Found, find}
 use Rattle.basis.specs.Fold.{upTo, up-keeps}
-use Rattle.kinds.specs.declared.Refusal.{Refusal}
 use Rattle.kinds.specs.declared.Refusal.the-variants.{WrongPhase}
 use Rattle.packets.specs.declared.Packet.{Packet}
 use Rattle.packets.specs.declared.Wire.{Wire}
@@ -24,23 +23,24 @@ use Rattle.feeding.specs.Queue.{Queue, activeOut, activeIn, passiveIn, passiveO
 use Rattle.feeding.specs.Feeds.{Output, FeedRing}
 use Rattle.wiring.specs.Wired.{Wired}
 use Rattle.machine.specs.Store.{put, sameQueue, same-queue}
-use Rattle.machine.specs.Outputs.{outputs, outputAt}
+use Rattle.machine.specs.Outputs.{outputs, outputAt, outputNumber}
 use Rattle.machine.specs.State.{State, isFull, join}
 use Rattle.machine.specs.Read.{deliver, settle, lower, doRead}
 use Rattle.machine.specs.Execute.{hasRoom}
-use Rattle.machine.specs.Calls.{Outcome, gives, refuse, isPhase, Call, read, execute, write, launch, reply, consume, entry, call, setupOf, launched, launchCall, replyCall, consumeCall, entryCall}
+use Rattle.machine.specs.Calls.{Outcome, gives, isPhase, Call, read, execute, write, launch, reply, consume, entry, call, setupOf, launched, launchCall, replyCall, consumeCall, entryCall}
 use Rattle.machine.specs.Valid.{Drives}
 use Rattle.machine.specs.Progress.{isInQueue, UnderWay, PassiveRoom, Waits, Moved, isTimed, endsRound}
 use Rattle.machine.specs.Ruled.{rounds, Moves, Good}
+use Rattle.machine.proofs.Apart.{full-not}
+use Rattle.machine.proofs.OutNumbers.{output-at, output-below, drives-at}
 use Rattle.machine.proofs.Core.{WiresEmpty}
-use Rattle.machine.proofs.Numbers.{outNumber, out-at, out-below, drives-at}
 use Rattle.machine.proofs.ShapeRead.{read-wires}
-use Rattle.machine.proofs.Interval.{MovesNow, moves-now, moves-later}
-use Rattle.machine.proofs.Stuck.{Closed, every, every-closed, answering, answering-closed}
-use Rattle.machine.proofs.Still.{none-delivered}
-use Rattle.machine.proofs.Undisturbed.{read-now, execute-not, write-not, out-of-phase}
 use Rattle.machine.proofs.Keeps.{Inv, inv-of, call-inv}
-use Rattle.machine.proofs.Progress.{from-execute}
+use Rattle.machine.proofs.Stuck.{Closed, every, every-closed, answering, answering-closed}
+use Rattle.machine.proofs.Interval.{MovesNow, moves-now, moves-later}
+use Rattle.machine.proofs.Still.{none-delivered}
+use Rattle.machine.proofs.Undisturbed.{read-now, execute-not, write-not, out-of-phase, by-refusal}
+use Rattle.machine.proofs.Progress.{from-execute, execute-phase}
 
 -- ---- what calls other than Read do in READ
 -- wires and in-queues stay, and a queue that has a packet keeps one
@@ -52,10 +52,6 @@ record Before (s t : State) : Type 0 where
 
 unchanged : (s : State) → Before s s
 unchanged s = record { phase = refl; wire = refl; ins = λ q i. refl; held = λ q x rest e. (rest, e) }
-
-by-refusal : (H : Outcome → Type 0) (t : Bool) (w : Refusal) (s : State) (rest : Outcome) → H (gives (Refused w) s) → H rest → H (refuse t w s rest)
-by-refusal H true w s rest a b = a
-by-refusal H false w s rest a b = b
 
 joined-before : (k : Queue) (y : Packet) (s : State) → isInQueue k ≡ false → Before s (join k y s)
 unfolding join
@@ -118,10 +114,6 @@ read-queue pl s w =
     (λ n t h q. settle-queue (queueAt pl n) t ∙ q) refl
     ∙ ap (λ (t : State). t .queue) (none-delivered pl s w)
 
-read-phase : (pl : Plan) (s : State) → doRead pl s .phase ≡ Execute
-unfolding doRead
-read-phase pl s = refl
-
 -- a full wire, or none
 some-wire : (pl : Plan) (s : State) → ((o : Output) × (x : Packet) × Drives pl o × (s .wire o ≡ Full x)) ⊎ WiresEmpty pl s
 some-wire pl s = by (find (outputs pl) (λ n. isFull (s .wire (outputAt pl n))))
@@ -136,7 +128,7 @@ some-wire pl s = by (find (outputs pl) (λ n. isFull (s .wire (outputAt pl n))))
 
     by : Found (outputs pl) (λ n. isFull (s .wire (outputAt pl n))) ⊎ ((n : ℕ) → n < outputs pl → isFull (s .wire (outputAt pl n)) ≡ false) → ((o : Output) × (x : Packet) × Drives pl o × (s .wire o ≡ Full x)) ⊎ WiresEmpty pl s
     by (inl (n, h, b)) = inl (full n h (s .wire (outputAt pl n)) refl b)
-    by (inr f) = inr (λ o h. ap (s .wire) (sym (out-at pl o h)) ∙ empty (s .wire (outputAt pl (outNumber pl o))) (f (outNumber pl o) (out-below pl o h)))
+    by (inr f) = inr (λ o h. ap (s .wire) (sym (output-at pl o h)) ∙ empty (s .wire (outputAt pl (outputNumber pl o))) (f (outputNumber pl o) (output-below pl o h)))
 
 module _ {pl : Plan} (wired : Wired pl) (range : InRange (pl .head)) (free : FeedRing pl → ⊥) where
   -- a packet under way: on a wire, or in a queue of the set
@@ -155,9 +147,6 @@ module _ {pl : Plan} (wired : Wired pl) (range : InRange (pl .head)) (free : Fee
       brought : (o : Output) (x : Packet) → Drives pl o → s .wire o ≡ Full x → MovesNow pl read s
       brought o x d f = (refl, inl (o, x, d, f, ap (λ (t : State). t .wire o) now ∙ read-wires pl s o d))
 
-      full-not : {x : Packet} → Empty ≡ Full x → ⊥
-      full-not h = let z : _≡_ {A = ℕ} 0 1 = cc in omega arith
-
       by : ((o : Output) × (x : Packet) × Drives pl o × (s .wire o ≡ Full x)) ⊎ WiresEmpty pl s → Going set s → MovesNow pl read s ⊎ Moves pl cs (doRead pl s)
       by (inl (o, x, d, f)) w = inl (brought o x d f)
       by (inr w) (inl (o, x, d, f)) = absurd (full-not (sym (w o d) ∙ f))
@@ -166,7 +155,7 @@ module _ {pl : Plan} (wired : Wired pl) (range : InRange (pl .head)) (free : Fee
           let there : Closed pl set (doRead pl s)
           = record { stays = c .stays; room = λ hd a p k z ha hp d m v u l. rw (ap (λ (t : Queue → List Packet). t (passiveIn k)) same) (c .room hd a p k z ha hp d m v u l) } in
           let kept : Inv pl (doRead pl s) = rw now at (call-inv wired range read s i) in
-          inr (from-execute wired range free (doRead pl s) kept (read-phase pl s) set there q x rest h ni b (ap (λ (t : Queue → List Packet). t q) same ∙ f) cs n)
+          inr (from-execute wired range free (doRead pl s) kept (execute-phase pl s) set there q x rest h ni b (ap (λ (t : Queue → List Packet). t q) same ∙ f) cs n)
 
   -- from any state in READ
   pub from-read : (set : Queue → Bool) (cs : List Call) (s : State) → Inv pl s → s .phase ≡ Read → Closed pl set s → Going set s → S pl ≤ rounds pl cs s → Moves pl cs s

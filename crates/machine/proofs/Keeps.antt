@@ -6,7 +6,7 @@ use mathlib.Core.List.{List, [], _∷_}
 use Prim.Native.Nat.{ℕ, zero, suc, _+_, _≤_, _<_}
 use native.Mathlib.Omega.{arith}
 use lib.Dec.{eqb, ltb, leb}
-use borrow.Author.Tests.{ltb-true, eqb-false, eqb-true}
+use borrow.Author.Tests.{ltb-true, eqb-false, eqb-true, not-false}
 use Rattle.basis.specs.Choice.{pick, test}
 use Rattle.kinds.specs.declared.Refusal.{Refusal}
 use Rattle.packets.specs.declared.Kind.{Kind}
@@ -32,7 +32,10 @@ use Rattle.machine.specs.Write.{send, doWrite}
 use Rattle.machine.specs.Calls.{Outcome, gives, refuse, isPhase, isEmpty, Call, read, execute, write, launch, reply, consume, entry, call, readCall, executeCall, writeCall, launched, launchCall, replyKind, replied, replyCall, removed, consumed, consumeCall, entryCall}
 use Rattle.machine.specs.Valid.{Drives, Valid, Bounded}
 use Rattle.machine.specs.Ruled.{Good}
+use Rattle.machine.proofs.Apart.{phase-of}
 use Rattle.machine.proofs.Core.{Core, Shape, in-read, in-execute, in-write, Sendable, NoChoices, WiresEmpty, FlagsDown, ChoicesSendable, Allowances, core-of, shape-of, valid-of}
+use Rattle.machine.proofs.Spending.{reply-spends}
+use Rattle.machine.proofs.Allowance.{start-allowances, phase-allowances, slot-allowances, deliver-allowances, settle-allowances, unit-allowances, choose-allowances, undo-allowances, send-allowances, launched-allowances, replied-allowances, removed-allowances}
 use Rattle.machine.proofs.Kept.{Kept, kept-of, start-kept, phase-kept, slot-kept}
 use Rattle.machine.proofs.KeptRead.{deliver-kept, settle-kept}
 use Rattle.machine.proofs.KeptExecute.{unit-kept, choose-kept, undo-kept}
@@ -43,13 +46,11 @@ use Rattle.machine.proofs.AccountRead.{deliver-paid, settle-paid}
 use Rattle.machine.proofs.AccountExecute.{unit-paid, choose-paid, undo-paid}
 use Rattle.machine.proofs.AccountWrite.{send-paid}
 use Rattle.machine.proofs.AccountCalls.{launched-paid, replied-paid, removed-paid}
-use Rattle.machine.proofs.Spending.{reply-spends}
-use Rattle.machine.proofs.Allowance.{start-allowances, phase-allowances, slot-allowances, deliver-allowances, settle-allowances, unit-allowances, choose-allowances, undo-allowances, send-allowances, launched-allowances, replied-allowances, removed-allowances}
-use Rattle.machine.proofs.Phases.{read-keeps, execute-keeps, write-keeps}
 use Rattle.machine.proofs.ShapeRead.{read-shape}
 use Rattle.machine.proofs.ShapeExecute.{execute-shape}
 use Rattle.machine.proofs.ShapeWrite.{write-shape}
 use Rattle.machine.proofs.ShapeCalls.{read-has, execute-has, write-has, launched-shape, replied-shape, removed-shape}
+use Rattle.machine.proofs.Phases.{read-keeps, execute-keeps, write-keeps}
 
 -- the core from its parts
 pub core-by : {pl : Plan} {s : State} → Kept pl s → Paid pl s → Allowances pl s → Core pl s
@@ -128,21 +129,6 @@ module _ {pl : Plan} (wired : Wired pl) (range : InRange (pl .head)) where
   by-test P true w s rest a b = a
   by-test P false w s rest a b = b refl
 
-  pub is-phase : (x y : Phase) → not (isPhase x y) ≡ false → x ≡ y
-  is-phase Read Read e = refl
-  is-phase Read Execute e = absurd (true≢false e)
-  is-phase Read Write e = absurd (true≢false e)
-  is-phase Execute Read e = absurd (true≢false e)
-  is-phase Execute Execute e = refl
-  is-phase Execute Write e = absurd (true≢false e)
-  is-phase Write Read e = absurd (true≢false e)
-  is-phase Write Execute e = absurd (true≢false e)
-  is-phase Write Write e = refl
-
-  pub not-false : (b : Bool) → not b ≡ false → b ≡ true
-  not-false true e = refl
-  not-false false e = absurd (true≢false e)
-
   abbrev Keeps : Outcome → Type 0
   Keeps r = Inv pl (r .state)
 
@@ -150,19 +136,19 @@ module _ {pl : Plan} (wired : Wired pl) (range : InRange (pl .head)) where
   unfolding readCall
   read-inv s i =
       by-test Keeps (not (isPhase (s .phase) Read)) _ s (gives _ (doRead pl s)) i
-      (λ e. record { core = read-core s (i .core); shape = read-shape pl s (read-has s (is-phase (s .phase) Read e) (i .shape)) })
+      (λ e. record { core = read-core s (i .core); shape = read-shape pl s (read-has s (phase-of (s .phase) Read e) (i .shape)) })
 
   execute-inv : (s : State) → Inv pl s → Keeps (executeCall pl s)
   unfolding executeCall
   execute-inv s i =
       by-test Keeps (not (isPhase (s .phase) Execute)) _ s (gives _ (doExecute pl s)) i
-      (λ e. let h = execute-has s (is-phase (s .phase) Execute e) (i .shape) in record { core = execute-core s (i .core) (h .2); shape = execute-shape pl s (h .1) (h .2) })
+      (λ e. let h = execute-has s (phase-of (s .phase) Execute e) (i .shape) in record { core = execute-core s (i .core) (h .2); shape = execute-shape pl s (h .1) (h .2) })
 
   write-inv : (s : State) → Inv pl s → Keeps (writeCall pl s)
   unfolding writeCall
   write-inv s i =
       by-test Keeps (not (isPhase (s .phase) Write)) _ s (gives _ (doWrite pl s)) i
-      (λ e. let h = write-has s (is-phase (s .phase) Write e) (i .shape) in record { core = write-core s (i .core) (h .0) (h .1); shape = write-shape pl s })
+      (λ e. let h = write-has s (phase-of (s .phase) Write e) (i .shape) in record { core = write-core s (i .core) (h .0) (h .1); shape = write-shape pl s })
 
   launch-inv : (a p t : ℕ) (s : State) → Inv pl s → Keeps (launchCall pl a p t s)
   unfolding launchCall
@@ -172,7 +158,7 @@ module _ {pl : Plan} (wired : Wired pl) (range : InRange (pl .head)) where
       (λ f. by-test Keeps (not (served pl a p)) _ s _ i
       (λ g. by-test Keeps (eqb (s .allowance a) 0) _ s _ i
       (λ h. by-test Keeps (not (hasRoom pl (activeOut a) s)) _ s (gives _ (launched a p t s)) i
-      (λ r. accepted (is-phase (s .phase) Read e) (and-both (not-false _ f)) (not-false _ g) h (not-false _ r))))))
+      (λ r. accepted (phase-of (s .phase) Read e) (and-both (not-false _ f)) (not-false _ g) h (not-false _ r))))))
     where
       accepted : s .phase ≡ Read → ((ltb a (A pl) && ltb p (P pl)) ≡ true) × (ltb t (S pl) ≡ true) → served pl a p ≡ true → eqb (s .allowance a) 0 ≡ false → hasRoom pl (activeOut a) s ≡ true → Inv pl (launched a p t s)
       accepted e (n, ht) g h r =
@@ -200,7 +186,7 @@ module _ {pl : Plan} (wired : Wired pl) (range : InRange (pl .head)) where
       (λ f. by-test Keeps (s .flag (passiveIn p)) _ s _ i
       (λ g. by-test Keeps (isEmpty (s .queue (passiveIn p))) _ s _ i
       (λ h. by-test Keeps (not (hasRoom pl (passiveOut p) s)) _ s (gives _ (replied p (replyKind c) (s .queue (passiveIn p)) s)) i
-      (λ r. accepted (is-phase (s .phase) Write e) (and-both (not-false _ f)) g (s .queue (passiveIn p)) refl h (not-false _ r))))))
+      (λ r. accepted (phase-of (s .phase) Write e) (and-both (not-false _ f)) g (s .queue (passiveIn p)) refl h (not-false _ r))))))
     where
       accepted : s .phase ≡ Write → (ltb p (P pl) ≡ true) × (leb c 1 ≡ true) → s .flag (passiveIn p) ≡ false → (l : List Packet) → s .queue (passiveIn p) ≡ l → isEmpty (s .queue (passiveIn p)) ≡ false
           → hasRoom pl (passiveOut p) s ≡ true → Inv pl (replied p (replyKind c) (s .queue (passiveIn p)) s)
@@ -219,7 +205,7 @@ module _ {pl : Plan} (wired : Wired pl) (range : InRange (pl .head)) where
       by-test Keeps (not (isPhase (s .phase) Write)) _ s _ i
       (λ e. by-test Keeps (not (ltb a (A pl))) _ s _ i
       (λ f. by-test Keeps (s .flag (activeIn a)) _ s _ i
-      (λ g. accepted (is-phase (s .phase) Write e) (ltb-true a (A pl) (not-false _ f)) g (s .queue (activeIn a)) refl)))
+      (λ g. accepted (phase-of (s .phase) Write e) (ltb-true a (A pl) (not-false _ f)) g (s .queue (activeIn a)) refl)))
     where
       taken : s .phase ≡ Write → a < A pl → s .flag (activeIn a) ≡ false → (x : Packet) (rest : List Packet) → s .queue (activeIn a) ≡ x ∷ rest → Inv pl (removed a rest s)
       taken e h g x rest q =

@@ -5,10 +5,9 @@ use mathlib.Core.Logic.{_≢_}
 use mathlib.Core.Bool.{Bool, true, false, not, _&&_, false≢true, and-eq-true-iff}
 use mathlib.Core.List.{List, [], _∷_}
 use mathlib.Core.Option.{some}
-use Prim.Native.Nat.{ℕ, suc, _≤_, _<_}
-use native.Mathlib.Omega.{arith}
+use Prim.Native.Nat.{ℕ, suc, _<_}
 use lib.Dec.{eqb}
-use borrow.Author.Tests.{eqb-true, eqb-false}
+use borrow.Author.Tests.{eqb-true, eqb-false, not-true}
 use Rattle.basis.specs.Choice.{pick-same}
 use Rattle.basis.specs.Bounded.{Found, any-true}
 use Rattle.packets.specs.declared.Kind.{Kind}
@@ -24,24 +23,22 @@ use Rattle.wiring.specs.Wired.{Wired}
 use Rattle.machine.specs.Store.{put-here, put-away}
 use Rattle.machine.specs.Outputs.{senders}
 use Rattle.machine.specs.State.{State, nobody, start, withEntry, isFree}
-use Rattle.machine.specs.Execute.{cameIn, declined, booked, freed, otherFree, mayBook, handledAs, setUp, tearOne, tearDown, handle, atUnit, unit, candidate, isOpen, firstOf, picked, choose, unmarkedKind, unmarked, marked, tdownOf, hasRoom, answer, atActive, undo}
+use Rattle.machine.specs.Execute.{cameIn, declined, booked, freed, otherFree, mayBook, handledAs, setUp, tearOne, tearDown, handle, atUnit, unit, candidate, isOpen, firstOf, picked, choose, unmarked, marked, tdownOf, hasRoom, answer, atActive, undo}
 use Rattle.machine.specs.Write.{ofRank}
 use Rattle.machine.specs.Valid.{Belongs, Drives, Bounded}
+use Rattle.machine.proofs.Apart.{booked-not, booked-same}
+use Rattle.machine.proofs.Puts.{number-one}
 use Rattle.machine.proofs.Feeders.{sender-leaves}
 use Rattle.machine.proofs.Lines.{head-some, output-drives}
 use Rattle.machine.proofs.Makes.{side-out, side-in, booked-belongs, declined-belongs, freed-belongs, marked-belongs, tdown-belongs}
-use Rattle.machine.proofs.Puts.{number-one}
-use Rattle.machine.proofs.Kept.{Kept, booked-not, choice-kept, flag-kept, entry-kept}
+use Rattle.machine.proofs.Cases.{unmarked-kind}
+use Rattle.machine.proofs.Kept.{Kept, choice-kept, flag-kept, entry-kept}
 use Rattle.machine.proofs.KeptLines.{head-belongs, behind-belong, line-kept, mark-kept, join-kept, gone-kept}
 
 -- ---- what tests tell
 free-of : (e : Entry) → isFree e ≡ true → e ≡ Free
 free-of Free t = refl
 free-of (Booked i) t = absurd (false≢true t)
-
-not-true : (b : Bool) → not b ≡ true → b ≡ false
-not-true true t = absurd (false≢true t)
-not-true false t = refl
 
 -- an entry that may be booked leaves its side another free one
 pub other-free : (slots : ℕ) (entries : ℕ → Entry) (t : ℕ) → mayBook slots entries t ≡ true → (u : ℕ) × (u < slots) × (u ≢ t) × (entries u ≡ Free)
@@ -52,16 +49,6 @@ other-free slots entries t m = by (any-true slots (λ u. not (eqb u t) && isFree
     by (u, h, e) =
         let c = and-eq-true-iff (not (eqb u t)) (isFree (entries u)) .0 e in
         (u, h, eqb-false u t (not-true (eqb u t) (c .0)), free-of (entries u) (c .1))
-
--- an unmarked packet is a NACK with a hub
-pub unmarked-nack : (kind : Kind) (hub : ℕ) → unmarkedKind kind hub ≡ true → (kind ≡ Nack) × (1 ≤ hub)
-unmarked-nack Setup hub t = absurd (false≢true t)
-unmarked-nack Tdown hub t = absurd (false≢true t)
-unmarked-nack Ack hub t = absurd (false≢true t)
-unmarked-nack Nack hub t = let n : hub ≡ 0 → ⊥ = eqb-false hub 0 (not-true (eqb hub 0) t) in (refl, omega arith)
-
-booked-same : {i j : ℕ} → Booked i ≡ Booked j → i ≡ j
-booked-same e = cc
 
 -- none of the senders is ready: nobody is the first
 first-nobody : (ready : Queue → Bool) (n : ℕ) (l : List Queue) → ((j : ℕ) (q : Queue) → ofRank l j ≡ some q → ready q ≡ false) → firstOf ready n l ≡ nobody
@@ -147,7 +134,7 @@ module _ {pl : Plan} (wired : Wired pl) (range : InRange (pl .head)) where
     where
       answered : (x : Packet) (rest : List Packet) → s .queue (activeIn a) ≡ x ∷ rest → (t : Bool) → (unmarked x && hasRoom pl (activeOut a) s) ≡ t → Kept pl (answer pl a x rest t s)
       answered x rest e true t =
-          let nack = unmarked-nack (x .kind) (x .hub .0) (and-eq-true-iff (unmarked x) (hasRoom pl (activeOut a) s) .0 t .0) in
+          let nack = unmarked-kind (x .kind) (x .hub .0) (and-eq-true-iff (unmarked x) (hasRoom pl (activeOut a) s) .0 t .0) in
           let here : Belongs pl (inQueue (activeIn a)) x = head-belongs k (activeIn a) x rest ha e in
           let mark : Belongs pl (inQueue (activeIn a)) (marked x) = marked-belongs wired range x (inQueue (activeIn a)) here a refl (nack .0) in
           join-kept (line-kept k (activeIn a) (marked x ∷ rest) ha (mark, behind-belong k (activeIn a) x rest ha e) (λ d. head-some (marked x) rest))

@@ -13,9 +13,9 @@ use Rattle.feeding.specs.Feeds.{inQueue}
 use Rattle.machine.specs.Store.{sameQueue, same-queue, queue-same}
 use Rattle.machine.specs.State.{State, start, withQueue, withHandled, join}
 use Rattle.machine.specs.Valid.{Belongs, headPlace, Lined, Bounded}
-use Rattle.machine.proofs.Lines.{empty-mark, line-of, line-joined, joined-some}
 use Rattle.machine.proofs.Puts.{put-cases, put-outside, put-both}
-use Rattle.machine.proofs.Kept.{Kept}
+use Rattle.machine.proofs.Lines.{empty-mark, line-of, line-joined, joined-some}
+use Rattle.machine.proofs.Kept.{Kept, lines-kept}
 
 module _ {pl : Plan} {s : State} (k : Kept pl s) where
   abbrev b : Bounded pl s
@@ -34,50 +34,20 @@ module _ {pl : Plan} {s : State} (k : Kept pl s) where
   -- a line replaced by one that fits, where a marked queue does not become empty
   pub line-kept : (q : Queue) (l : List Packet) → Exists pl q → Lined pl q (s .handled q) l → (s .handled q ≡ true → l ≢ []) → Kept pl (withQueue q l s)
   line-kept q l h f n =
-      record {
-        slot = k .slot;
-        entries = k .entries;
-        places = put-cases sameQueue queue-same same-queue (λ (x : Queue) (v : List Packet). Exists pl x → Lined pl x (s .handled x) v) (s .queue) q l (λ e. f) (λ x ne. k .places x);
-        wires = k .wires;
-        marks =
-            put-cases sameQueue queue-same same-queue (λ (x : Queue) (v : List Packet). Exists pl x → s .handled x ≡ true → (r : ℕ) × (x ≡ Q r) × (v ≢ [])) (s .queue) q l
-            (λ e t. let m = k .marks q e t in (m .0, m .1, n t)) (λ x ne. k .marks x);
-        free-entry = k .free-entry;
-        bounded = record {
-          queue = put-outside sameQueue queue-same same-queue (Exists pl) (s .queue) (start pl .queue) q l h (b .queue);
-          credit = b .credit;
-          flag = b .flag;
-          handled = b .handled;
-          wire = b .wire;
-          choice = b .choice;
-          table = b .table;
-          allowance = b .allowance;
-        };
-      }
+      lines-kept k _ _ (put-cases sameQueue queue-same same-queue (λ (x : Queue) (v : List Packet). Exists pl x → Lined pl x (s .handled x) v) (s .queue) q l (λ e. f) (λ x ne. k .places x))
+      (put-cases sameQueue queue-same same-queue (λ (x : Queue) (v : List Packet). Exists pl x → s .handled x ≡ true → (r : ℕ) × (x ≡ Q r) × (v ≢ [])) (s .queue) q l
+      (λ e t. let m = k .marks q e t in (m .0, m .1, n t)) (λ x ne. k .marks x))
+      (put-outside sameQueue queue-same same-queue (Exists pl) (s .queue) (start pl .queue) q l h (b .queue)) (b .handled)
 
   -- the line and the mark of a queue replaced together
   pub mark-kept : (q : Queue) (done : Bool) (l : List Packet) → Exists pl q → Lined pl q done l → (done ≡ true → (r : ℕ) × (q ≡ Q r) × (l ≢ [])) → Kept pl (withHandled q done (withQueue q l s))
   mark-kept q done l h f n =
-      record {
-        slot = k .slot;
-        entries = k .entries;
-        places = put-both sameQueue queue-same same-queue (λ (x : Queue) (d : Bool) (v : List Packet). Exists pl x → Lined pl x d v) (s .handled) (s .queue) q done l (λ e. f) (λ x ne. k .places x);
-        wires = k .wires;
-        marks =
-            put-both sameQueue queue-same same-queue (λ (x : Queue) (d : Bool) (v : List Packet). Exists pl x → d ≡ true → (r : ℕ) × (x ≡ Q r) × (v ≢ [])) (s .handled) (s .queue) q done l
-            (λ e. n) (λ x ne. k .marks x);
-        free-entry = k .free-entry;
-        bounded = record {
-          queue = put-outside sameQueue queue-same same-queue (Exists pl) (s .queue) (start pl .queue) q l h (b .queue);
-          credit = b .credit;
-          flag = b .flag;
-          handled = put-outside sameQueue queue-same same-queue (Exists pl) (s .handled) (start pl .handled) q done h (b .handled);
-          wire = b .wire;
-          choice = b .choice;
-          table = b .table;
-          allowance = b .allowance;
-        };
-      }
+      lines-kept k _ _
+      (put-both sameQueue queue-same same-queue (λ (x : Queue) (d : Bool) (v : List Packet). Exists pl x → Lined pl x d v) (s .handled) (s .queue) q done l (λ e. f) (λ x ne. k .places x))
+      (put-both sameQueue queue-same same-queue (λ (x : Queue) (d : Bool) (v : List Packet). Exists pl x → d ≡ true → (r : ℕ) × (x ≡ Q r) × (v ≢ [])) (s .handled) (s .queue) q done l
+      (λ e. n) (λ x ne. k .marks x))
+      (put-outside sameQueue queue-same same-queue (Exists pl) (s .queue) (start pl .queue) q l h (b .queue))
+      (put-outside sameQueue queue-same same-queue (Exists pl) (s .handled) (start pl .handled) q done h (b .handled))
 
   -- a packet joins the queue in which it belongs
   pub join-kept : (q : Queue) (x : Packet) → Exists pl q → Belongs pl (inQueue q) x → Kept pl (join q x s)

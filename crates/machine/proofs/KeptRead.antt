@@ -14,8 +14,9 @@ use Rattle.machine.specs.Outputs.{nextBy}
 use Rattle.machine.specs.State.{State, withWire}
 use Rattle.machine.specs.Read.{joinNext, arrive, deliver, lower, settle}
 use Rattle.machine.specs.Valid.{Drives, Carries}
+use Rattle.machine.proofs.Apart.{full-not}
 use Rattle.machine.proofs.Lines.{belongs-exists}
-use Rattle.machine.proofs.Kept.{Kept, full-not, wire-kept, credit-kept, flag-kept}
+use Rattle.machine.proofs.Kept.{Kept, wire-kept, credit-kept, flag-kept}
 use Rattle.machine.proofs.KeptLines.{join-kept}
 
 module _ {pl : Plan} (wired : Wired pl) (range : InRange (pl .head)) where

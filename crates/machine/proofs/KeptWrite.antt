@@ -21,15 +21,14 @@ use Rattle.machine.specs.State.{State, Choice, nobody, sender, withSlot,
 use Rattle.machine.specs.Execute.{hasCredit, mayLeave, candidate}
 use Rattle.machine.specs.Write.{ofRank, raise, spend, sendHead, sendFrom, sendBy, send}
 use Rattle.machine.specs.Valid.{Belongs, headPlace, Drives}
+use Rattle.machine.proofs.Apart.{full-same}
+use Rattle.machine.proofs.Numbers.{sender-exists}
 use Rattle.machine.proofs.Core.{Sendable}
 use Rattle.machine.proofs.Feeders.{sender-leaves}
-use Rattle.machine.proofs.Lines.{isUnit, no-mark, head-leaves, line-of, sender-exists, belongs-exists}
+use Rattle.machine.proofs.Lines.{isUnit, no-mark, head-leaves, line-of, belongs-exists}
 use Rattle.machine.proofs.Makes.{next-belongs}
 use Rattle.machine.proofs.Kept.{Kept, slot-kept, choice-kept, credit-kept, flag-kept, wire-kept}
 use Rattle.machine.proofs.KeptLines.{head-belongs, behind-belong, mark-kept, gone-kept}
-
-full-same : {x y : Packet} → Full x ≡ Full y → x ≡ y
-full-same e = cc
 
 module _ {pl : Plan} (wired : Wired pl) (range : InRange (pl .head)) where
   -- the head of a queue goes, its flag rises, and with the head of a unit's queue its mark goes
@@ -74,7 +73,7 @@ module _ {pl : Plan} (wired : Wired pl) (range : InRange (pl .head)) where
   send-kept o s d able k = by (s .choice o) refl
     where
       chosen : (n : ℕ) → Sendable pl s o n → Kept pl (sendFrom pl o (ofRank (senders o) n) s)
-      chosen n g = rw (g .rank) (entered o (g .queue) s d (sender-exists pl o d n (g .queue) (g .rank)) (sender-leaves o n (g .queue) (g .rank)) (g .ready) k)
+      chosen n g = rw (g .rank) (entered o (g .queue) s d (sender-exists pl o n (g .queue) d (g .rank)) (sender-leaves o n (g .queue) (g .rank)) (g .ready) k)
 
       by : (c : Choice) → s .choice o ≡ c → Kept pl (sendBy pl o c s)
       by nobody e = k

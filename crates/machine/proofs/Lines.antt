@@ -4,27 +4,22 @@ use mathlib.Core.Logic.{_⊎_, inl, inr, _≢_}
 use mathlib.Core.Bool.{Bool, true, false, false≢true}
 use mathlib.Core.List.{List, [], _∷_, _++_}
 use mathlib.Core.Option.{some}
-use Prim.Native.Nat.{ℕ, zero, suc, _≤_, _<_}
+use Prim.Native.Nat.{ℕ, _<_}
 use native.Mathlib.Omega.{arith}
-use lib.Dec.{ltb}
-use borrow.Author.Tests.{lt-ltb, le-ltb}
-use Rattle.basis.specs.Choice.{pick, refuted}
-use Rattle.basis.specs.Bounded.{lt-or-ge}
+use Rattle.basis.specs.Choice.{refuted}
 use Rattle.basis.specs.Among.{In, in-either}
 use Rattle.packets.specs.declared.Kind.{Kind}
 use Rattle.packets.specs.declared.Kind.the-variants.{Setup, Tdown, Ack, Nack}
 use Rattle.packets.specs.declared.Packet.{Packet}
 use Rattle.plan.specs.Plan.{Plan, R, A, P}
 use Rattle.paths.specs.Served.{Served}
-use Rattle.feeding.specs.Queue.{Queue, activeOut, activeIn, passiveIn, passiveOut, U, Q, F, K, Exists, senderAt}
-use Rattle.feeding.specs.Feeds.{Output, ofActive, ofPassive, ofSide, toUnit, fromUnit, headingOf, outputOf, inQueue, Ahead, Back, Fits, leavesFrom}
+use Rattle.feeding.specs.Queue.{Queue, activeOut, activeIn, passiveIn, passiveOut, U, Q, F, K, Exists}
+use Rattle.feeding.specs.Feeds.{Output, headingOf, outputOf, inQueue, Ahead, Back, Fits, leavesFrom}
 use Rattle.wiring.specs.Wired.{Wired}
 use Rattle.journeys.proofs.Places.{may-exist, some-same, some-not-none}
 use Rattle.journeys.proofs.Fitting.{fits-visits}
-use Rattle.machine.specs.Outputs.{senders}
 use Rattle.machine.specs.Execute.{mayLeave}
 use Rattle.machine.specs.State.{State}
-use Rattle.machine.specs.Write.{ofRank}
 use Rattle.machine.specs.Valid.{Belongs, headPlace, Lined, Drives}
 use Rattle.machine.proofs.Core.{Marks}
 use Rattle.machine.proofs.CameIn.{stands-inside}
@@ -97,35 +92,6 @@ joined-some [] x = head-some x []
 joined-some (y ∷ l) x = head-some y (l ++ (x ∷ []))
 
 -- ---- queues that exist
--- a sender of a plan's output is a queue of the plan
-pub sender-exists : (pl : Plan) (o : Output) → Drives pl o → (k : ℕ) (q : Queue) → ofRank (senders o) k ≡ some q → Exists pl q
-sender-exists pl (ofActive a) d zero q e = rw (← some-same e) d
-sender-exists pl (ofActive a) d (suc k) q e = absurd (some-not-none e)
-sender-exists pl (ofPassive a) d zero q e = rw (← some-same e) d
-sender-exists pl (ofPassive a) d (suc k) q e = absurd (some-not-none e)
-sender-exists pl (ofSide r o) (hr, ho) k q e = by k e
-  where
-    crossing : (j : ℕ) → j < 3 → Exists pl (senderAt r o (suc j))
-    crossing j h = at (lt-or-ge j o)
-      where
-        at : (j < o) ⊎ (o ≤ j) → Exists pl (K r (pick (ltb j o) j (suc j)) o)
-        at (inl l) = rw (lt-ltb j o l) (hr, omega arith, ho, λ n. omega arith)
-        at (inr g) = rw (le-ltb j o g) (hr, omega arith, ho, λ n. omega arith)
-
-    by : (k : ℕ) → ofRank (senders (ofSide r o)) k ≡ some q → Exists pl q
-    by zero e = rw (← some-same e) (hr, ho)
-    by (suc zero) e = rw (← some-same e) (crossing 0 (omega arith))
-    by (suc (suc zero)) e = rw (← some-same e) (crossing 1 (omega arith))
-    by (suc (suc (suc zero))) e = rw (← some-same e) (crossing 2 (omega arith))
-    by (suc (suc (suc (suc k)))) e = absurd (some-not-none e)
-sender-exists pl (toUnit r) d zero q e = rw (← some-same e) (d, omega arith)
-sender-exists pl (toUnit r) d (suc zero) q e = rw (← some-same e) (d, omega arith)
-sender-exists pl (toUnit r) d (suc (suc zero)) q e = rw (← some-same e) (d, omega arith)
-sender-exists pl (toUnit r) d (suc (suc (suc zero))) q e = rw (← some-same e) (d, omega arith)
-sender-exists pl (toUnit r) d (suc (suc (suc (suc k)))) q e = absurd (some-not-none e)
-sender-exists pl (fromUnit r) d zero q e = rw (← some-same e) d
-sender-exists pl (fromUnit r) d (suc k) q e = absurd (some-not-none e)
-
 -- the output by which a queue of the plan is left is the plan's
 pub output-drives : (pl : Plan) (q : Queue) (o : Output) → Exists pl q → outputOf q ≡ some o → Drives pl o
 output-drives pl (activeOut x) o h e = rw (← some-same e) h

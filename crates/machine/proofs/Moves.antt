@@ -7,8 +7,6 @@ use mathlib.Core.Option.{some}
 use Prim.Native.Nat.{ℕ, suc, _+_, _<_}
 use native.Mathlib.Omega.{arith}
 use Rattle.basis.specs.Fold.{upTo, up-keeps-at}
-use Rattle.packets.specs.declared.Kind.{Kind}
-use Rattle.packets.specs.declared.Kind.the-variants.{Setup, Tdown, Ack, Nack}
 use Rattle.packets.specs.declared.Packet.{Packet}
 use Rattle.kinds.specs.declared.Slot.{Slot}
 use Rattle.packets.specs.declared.Phase.{Phase}
@@ -16,65 +14,23 @@ use Rattle.packets.specs.declared.Wire.{Wire}
 use Rattle.packets.specs.declared.Wire.the-variants.{Empty, Full}
 use Rattle.plan.specs.Plan.{Plan}
 use Rattle.feeding.specs.Queue.{Queue, activeOut, activeIn, passiveIn, passiveOut, U, Q, F, K, Exists, queueAt, queues}
-use Rattle.feeding.specs.Feeds.{Output, Place, inQueue, headingOf, Fits, leavesFrom}
+use Rattle.feeding.specs.Feeds.{Output, Place, inQueue, leavesFrom}
 use Rattle.wiring.specs.Wired.{Wired}
-use Rattle.journeys.proofs.Places.{may-exist}
-use Rattle.journeys.proofs.Fitting.{fits-visits}
 use Rattle.machine.specs.Outputs.{nextBy, senders, outputs, outputAt}
 use Rattle.machine.specs.State.{State, sender, withPhase, withSlot, withQueue, withWire}
 use Rattle.machine.specs.Read.{deliver, lower, settle, doRead}
 use Rattle.machine.specs.Execute.{mayLeave, choose}
 use Rattle.machine.specs.Write.{ofRank, raise, spend, send, doWrite}
 use Rattle.machine.specs.Valid.{Belongs, headPlace, Lined, Drives, Carries, inAll}
-use Rattle.machine.proofs.Closure.{unit-booked, unit-no-answer}
+use Rattle.machine.proofs.Numbers.{sender-exists}
+use Rattle.machine.proofs.OutNumbers.{drives-at}
 use Rattle.machine.proofs.Core.{Core, Sendable}
-use Rattle.machine.proofs.Numbers.{drives-at, sender-exists}
-use Rattle.machine.proofs.Weights.{Weight, inLine, onWire, weighed, line-in, line-fresh, weighed-queue, weighed-line, weighed-wire, weighed-join}
+use Rattle.machine.proofs.Lines.{head-leaves, belongs-exists}
+use Rattle.machine.proofs.Senders.{raise-wire}
 use Rattle.machine.proofs.Cases.{deliver-none, deliver-one, afterSent, send-one, SendDoes, none-sent, sent, send-does}
+use Rattle.machine.proofs.Weights.{Weight, inLine, onWire, weighed, line-in, line-fresh, weighed-queue, weighed-line, weighed-wire, weighed-join}
 
 -- ---- where packets are
-module _ {pl : Plan} (wired : Wired pl) where
-  leaves-exists : (y : Queue) (x : Packet) → Belongs pl (leavesFrom y) x → Exists pl y
-  leaves-exists y x b =
-      may-exist wired (x .active) (x .passive) (b .ranges .active) (b .ranges .passive) (b .serves) (headingOf (x .kind)) y
-      (fits-visits pl (x .active) (x .passive) (x .kind) (x .hub .0) y (b .fits))
-
-  unit-exists : (r : ℕ) (x : Packet) → Belongs pl (inQueue (Q r)) x → Exists pl (Q r)
-  unit-exists r x b = by (x .kind) (b .fits)
-    where
-      ahead-exists : (hub : ℕ) → Fits pl Setup (x .active) (x .passive) hub (inQueue (Q r)) → Exists pl (Q r)
-      ahead-exists hub f =
-          may-exist wired (x .active) (x .passive) (b .ranges .active) (b .ranges .passive) (b .serves) (headingOf Setup) (Q r)
-          (fits-visits pl (x .active) (x .passive) Setup (hub + 1) (Q r) (unit-booked wired (x .active) (x .passive) (b .ranges .active) (b .ranges .passive) (b .serves) r hub f))
-
-      by : (k : Kind) → Fits pl k (x .active) (x .passive) (x .hub .0) (inQueue (Q r)) → Exists pl (Q r)
-      by Setup f = ahead-exists (x .hub .0) f
-      by Tdown (n, f, h, l) = ahead-exists n f
-      by Ack f = absurd (unit-no-answer wired (x .active) (x .passive) (b .ranges .active) (b .ranges .passive) (b .serves) r (x .hub .0) .0 f)
-      by Nack f = absurd (unit-no-answer wired (x .active) (x .passive) (b .ranges .active) (b .ranges .passive) (b .serves) r (x .hub .0) .1 f)
-
-  -- A queue in which a packet belongs is one of the plan's.
-  pub belongs-exists : (y : Queue) (x : Packet) → Belongs pl (inQueue y) x → Exists pl y
-  belongs-exists (activeOut n) x b = leaves-exists (activeOut n) x b
-  belongs-exists (activeIn n) x b = leaves-exists (activeIn n) x b
-  belongs-exists (passiveIn n) x b = leaves-exists (passiveIn n) x b
-  belongs-exists (passiveOut n) x b = leaves-exists (passiveOut n) x b
-  belongs-exists (U r i) x b = leaves-exists (U r i) x b
-  belongs-exists (Q r) x b = unit-exists r x b
-  belongs-exists (F r o) x b = leaves-exists (F r o) x b
-  belongs-exists (K r i o) x b = leaves-exists (K r i o) x b
-
--- A head that may leave is where packets leave the queue from.
-pub leaves-place : (s : State) (q : Queue) → mayLeave s q ≡ true → headPlace (s .handled q) q ≡ leavesFrom q
-leaves-place s (activeOut x) m = refl
-leaves-place s (activeIn x) m = refl
-leaves-place s (passiveIn x) m = refl
-leaves-place s (passiveOut x) m = refl
-leaves-place s (U r i) m = refl
-leaves-place s (Q r) m = rw m
-leaves-place s (F r o) m = refl
-leaves-place s (K r i o) m = refl
-
 -- A queue's head belongs where the handled mark puts it.
 pub head-belongs : {pl : Plan} {s : State} → Core pl s → (q : Queue) → Exists pl q → (x : Packet) (rest : List Packet) → s .queue q ≡ x ∷ rest → Belongs pl (headPlace (s .handled q) q) x
 head-belongs {pl} {s} c q h x rest e = subst (Lined pl q (s .handled q)) e (c .places q h) .0
@@ -90,17 +46,6 @@ pub record Sends (pl : Plan) (o : Output) (s : State) : Type 0 where
   pub core : Core pl s
   pub ready : (k : ℕ) → s .choice o ≡ sender k → Sendable pl s o k
   pub clear : s .wire o ≡ Empty
-
--- Raising a flag leaves the wires.
-pub raised-wire : (q : Queue) (s : State) → raise q s .wire ≡ s .wire
-raised-wire (activeOut x) s = refl
-raised-wire (activeIn x) s = refl
-raised-wire (passiveIn x) s = refl
-raised-wire (passiveOut x) s = refl
-raised-wire (U r i) s = refl
-raised-wire (Q r) s = refl
-raised-wire (F r o) s = refl
-raised-wire (K r i o) s = refl
 
 module _ (pl : Plan) (w : Weight) where
   -- The phase does not matter.
@@ -161,11 +106,11 @@ module _ (pl : Plan) (w : Weight) where
   unfolding weighed inLine onWire
   sent-weighed s o q y x rest d h z e m n =
       let u : State = spend (some y) (raise q (withQueue q rest s)) in
-      let clear : onWire pl w o (raise q (withQueue q rest s) .wire o) ≡ 0 = ap (λ (v : Output → Wire). onWire pl w o (v o)) (raised-wire q (withQueue q rest s)) ∙ ap (onWire pl w o) z in
+      let clear : onWire pl w o (raise q (withQueue q rest s) .wire o) ≡ 0 = ap (λ (v : Output → Wire). onWire pl w o (v o)) (raise-wire q (withQueue q rest s)) ∙ ap (onWire pl w o) z in
       let onto : onWire pl w o (Full x) ≡ w (inQueue y) x = rw n in
       let wire = weighed-wire pl w o d (Full x) u in
       let old : inLine w q (s .handled q) (s .queue q) ≡ w (leavesFrom q) x + inAll (w (inQueue q)) rest =
-      ap (inLine w q (s .handled q)) e ∙ ap (λ (at : Place). w at x + inAll (w (inQueue q)) rest) (leaves-place s q m)
+      ap (inLine w q (s .handled q)) e ∙ ap (λ (at : Place). w at x + inAll (w (inQueue q)) rest) (head-leaves s q m)
       in
       let line = leave-weighed q h rest s in
       omega arith
@@ -195,7 +140,7 @@ module _ (pl : Plan) (w : Weight) where
         by (none-sent e) = ap (weighed pl w) e
         by (sent k q e r g) =
             let h = sender-exists pl o k q d r in
-            let belongs = subst (λ (at : Place). Belongs pl at (g .packet)) (leaves-place s q (g .leaves)) (head-belongs c q h (g .packet) (g .rest) (g .line)) in
+            let belongs = subst (λ (at : Place). Belongs pl at (g .packet)) (head-leaves s q (g .leaves)) (head-belongs c q h (g .packet) (g .rest) (g .line)) in
             let same = steady o k q (g .onto) (g .packet) d r (g .next) belongs in
             let all = sent-weighed s o q (g .onto) (g .packet) (g .rest) d h z (g .line) (g .leaves) (g .next) in
             ap (weighed pl w) (send-one pl o s k q e r g) ∙ omega arith

@@ -6,35 +6,23 @@ use mathlib.Core.List.{List, [], _∷_, _++_}
 use mathlib.Core.Option.{Option, none, some}
 use Prim.Native.Nat.{ℕ, zero, suc, _+_, _≤_, _<_}
 use native.Mathlib.Omega.{arith}
-use Rattle.basis.specs.Choice.{pick, test, refuted}
+use Rattle.basis.specs.Choice.{pick, test}
 use Rattle.basis.specs.Bounded.{below-suc}
 use Rattle.basis.specs.Fold.{upTo, up-keeps, up-keeps-at}
 use Rattle.packets.specs.declared.Packet.{Packet}
 use Rattle.packets.specs.declared.Wire.the-variants.{Full}
 use Rattle.plan.specs.Plan.{Plan}
-use Rattle.feeding.specs.Queue.{Queue, activeOut, activeIn, passiveIn, passiveOut, U, Q, F, K}
+use Rattle.feeding.specs.Queue.{Queue}
 use Rattle.feeding.specs.Feeds.{Output}
-use Rattle.machine.specs.Store.{put, sameQueue, same-queue, queue-same, sameOutput, same-output, output-same}
+use Rattle.journeys.proofs.Places.{some-same, some-not-none}
+use Rattle.machine.specs.Store.{put, sameQueue, queue-same, sameOutput, same-output, output-same}
 use Rattle.machine.specs.Outputs.{nextBy, senders, outputs, outputAt}
 use Rattle.machine.specs.State.{State, Choice, nobody, sender, withQueue, withChoice}
 use Rattle.machine.specs.Write.{ofRank, raise, spend, sendHead, sendFrom, sendBy, send, doWrite}
+use Rattle.machine.proofs.Apart.{nobody-not, sender-same}
+use Rattle.machine.proofs.AccountCells.{queue-away, output-away}
 use Rattle.machine.proofs.Feeders.{one-output}
-
-sender-same : {k n : ℕ} → sender k ≡ sender n → k ≡ n
-sender-same e = cc
-
-sender-nobody : {k : ℕ} → sender k ≡ nobody → ⊥
-sender-nobody e = let z : _≡_ {A = ℕ} 0 1 = cc in omega arith
-
-raise-queue : (q : Queue) (s : State) → (raise q s .queue ≡ s .queue) × (raise q s .choice ≡ s .choice)
-raise-queue (activeOut x) s = (refl, refl)
-raise-queue (activeIn x) s = (refl, refl)
-raise-queue (passiveIn x) s = (refl, refl)
-raise-queue (passiveOut x) s = (refl, refl)
-raise-queue (U r i) s = (refl, refl)
-raise-queue (Q r) s = (refl, refl)
-raise-queue (F r o) s = (refl, refl)
-raise-queue (K r i o) s = (refl, refl)
+use Rattle.machine.proofs.Senders.{raise-queue, raise-choice}
 
 spend-queue : (y : Option Queue) (s : State) → (spend y s .queue ≡ s .queue) × (spend y s .choice ≡ s .choice)
 spend-queue none s = (refl, refl)
@@ -52,12 +40,6 @@ pub sent : (pl : Plan) (o : Output) (s : State) → Sent pl o s
 unfolding send sendBy sendHead
 sent pl o s = by (s .choice o) refl
   where
-    some-not : {x : Queue} → none ≡ some x → ⊥
-    some-not e = let z : _≡_ {A = ℕ} 0 1 = cc in omega arith
-
-    some-same : {x y : Queue} → some x ≡ some y → x ≡ y
-    some-same e = cc
-
     nil-cons : {x : Packet} {l : List Packet} → [] ≡ x ∷ l → ⊥
     nil-cons e = let z : _≡_ {A = ℕ} 0 1 = cc in omega arith
 
@@ -66,12 +48,11 @@ sent pl o s = by (s .choice o) refl
         idle (rw (c, sendBy, r, e, sendHead)) (rw (c, sendBy, r, e, sendHead))
         (λ m u x rest d f g. nil-cons (sym e ∙ ap (s .queue) (some-same (sym r ∙ ap (ofRank (senders o)) (sender-same (sym c ∙ d)) ∙ f)) ∙ g))
     head k q c r (x ∷ rest) e =
-        let a = raise-queue q (withQueue q rest s) in
         let b = spend-queue (nextBy pl o x) (raise q (withQueue q rest s)) in
-        goes k q x rest c r e (rw (c, sendBy, r, e, sendHead) (b .0 ∙ a .0)) (rw (c, sendBy, r, e, sendHead) (ap (λ (f : Output → Choice). put sameOutput f o nobody) (b .1 ∙ a .1)))
+        goes k q x rest c r e (rw (c, sendBy, r, e, sendHead) (b .0 ∙ raise-queue q (withQueue q rest s))) (rw (c, sendBy, r, e, sendHead) (ap (λ (f : Output → Choice). put sameOutput f o nobody) (b .1 ∙ raise-choice q (withQueue q rest s))))
 
     rank : (k : ℕ) → s .choice o ≡ sender k → (y : Option Queue) → ofRank (senders o) k ≡ y → Sent pl o s
-    rank k c none r = idle (rw (c, sendBy, r)) (rw (c, sendBy, r)) (λ m u x rest d f g. some-not (sym r ∙ ap (ofRank (senders o)) (sender-same (sym c ∙ d)) ∙ f))
+    rank k c none r = idle (rw (c, sendBy, r)) (rw (c, sendBy, r)) (λ m u x rest d f g. some-not-none (sym r ∙ ap (ofRank (senders o)) (sender-same (sym c ∙ d)) ∙ f))
     rank k c (some q) r = head k q c r (s .queue q) refl
 
     by : (c : Choice) → s .choice o ≡ c → Sent pl o s
@@ -86,24 +67,15 @@ module _ (pl : Plan) (s : State) (o : Output) (k : ℕ) (q : Queue) (x : Packet)
     waits : t .choice o ≡ sender k → t .queue q ≡ x ∷ rest → Way t
     gone : t .choice o ≡ nobody → t .queue q ≡ rest → Way t
 
-  some-same : {y z : Queue} → some y ≡ some z → y ≡ z
-  some-same e = cc
-
-  put-other : {B : Type 0} (m : Output → B) (u : Output) (b : B) → u ≢ o → put sameOutput m u b o ≡ m o
-  put-other m u b ne = rw (refuted (sameOutput o u) (λ t. ne (sym (same-output o u t))), pick)
-
-  put-queue : {B : Type 0} (m : Queue → B) (y : Queue) (b : B) → y ≢ q → put sameQueue m y b q ≡ m q
-  put-queue m y b ne = rw (refuted (sameQueue q y) (λ t. ne (sym (same-queue q y t))), pick)
-
   -- another output leaves it alone
   away : (u : Output) (t : State) → u ≢ o → (send pl u t .queue q ≡ t .queue q) × (send pl u t .choice o ≡ t .choice o)
   away u t ne = by (sent pl u t)
     where
       by : Sent pl u t → (send pl u t .queue q ≡ t .queue q) × (send pl u t .choice o ≡ t .choice o)
       by (nothing a b c) = (ap (λ (m : Queue → List Packet). m q) a, ap (λ (m : Output → Choice). m o) b)
-      by (idle a b c) = (ap (λ (m : Queue → List Packet). m q) a, ap (λ (m : Output → Choice). m o) b ∙ put-other (t .choice) u nobody ne)
+      by (idle a b c) = (ap (λ (m : Queue → List Packet). m q) a, ap (λ (m : Output → Choice). m o) b ∙ output-away (t .choice) u nobody o (λ g. ne (sym g)))
       by (goes j y z l c d e a b) =
-          (ap (λ (m : Queue → List Packet). m q) a ∙ put-queue (t .queue) y l (λ g. ne (one-output u o j k q (rw g at d) r)), ap (λ (m : Output → Choice). m o) b ∙ put-other (t .choice) u nobody ne)
+          (ap (λ (m : Queue → List Packet). m q) a ∙ queue-away (t .queue) y l q (λ g. ne (one-output u o j k q (rw (sym g) at d) r)), ap (λ (m : Output → Choice). m o) b ∙ output-away (t .choice) u nobody o (λ g. ne (sym g)))
 
   -- its own output sends it
   own : (t : State) → Way t → Way (send pl o t) × (send pl o t .choice o ≡ nobody)
@@ -113,7 +85,7 @@ module _ (pl : Plan) (s : State) (o : Output) (k : ℕ) (q : Queue) (x : Packet)
       cleared m = rw (output-same o, pick)
 
       by : Sent pl o t → Way t → Way (send pl o t) × (send pl o t .choice o ≡ nobody)
-      by (nothing a b c) (waits d e) = absurd (sender-nobody (sym d ∙ c))
+      by (nothing a b c) (waits d e) = absurd (nobody-not (sym c ∙ d))
       by (nothing a b c) (gone d e) =
           let n : send pl o t .choice o ≡ nobody = ap (λ (m : Output → Choice). m o) b ∙ c in
           (gone n (ap (λ (m : Queue → List Packet). m q) a ∙ e), n)
@@ -121,7 +93,7 @@ module _ (pl : Plan) (s : State) (o : Output) (k : ℕ) (q : Queue) (x : Packet)
       by (idle a b c) (gone d e) =
           let n : send pl o t .choice o ≡ nobody = ap (λ (m : Output → Choice). m o) b ∙ cleared (t .choice) in
           (gone n (ap (λ (m : Queue → List Packet). m q) a ∙ e), n)
-      by (goes j y z l c d e a b) (gone f g) = absurd (sender-nobody (sym c ∙ f))
+      by (goes j y z l c d e a b) (gone f g) = absurd (nobody-not (sym f ∙ c))
       by (goes j y z l c d e a b) (waits f g) =
           let n : send pl o t .choice o ≡ nobody = ap (λ (m : Output → Choice). m o) b ∙ cleared (t .choice) in
           let same : y ≡ q = some-same (sym d ∙ ap (ofRank (senders o)) (sender-same (sym c ∙ f)) ∙ r) in
@@ -166,7 +138,7 @@ module _ (pl : Plan) (s : State) (o : Output) (k : ℕ) (q : Queue) (x : Packet)
       end = upTo (λ n. send pl (outputAt pl n)) (outputs pl) s
 
       over : Way end → (end .choice o ≡ nobody) → end .queue q ≡ rest
-      over (waits a b) n = absurd (sender-nobody (sym a ∙ n))
+      over (waits a b) n = absurd (nobody-not (sym n ∙ a))
       over (gone a b) n = b
 
       by : Way end × (((i : ℕ) → i < outputs pl → outputAt pl i ≢ o) ⊎ (end .choice o ≡ nobody)) → end .queue q ≡ rest

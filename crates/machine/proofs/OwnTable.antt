@@ -25,10 +25,11 @@ use Rattle.machine.specs.State.{State}
 use Rattle.machine.specs.Accepted.{Connection, Makes, MadeBy}
 use Rattle.machine.specs.Progress.{Quiet}
 use Rattle.machine.specs.Valid.{bit}
+use Rattle.machine.proofs.Numbers.{exists-at}
+use Rattle.machine.proofs.OutNumbers.{drives-at}
+use Rattle.machine.proofs.Sums.{sum-nought}
 use Rattle.machine.proofs.Closure.{stands-below}
 use Rattle.machine.proofs.CameIn.{stands-inside, stands-exit, came-in}
-use Rattle.machine.proofs.Numbers.{exists-at, drives-at}
-use Rattle.machine.proofs.Sums.{sum-nought}
 use Rattle.machine.proofs.Weights.{Weight, inLine, onWire, inLines, inWires, weighed}
 use Rattle.machine.proofs.Indices.{index-stands, index-is}
 use Rattle.machine.proofs.Owners.{Claim, sameClaim, claimOf, reaches, indexOf, owning, owns, ownsMade, made, entryOf, holds, Agreed, Owned}

@@ -16,8 +16,9 @@ use Rattle.machine.specs.Read.{deliver, settle, doRead}
 use Rattle.machine.specs.Execute.{unit, choose, undo, doExecute}
 use Rattle.machine.specs.Write.{send, doWrite}
 use Rattle.machine.specs.Valid.{Drives}
+use Rattle.machine.proofs.Numbers.{exists-at}
+use Rattle.machine.proofs.OutNumbers.{drives-at}
 use Rattle.machine.proofs.Core.{WiresEmpty, FlagsDown, Sendable, ChoicesSendable}
-use Rattle.machine.proofs.OutNumbers.{at-drives, at-exists}
 use Rattle.machine.proofs.ShapeExecute.{Quiet, quiet-start, quiet-down, unit-quiet}
 use Rattle.machine.proofs.ShapeWrite.{Pending, pending-start, pending-now, send-pending}
 
@@ -30,8 +31,8 @@ module _ (pl : Plan) (P : State → Type 0) (s : State) where
   unfolding doRead
   read-keeps delivers settles ends p =
       ends (upTo (λ n. settle (queueAt pl n)) (queues pl) (upTo (λ n. deliver pl (outputAt pl n)) (outputs pl) s))
-      (up-keeps P (λ n. settle (queueAt pl n)) (queues pl) (upTo (λ n. deliver pl (outputAt pl n)) (outputs pl) s) (λ i t h q. settles (queueAt pl i) t (at-exists pl i h) q)
-      (up-keeps P (λ n. deliver pl (outputAt pl n)) (outputs pl) s (λ i t h q. delivers (outputAt pl i) t (at-drives pl i h) q) p))
+      (up-keeps P (λ n. settle (queueAt pl n)) (queues pl) (upTo (λ n. deliver pl (outputAt pl n)) (outputs pl) s) (λ i t h q. settles (queueAt pl i) t (exists-at pl i h) q)
+      (up-keeps P (λ n. deliver pl (outputAt pl n)) (outputs pl) s (λ i t h q. delivers (outputAt pl i) t (drives-at pl i h) q) p))
 
   -- EXECUTE: units, whose Q's flag is down at their turn, then picks, then tear-downs
   pub execute-keeps : ((r : ℕ) (t : State) → r < R pl → t .flag (Q r) ≡ false → P t → P (unit pl r t))
@@ -43,7 +44,7 @@ module _ (pl : Plan) (P : State → Type 0) (s : State) where
   execute-keeps units chooses undoes ends f p =
       ends (upTo (undo pl) (A pl) (upTo (λ n. choose pl (outputAt pl n)) (outputs pl) (upTo (unit pl) (R pl) s)))
       (up-keeps P (undo pl) (A pl) (upTo (λ n. choose pl (outputAt pl n)) (outputs pl) (upTo (unit pl) (R pl) s)) (λ i t h q. undoes i t h q)
-      (up-keeps P (λ n. choose pl (outputAt pl n)) (outputs pl) (upTo (unit pl) (R pl) s) (λ i t h q. chooses (outputAt pl i) t (at-drives pl i h) q)
+      (up-keeps P (λ n. choose pl (outputAt pl n)) (outputs pl) (upTo (unit pl) (R pl) s) (λ i t h q. chooses (outputAt pl i) t (drives-at pl i h) q)
       (up-keeps-at (λ (n : ℕ) (t : State). Quiet pl n t × P t) (unit pl) (R pl) s
       (λ i t h q. (unit-quiet pl i t (q .0), units i t h (quiet-down pl i t h (q .0)) (q .1))) (quiet-start pl s f, p) .1)))
 
@@ -60,4 +61,4 @@ module _ (pl : Plan) (P : State → Type 0) (s : State) where
       step : (i : ℕ) (t : State) → i < outputs pl → Pending pl i t × P t → Pending pl (suc i) (send pl (outputAt pl i) t) × P (send pl (outputAt pl i) t)
       step i t h q =
           let g = pending-now pl i t h (q .0) in
-          (send-pending pl wired i t h (q .0), sends (outputAt pl i) t (at-drives pl i h) (g .0) (g .1) (q .1))
+          (send-pending pl wired i t h (q .0), sends (outputAt pl i) t (drives-at pl i h) (g .0) (g .1) (q .1))

@@ -11,7 +11,7 @@ use native.Mathlib.Nat.{mod-add-mod, mod-eq-of-lt, mod-eq-sub-mod, add-zero}
 use native.Mathlib.Omega.{arith}
 use lib.Dec.{eqb, ltb}
 use lib.ListN.{length}
-use borrow.Author.Tests.{ltb-false, lt-ltb}
+use borrow.Author.Tests.{ltb-false, lt-ltb, not-true, not-false}
 use Rattle.basis.specs.Choice.{pick, also, test}
 use Rattle.basis.specs.Bounded.{Found, find, lt-or-ge}
 use Rattle.basis.specs.Fold.{upTo, up-keeps-at}
@@ -27,7 +27,7 @@ use Rattle.plan.specs.Plan.{Plan, R, A, P, S}
 use Rattle.feeding.specs.Queue.{Queue, activeOut, activeIn, passiveIn, passiveOut, U, Q, F, K, Exists, capacity}
 use Rattle.feeding.specs.Feeds.{Output, ofActive, ofPassive, ofSide, toUnit, fromUnit, outputOf, headingOf, next, inQueue, FeedRing}
 use Rattle.wiring.specs.Wired.{Wired}
-use Rattle.machine.specs.Outputs.{nextBy, senders, outputs, outputAt}
+use Rattle.machine.specs.Outputs.{nextBy, senders, outputs, outputAt, outputNumber}
 use Rattle.machine.specs.State.{State, Choice, nobody, sender, isFree}
 use Rattle.machine.specs.Execute.{unit, hasCredit, mayLeave, candidate, isOpen, picked, doExecute}
 use Rattle.machine.specs.Write.{ofRank, doWrite}
@@ -36,21 +36,22 @@ use Rattle.machine.specs.Calls.{Outcome, Call, read, execute, write, lau
 use Rattle.machine.specs.Valid.{Belongs, Drives, isFed}
 use Rattle.machine.specs.Progress.{isInQueue, Moved, isTimed, endsRound}
 use Rattle.machine.specs.Ruled.{rounds, Moves}
+use Rattle.machine.proofs.Numbers.{sender-exists}
+use Rattle.machine.proofs.OutNumbers.{output-at, output-below, drives-at}
 use Rattle.machine.proofs.Core.{Core, Shape, WiresEmpty, FlagsDown, NoChoices, ChoicesSendable, Sendable}
 use Rattle.machine.proofs.Closure.{unit-no-answer}
-use Rattle.machine.proofs.Numbers.{outNumber, out-at, out-below, drives-at}
-use Rattle.machine.proofs.Lines.{output-drives, sender-exists}
-use Rattle.machine.proofs.Arbitration.{picked-none}
+use Rattle.machine.proofs.Lines.{output-drives}
 use Rattle.machine.proofs.Senders.{candidate-ready}
+use Rattle.machine.proofs.Arbitration.{picked-none}
 use Rattle.machine.proofs.ShapeExecute.{Quiet, quiet-start, quiet-down, unit-quiet, units-wires}
 use Rattle.machine.proofs.ShapeCalls.{execute-has, write-has}
-use Rattle.machine.proofs.Interval.{MovesNow, moves-now, moves-later, Turn, moves, stays, ends, interval}
+use Rattle.machine.proofs.Keeps.{Inv, unit-core, call-inv}
 use Rattle.machine.proofs.Stuck.{Jammed, Closed, none-waits}
+use Rattle.machine.proofs.Interval.{MovesNow, moves-now, moves-later, Turn, moves, stays, ends, interval}
 use Rattle.machine.proofs.Still.{Same, same-self, AllHandled, Picks, read-stays, execute-rest, execute-picks, write-stays}
 use Rattle.machine.proofs.Moving.{write-takes}
 use Rattle.machine.proofs.First.{Ends, Upto, units, ends-moves}
 use Rattle.machine.proofs.Undisturbed.{Undisturbed, read-now, execute-now, write-now, read-not, execute-not, write-not, launch-undisturbed, reply-undisturbed, consume-undisturbed, entry-undisturbed, only-execute}
-use Rattle.machine.proofs.Keeps.{Inv, unit-core, call-inv}
 
 -- ---- every slot comes within S rounds
 pub slot-reached : (n s t : ℕ) → s < n → t < n → (j : ℕ) × (j < n) × ((s + j) % n ≡ t)
@@ -120,7 +121,7 @@ unfolding next
 next-by pl q o x e = rw e
 
 -- the phases' ends
-execute-phase : (pl : Plan) (s : State) → doRead pl s .phase ≡ Execute
+pub execute-phase : (pl : Plan) (s : State) → doRead pl s .phase ≡ Execute
 unfolding doRead
 execute-phase pl s = refl
 
@@ -318,13 +319,13 @@ module _ {pl : Plan} (wired : Wired pl) (range : InRange (pl .head)) (free : Fee
             let now : call pl write s .state ≡ doWrite pl s = ap (λ (x : Outcome). x .state) (write-now pl s f) in
             let a : length (call pl write s .state .queue (g .queue)) ≡ length (y .rest) = ap length (ap (λ (x : State). x .queue (g .queue)) now ∙ left) in
             let c : length (s .queue (g .queue)) ≡ suc (length (y .rest)) = ap length (y .queue) in
-            (refl, inr (g .queue, sender-exists pl (outputAt pl n) (drives-at pl n h) r (g .queue) (g .rank), omega arith))
+            (refl, inr (g .queue, sender-exists pl (outputAt pl n) r (g .queue) (drives-at pl n h) (g .rank), omega arith))
 
         -- nobody is picked: the round was seen
         unsent : ((n : ℕ) → n < outputs pl → isNobody (s .choice (outputAt pl n)) ≡ true) → Next j write s
         unfolding isNobody
         unsent nil =
-            let quiet : NoChoices pl s = λ o h. ap (s .choice) (sym (out-at pl o h)) ∙ nobody-of (s .choice (outputAt pl (outNumber pl o))) (nil (outNumber pl o) (out-below pl o h)) in
+            let quiet : NoChoices pl s = λ o h. ap (s .choice) (sym (output-at pl o h)) ∙ nobody-of (s .choice (outputAt pl (outputNumber pl o))) (nil (outputNumber pl o) (output-below pl o h)) in
             let w = write-stays pl p s k quiet in
             let now = write-now pl s f in
             let n : call pl write s .state ≡ doWrite pl s = ap (λ (x : Outcome). x .state) now in
@@ -344,14 +345,6 @@ module _ {pl : Plan} (wired : Wired pl) (range : InRange (pl .head)) (free : Fee
         at-writing : (c : Call) → Next j c s
         at-writing write = by (find (outputs pl) (λ n. not (isNobody (s .choice (outputAt pl n)))))
           where
-            not-true : (b : Bool) → not b ≡ true → b ≡ false
-            not-true true g = absurd (false≢true g)
-            not-true false g = refl
-
-            not-false : (b : Bool) → not b ≡ false → b ≡ true
-            not-false true g = refl
-            not-false false g = absurd (true≢false g)
-
             by : Found (outputs pl) (λ n. not (isNobody (s .choice (outputAt pl n)))) ⊎ ((n : ℕ) → n < outputs pl → not (isNobody (s .choice (outputAt pl n))) ≡ false) → Next j write s
             by (inl (n, h, b)) = moves (sends n h (s .choice (outputAt pl n)) refl (not-true _ b))
             by (inr nil) = unsent (λ n h. not-false _ (nil n h))
@@ -440,7 +433,7 @@ module _ {pl : Plan} (wired : Wired pl) (range : InRange (pl .head)) (free : Fee
                 at : (j : ℕ) × (j < S pl) × ((d : State) → Same pl p d → At j d → isOpen d o ≡ true) → p .credit y .0 ≡ 0
                 at (j, l, opens) =
                     let z = seen j l in
-                    closed (z .state) (z .same) (opens (z .state) (z .same) (z .slot)) (ap (picked pl (z .state)) (sym (out-at pl o drives)) ∙ z .picks (outNumber pl o) (out-below pl o drives))
+                    closed (z .state) (z .same) (opens (z .state) (z .same) (z .slot)) (ap (picked pl (z .state)) (sym (output-at pl o drives)) ∙ z .picks (outputNumber pl o) (output-below pl o drives))
 
         jammed : Jammed pl p
         jammed =

@@ -1,71 +1,52 @@
 -- Senders: what a raised flag leaves, which queues an output's senders are, and what a candidate has.
-use mathlib.Core.Path.{_≡_, refl, ap, subst, _∙_}
+use mathlib.Core.Path.{_≡_, refl, ap, _∙_}
 use mathlib.Core.Logic.{_⊎_, inl, inr, _≢_}
 use mathlib.Core.Bool.{Bool, true, false}
 use mathlib.Core.List.{List, [], _∷_}
 use mathlib.Core.Option.{Option, none, some}
-use Prim.Native.Nat.{ℕ, zero, suc, _<_}
-use native.Mathlib.Omega.{arith}
+use Prim.Native.Nat.{_<_}
 use borrow.Author.Tests.{ltb-true}
 use Rattle.basis.specs.Choice.{also-true, not-both, test}
 use Rattle.packets.specs.declared.Packet.{Packet}
 use Rattle.plan.specs.Plan.{Plan}
-use Rattle.feeding.specs.Queue.{Queue, activeOut, activeIn, passiveIn, passiveOut, U, Q, F, K, Exists}
-use Rattle.feeding.specs.Feeds.{Output, ofActive, ofPassive, ofSide, toUnit, fromUnit}
-use Rattle.journeys.proofs.Places.{some-same, some-not-none}
+use Rattle.feeding.specs.Queue.{Queue, activeOut, activeIn, passiveIn, passiveOut, U, Q, F, K}
+use Rattle.feeding.specs.Feeds.{Output}
 use Rattle.machine.specs.Store.{put, sameQueue}
-use Rattle.machine.specs.Outputs.{nextBy, senders}
-use Rattle.machine.specs.State.{State}
+use Rattle.machine.specs.Outputs.{nextBy}
+use Rattle.machine.specs.State.{State, withFlag, withHandled}
 use Rattle.machine.specs.Execute.{hasCredit, mayLeave, headReady, candidate}
-use Rattle.machine.specs.Write.{ofRank, raise}
-use Rattle.machine.specs.Valid.{Drives, isFed}
-use Rattle.machine.proofs.OutNumbers.{sender-exists}
+use Rattle.machine.specs.Write.{raise}
+use Rattle.machine.specs.Valid.{isFed}
 use Rattle.machine.proofs.AccountCells.{queue-away}
 
 -- ---- what raising a flag leaves
--- queues stay
+-- what neither a flag nor a mark changes stays as a flag is raised
+raise-leaves : {X : Type 0} (f : State → X) → ((q : Queue) (b : Bool) (s : State) → f (withFlag q b s) ≡ f s) → ((q : Queue) (b : Bool) (s : State) → f (withHandled q b s) ≡ f s)
+    → (q : Queue) (s : State) → f (raise q s) ≡ f s
+raise-leaves f flags marks (activeOut x) s = refl
+raise-leaves f flags marks (passiveOut x) s = refl
+raise-leaves f flags marks (activeIn x) s = flags (activeIn x) true s
+raise-leaves f flags marks (passiveIn x) s = flags (passiveIn x) true s
+raise-leaves f flags marks (U r i) s = flags (U r i) true s
+raise-leaves f flags marks (Q r) s = flags (Q r) true (withHandled (Q r) false s) ∙ marks (Q r) false s
+raise-leaves f flags marks (F r o) s = flags (F r o) true s
+raise-leaves f flags marks (K r i o) s = flags (K r i o) true s
+
+-- queues, credits, choices, wires and allowances stay
 pub raise-queue : (q : Queue) (s : State) → raise q s .queue ≡ s .queue
-raise-queue (activeOut x) s = refl
-raise-queue (passiveOut x) s = refl
-raise-queue (activeIn x) s = refl
-raise-queue (passiveIn x) s = refl
-raise-queue (U r i) s = refl
-raise-queue (Q r) s = refl
-raise-queue (F r o) s = refl
-raise-queue (K r i o) s = refl
+raise-queue = raise-leaves (λ s. s .queue) (λ q b s. refl) (λ q b s. refl)
 
--- credits stay
 pub raise-credit : (q : Queue) (s : State) → raise q s .credit ≡ s .credit
-raise-credit (activeOut x) s = refl
-raise-credit (passiveOut x) s = refl
-raise-credit (activeIn x) s = refl
-raise-credit (passiveIn x) s = refl
-raise-credit (U r i) s = refl
-raise-credit (Q r) s = refl
-raise-credit (F r o) s = refl
-raise-credit (K r i o) s = refl
+raise-credit = raise-leaves (λ s. s .credit) (λ q b s. refl) (λ q b s. refl)
 
--- choices stay
 pub raise-choice : (q : Queue) (s : State) → raise q s .choice ≡ s .choice
-raise-choice (activeOut x) s = refl
-raise-choice (passiveOut x) s = refl
-raise-choice (activeIn x) s = refl
-raise-choice (passiveIn x) s = refl
-raise-choice (U r i) s = refl
-raise-choice (Q r) s = refl
-raise-choice (F r o) s = refl
-raise-choice (K r i o) s = refl
+raise-choice = raise-leaves (λ s. s .choice) (λ q b s. refl) (λ q b s. refl)
 
--- wires stay
 pub raise-wire : (q : Queue) (s : State) → raise q s .wire ≡ s .wire
-raise-wire (activeOut x) s = refl
-raise-wire (passiveOut x) s = refl
-raise-wire (activeIn x) s = refl
-raise-wire (passiveIn x) s = refl
-raise-wire (U r i) s = refl
-raise-wire (Q r) s = refl
-raise-wire (F r o) s = refl
-raise-wire (K r i o) s = refl
+raise-wire = raise-leaves (λ s. s .wire) (λ q b s. refl) (λ q b s. refl)
+
+pub raise-allowance : (q : Queue) (s : State) → raise q s .allowance ≡ s .allowance
+raise-allowance = raise-leaves (λ s. s .allowance) (λ q b s. refl) (λ q b s. refl)
 
 -- another queue's mark stays
 pub raise-handled : (q : Queue) (s : State) (p : Queue) → p ≢ q → raise q s .handled p ≡ s .handled p
@@ -109,25 +90,6 @@ raise-other q s p ne = by (test (isFed q))
     by (inr f) = ap (λ (m : Queue → Bool). m p) (raise-none q s f)
 
 -- ---- senders
--- the senders of a plan's output are queues of the plan
-pub rank-exists : (pl : Plan) (o : Output) (k : ℕ) (q : Queue) → Drives pl o → ofRank (senders o) k ≡ some q → Exists pl q
-rank-exists pl (ofActive a) zero q d e = subst (Exists pl) (some-same e) d
-rank-exists pl (ofActive a) (suc k) q d e = absurd (some-not-none e)
-rank-exists pl (ofPassive a) zero q d e = subst (Exists pl) (some-same e) d
-rank-exists pl (ofPassive a) (suc k) q d e = absurd (some-not-none e)
-rank-exists pl (ofSide r o) zero q d e = subst (Exists pl) (some-same e) (sender-exists pl r o 0 (d .0) (d .1) (omega arith))
-rank-exists pl (ofSide r o) (suc zero) q d e = subst (Exists pl) (some-same e) (sender-exists pl r o 1 (d .0) (d .1) (omega arith))
-rank-exists pl (ofSide r o) (suc (suc zero)) q d e = subst (Exists pl) (some-same e) (sender-exists pl r o 2 (d .0) (d .1) (omega arith))
-rank-exists pl (ofSide r o) (suc (suc (suc zero))) q d e = subst (Exists pl) (some-same e) (sender-exists pl r o 3 (d .0) (d .1) (omega arith))
-rank-exists pl (ofSide r o) (suc (suc (suc (suc k)))) q d e = absurd (some-not-none e)
-rank-exists pl (toUnit r) zero q d e = subst (Exists pl) (some-same e) (d, omega arith)
-rank-exists pl (toUnit r) (suc zero) q d e = subst (Exists pl) (some-same e) (d, omega arith)
-rank-exists pl (toUnit r) (suc (suc zero)) q d e = subst (Exists pl) (some-same e) (d, omega arith)
-rank-exists pl (toUnit r) (suc (suc (suc zero))) q d e = subst (Exists pl) (some-same e) (d, omega arith)
-rank-exists pl (toUnit r) (suc (suc (suc (suc k)))) q d e = absurd (some-not-none e)
-rank-exists pl (fromUnit r) zero q d e = subst (Exists pl) (some-same e) d
-rank-exists pl (fromUnit r) (suc k) q d e = absurd (some-not-none e)
-
 -- a candidate: its head, and its next queue, which has credit
 pub record Ready (pl : Plan) (s : State) (o : Output) (q : Queue) : Type 0 where
   pub head : Packet

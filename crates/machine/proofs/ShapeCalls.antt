@@ -3,7 +3,6 @@ use mathlib.Core.Path.{_≡_, refl, sym, ap, _∙_}
 use mathlib.Core.Bool.{true}
 use mathlib.Core.List.{List, [], _∷_}
 use Prim.Native.Nat.{ℕ}
-use native.Mathlib.Omega.{arith}
 use Rattle.packets.specs.declared.Kind.{Kind}
 use Rattle.packets.specs.declared.Packet.{Packet}
 use Rattle.packets.specs.declared.Wire.{Wire}
@@ -14,19 +13,11 @@ use Rattle.feeding.specs.Feeds.{Output}
 use Rattle.journeys.proofs.Places.{some-not-none}
 use Rattle.machine.specs.State.{State, Choice, withQueue, withFlag, join}
 use Rattle.machine.specs.Calls.{launched, repliedAs, replied, removed}
+use Rattle.machine.proofs.Apart.{read-execute, read-write, execute-write}
 use Rattle.machine.proofs.Core.{WiresEmpty, FlagsDown, NoChoices, ChoicesSendable, Shape, in-read, in-execute, in-write}
 use Rattle.machine.proofs.ShapeSenders.{Spares, spared-sendable, spares-alike, spares-then, join-spares, turn-spares, flag-spares}
 
 -- ---- what a shape has, by phase
-read-execute : Read ≡ Execute → ⊥
-read-execute e = let z : _≡_ {A = ℕ} 0 1 = cc in omega arith
-
-read-write : Read ≡ Write → ⊥
-read-write e = let z : _≡_ {A = ℕ} 0 1 = cc in omega arith
-
-execute-write : Execute ≡ Write → ⊥
-execute-write e = let z : _≡_ {A = ℕ} 0 1 = cc in omega arith
-
 module _ {pl : Plan} (s : State) where
   -- in READ
   pub read-has : s .phase ≡ Read → Shape pl s → NoChoices pl s

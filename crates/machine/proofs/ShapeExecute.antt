@@ -16,25 +16,24 @@ use Rattle.feeding.specs.Queue.{Queue, activeOut, activeIn, Q, Exists}
 use Rattle.feeding.specs.Feeds.{Output}
 use Rattle.journeys.proofs.Places.{some-not-none}
 use Rattle.machine.specs.Store.{put, sameQueue}
-use Rattle.machine.specs.Outputs.{outputs, outputAt}
+use Rattle.machine.specs.Outputs.{outputs, outputAt, outputNumber}
 use Rattle.machine.specs.State.{State, Choice, sender, withQueue, withFlag, withEntry, join}
 use Rattle.machine.specs.Execute.{handledAs, unit, mayLeave, picked, choose, marked, tdownOf, undo, doExecute}
 use Rattle.machine.specs.Valid.{Drives}
-use Rattle.machine.proofs.Core.{WiresEmpty, FlagsDown, Sendable, ChoicesSendable, Shape, in-write}
-use Rattle.machine.proofs.Arbitration.{picked-candidate}
-use Rattle.machine.proofs.OutNumbers.{outNumber, output-at, out-below, at-drives, at-apart}
+use Rattle.machine.proofs.Apart.{unit-same}
+use Rattle.machine.proofs.Numbers.{sender-exists}
+use Rattle.machine.proofs.OutNumbers.{output-at, output-below, drives-at, at-apart}
 use Rattle.machine.proofs.AccountCells.{queue-or, queue-away, output-here, output-away}
-use Rattle.machine.proofs.Senders.{rank-exists, candidate-ready}
+use Rattle.machine.proofs.Core.{WiresEmpty, FlagsDown, Sendable, ChoicesSendable, Shape, in-write}
+use Rattle.machine.proofs.Senders.{candidate-ready}
 use Rattle.machine.proofs.Units.{unit-by, undo-by}
+use Rattle.machine.proofs.Arbitration.{picked-candidate}
 use Rattle.machine.proofs.ShapeSenders.{Spares, spared-sendable, spares-alike, spares-then, join-spares, turn-spares}
 
 -- ---- (1) units
 -- while the units below n have had their turn: a flag that is up is that of such a unit's Q, and its mark is down
 abbrev pub Quiet : Plan → ℕ → State → Type 0
 Quiet pl n s = (q : Queue) → Exists pl q → s .flag q ≡ true → (r : ℕ) × (r < n) × (q ≡ Q r) × (s .handled q ≡ false)
-
-router-same : {r n : ℕ} → Q r ≡ Q n → r ≡ n
-router-same e = cc
 
 module _ (pl : Plan) where
   -- before the first unit's turn
@@ -46,7 +45,7 @@ module _ (pl : Plan) where
   quiet-down n s h g = refuted (s .flag (Q n)) (λ up. by (g (Q n) h up))
     where
       by : (r : ℕ) × (r < n) × (Q n ≡ Q r) × (s .handled (Q n) ≡ false) → ⊥
-      by (r, l, e, m) = let z : n ≡ r = router-same e in omega arith
+      by (r, l, e, m) = let z : n ≡ r = unit-same e in omega arith
 
   quiet-same : (n : ℕ) (s t : State) → t .flag ≡ s .flag → t .handled ≡ s .handled → Quiet pl n s → Quiet pl n t
   quiet-same n s t f m g q h up =
@@ -65,7 +64,7 @@ module _ (pl : Plan) where
     where
       by : (r : ℕ) × (r < n) × (q ≡ Q r) × (s .handled q ≡ false) → (r : ℕ) × (r < suc n) × (q ≡ Q r) × (t .handled q ≡ false)
       by (r, l, e, d) =
-          let ne : q ≢ Q n = λ z. let i : r ≡ n = router-same (sym e ∙ z) in omega arith in
+          let ne : q ≢ Q n = λ z. let i : r ≡ n = unit-same (sym e ∙ z) in omega arith in
           (r, omega arith, e, ap (λ (m : Queue → Bool). m q) m ∙ queue-away (s .handled) (Q n) true q ne ∙ d)
 
   -- the head of Q n ended
@@ -103,7 +102,7 @@ module _ (pl : Plan) where
   pub picked-sendable : (s : State) → Quiet pl (R pl) s → (o : Output) (k : ℕ) → Drives pl o → picked pl s o ≡ sender k → Sendable pl s o k
   picked-sendable s g o k d e =
       let c = picked-candidate pl s o k e .1 in
-      record { queue = c .0; rank = c .1; ready = c .2; down = refuted (s .flag (c .0)) (λ up. not-both (leaves (c .0) (g (c .0) (rank-exists pl o k (c .0) d (c .1)) up) (candidate-ready pl s o (c .0) (c .2) .leaves)) (g (c .0) (rank-exists pl o k (c .0) d (c .1)) up .3)) }
+      record { queue = c .0; rank = c .1; ready = c .2; down = refuted (s .flag (c .0)) (λ up. not-both (leaves (c .0) (g (c .0) (sender-exists pl o k (c .0) d (c .1)) up) (candidate-ready pl s o (c .0) (c .2) .leaves)) (g (c .0) (sender-exists pl o k (c .0) d (c .1)) up .3)) }
     where
       leaves : (q : Queue) → (r : ℕ) × (r < R pl) × (q ≡ Q r) × (s .handled q ≡ false) → mayLeave s q ≡ true → s .handled q ≡ true
       leaves q (r, l, e, m) h = rw e (rw e at h)
@@ -130,7 +129,7 @@ module _ (pl : Plan) where
           last : choose pl (outputAt pl n) s .choice (outputAt pl n) ≡ sender k → Sendable pl (choose pl (outputAt pl n) s) (outputAt pl n) k
           last f =
               spared-sendable (choose-spares (outputAt pl n) (outputAt pl n) s) k
-              (picked-sendable s (g .0) (outputAt pl n) k (at-drives pl n h) (sym (output-here (s .choice) (outputAt pl n) (picked pl s (outputAt pl n))) ∙ f))
+              (picked-sendable s (g .0) (outputAt pl n) k (drives-at pl n h) (sym (output-here (s .choice) (outputAt pl n) (picked pl s (outputAt pl n))) ∙ f))
 
   abbrev chooses : ℕ → State → State
   chooses n = choose pl (outputAt pl n)
@@ -139,7 +138,7 @@ module _ (pl : Plan) where
   pub picks-sendable : (s : State) → Quiet pl (R pl) s → ChoicesSendable pl (upTo chooses (outputs pl) s)
   picks-sendable s g o k d e =
       let all = up-keeps-at Picked chooses (outputs pl) s (λ i t h p. choose-picked i t h p) (g, λ j l. absurd (not-suc-le-zero l)) in
-      subst (λ (u : Output). Sendable pl (upTo chooses (outputs pl) s) u k) (output-at pl o d) (all .1 (outNumber pl o) (out-below pl o d) k (rw (output-at pl o d) e))
+      subst (λ (u : Output). Sendable pl (upTo chooses (outputs pl) s) u k) (output-at pl o d) (all .1 (outputNumber pl o) (output-below pl o d) k (rw (output-at pl o d) e))
 
   -- and wires are still empty
   pub picks-wires : (s : State) → WiresEmpty pl s → WiresEmpty pl (upTo chooses (outputs pl) s)

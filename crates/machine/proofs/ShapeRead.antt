@@ -16,12 +16,12 @@ use Rattle.feeding.specs.Queue.{Queue, number, queues, queueAt}
 use Rattle.feeding.specs.Feeds.{Output}
 use Rattle.journeys.proofs.Numbers.{queue-at, number-below}
 use Rattle.machine.specs.Store.{sameOutput, sameQueue}
-use Rattle.machine.specs.Outputs.{nextBy, outputs, outputAt}
+use Rattle.machine.specs.Outputs.{nextBy, outputs, outputAt, outputNumber}
 use Rattle.machine.specs.State.{State, Choice, withWire, join}
 use Rattle.machine.specs.Read.{joinNext, arrive, deliver, lower, settle, doRead}
-use Rattle.machine.proofs.Core.{WiresEmpty, FlagsDown, NoChoices, Shape, in-execute}
-use Rattle.machine.proofs.OutNumbers.{outNumber, output-at, out-below}
+use Rattle.machine.proofs.OutNumbers.{output-at, output-below}
 use Rattle.machine.proofs.AccountCells.{queue-here, output-here}
+use Rattle.machine.proofs.Core.{WiresEmpty, FlagsDown, NoChoices, Shape, in-execute}
 
 -- ---- one wire: it empties, and no wire fills
 next-wire : (y : Option Queue) (x : Packet) (s : State) → joinNext y x s .wire ≡ s .wire
@@ -112,7 +112,7 @@ module _ (pl : Plan) where
   settles n = settle (queueAt pl n)
 
   delivered : (s : State) → WiresEmpty pl (upTo delivers (outputs pl) s)
-  delivered s o d = subst (λ (u : Output). upTo delivers (outputs pl) s .wire u ≡ Empty) (output-at pl o d) (all (outNumber pl o) (out-below pl o d))
+  delivered s o d = subst (λ (u : Output). upTo delivers (outputs pl) s .wire u ≡ Empty) (output-at pl o d) (all (outputNumber pl o) (output-below pl o d))
     where
       step : (i : ℕ) (t : State) → i < outputs pl → ((j : ℕ) → j < i → t .wire (outputAt pl j) ≡ Empty) → (j : ℕ) → j < suc i → deliver pl (outputAt pl i) t .wire (outputAt pl j) ≡ Empty
       step i t h p j l = by (below-suc l)

@@ -17,14 +17,14 @@ use Rattle.feeding.specs.Queue.{Queue}
 use Rattle.feeding.specs.Feeds.{Output, headingOf, outputOf}
 use Rattle.wiring.specs.Wired.{Wired}
 use Rattle.journeys.proofs.Places.{some-same}
-use Rattle.machine.specs.Outputs.{nextBy, senders, outputs, outputAt}
+use Rattle.machine.specs.Outputs.{nextBy, senders, outputs, outputAt, outputNumber}
 use Rattle.machine.specs.State.{State, Choice, nobody, sender, withQueue, withWire, withChoice}
 use Rattle.machine.specs.Write.{ofRank, raise, spend, sendHead, sendFrom, sendBy, send, doWrite}
 use Rattle.machine.specs.Valid.{Drives}
+use Rattle.machine.proofs.OutNumbers.{output-at, output-below, drives-at, at-apart}
+use Rattle.machine.proofs.AccountCells.{output-here, output-away}
 use Rattle.machine.proofs.Core.{WiresEmpty, NoChoices, Sendable, ChoicesSendable, Shape, in-read}
 use Rattle.machine.proofs.Feeders.{one-feeder, sender-leaves}
-use Rattle.machine.proofs.OutNumbers.{outNumber, output-at, out-below, at-drives, at-apart}
-use Rattle.machine.proofs.AccountCells.{output-here, output-away}
 use Rattle.machine.proofs.Senders.{raise-wire, raise-choice}
 use Rattle.machine.proofs.ShapeSenders.{Spares, spared-sendable, spares-alike, spares-then, turn-spares, raise-spares, spend-spares}
 
@@ -90,7 +90,7 @@ module _ (pl : Plan) where
   -- after WRITE no output has a choice
   pub write-choices : (s : State) → NoChoices pl (doWrite pl s)
   unfolding doWrite
-  write-choices s o d = subst (λ (u : Output). upTo sends (outputs pl) s .choice u ≡ nobody) (output-at pl o d) (all (outNumber pl o) (out-below pl o d))
+  write-choices s o d = subst (λ (u : Output). upTo sends (outputs pl) s .choice u ≡ nobody) (output-at pl o d) (all (outputNumber pl o) (output-below pl o d))
     where
       step : (i : ℕ) (t : State) → i < outputs pl → ((j : ℕ) → j < i → t .choice (outputAt pl j) ≡ nobody) → (j : ℕ) → j < suc i → send pl (outputAt pl i) t .choice (outputAt pl j) ≡ nobody
       step i t h p j l = by (below-suc l)
@@ -114,7 +114,7 @@ module _ (pl : Plan) where
 
   -- before the first output's turn
   pub pending-start : (s : State) → WiresEmpty pl s → ChoicesSendable pl s → Pending 0 s
-  pending-start s w c j l h = (w (outputAt pl j) (at-drives pl j h), λ k e. c (outputAt pl j) k (at-drives pl j h) e)
+  pending-start s w c j l h = (w (outputAt pl j) (drives-at pl j h), λ k e. c (outputAt pl j) k (drives-at pl j h) e)
 
   -- the output whose turn it is
   pub pending-now : (n : ℕ) (s : State) → n < outputs pl → Pending n s → (s .wire (outputAt pl n) ≡ Empty) × ((k : ℕ) → s .choice (outputAt pl n) ≡ sender k → Sendable pl s (outputAt pl n) k)
@@ -147,5 +147,5 @@ module _ (pl : Plan) where
         let ne = at-apart pl j n m h (λ z. omega arith) in
         let g = p j (omega arith) m in (
           send-wire (outputAt pl n) (outputAt pl j) s ne ∙ g .0,
-          λ k e. spared-sendable (send-spares (outputAt pl n) (outputAt pl j) s (at-drives pl n h) (at-drives pl j m) ne) k (g .1 k (sym (send-choice (outputAt pl n) (outputAt pl j) s ne) ∙ e)),
+          λ k e. spared-sendable (send-spares (outputAt pl n) (outputAt pl j) s (drives-at pl n h) (drives-at pl j m) ne) k (g .1 k (sym (send-choice (outputAt pl n) (outputAt pl j) s ne) ∙ e)),
         )

@@ -29,8 +29,9 @@ use Rattle.machine.specs.Write.{sendBy, send, doWrite}
 use Rattle.machine.specs.Calls.{launched, replied, removed}
 use Rattle.machine.specs.Valid.{Drives, isFed}
 use Rattle.machine.specs.Progress.{isInQueue}
+use Rattle.machine.proofs.OutNumbers.{drives-at}
+use Rattle.machine.proofs.AccountCells.{queue-away}
 use Rattle.machine.proofs.Core.{WiresEmpty, NoChoices}
-use Rattle.machine.proofs.Stuck.{drives-at}
 
 -- s is as p was, but for what may happen while nothing moves
 pub record Same (pl : Plan) (p s : State) : Type 0 where
@@ -49,21 +50,13 @@ same-self pl p w = record { inner = λ q f i. refl; outs = λ q f. ([], sym (nil
     nil (x ∷ l) = ap (λ (m : List Packet). x ∷ m) (nil l)
 
 -- ---- changes that keep it
--- another queue than one that is tested for
-put-else : {B : Type 0} (m : Queue → B) (k x : Queue) (b : B) → (x ≡ k → ⊥) → put sameQueue m k b x ≡ m x
-put-else m k x b ne = by (test (sameQueue x k))
-  where
-    by : (sameQueue x k ≡ true) ⊎ (sameQueue x k ≡ false) → put sameQueue m k b x ≡ m x
-    by (inl t) = absurd (ne (same-queue x k t))
-    by (inr t) = rw (t, pick)
-
 module _ (pl : Plan) (p s : State) (same : Same pl p s) where
   -- an in-queue's contents are changed
   pub in-same : (k : Queue) (l : List Packet) → isFed k ≡ true → isInQueue k ≡ true → Same pl p (withQueue k l s)
   in-same k l f i =
       record {
-        inner = λ q g j. put-else (s .queue) k q l (λ e. true≢false (sym i ∙ ap isInQueue (sym e) ∙ j)) ∙ same .inner q g j;
-        outs = λ q g. let o = same .outs q g in (o .0, put-else (s .queue) k q l (λ e. true≢false (sym f ∙ ap isFed (sym e) ∙ g)) ∙ o .1);
+        inner = λ q g j. queue-away (s .queue) k l q (λ e. true≢false (sym i ∙ ap isInQueue (sym e) ∙ j)) ∙ same .inner q g j;
+        outs = λ q g. let o = same .outs q g in (o .0, queue-away (s .queue) k l q (λ e. true≢false (sym f ∙ ap isFed (sym e) ∙ g)) ∙ o .1);
         handled = same .handled;
         table = same .table;
         credit = same .credit;
@@ -75,7 +68,7 @@ module _ (pl : Plan) (p s : State) (same : Same pl p s) where
   unfolding join
   join-same k x f =
       record {
-        inner = λ q g j. put-else (s .queue) k q (s .queue k ++ (x ∷ [])) (λ e. true≢false (sym g ∙ ap isFed e ∙ f)) ∙ same .inner q g j;
+        inner = λ q g j. queue-away (s .queue) k (s .queue k ++ (x ∷ [])) q (λ e. true≢false (sym g ∙ ap isFed e ∙ f)) ∙ same .inner q g j;
         outs = outs′;
         handled = same .handled;
         table = same .table;

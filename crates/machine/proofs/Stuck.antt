@@ -5,15 +5,13 @@ use mathlib.Core.Logic.{_⊎_, inl, inr, _≢_}
 use mathlib.Core.Bool.{Bool, true, false, false≢true, true≢false}
 use mathlib.Core.List.{List, [], _∷_}
 use mathlib.Core.Option.{Option, none, some}
-use Prim.Native.Nat.{ℕ, zero, suc, _+_, _-_, _/_, _%_, _≤_, _<_}
+use Prim.Native.Nat.{ℕ, _≤_, _<_}
 use native.Mathlib.Nat.{min-le-right}
 use native.Mathlib.Omega.{arith}
 use lib.ListN.{length}
-use lib.Dec.{eqb, ltb}
-use borrow.Author.Tests.{eq-eqb, ltb-true, ltb-false}
+use borrow.Author.Tests.{eq-eqb}
 use Rattle.basis.specs.Among.{In}
-use Rattle.basis.specs.Bounded.{below-suc}
-use Rattle.basis.specs.Choice.{pick, test}
+use Rattle.basis.specs.Choice.{pick}
 use Rattle.basis.specs.Walk.{on, end}
 use Rattle.packets.specs.declared.Kind.{Kind}
 use Rattle.packets.specs.declared.Kind.the-variants.{Setup, Tdown, Ack, Nack}
@@ -38,39 +36,14 @@ use Rattle.journeys.proofs.Walks.{onward-on, onward-end}
 use Rattle.journeys.proofs.Fitting.{fits-visits}
 use Rattle.machine.specs.Outputs.{nextBy, senders}
 use Rattle.machine.specs.State.{State, startAllowance}
-use Rattle.machine.specs.Valid.{PacketOk, Belongs, headPlace, Lined, Drives, brings, bit, isFed, sum, onWires, inAll, inWire, total, spends}
-use Rattle.machine.specs.Outputs.{outputs, outputAt, routerOutput}
+use Rattle.machine.specs.Valid.{PacketOk, Belongs, headPlace, Lined, brings, bit, isFed, onWires, inAll, inWire, total, spends}
+use Rattle.machine.specs.Outputs.{outputs, outputAt}
 use Rattle.machine.specs.Progress.{isInQueue, PassiveRoom}
+use Rattle.machine.proofs.OutNumbers.{drives-at}
+use Rattle.machine.proofs.Sums.{sum-two, sum-nought}
 use Rattle.machine.proofs.Core.{Core, WiresEmpty, FlagsDown, account}
 use Rattle.machine.proofs.Closure.{fits-next, active-answer}
 use Rattle.machine.proofs.Follow.{follow}
-
--- ---- sums
--- two terms of a sum are at most the sum
-pub sum-one : (n : ℕ) (f : ℕ → ℕ) (i : ℕ) → i < n → f i ≤ sum n f
-unfolding sum
-sum-one zero f i h = absurd (omega arith)
-sum-one (suc n) f i h = by (λ l. sum-one n f i l) (below-suc h)
-  where
-    by : (i < n → f i ≤ sum n f) → (i < n) ⊎ (i ≡ n) → f i ≤ sum n f + f n
-    by rec (inl l) = omega (arith, rec l)
-    by rec (inr e) = rw e (omega arith)
-
-pub sum-two : (n : ℕ) (f : ℕ → ℕ) (i j : ℕ) → i < n → j < n → i ≢ j → f i + f j ≤ sum n f
-unfolding sum
-sum-two zero f i j h k ne = absurd (omega arith)
-sum-two (suc n) f i j h k ne = by (λ l m. sum-two n f i j l m ne) (below-suc h) (below-suc k)
-  where
-    by : (i < n → j < n → f i + f j ≤ sum n f) → (i < n) ⊎ (i ≡ n) → (j < n) ⊎ (j ≡ n) → f i + f j ≤ sum n f + f n
-    by rec (inl l) (inl m) = omega (arith, rec l m)
-    by rec (inl l) (inr e) = rw e (omega (arith, sum-one n f i l))
-    by rec (inr e) (inl m) = rw e (omega (arith, sum-one n f j m))
-    by rec (inr e) (inr g) = absurd (ne (e ∙ sym g))
-
-sum-none : (n : ℕ) (f : ℕ → ℕ) → ((i : ℕ) → i < n → f i ≡ 0) → sum n f ≡ 0
-unfolding sum
-sum-none zero f h = refl
-sum-none (suc n) f h = let a = sum-none n f (λ i l. h i (omega arith)) in let b = h n (omega arith) in omega arith
 
 all-one : (w : Packet → ℕ) (l : List Packet) → ((z : Packet) → In z l → w z ≡ 1) → inAll w l ≡ length l
 all-one w [] h = refl
@@ -131,29 +104,6 @@ next-fed pl h a p (Q r) y e = rw (← some-same e)
 next-fed pl h a p (F r o) y e = across-fed pl h a p (pl .joint r o) y e
 next-fed pl h a p (K r i o) y e = across-fed pl h a p (pl .joint r o) y e
 
--- the outputs by number are the plan's
-pub drives-at : (pl : Plan) (n : ℕ) → n < outputs pl → Drives pl (outputAt pl n)
-unfolding outputAt
-drives-at pl n h = first (test (ltb n (A pl)))
-  where
-    six : (r k : ℕ) → r < R pl → k < 6 → Drives pl (routerOutput r k)
-    six r k hr hk = at (test (ltb k 4)) (test (eqb k 4))
-      where
-        at : (ltb k 4 ≡ true) ⊎ (ltb k 4 ≡ false) → (eqb k 4 ≡ true) ⊎ (eqb k 4 ≡ false) → Drives pl (routerOutput r k)
-        at (inl t) u = rw t (hr, ltb-true k 4 t)
-        at (inr t) (inl u) = rw (t, u) hr
-        at (inr t) (inr u) = rw (t, u) hr
-
-    second : ltb n (A pl) ≡ false → (ltb n (A pl + P pl) ≡ true) ⊎ (ltb n (A pl + P pl) ≡ false) → Drives pl (outputAt pl n)
-    second t (inl u) = rw (t, u, outputAt) (let a = ltb-false n (A pl) t in let b = ltb-true n (A pl + P pl) u in omega arith)
-    second t (inr u) =
-        rw (t, u, outputAt)
-        (six ((n - (A pl + P pl)) / 6) ((n - (A pl + P pl)) % 6) (let b = ltb-false n (A pl + P pl) u in omega arith) (omega arith))
-
-    first : (ltb n (A pl) ≡ true) ⊎ (ltb n (A pl) ≡ false) → Drives pl (outputAt pl n)
-    first (inl t) = rw (t, outputAt) (ltb-true n (A pl) t)
-    first (inr t) = second t (test (ltb n (A pl + P pl)))
-
 -- every capacity is at least 1
 pub capacity-some : (h : Head) → InRange h → (q : Queue) → 1 ≤ capacity h q
 capacity-some h r (activeOut x) = r .aout .0
@@ -200,7 +150,7 @@ module _ {pl : Plan} (wired : Wired pl) (range : InRange (pl .head)) (free : Fee
 
   no-wires : (y : Queue) → onWires pl y s ≡ 0
   unfolding onWires
-  no-wires y = sum-none (outputs pl) _ (λ n l. rw (jam .wires (outputAt pl n) (drives-at pl n l)))
+  no-wires y = sum-nought (outputs pl) _ (λ n l. rw (jam .wires (outputAt pl n) (drives-at pl n l)))
 
   full : (y : Queue) → Exists pl y → isFed y ≡ true → s .credit y .0 ≡ 0 → length (s .queue y) ≡ capacity (pl .head) y
   unfolding account

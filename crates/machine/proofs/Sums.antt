@@ -1,7 +1,7 @@
--- Sums over the numbers below n: of equal terms, of terms that differ at one number, of nothing.
-use mathlib.Core.Path.{_≡_, refl, ap, ap₂}
+-- Sums over the numbers below n: of equal terms, of terms that differ at one number, of nothing; one and two of the terms.
+use mathlib.Core.Path.{_≡_, refl, ap, ap₂, sym, _∙_}
 use mathlib.Core.Logic.{_⊎_, inl, inr, _≢_}
-use Prim.Native.Nat.{ℕ, zero, suc, _+_, _<_}
+use Prim.Native.Nat.{ℕ, zero, suc, _+_, _<_, _≤_}
 use native.Mathlib.Nat.{not-suc-le-zero}
 use native.Mathlib.Omega.{arith}
 use Rattle.basis.specs.Bounded.{below-suc}
@@ -28,3 +28,24 @@ pub sum-nought : (n : ℕ) (f : ℕ → ℕ) → ((i : ℕ) → i < n → f i �
 unfolding sum
 sum-nought zero f h = refl
 sum-nought (suc n) f h = let a = sum-nought n f (λ i l. h i (omega arith)) in let b = h n (omega arith) in omega arith
+
+-- A term is at most the sum, and so are two.
+pub sum-term : (n : ℕ) (f : ℕ → ℕ) (i : ℕ) → i < n → f i ≤ sum n f
+unfolding sum
+sum-term zero f i h = absurd (omega arith)
+sum-term (suc n) f i h = by (λ l. sum-term n f i l) (below-suc h)
+  where
+    by : (i < n → f i ≤ sum n f) → (i < n) ⊎ (i ≡ n) → f i ≤ sum n f + f n
+    by rec (inl l) = omega (arith, rec l)
+    by rec (inr e) = rw e (omega arith)
+
+pub sum-two : (n : ℕ) (f : ℕ → ℕ) (i j : ℕ) → i < n → j < n → i ≢ j → f i + f j ≤ sum n f
+unfolding sum
+sum-two zero f i j h k ne = absurd (omega arith)
+sum-two (suc n) f i j h k ne = by (λ l m. sum-two n f i j l m ne) (below-suc h) (below-suc k)
+  where
+    by : (i < n → j < n → f i + f j ≤ sum n f) → (i < n) ⊎ (i ≡ n) → (j < n) ⊎ (j ≡ n) → f i + f j ≤ sum n f + f n
+    by rec (inl l) (inl m) = omega (arith, rec l m)
+    by rec (inl l) (inr e) = rw e (omega (arith, sum-term n f i l))
+    by rec (inr e) (inl m) = rw e (omega (arith, sum-term n f j m))
+    by rec (inr e) (inr g) = absurd (ne (e ∙ sym g))

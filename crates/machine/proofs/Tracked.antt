@@ -7,7 +7,7 @@ use mathlib.Core.List.{List, [], _∷_}
 use Prim.Native.Nat.{ℕ, zero, suc, _+_, _≤_, _<_}
 use native.Mathlib.Omega.{arith}
 use lib.Dec.{eqb, ltb, leb}
-use borrow.Author.Tests.{ltb-true}
+use borrow.Author.Tests.{ltb-true, not-false}
 use Rattle.basis.specs.Choice.{pick, pick-same}
 use Rattle.kinds.specs.declared.Refusal.{Refusal}
 use Rattle.packets.specs.declared.Kind.{Kind}
@@ -35,16 +35,17 @@ use Rattle.machine.specs.Accepted.{Connection, accept, acceptKind, MadeB
 use Rattle.machine.specs.Valid.{Drives}
 use Rattle.machine.specs.Progress.{Quiet}
 use Rattle.machine.specs.Ruled.{Ruled, ruledAfter, acceptedAfter, launchesCall, launches, times}
+use Rattle.machine.proofs.Apart.{phase-of}
 use Rattle.machine.proofs.Core.{Core, Shape, Sendable, FlagsDown, WiresEmpty, ChoicesSendable}
-use Rattle.machine.proofs.Phases.{read-keeps, execute-keeps, write-keeps}
 use Rattle.machine.proofs.ShapeCalls.{execute-has, write-has}
+use Rattle.machine.proofs.Phases.{read-keeps, execute-keeps, write-keeps}
+use Rattle.machine.proofs.Keeps.{Inv, good-of, start-inv, call-inv, by-test, reply-kind, phase-core, turn-core, deliver-core, settle-core, unit-core, choose-core, undo-core, send-core}
+use Rattle.machine.proofs.FromRead.{progress}
 use Rattle.machine.proofs.Owners.{Owned}
 use Rattle.machine.proofs.OwnSteps.{start-owned, phase-owned, slot-owned, settle-owned, choose-owned, deliver-owned, send-owned, undo-owned, launched-owned, replied-owned, removed-owned}
 use Rattle.machine.proofs.OwnUnits.{unit-owned}
 use Rattle.machine.proofs.OwnTable.{owned-table}
 use Rattle.machine.proofs.Launches.{Counted, start-counted, counted-times, phase-counted, slot-counted, settle-counted, choose-counted, removed-counted, deliver-counted, send-counted, unit-counted, undo-counted, launched-counted, replied-counted}
-use Rattle.machine.proofs.Keeps.{Inv, good-of, start-inv, call-inv, by-test, is-phase, not-false, reply-kind, phase-core, turn-core, deliver-core, settle-core, unit-core, choose-core, undo-core, send-core}
-use Rattle.machine.proofs.FromRead.{progress}
 
 -- inside a phase: the core, who owns what, and what is on its way to be accepted
 pub record Midway (pl : Plan) (acc : List Connection) (n : Connection → ℕ) (s : State) : Type 0 where
@@ -149,13 +150,13 @@ module _ {pl : Plan} (wired : Wired pl) (range : InRange (pl .head)) where
       unfolding executeCall
       execute-told =
           by-test wired range (Told execute) (not (isPhase (s .phase) Execute)) _ s _ (refused execute _)
-          (λ e. let m = execute-mid s (execute-has s (is-phase wired range (s .phase) Execute e) (k .inv .shape) .2) mid in as-before execute (gives Done (doExecute pl s)) refl (m .owned) (m .counted))
+          (λ e. let m = execute-mid s (execute-has s (phase-of (s .phase) Execute e) (k .inv .shape) .2) mid in as-before execute (gives Done (doExecute pl s)) refl (m .owned) (m .counted))
 
       write-told : Told write (writeCall pl s)
       unfolding writeCall
       write-told =
           by-test wired range (Told write) (not (isPhase (s .phase) Write)) _ s _ (refused write _)
-          (λ e. let h = write-has s (is-phase wired range (s .phase) Write e) (k .inv .shape) in let m = write-mid s (h .0) (h .1) mid in as-before write (gives Done (doWrite pl s)) refl (m .owned) (m .counted))
+          (λ e. let h = write-has s (phase-of (s .phase) Write e) (k .inv .shape) in let m = write-mid s (h .0) (h .1) mid in as-before write (gives Done (doWrite pl s)) refl (m .owned) (m .counted))
 
       launch-told : (a p t : ℕ) → Told (launch a p t) (launchCall pl a p t s)
       unfolding launchCall
@@ -165,7 +166,7 @@ module _ {pl : Plan} (wired : Wired pl) (range : InRange (pl .head)) where
           (λ f. by-test wired range (Told (launch a p t)) (not (served pl a p)) _ s _ (refused (launch a p t) _)
           (λ g. by-test wired range (Told (launch a p t)) (eqb (s .allowance a) 0) _ s _ (refused (launch a p t) _)
           (λ h. by-test wired range (Told (launch a p t)) (not (hasRoom pl (activeOut a) s)) _ s _ (refused (launch a p t) _)
-          (λ r. accepted (and-both (not-false wired range _ f)))))))
+          (λ r. accepted (and-both (not-false _ f)))))))
         where
           accepted : ((ltb a (A pl) && ltb p (P pl)) ≡ true) × (ltb t (S pl) ≡ true) → Told (launch a p t) (gives Done (launched a p t s))
           accepted (x, y) =
@@ -181,7 +182,7 @@ module _ {pl : Plan} (wired : Wired pl) (range : InRange (pl .head)) where
           (λ f. by-test wired range (Told (reply p c)) (s .flag (passiveIn p)) _ s _ (refused (reply p c) _)
           (λ g. by-test wired range (Told (reply p c)) (isEmpty (s .queue (passiveIn p))) _ s _ (refused (reply p c) _)
           (λ h. by-test wired range (Told (reply p c)) (not (hasRoom pl (passiveOut p) s)) _ s _ (refused (reply p c) _)
-          (λ r. accepted (and-both (not-false wired range _ f)))))))
+          (λ r. accepted (and-both (not-false _ f)))))))
         where
           accepted : (ltb p (P pl) ≡ true) × (leb c 1 ≡ true) → Told (reply p c) (gives Done (replied p (replyKind c) (s .queue (passiveIn p)) s))
           accepted (x, y) =
@@ -195,7 +196,7 @@ module _ {pl : Plan} (wired : Wired pl) (range : InRange (pl .head)) where
           by-test wired range (Told (consume a)) (not (isPhase (s .phase) Write)) _ s _ (refused (consume a) _)
           (λ e. by-test wired range (Told (consume a)) (not (ltb a (A pl))) _ s _ (refused (consume a) _)
           (λ f. by-test wired range (Told (consume a)) (s .flag (activeIn a)) _ s _ (refused (consume a) _)
-          (λ g. accepted (ltb-true a (A pl) (not-false wired range _ f)) (s .queue (activeIn a)) refl)))
+          (λ g. accepted (ltb-true a (A pl) (not-false _ f)) (s .queue (activeIn a)) refl)))
         where
           accepted : a < A pl → (l : List Packet) → s .queue (activeIn a) ≡ l → Told (consume a) (consumed a l s)
           accepted h [] q = refused (consume a) _

@@ -25,7 +25,7 @@ use Rattle.machine.specs.Progress.{endsRound}
 use Rattle.machine.proofs.Still.{Same, launch-same, reply-same, remove-same}
 
 -- a refusal, or what follows it
-by-refusal : (H : Outcome → Type 0) (t : Bool) (w : Refusal) (s : State) (rest : Outcome) → H (gives (Refused w) s) → H rest → H (refuse t w s rest)
+pub by-refusal : (H : Outcome → Type 0) (t : Bool) (w : Refusal) (s : State) (rest : Outcome) → H (gives (Refused w) s) → H rest → H (refuse t w s rest)
 by-refusal H true w s rest a b = a
 by-refusal H false w s rest a b = b
 

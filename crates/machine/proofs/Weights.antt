@@ -12,16 +12,18 @@ use Rattle.packets.specs.declared.Packet.{Packet}
 use Rattle.packets.specs.declared.Wire.{Wire}
 use Rattle.packets.specs.declared.Wire.the-variants.{Empty, Full}
 use Rattle.plan.specs.Plan.{Plan}
-use Rattle.feeding.specs.Queue.{Queue, activeOut, activeIn, passiveIn, passiveOut, U, Q, F, K, Exists, number, queues, queueAt}
+use Rattle.feeding.specs.Queue.{Queue, Exists, number, queues, queueAt}
 use Rattle.feeding.specs.Feeds.{Output, Place, inQueue}
 use Rattle.journeys.proofs.Numbers.{queue-at, number-below}
 use Rattle.machine.specs.Store.{put, sameQueue, same-queue, queue-same, sameOutput, same-output, output-same, put-here, put-away}
-use Rattle.machine.specs.Outputs.{nextBy, outputs, outputAt}
+use Rattle.machine.specs.Outputs.{nextBy, outputs, outputAt, outputNumber}
 use Rattle.machine.specs.State.{State, start, withQueue, withWire, withHandled, join}
 use Rattle.machine.specs.Valid.{headPlace, Drives, sum, inAll, inWire, total}
-use Rattle.machine.proofs.Core.{Core}
-use Rattle.machine.proofs.Numbers.{outNumber, at-number, out-at, out-below, drives-at, at-out}
+use Rattle.machine.proofs.Numbers.{at-number}
+use Rattle.machine.proofs.OutNumbers.{output-at, output-below, drives-at, at-output}
 use Rattle.machine.proofs.Sums.{sum-same, sum-but, sum-nought}
+use Rattle.machine.proofs.Core.{Core}
+use Rattle.machine.proofs.Lines.{head-unhandled}
 
 -- what a packet weighs at a place
 abbrev pub Weight : Type 0
@@ -66,17 +68,6 @@ unfoldable pub weighed : Plan → Weight → State → ℕ
 weighed pl w s = inLines pl w (s .handled) (s .queue) + inWires pl w (s .wire)
 
 -- ---- one line
--- The head of an unhandled queue is in the queue.
-pub fresh-place : (q : Queue) → headPlace false q ≡ inQueue q
-fresh-place (activeOut x) = refl
-fresh-place (activeIn x) = refl
-fresh-place (passiveIn x) = refl
-fresh-place (passiveOut x) = refl
-fresh-place (U r i) = refl
-fresh-place (Q r) = refl
-fresh-place (F r o) = refl
-fresh-place (K r i o) = refl
-
 -- A line whose head is in the queue weighs what its packets weigh there.
 pub line-in : (w : Weight) (q : Queue) (done : Bool) (xs : List Packet) → headPlace done q ≡ inQueue q → inLine w q done xs ≡ inAll (w (inQueue q)) xs
 unfolding inLine
@@ -85,7 +76,7 @@ line-in w q done (x ∷ xs) e = rw e
 
 -- So does an unhandled line.
 pub line-fresh : (w : Weight) (q : Queue) (xs : List Packet) → inLine w q false xs ≡ inAll (w (inQueue q)) xs
-line-fresh w q xs = line-in w q false xs (fresh-place q)
+line-fresh w q xs = line-in w q false xs (head-unhandled q)
 
 in-all-joins : (w : Packet → ℕ) (xs : List Packet) (x : Packet) → inAll w (xs ++ (x ∷ [])) ≡ inAll w xs + w x
 in-all-joins w [] x = omega arith
@@ -95,7 +86,7 @@ in-all-joins w (y ∷ ys) x = let h = in-all-joins w ys x in omega arith
 pub line-joins : (w : Weight) (q : Queue) (done : Bool) (xs : List Packet) (x : Packet) → (done ≡ true → xs ≢ []) → inLine w q done (xs ++ (x ∷ [])) ≡ inLine w q done xs + w (inQueue q) x
 unfolding inLine
 line-joins w q true [] x h = absurd (h refl refl)
-line-joins w q false [] x h = rw (fresh-place q) (omega arith)
+line-joins w q false [] x h = rw (head-unhandled q) (omega arith)
 line-joins w q done (y ∷ ys) x h = let e = in-all-joins (w (inQueue q)) ys x in omega arith
 
 -- ---- a change of one line, or of one wire
@@ -122,13 +113,13 @@ module _ (pl : Plan) (w : Weight) where
       → inWires pl w cable + onWire pl w o (wire o) ≡ inWires pl w wire + onWire pl w o (cable o)
   unfolding inWires
   wires-but o d wire cable e =
-      let old : wireOf pl w wire (outputAt pl (outNumber pl o)) ≡ wireOf pl w wire o = ap (wireOf pl w wire) (out-at pl o d) in
-      let new : wireOf pl w cable (outputAt pl (outNumber pl o)) ≡ wireOf pl w cable o = ap (wireOf pl w cable) (out-at pl o d) in
-      let all = sum-but (outputs pl) (outNumber pl o) (λ n. wireOf pl w cable (outputAt pl n)) (λ n. wireOf pl w wire (outputAt pl n)) (out-below pl o d) same in
+      let old : wireOf pl w wire (outputAt pl (outputNumber pl o)) ≡ wireOf pl w wire o = ap (wireOf pl w wire) (output-at pl o d) in
+      let new : wireOf pl w cable (outputAt pl (outputNumber pl o)) ≡ wireOf pl w cable o = ap (wireOf pl w cable) (output-at pl o d) in
+      let all = sum-but (outputs pl) (outputNumber pl o) (λ n. wireOf pl w cable (outputAt pl n)) (λ n. wireOf pl w wire (outputAt pl n)) (output-below pl o d) same in
       omega arith
     where
-      same : (n : ℕ) → n < outputs pl → n ≢ outNumber pl o → wireOf pl w cable (outputAt pl n) ≡ wireOf pl w wire (outputAt pl n)
-      same n l ne = ap (onWire pl w (outputAt pl n)) (e (outputAt pl n) (λ p. ne (sym (at-out pl n l) ∙ ap (outNumber pl) p)))
+      same : (n : ℕ) → n < outputs pl → n ≢ outputNumber pl o → wireOf pl w cable (outputAt pl n) ≡ wireOf pl w wire (outputAt pl n)
+      same n l ne = ap (onWire pl w (outputAt pl n)) (e (outputAt pl n) (λ p. ne (sym (at-output pl n l) ∙ ap (outputNumber pl) p)))
 
   -- One queue's packets replaced.
   pub weighed-queue : (q : Queue) → Exists pl q → (xs : List Packet) (s : State) → weighed pl w (withQueue q xs s) + inLine w q (s .handled q) (s .queue q) ≡ weighed pl w s + inLine w q (s .handled q) xs

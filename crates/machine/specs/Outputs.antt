@@ -33,3 +33,10 @@ unfoldable pub outputAt : Plan → ℕ → Output
 outputAt pl n =
     pick (ltb n (A pl)) (ofActive n)
     (pick (ltb n (A pl + P pl)) (ofPassive (n - A pl)) (routerOutput ((n - (A pl + P pl)) / 6) ((n - (A pl + P pl)) % 6)))
+
+unfoldable pub outputNumber : Plan → Output → ℕ
+outputNumber pl (ofActive a) = a
+outputNumber pl (ofPassive p) = A pl + p
+outputNumber pl (ofSide r o) = A pl + P pl + 6 * r + o
+outputNumber pl (toUnit r) = A pl + P pl + 6 * r + 4
+outputNumber pl (fromUnit r) = A pl + P pl + 6 * r + 5

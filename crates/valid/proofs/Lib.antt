@@ -1,5 +1,4 @@
 pub mod Decides
-pub mod Numbers
 pub mod Fitting
 pub mod Packets
 pub mod Parts

@@ -4,7 +4,6 @@ use mathlib.Core.Bool.{Bool}
 use mathlib.Core.List.{List, [], _∷_}
 use mathlib.Core.Option.{Option, none, some}
 use Prim.Native.Nat.{ℕ, _<_}
-use native.Mathlib.Omega.{arith}
 use Rattle.packets.specs.declared.Packet.{Packet}
 use Rattle.packets.specs.declared.Wire.{Wire}
 use Rattle.packets.specs.declared.Wire.the-variants.{Empty, Full}
@@ -17,15 +16,10 @@ use Rattle.machine.specs.Valid.{PacketOk, Belongs, headPlace, Lined, Carries}
 use Rattle.wiring.specs.Wired.{Wired}
 use Rattle.journeys.proofs.Walks.{served-of, serves-of}
 use Rattle.journeys.proofs.Places.{some-not-none, some-same}
+use Rattle.machine.proofs.Apart.{full-not, full-same}
 use Rattle.valid.proofs.Decides.{Decides, like, never, always, less, most, both, all-in}
 use Rattle.valid.specs.Test.{packetTest, belongsTest, linedTest, boundTest, wireTest}
 use Rattle.valid.proofs.Fitting.{fits-decides}
-
-empty-full : {x : Packet} → Empty ≡ Full x → ⊥
-empty-full e = let z : _≡_ {A = ℕ} 0 1 = cc in omega arith
-
-full-same : {x y : Packet} → Full x ≡ Full y → x ≡ y
-full-same e = cc
 
 module _ {pl : Plan} (wired : Wired pl) where
   packet-decides : (x : Packet) → Decides (packetTest pl x) (PacketOk pl x)
@@ -60,5 +54,5 @@ module _ {pl : Plan} (wired : Wired pl) where
       like (belongs-decides (inQueue q) x) (λ b. record { queue = q; next = e; belongs = b }) (λ c. rw (some-same (sym e ∙ c .next)) (c .belongs))
 
   pub wire-decides : (o : Output) (t : Wire) → Decides (wireTest pl o t) ((x : Packet) → t ≡ Full x → Carries pl o x)
-  wire-decides o Empty = always (λ x e. absurd (empty-full e))
+  wire-decides o Empty = always (λ x e. absurd (full-not e))
   wire-decides o (Full x) = like (bound-decides o x (nextBy pl o x) refl) (λ c y e. rw (← full-same e) c) (λ f. f x refl)

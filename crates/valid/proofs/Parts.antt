@@ -17,7 +17,7 @@ use Rattle.packets.specs.declared.Entry.the-variants.{Free, Booked}
 use Rattle.plan.specs.Plan.{Plan}
 use Rattle.feeding.specs.Queue.{Queue, activeOut, activeIn, passiveIn, passiveOut, U, Q, F, K, Exists, number, queues, queueAt}
 use Rattle.feeding.specs.Feeds.{Output}
-use Rattle.machine.specs.Outputs.{senders, outputs, outputAt}
+use Rattle.machine.specs.Outputs.{senders, outputs, outputAt, outputNumber}
 use Rattle.machine.specs.State.{State, Choice, nobody, sender, isFree, isFull}
 use Rattle.machine.specs.Execute.{candidate}
 use Rattle.machine.specs.Write.{ofRank}
@@ -25,23 +25,25 @@ use Rattle.machine.specs.Calls.{isPhase, isEmpty}
 use Rattle.machine.specs.Valid.{Drives}
 use Rattle.journeys.proofs.Numbers.{queue-at, number-below}
 use Rattle.journeys.proofs.Places.{some-not-none, some-same}
+use Rattle.machine.proofs.Apart.{nobody-not, sender-same}
+use Rattle.machine.proofs.Numbers.{exists-at}
+use Rattle.machine.proofs.OutNumbers.{output-at, output-below, drives-at}
 use Rattle.valid.proofs.Decides.{Decides, like, never, always, so, not-so, less, both, given, unless, all-below}
-use Rattle.valid.proofs.Numbers.{queue-exists, outputNumber, output-at, output-below, output-exists}
 use Rattle.valid.specs.Test.{everyQueue, everyOutput, mayTest, choiceTest, downTest, pickedTest, isUnit, entryTest}
 
 -- ---- every queue and every output of the plan, by number
 module _ (pl : Plan) where
   pub every-queue : (f : Queue → Bool) (X : Queue → Type 0) → ((q : Queue) → Exists pl q → Decides (f q) (X q)) → Decides (everyQueue pl f) ((q : Queue) → Exists pl q → X q)
   every-queue f X d =
-      like (all-below (queues pl) (λ n. f (queueAt pl n)) (λ n. X (queueAt pl n)) (λ n h. d (queueAt pl n) (queue-exists pl n h)))
+      like (all-below (queues pl) (λ n. f (queueAt pl n)) (λ n. X (queueAt pl n)) (λ n h. d (queueAt pl n) (exists-at pl n h)))
       (λ g q h. subst X (queue-at pl q h) (g (number pl q) (number-below pl q h)))
-      (λ g n h. g (queueAt pl n) (queue-exists pl n h))
+      (λ g n h. g (queueAt pl n) (exists-at pl n h))
 
   pub every-output : (f : Output → Bool) (X : Output → Type 0) → ((o : Output) → Drives pl o → Decides (f o) (X o)) → Decides (everyOutput pl f) ((o : Output) → Drives pl o → X o)
   every-output f X d =
-      like (all-below (outputs pl) (λ n. f (outputAt pl n)) (λ n. X (outputAt pl n)) (λ n h. d (outputAt pl n) (output-exists pl n h)))
+      like (all-below (outputs pl) (λ n. f (outputAt pl n)) (λ n. X (outputAt pl n)) (λ n h. d (outputAt pl n) (drives-at pl n h)))
       (λ g o h. subst X (output-at pl o h) (g (outputNumber pl o) (output-below pl o h)))
-      (λ g n h. g (outputAt pl n) (output-exists pl n h))
+      (λ g n h. g (outputAt pl n) (drives-at pl n h))
 
 -- ---- phases
 pub is-phase : (x y : Phase) → Decides (isPhase x y) (x ≡ y)
@@ -69,12 +71,6 @@ empty-decides Empty = always refl
 empty-decides (Full x) = never (λ e. let z : _≡_ {A = ℕ} 0 1 = cc in omega arith)
 
 -- ---- one choice
-nobody-not : {k : ℕ} → nobody ≡ sender k → ⊥
-nobody-not e = let z : _≡_ {A = ℕ} 0 1 = cc in omega arith
-
-sender-same : {j k : ℕ} → sender j ≡ sender k → j ≡ k
-sender-same e = cc
-
 module _ (pl : Plan) (s : State) (o : Output) where
   may-decides : (t : Option Queue) → Decides (mayTest pl s o t) ((q : Queue) × (t ≡ some q) × (candidate pl s o q ≡ true))
   may-decides none = never (λ f. some-not-none (f .1))

@@ -21,7 +21,7 @@ use Rattle.machine.specs.State.{State}
 use Rattle.machine.specs.Read.{doRead}
 use Rattle.machine.specs.Execute.{doExecute, hasRoom, unmarked}
 use Rattle.machine.specs.Write.{doWrite}
-use Rattle.machine.specs.Calls.{Outcome, gives, refuse, isPhase, isEmpty, launched, replyKind, replied, removed, consumed, Call, read, execute, write, launch, reply, consume, entry, readCall, executeCall, writeCall, launchCall, replyCall, consumeCall, entryCall, call}
+use Rattle.machine.specs.Calls.{Outcome, gives, refuse, isPhase, isEmpty, launched, replyKind, replied, removed, headUnmarked, consumed, Call, read, execute, write, launch, reply, consume, entry, readCall, executeCall, writeCall, launchCall, replyCall, consumeCall, entryCall, call}
 use Rattle.machine.proofs.Apart.{phase-of}
 
 -- refused: not as 'not a state', which is asked before the rule, and the state is left
@@ -45,7 +45,8 @@ refuse-case : (F : Outcome → Type 0) (t : Bool) (w : Refusal) (s : State) (res
 refuse-case F true w s rest n f = inl (record { why = w; not-7 = n; same = refl })
 refuse-case F false w s rest n f = f refl
 
-consumed-case : (pl : Plan) (a : ℕ) (s : State) (xs : List Packet) → s .queue (activeIn a) ≡ xs → Refuses s (consumed a xs s) ⊎ Accepts pl (consume a) s (consumed a xs s)
+consumed-case : (pl : Plan) (a : ℕ) (s : State) (xs : List Packet) → s .queue (activeIn a) ≡ xs → Refuses s (refuse (isEmpty xs) QueueEmpty s (refuse (headUnmarked xs) Unmarked s (consumed a xs s)))
+    ⊎ Accepts pl (consume a) s (refuse (isEmpty xs) QueueEmpty s (refuse (headUnmarked xs) Unmarked s (consumed a xs s)))
 consumed-case pl a s [] e = inl (record { why = QueueEmpty; not-7 = refl; same = refl })
 consumed-case pl a s (x ∷ xs) e = refuse-case (Accepts pl (consume a) s) (unmarked x) Unmarked s (gives (Taken x) (removed a xs s)) refl (λ k. inr (x, xs, e, refl))
 

@@ -1,20 +1,21 @@
--- The two laws of arbitration: what an output picks is a candidate among its senders, and an open output that picks nobody has none.
--- Nothing else looks at how the pick is made.
-use mathlib.Core.Path.{_≡_, refl, sym}
+-- The two laws of arbitration: what an output picks is a candidate among its senders, and an open output that picks nobody has none. And what it
+-- looks at: not at choices, so that outputs may pick in any order. Nothing else looks at how the pick is made.
+use mathlib.Core.Path.{_≡_, refl, sym, ap, _∙_}
 use mathlib.Core.Logic.{_⊎_, inl, inr}
 use mathlib.Core.Bool.{Bool, true, false}
 use mathlib.Core.List.{List, [], _∷_}
-use mathlib.Core.Option.{some}
+use mathlib.Core.Option.{Option, none, some}
 use Prim.Native.Nat.{ℕ, zero, suc, _+_}
 use native.Mathlib.Omega.{arith}
-use Rattle.basis.specs.Choice.{test}
+use Rattle.basis.specs.Choice.{also, test}
 use Rattle.plan.specs.Plan.{Plan}
-use Rattle.feeding.specs.Queue.{Queue}
-use Rattle.feeding.specs.Feeds.{Output}
+use Rattle.packets.specs.declared.Packet.{Packet}
+use Rattle.feeding.specs.Queue.{Queue, activeOut, activeIn, passiveIn, passiveOut, U, Q, F, K}
+use Rattle.feeding.specs.Feeds.{Output, ofActive, ofPassive, ofSide, toUnit, fromUnit}
 use Rattle.journeys.proofs.Places.{some-same, some-not-none}
-use Rattle.machine.specs.Outputs.{senders}
-use Rattle.machine.specs.State.{State, nobody, sender}
-use Rattle.machine.specs.Execute.{candidate, isOpen, firstOf, picked}
+use Rattle.machine.specs.Outputs.{nextBy, senders}
+use Rattle.machine.specs.State.{State, Choice, nobody, sender}
+use Rattle.machine.specs.Execute.{hasCredit, mayLeave, headReady, candidate, isOpen, firstOf, picked}
 use Rattle.machine.specs.Write.{ofRank}
 use Rattle.machine.proofs.Apart.{nobody-not, sender-same}
 
@@ -69,3 +70,48 @@ picked-none pl s o e = by (test (isOpen s o))
     by : (isOpen s o ≡ true) ⊎ (isOpen s o ≡ false) → (isOpen s o ≡ false) ⊎ ((k : ℕ) (q : Queue) → ofRank (senders o) k ≡ some q → candidate pl s o q ≡ false)
     by (inl t) = inr (first-none (candidate pl s o) 0 (senders o) (rw (t, picked) at e))
     by (inr t) = inl t
+
+-- ---- the pick does not look at choices
+-- s with other choices
+abbrev pub chosen : State → (Output → Choice) → State
+chosen s f =
+    record { phase = s .phase; slot = s .slot; queue = s .queue; wire = s .wire; credit = s .credit; flag = s .flag; handled = s .handled; choice = f; table = s .table; allowance = s .allowance }
+
+credit-alike : (s : State) (f : Output → Choice) (y : Option Queue) → hasCredit (chosen s f) y ≡ hasCredit s y
+credit-alike s f none = refl
+credit-alike s f (some q) = refl
+
+leave-alike : (s : State) (f : Output → Choice) (q : Queue) → mayLeave (chosen s f) q ≡ mayLeave s q
+leave-alike s f (activeOut x) = refl
+leave-alike s f (activeIn x) = refl
+leave-alike s f (passiveIn x) = refl
+leave-alike s f (passiveOut x) = refl
+leave-alike s f (U r i) = refl
+leave-alike s f (Q r) = refl
+leave-alike s f (F r o) = refl
+leave-alike s f (K r i o) = refl
+
+ready-alike : (pl : Plan) (s : State) (f : Output → Choice) (o : Output) (b : Bool) (l : List Packet) → headReady pl (chosen s f) o b l ≡ headReady pl s o b l
+ready-alike pl s f o b [] = refl
+ready-alike pl s f o b (x ∷ l) = ap (also b) (credit-alike s f (nextBy pl o x))
+
+candidate-alike : (pl : Plan) (s : State) (f : Output → Choice) (o : Output) (q : Queue) → candidate pl (chosen s f) o q ≡ candidate pl s o q
+unfolding candidate
+candidate-alike pl s f o q = ready-alike pl s f o (mayLeave (chosen s f) q) (s .queue q) ∙ ap (λ (b : Bool). headReady pl s o b (s .queue q)) (leave-alike s f q)
+
+open-alike : (s : State) (f : Output → Choice) (o : Output) → isOpen (chosen s f) o ≡ isOpen s o
+open-alike s f (ofActive a) = refl
+open-alike s f (ofPassive a) = refl
+open-alike s f (ofSide r o) = refl
+open-alike s f (toUnit r) = refl
+open-alike s f (fromUnit r) = refl
+
+first-alike : (f g : Queue → Bool) → ((q : Queue) → f q ≡ g q) → (k : ℕ) (qs : List Queue) → firstOf f k qs ≡ firstOf g k qs
+unfolding firstOf
+first-alike f g h k [] = refl
+first-alike f g h k (q ∷ qs) = rw (h q, first-alike f g h (suc k) qs)
+
+-- an output picks the same whatever was picked before
+pub picks-alike : (pl : Plan) (s : State) (f : Output → Choice) (o : Output) → picked pl (chosen s f) o ≡ picked pl s o
+unfolding picked
+picks-alike pl s f o = rw (open-alike s f o, first-alike (candidate pl (chosen s f) o) (candidate pl s o) (candidate-alike pl s f o) 0 (senders o))

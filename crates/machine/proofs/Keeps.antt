@@ -7,6 +7,7 @@ use Prim.Native.Nat.{ℕ, zero, suc, _+_, _≤_, _<_}
 use native.Mathlib.Omega.{arith}
 use lib.Dec.{eqb, ltb, leb}
 use borrow.Author.Tests.{ltb-true, eqb-false, eqb-true, not-false}
+use Rattle.kinds.specs.declared.Refusal.the-variants.{QueueEmpty, Unmarked}
 use Rattle.basis.specs.Choice.{pick, test}
 use Rattle.kinds.specs.declared.Refusal.{Refusal}
 use Rattle.packets.specs.declared.Kind.{Kind}
@@ -29,7 +30,7 @@ use Rattle.machine.specs.State.{State, sender, start, withPhase, withSlo
 use Rattle.machine.specs.Read.{deliver, settle, doRead}
 use Rattle.machine.specs.Execute.{unit, choose, undo, doExecute, hasRoom, unmarked}
 use Rattle.machine.specs.Write.{send, doWrite}
-use Rattle.machine.specs.Calls.{Outcome, gives, refuse, isPhase, isEmpty, Call, read, execute, write, launch, reply, consume, entry, call, readCall, executeCall, writeCall, launched, launchCall, replyKind, replied, replyCall, removed, consumed, consumeCall, entryCall}
+use Rattle.machine.specs.Calls.{Outcome, gives, refuse, isPhase, isEmpty, Call, read, execute, write, launch, reply, consume, entry, call, readCall, executeCall, writeCall, launched, launchCall, replyKind, replied, replyCall, removed, headUnmarked, consumed, consumeCall, entryCall}
 use Rattle.machine.specs.Valid.{Drives, Valid, Bounded}
 use Rattle.machine.specs.Ruled.{Good}
 use Rattle.machine.proofs.Apart.{phase-of}
@@ -214,7 +215,7 @@ module _ {pl : Plan} (wired : Wired pl) (range : InRange (pl .head)) where
             shape = removed-shape s a rest e (i .shape);
           }
 
-      accepted : s .phase ≡ Write → a < A pl → s .flag (activeIn a) ≡ false → (l : List Packet) → s .queue (activeIn a) ≡ l → Keeps (consumed a l s)
+      accepted : s .phase ≡ Write → a < A pl → s .flag (activeIn a) ≡ false → (l : List Packet) → s .queue (activeIn a) ≡ l → Keeps (refuse (isEmpty l) QueueEmpty s (refuse (headUnmarked l) Unmarked s (consumed a l s)))
       accepted e h g [] q = i
       accepted e h g (x ∷ rest) q = by-test Keeps (unmarked x) _ s (gives _ (removed a rest s)) i (λ u. taken e h g x rest q)
 

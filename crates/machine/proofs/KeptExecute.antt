@@ -1,6 +1,6 @@
 -- EXECUTE keeps the places: a unit's head, handled, belongs there, and the table keeps a free entry a side; an active's NACK and its TDOWN belong
 -- in the active's queues.
-use mathlib.Core.Path.{_≡_, refl, _∙_}
+use mathlib.Core.Path.{_≡_, refl, sym, _∙_}
 use mathlib.Core.Logic.{_≢_}
 use mathlib.Core.Bool.{Bool, true, false, not, _&&_, false≢true, and-eq-true-iff}
 use mathlib.Core.List.{List, [], _∷_}
@@ -22,7 +22,7 @@ use Rattle.feeding.specs.Feeds.{Output, inQueue, handledAt}
 use Rattle.wiring.specs.Wired.{Wired}
 use Rattle.machine.specs.Store.{put-here, put-away}
 use Rattle.machine.specs.Outputs.{senders}
-use Rattle.machine.specs.State.{State, nobody, start, withEntry, isFree}
+use Rattle.machine.specs.State.{State, Choice, sender, nobody, start, withEntry, isFree}
 use Rattle.machine.specs.Execute.{cameIn, declined, booked, freed, otherFree, mayBook, handledAs, setUp, tearOne, tearDown, handle, atUnit, unit, candidate, isOpen, firstOf, picked, choose, unmarked, marked, tdownOf, hasRoom, answer, atActive, undo}
 use Rattle.machine.specs.Write.{ofRank}
 use Rattle.machine.specs.Valid.{Belongs, Drives, Bounded}
@@ -34,6 +34,7 @@ use Rattle.machine.proofs.Makes.{side-out, side-in, booked-belongs, dec
 use Rattle.machine.proofs.Cases.{unmarked-kind}
 use Rattle.machine.proofs.Kept.{Kept, choice-kept, flag-kept, entry-kept}
 use Rattle.machine.proofs.KeptLines.{head-belongs, behind-belong, line-kept, mark-kept, join-kept, gone-kept}
+use Rattle.machine.proofs.Arbitration.{picked-candidate}
 
 -- ---- what tests tell
 free-of : (e : Entry) → isFree e ≡ true → e ≡ Free
@@ -50,19 +51,17 @@ other-free slots entries t m = by (any-true slots (λ u. not (eqb u t) && isFree
         let c = and-eq-true-iff (not (eqb u t)) (isFree (entries u)) .0 e in
         (u, h, eqb-false u t (not-true (eqb u t) (c .0)), free-of (entries u) (c .1))
 
--- none of the senders is ready: nobody is the first
-first-nobody : (ready : Queue → Bool) (n : ℕ) (l : List Queue) → ((j : ℕ) (q : Queue) → ofRank l j ≡ some q → ready q ≡ false) → firstOf ready n l ≡ nobody
-unfolding firstOf
-first-nobody ready n [] f = refl
-first-nobody ready n (q ∷ qs) f = rw (f 0 q refl) (first-nobody ready (suc n) qs (λ j. f (suc j)))
-
 -- an output that is not the plan's picks nobody: its senders are empty
 pub picks-nobody : (pl : Plan) (s : State) → Bounded pl s → (o : Output) → (Drives pl o → ⊥) → picked pl s o ≡ nobody
-unfolding picked candidate start
-picks-nobody pl s b o out = rw (first-nobody (candidate pl s o) 0 (senders o) idle) (pick-same (isOpen s o) nobody)
+unfolding candidate start
+picks-nobody pl s b o out = by (picked pl s o) refl
   where
     idle : (j : ℕ) (q : Queue) → ofRank (senders o) j ≡ some q → candidate pl s o q ≡ false
     idle j q e = rw (b .queue q (λ h. out (output-drives pl q o h (sender-leaves o j q e))))
+
+    by : (c : Choice) → picked pl s o ≡ c → c ≡ nobody
+    by nobody e = refl
+    by (sender k) e = let c = picked-candidate pl s o k e .1 in absurd (false≢true (sym (idle k (c .0) (c .1)) ∙ c .2))
 
 module _ {pl : Plan} (wired : Wired pl) (range : InRange (pl .head)) where
   -- ---- a unit's unhandled head x

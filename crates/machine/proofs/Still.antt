@@ -32,6 +32,7 @@ use Rattle.machine.specs.Progress.{isInQueue}
 use Rattle.machine.proofs.OutNumbers.{drives-at}
 use Rattle.machine.proofs.AccountCells.{queue-away}
 use Rattle.machine.proofs.Core.{WiresEmpty, NoChoices}
+use Rattle.machine.proofs.Arbitration.{chosen, picks-alike}
 
 -- s is as p was, but for what may happen while nothing moves
 pub record Same (pl : Plan) (p s : State) : Type 0 where
@@ -162,49 +163,6 @@ no-unit pl s r (inr e) = by (s .queue (Q r))
 
 pub no-units : (pl : Plan) (s : State) → AllHandled pl s → upTo (unit pl) (R pl) s ≡ s
 no-units pl s h = up-keeps (λ (t : State). t ≡ s) (unit pl) (R pl) s (λ r t l e. no-unit pl t r (rw e (h r l)) ∙ e) refl
-
--- s with other choices
-abbrev chosen : State → (Output → Choice) → State
-chosen s f =
-    record { phase = s .phase; slot = s .slot; queue = s .queue; wire = s .wire; credit = s .credit; flag = s .flag; handled = s .handled; choice = f; table = s .table; allowance = s .allowance }
-
-credit-alike : (s : State) (f : Output → Choice) (y : Option Queue) → hasCredit (chosen s f) y ≡ hasCredit s y
-credit-alike s f none = refl
-credit-alike s f (some q) = refl
-
-leave-alike : (s : State) (f : Output → Choice) (q : Queue) → mayLeave (chosen s f) q ≡ mayLeave s q
-leave-alike s f (activeOut x) = refl
-leave-alike s f (activeIn x) = refl
-leave-alike s f (passiveIn x) = refl
-leave-alike s f (passiveOut x) = refl
-leave-alike s f (U r i) = refl
-leave-alike s f (Q r) = refl
-leave-alike s f (F r o) = refl
-leave-alike s f (K r i o) = refl
-
-ready-alike : (pl : Plan) (s : State) (f : Output → Choice) (o : Output) (b : Bool) (l : List Packet) → headReady pl (chosen s f) o b l ≡ headReady pl s o b l
-ready-alike pl s f o b [] = refl
-ready-alike pl s f o b (x ∷ l) = ap (also b) (credit-alike s f (nextBy pl o x))
-
-candidate-alike : (pl : Plan) (s : State) (f : Output → Choice) (o : Output) (q : Queue) → candidate pl (chosen s f) o q ≡ candidate pl s o q
-unfolding candidate
-candidate-alike pl s f o q = ready-alike pl s f o (mayLeave (chosen s f) q) (s .queue q) ∙ ap (λ (b : Bool). headReady pl s o b (s .queue q)) (leave-alike s f q)
-
-open-alike : (s : State) (f : Output → Choice) (o : Output) → isOpen (chosen s f) o ≡ isOpen s o
-open-alike s f (ofActive a) = refl
-open-alike s f (ofPassive a) = refl
-open-alike s f (ofSide r o) = refl
-open-alike s f (toUnit r) = refl
-open-alike s f (fromUnit r) = refl
-
-first-alike : (f g : Queue → Bool) → ((q : Queue) → f q ≡ g q) → (k : ℕ) (qs : List Queue) → firstOf f k qs ≡ firstOf g k qs
-unfolding firstOf
-first-alike f g h k [] = refl
-first-alike f g h k (q ∷ qs) = rw (h q, first-alike f g h (suc k) qs)
-
-picks-alike : (pl : Plan) (s : State) (f : Output → Choice) (o : Output) → picked pl (chosen s f) o ≡ picked pl s o
-unfolding picked
-picks-alike pl s f o = rw (open-alike s f o, first-alike (candidate pl (chosen s f) o) (candidate pl s o) (candidate-alike pl s f o) 0 (senders o))
 
 pub record Chosen (pl : Plan) (s t : State) (n : ℕ) : Type 0 where
   pub choices : Output → Choice

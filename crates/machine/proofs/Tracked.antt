@@ -8,6 +8,7 @@ use Prim.Native.Nat.{ℕ, zero, suc, _+_, _≤_, _<_}
 use native.Mathlib.Omega.{arith}
 use lib.Dec.{eqb, ltb, leb}
 use borrow.Author.Tests.{ltb-true, not-false}
+use Rattle.kinds.specs.declared.Refusal.the-variants.{QueueEmpty, Unmarked}
 use Rattle.basis.specs.Choice.{pick, pick-same}
 use Rattle.kinds.specs.declared.Refusal.{Refusal}
 use Rattle.packets.specs.declared.Kind.{Kind}
@@ -30,7 +31,7 @@ use Rattle.machine.specs.State.{State, sender, start, withPhase, withSlo
 use Rattle.machine.specs.Read.{deliver, settle, doRead}
 use Rattle.machine.specs.Execute.{unit, choose, undo, doExecute, hasRoom, unmarked}
 use Rattle.machine.specs.Write.{send, doWrite}
-use Rattle.machine.specs.Calls.{Outcome, gives, refuse, isPhase, isEmpty, Call, read, execute, write, launch, reply, consume, entry, call, readCall, executeCall, writeCall, launched, launchCall, replyKind, replied, replyCall, removed, consumed, consumeCall, entryCall}
+use Rattle.machine.specs.Calls.{Outcome, gives, refuse, isPhase, isEmpty, Call, read, execute, write, launch, reply, consume, entry, call, readCall, executeCall, writeCall, launched, launchCall, replyKind, replied, replyCall, removed, headUnmarked, consumed, consumeCall, entryCall}
 use Rattle.machine.specs.Accepted.{Connection, accept, acceptKind, MadeBy}
 use Rattle.machine.specs.Valid.{Drives}
 use Rattle.machine.specs.Progress.{Quiet}
@@ -198,7 +199,7 @@ module _ {pl : Plan} (wired : Wired pl) (range : InRange (pl .head)) where
           (λ f. by-test wired range (Told (consume a)) (s .flag (activeIn a)) _ s _ (refused (consume a) _)
           (λ g. accepted (ltb-true a (A pl) (not-false _ f)) (s .queue (activeIn a)) refl)))
         where
-          accepted : a < A pl → (l : List Packet) → s .queue (activeIn a) ≡ l → Told (consume a) (consumed a l s)
+          accepted : a < A pl → (l : List Packet) → s .queue (activeIn a) ≡ l → Told (consume a) (refuse (isEmpty l) QueueEmpty s (refuse (headUnmarked l) Unmarked s (consumed a l s)))
           accepted h [] q = refused (consume a) _
           accepted h (x ∷ rest) q =
               by-test wired range (Told (consume a)) (unmarked x) _ s (gives (Taken x) (removed a rest s)) (refused (consume a) _)

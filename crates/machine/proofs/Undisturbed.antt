@@ -7,7 +7,7 @@ use Prim.Native.Nat.{ℕ, zero, suc}
 use native.Mathlib.Omega.{arith}
 use lib.Dec.{eqb, ltb, leb}
 use Rattle.kinds.specs.declared.Refusal.{Refusal}
-use Rattle.kinds.specs.declared.Refusal.the-variants.{WrongPhase}
+use Rattle.kinds.specs.declared.Refusal.the-variants.{WrongPhase, QueueEmpty, Unmarked}
 use Rattle.packets.specs.declared.Kind.{Kind}
 use Rattle.packets.specs.declared.Packet.{Packet}
 use Rattle.packets.specs.declared.Phase.{Phase}
@@ -20,7 +20,7 @@ use Rattle.machine.specs.State.{State, join}
 use Rattle.machine.specs.Read.{doRead}
 use Rattle.machine.specs.Execute.{doExecute, hasRoom, unmarked}
 use Rattle.machine.specs.Write.{doWrite}
-use Rattle.machine.specs.Calls.{Outcome, gives, refuse, isPhase, isEmpty, Call, read, execute, write, launch, reply, consume, entry, call, readCall, executeCall, writeCall, launched, launchCall, replyKind, replied, replyCall, removed, consumed, consumeCall, entryCall}
+use Rattle.machine.specs.Calls.{Outcome, gives, refuse, isPhase, isEmpty, Call, read, execute, write, launch, reply, consume, entry, call, readCall, executeCall, writeCall, launched, launchCall, replyKind, replied, replyCall, removed, headUnmarked, consumed, consumeCall, entryCall}
 use Rattle.machine.specs.Progress.{endsRound}
 use Rattle.machine.proofs.Still.{Same, launch-same, reply-same, remove-same}
 
@@ -122,7 +122,7 @@ module _ (pl : Plan) (p s : State) (k : Same pl p s) where
       (by-refusal Fine (not (ltb a (A pl))) _ s _ still
       (by-refusal Fine (s .flag (activeIn a)) _ s _ still (taken (s .queue (activeIn a)))))
     where
-      taken : (l : List Packet) → Fine (consumed a l s)
+      taken : (l : List Packet) → Fine (refuse (isEmpty l) QueueEmpty s (refuse (headUnmarked l) Unmarked s (consumed a l s)))
       taken [] = still
       taken (x ∷ l) = by-refusal Fine (unmarked x) _ s _ still (record { same = remove-same pl p s a l k; slot = refl; phase = refl; choice = refl })
 

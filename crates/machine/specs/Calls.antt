@@ -102,16 +102,23 @@ replyCall pl p c s =
 unfoldable pub removed : ℕ → List Packet → State → State
 removed a rest s = withAllowance a (s .allowance a + 1) (withFlag (activeIn a) true (withQueue (activeIn a) rest s))
 
+abbrev pub headUnmarked : List Packet → Bool
+headUnmarked [] = false
+headUnmarked (x ∷ rest) = unmarked x
+
+-- an empty in-queue has been refused
 abbrev pub consumed : ℕ → List Packet → State → Outcome
 consumed a [] s = gives (Refused QueueEmpty) s
-consumed a (x ∷ rest) s = refuse (unmarked x) Unmarked s (gives (Taken x) (removed a rest s))
+consumed a (x ∷ rest) s = gives (Taken x) (removed a rest s)
 
 unfoldable pub consumeCall : Plan → ℕ → State → Outcome
 consumeCall pl a s =
     refuse (not (isPhase (s .phase) Write)) WrongPhase s
     (refuse (not (ltb a (A pl))) BadNumber s
     (refuse (s .flag (activeIn a)) FlagUp s
-    (consumed a (s .queue (activeIn a)) s)))
+    (refuse (isEmpty (s .queue (activeIn a))) QueueEmpty s
+    (refuse (headUnmarked (s .queue (activeIn a))) Unmarked s
+    (consumed a (s .queue (activeIn a)) s)))))
 
 -- '**Entry** (router, side, slot): 9. Else the entry'
 unfoldable pub entryCall : Plan → ℕ → ℕ → ℕ → State → Outcome

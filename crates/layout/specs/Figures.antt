@@ -17,11 +17,12 @@ use Rattle.layout.specs.Places.{placeBytes, packetAt, packetsAt}
 use Rattle.layout.specs.Encode.{queueBytes, outputBytes, encode}
 use Rattle.layout.specs.Decode.{decode}
 use Rattle.layout.specs.Canonical.{sameBytes, canonical}
+use Rattle.plan.specs.Samples.{planT as bytesT}
 
 -- one router, side 0 to active 0, side 1 to passive 0, S=2, capacities 1
 unfoldable pub planT : Plan
 unfolding bitAt fieldOf capacityAt headOf jointIn planOf
-planT = planOf (8 ∷ 66 ∷ 17 ∷ 36 ∷ 146 ∷ 76 ∷ 6 ∷ 0 ∷ 0 ∷ 0 ∷ 32 ∷ [])
+planT = planOf bytesT
 
 -- ---- where the parts begin, and the size
 pub t-parts : (outputsAt planT ≡ 977) × (allowancesAt planT ≡ 1033) × (tableAt planT ≡ 1034) × (size planT ≡ 1290)

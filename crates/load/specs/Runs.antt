@@ -17,10 +17,7 @@ use Rattle.feeding.specs.Queue.{number, queues}
 use Rattle.feeding.specs.Edges.{aheadEdges, backEdges, nackEdges, nacksEdges, pairEdges, marks, markPair, markActive, cellsOf}
 use Rattle.feeding.specs.RingTest.{hasRing}
 use Rattle.load.specs.Load.{lengthOk, jointsOk, loadOf, loadNumber}
-
--- plan T: one router, side 0 to active 0, side 1 to passive 0, S=2, capacities 1: 08 42 11 24 92 4C 06 00 00 00 20
-abbrev pub planT : List ℕ
-planT = 8 ∷ 66 ∷ 17 ∷ 36 ∷ 146 ∷ 76 ∷ 6 ∷ 0 ∷ 0 ∷ 0 ∷ 32 ∷ []
+use Rattle.plan.specs.Samples.{planT, twoRouters}
 
 -- Load's number, computed from the bytes
 unfoldable pub loads : List ℕ → ℕ
@@ -30,6 +27,11 @@ loads b = loadNumber (loadOf b)
 pub t-loads : loads planT ≡ 0
 unfolding loads
 t-loads = refl
+
+-- the plan of the run in which the second router declines loads too
+pub two-routers-load : loads twoRouters ≡ 0
+unfolding loads
+two-routers-load = refl
 
 pub five-bytes : loads (8 ∷ 66 ∷ 17 ∷ 36 ∷ 146 ∷ []) ≡ 1
 unfolding loads

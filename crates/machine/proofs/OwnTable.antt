@@ -12,19 +12,26 @@ use borrow.Author.Tests.{eqb-true, eq-eqb, lt-ltb, le-ltb}
 use Rattle.basis.specs.Choice.{pick, also, also-true}
 use Rattle.basis.specs.Among.{In}
 use Rattle.kinds.specs.declared.Slot.{Slot}
+use Rattle.packets.specs.declared.Wire.{Wire}
+use Rattle.packets.specs.declared.Wire.the-variants.{Empty, Full}
 use Rattle.packets.specs.declared.Entry.the-variants.{Free, Booked}
 use Rattle.packets.specs.Counters.{slotAfter}
+use Rattle.plan.specs.declared.Joint.{Joint}
+use Rattle.plan.specs.declared.Joint.the-variants.{Nothing, Router, Active, Passive}
 use Rattle.plan.specs.Plan.{Plan, active, passive, R, S, routeTo}
 use Rattle.paths.specs.declared.Index.{Index}
 use Rattle.paths.specs.declared.Index.the-variants.{At, Off}
 use Rattle.feeding.specs.Queue.{queueAt, queues}
-use Rattle.feeding.specs.Feeds.{Stands, span}
+use Rattle.feeding.specs.Feeds.{Output, ofActive, ofPassive, ofSide, toUnit, fromUnit, headingOf, across, Stands, span}
 use Rattle.wiring.specs.Wired.{Wired}
+use Rattle.wiring.proofs.Joints.{router-some, interface-some}
+use Rattle.journeys.proofs.Places.{some-not-none}
 use Rattle.machine.specs.Outputs.{outputs, outputAt}
 use Rattle.machine.specs.State.{State}
 use Rattle.machine.specs.Accepted.{Connection, Makes, MadeBy}
 use Rattle.machine.specs.Progress.{Quiet}
-use Rattle.machine.specs.Valid.{bit}
+use Rattle.machine.specs.Valid.{Drives, bit}
+use Rattle.machine.proofs.Core.{Core}
 use Rattle.machine.proofs.Numbers.{exists-at}
 use Rattle.machine.proofs.OutNumbers.{drives-at}
 use Rattle.machine.proofs.Sums.{sum-nought}
@@ -35,14 +42,39 @@ use Rattle.machine.proofs.Indices.{index-stands, index-is}
 use Rattle.machine.proofs.Owners.{Claim, sameClaim, claimOf, reaches, indexOf, owning, owns, ownsMade, made, entryOf, holds, Agreed, Owned}
 use Rattle.machine.proofs.Owning.{claim-same, same-claim, bit-true, held}
 
+-- ---- an empty network
+-- A side that is not joined has no wire: what would stand for it is empty, since nothing goes on from there.
+pub unjoined-empty : (pl : Plan) (s : State) → Core pl s → (r o : ℕ) → r < R pl → o < 4 → pl .joint r o ≡ Nothing → s .wire (ofSide r o) ≡ Empty
+unjoined-empty pl s c r o hr ho e = by (s .wire (ofSide r o)) refl
+  where
+    by : (w : Wire) → s .wire (ofSide r o) ≡ w → w ≡ Empty
+    by Empty q = refl
+    by (Full x) q =
+        let g = c .wires (ofSide r o) (hr, ho) x q in
+        absurd (some-not-none (sym (ap (across pl (headingOf (x .kind)) (x .active) (x .passive)) e) ∙ g .next))
+
+-- So where every wire that there is is empty, every output's is.
+pub quiet-wires : (pl : Plan) (s : State) → Core pl s → Quiet pl s → (o : Output) → Drives pl o → s .wire o ≡ Empty
+quiet-wires pl s c q (ofActive a) d = q .wires (ofActive a) d
+quiet-wires pl s c q (ofPassive p) d = q .wires (ofPassive p) d
+quiet-wires pl s c q (toUnit r) d = q .wires (toUnit r) d
+quiet-wires pl s c q (fromUnit r) d = q .wires (fromUnit r) d
+quiet-wires pl s c q (ofSide r o) (hr, ho) = by (pl .joint r o) refl
+  where
+    by : (j : Joint) → pl .joint r o ≡ j → s .wire (ofSide r o) ≡ Empty
+    by Nothing e = unjoined-empty pl s c r o hr ho e
+    by (Router n t) e = q .wires (ofSide r o) (hr, ho, λ z. router-some (sym e ∙ z))
+    by (Active n) e = q .wires (ofSide r o) (hr, ho, λ z. interface-some (active n) (sym e ∙ z))
+    by (Passive n) e = q .wires (ofSide r o) (hr, ho, λ z. interface-some (passive n) (sym e ∙ z))
+
 -- Where every queue and wire is empty, every weight is 0.
-pub quiet-weighed : (pl : Plan) (w : Weight) (s : State) → Quiet pl s → weighed pl w s ≡ 0
+pub quiet-weighed : (pl : Plan) (w : Weight) (s : State) → Core pl s → Quiet pl s → weighed pl w s ≡ 0
 unfolding weighed inLines inWires inLine onWire
-quiet-weighed pl w s q =
+quiet-weighed pl w s c q =
     let lines = sum-nought (queues pl) (λ n. inLine w (queueAt pl n) (s .handled (queueAt pl n)) (s .queue (queueAt pl n)))
     (λ n l. ap (inLine w (queueAt pl n) (s .handled (queueAt pl n))) (q .queues (queueAt pl n) (exists-at pl n l))) in
     let wires = sum-nought (outputs pl) (λ n. onWire pl w (outputAt pl n) (s .wire (outputAt pl n)))
-    (λ n l. ap (onWire pl w (outputAt pl n)) (q .wires (outputAt pl n) (drives-at pl n l))) in
+    (λ n l. ap (onWire pl w (outputAt pl n)) (quiet-wires pl s c q (outputAt pl n) (drives-at pl n l))) in
     omega arith
 
 -- ---- the sum over the accepted connections
@@ -132,8 +164,8 @@ module _ {pl : Plan} (wired : Wired pl) (c : Connection) (g : Agreed pl c) (r o 
       )
 
 -- In an owned state with every queue and wire empty, the table is the one that the accepted connections make.
-pub owned-table : {pl : Plan} → Wired pl → {acc : List Connection} (s : State) → Owned pl acc s → Quiet pl s → MadeBy pl acc (s .table)
-owned-table {pl} wired {acc} s k q = record { made = made′; else-free = free′ }
+pub owned-table : {pl : Plan} → Wired pl → {acc : List Connection} (s : State) → Core pl s → Owned pl acc s → Quiet pl s → MadeBy pl acc (s .table)
+owned-table {pl} wired {acc} s core k q = record { made = made′; else-free = free′ }
   where
     made′ : (c : Connection) → In c acc → (r o t i : ℕ) → Makes pl c r o t i → s .table r o t ≡ Booked i
     made′ c n r o t i m =
@@ -145,7 +177,7 @@ owned-table {pl} wired {acc} s k q = record { made = made′; else-free = free�
         let below : slotAfter (c .start) (record { 0 = m .index }) (S pl) .0 < S pl = mod-lt (c .start .0 + m .index) (let l = g .start in omega arith) in
         let slot = m .slot in
         let ht : t < S pl = omega arith in
-        let none = quiet-weighed pl (owns pl r o t (claimOf pl (c .active) (c .passive) r)) s q in
+        let none = quiet-weighed pl (owns pl r o t (claimOf pl (c .active) (c .passive) r)) s core q in
         let one = makes-owns wired c g r o t i m in
         let all = made-in pl r o t (claimOf pl (c .active) (c .passive) r) c acc n in
         let sum = k .owners r o t hr ho ht (claimOf pl (c .active) (c .passive) r) in
@@ -159,7 +191,7 @@ owned-table {pl} wired {acc} s k q = record { made = made′; else-free = free�
         by : (m : Option Claim) → k .claims r o t ≡ m → s .table r o t ≡ Free
         by none e = k .entries r o t hr ho ht ∙ ap entryOf e
         by (some v) e =
-            let none = quiet-weighed pl (owns pl r o t v) s q in
+            let none = quiet-weighed pl (owns pl r o t v) s core q in
             let sum = k .owners r o t hr ho ht v in
             let one : holds (k .claims r o t) v ≡ 1 = rw (e, claim-same v) in
             let d = made-some pl r o t v acc (omega arith) in

@@ -238,6 +238,14 @@ module _ {pl : Plan} (wired : Wired pl) (range : InRange (pl .head)) where
       let g = list-tracked cs (accept pl c (call pl c s .answer) acc) (λ d. launchesCall d c (call pl c s .answer) + n d) (call pl c s .state) (call-tracked acc n s k c) in
       record { inv = g .inv; owned = g .owned; counted = λ d. record { count = omega (arith, g .counted d .count) } }
 
+  -- from Start
+  pub reached : (cs : List Call) → Tracked pl (acceptedAfter pl cs (start pl) []) (λ d. launches pl d cs (start pl) + 0) (ruledAfter pl cs (start pl))
+  reached cs = list-tracked cs [] (λ d. 0) (start pl) start-tracked
+
+  -- every booked entry is owned by exactly one packet under way or accepted connection, and nothing else is booked
+  pub reached-owned : (cs : List Call) → Owned pl (acceptedAfter pl cs (start pl) []) (ruledAfter pl cs (start pl))
+  reached-owned cs = reached cs .owned
+
   -- ---- what every call keeps: core, shape and ownership, with some connections accepted and some launches
   abbrev pub Held : State → Type 0
   Held s = (acc : List Connection) × (n : Connection → ℕ) × Tracked pl acc n s
@@ -253,7 +261,7 @@ module _ {pl : Plan} (wired : Wired pl) (range : InRange (pl .head)) where
         starts = ([], (λ d. 0), start-tracked);
         keeps = held-kept;
         good = λ s k. good-of pl s (k .2 .inv);
-        table = λ cs q. owned-table wired (ruledAfter pl cs (start pl)) (list-tracked cs [] (λ d. 0) (start pl) start-tracked .owned) q;
+        table = λ cs q. owned-table wired (ruledAfter pl cs (start pl)) (reached cs .inv .core) (reached cs .owned) q;
         progress = λ s g w cs l. progress wired range free s g w cs l;
-        launched = λ cs d. let m = counted-times pl d (list-tracked cs [] (λ d. 0) (start pl) start-tracked .counted d) in omega arith;
+        launched = λ cs d. let m = counted-times pl d (reached cs .counted d) in omega arith;
       }

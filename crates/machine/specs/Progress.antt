@@ -1,6 +1,6 @@
 -- The words of demand 3: an empty network, a packet on its way, a move, and whole rounds.
 use mathlib.Core.Path.{_≡_}
-use mathlib.Core.Logic.{_⊎_}
+use mathlib.Core.Logic.{_⊎_, _≢_}
 use mathlib.Core.Bool.{Bool, true, false}
 use mathlib.Core.List.{List, [], _∷_, _++_}
 use Prim.Native.Nat.{ℕ, zero, suc, _+_, _≤_, _<_}
@@ -11,9 +11,10 @@ use Rattle.packets.specs.declared.Wire.the-variants.{Empty, Full}
 use Rattle.packets.specs.declared.Phase.the-variants.{Read}
 use Rattle.packets.specs.declared.Answer.{Answer}
 use Rattle.packets.specs.declared.Answer.the-variants.{Refused, Done, Taken, Holds}
-use Rattle.plan.specs.Plan.{Plan, P}
+use Rattle.plan.specs.declared.Joint.the-variants.{Nothing}
+use Rattle.plan.specs.Plan.{Plan, R, A, P}
 use Rattle.feeding.specs.Queue.{Queue, activeOut, activeIn, passiveIn, passiveOut, U, Q, F, K, Exists, capacity}
-use Rattle.feeding.specs.Feeds.{Output}
+use Rattle.feeding.specs.Feeds.{Output, ofActive, ofPassive, ofSide, toUnit, fromUnit}
 use Rattle.machine.specs.State.{State}
 use Rattle.machine.specs.Valid.{Drives}
 use Rattle.machine.specs.Calls.{Call, read, execute, write, launch, reply, consume, entry}
@@ -22,10 +23,19 @@ use Rattle.machine.specs.Calls.{Call, read, execute, write, launch, repl
 abbrev pub Within : Plan → State → Type 0
 Within pl s = (q : Queue) → Exists pl q → length (s .queue q) ≤ capacity (pl .head) q
 
+-- 'A wire enters each joined side and each interface from its neighbour; one leads from router to unit, one back':
+-- an output has one, but for a side that is not joined
+abbrev pub HasWire : Plan → Output → Type 0
+HasWire pl (ofActive a) = a < A pl
+HasWire pl (ofPassive p) = p < P pl
+HasWire pl (ofSide r o) = (r < R pl) × (o < 4) × (pl .joint r o ≢ Nothing)
+HasWire pl (toUnit r) = r < R pl
+HasWire pl (fromUnit r) = r < R pl
+
 -- 'every queue and wire is empty'
 pub record Quiet (pl : Plan) (s : State) : Type 0 where
   pub queues : (q : Queue) → Exists pl q → s .queue q ≡ []
-  pub wires : (o : Output) → Drives pl o → s .wire o ≡ Empty
+  pub wires : (o : Output) → HasWire pl o → s .wire o ≡ Empty
 
 -- 'an interface's in-queue'
 abbrev pub isInQueue : Queue → Bool

@@ -9,13 +9,9 @@ use Rattle.packets.specs.declared.Packet.{Packet}
 use Rattle.feeding.specs.Queue.{activeOut, activeIn, Q}
 use Rattle.machine.specs.State.{State}
 use Rattle.machine.specs.Calls.{Call, read, execute, write, launch, reply, consume}
-use Rattle.runs.specs.Watch.{round, packet, done, taken, entryIn, after, steady, watch}
-
--- Two routers, S=4, capacities 1. Router 0: side 0 to active 0, side 1 to side 0 of router 1. Router 1: side 1 to
--- passive 0, side 2 to active 1. Routes: the shortest.
--- 10 82 21 24 92 4C 02 20 00 02 0E 04 20 00 24 22
-abbrev pub twoRouters : List ℕ
-twoRouters = 16 ∷ 130 ∷ 33 ∷ 36 ∷ 146 ∷ 76 ∷ 2 ∷ 32 ∷ 0 ∷ 2 ∷ 14 ∷ 4 ∷ 32 ∷ 0 ∷ 36 ∷ 34 ∷ []
+use Rattle.runs.specs.Watch.{round, packet, entryIn, after, steady, watch}
+use Rattle.plan.specs.Samples.{twoRouters}
+use Rattle.packets.specs.Answers.{done, taken}
 
 -- The walks to the passive leave each router by its side 1: that side's entries for slots 0 to 3, at the first router,
 -- then at the second

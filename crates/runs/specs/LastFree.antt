@@ -6,8 +6,10 @@ use Rattle.packets.specs.declared.Kind.the-variants.{Setup, Nack}
 use Rattle.packets.specs.declared.Packet.{Packet}
 use Rattle.feeding.specs.Queue.{activeOut, activeIn, Q}
 use Rattle.machine.specs.Calls.{Call, read, execute, write, launch, consume}
-use Rattle.runs.specs.Watch.{round, packet, done, taken, after, steady, watch}
-use Rattle.runs.specs.Runs.{planT, side1, free, booked, launched, setup, ack, launchInRound0}
+use Rattle.runs.specs.Watch.{round, packet, after, steady, watch}
+use Rattle.runs.specs.Runs.{side1, free, booked, launched, setup, ack, launchInRound0}
+use Rattle.plan.specs.Samples.{planT}
+use Rattle.packets.specs.Answers.{done, taken}
 
 abbrev pub lastFreeEntry : List Call
 lastFreeEntry =

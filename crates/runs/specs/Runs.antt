@@ -8,11 +8,9 @@ use Rattle.packets.specs.declared.Packet.{Packet}
 use Rattle.feeding.specs.Queue.{activeIn, passiveIn, F}
 use Rattle.machine.specs.State.{State}
 use Rattle.machine.specs.Calls.{Call, read, execute, write, launch, reply, consume}
-use Rattle.runs.specs.Watch.{round, packet, done, taken, entryIn, after, steady, watch}
-
--- 'Plan T, one router, side 0 to active 0, side 1 to passive 0, S=2, capacities 1: 08 42 11 24 92 4C 06 00 00 00 20'
-abbrev pub planT : List ℕ
-planT = 8 ∷ 66 ∷ 17 ∷ 36 ∷ 146 ∷ 76 ∷ 6 ∷ 0 ∷ 0 ∷ 0 ∷ 32 ∷ []
+use Rattle.runs.specs.Watch.{round, packet, entryIn, after, steady, watch}
+use Rattle.plan.specs.Samples.{planT}
+use Rattle.packets.specs.Answers.{done, taken}
 
 -- the entries of side 1, by which the walk to the passive leaves: slot 0, slot 1
 abbrev pub side1 : State → List ℕ

@@ -8,8 +8,10 @@ use Rattle.packets.specs.declared.Packet.{Packet}
 use Rattle.feeding.specs.Queue.{activeOut, activeIn}
 use Rattle.machine.specs.State.{State}
 use Rattle.machine.specs.Calls.{Call, read, execute, write, launch, reply, consume}
-use Rattle.runs.specs.Watch.{round, packet, refused, done, taken, after, steady, watch}
-use Rattle.runs.specs.Runs.{planT, launched, ack}
+use Rattle.runs.specs.Watch.{round, packet, after, steady, watch}
+use Rattle.runs.specs.Runs.{launched, ack}
+use Rattle.plan.specs.Samples.{planT}
+use Rattle.packets.specs.Answers.{refused, done, taken}
 
 abbrev pub allowanceSpent : List Call
 allowanceSpent =

@@ -11,7 +11,7 @@ use Rattle.packets.specs.declared.Kind.{Kind}
 use Rattle.packets.specs.declared.Packet.{Packet}
 use Rattle.packets.specs.declared.Answer.{Answer}
 use Rattle.packets.specs.declared.Answer.the-variants.{Refused, Done, Taken, Holds}
-use Rattle.packets.specs.Answers.{entryNumber}
+use Rattle.packets.specs.Answers.{entryNumber, Value, done, valueOf}
 use Rattle.plan.specs.Head.{capacityAt, headOf}
 use Rattle.plan.specs.Plan.{Plan, jointIn, planOf}
 use Rattle.plan.specs.Rules.{portsOf, home}
@@ -36,30 +36,17 @@ round = read ∷ execute ∷ write ∷ []
 abbrev pub packet : Kind → ℕ → ℕ → ℕ → ℕ → Packet
 packet k a p t h = record { kind = k; active = a; passive = p; slot = record { 0 = t }; hub = record { 0 = h } }
 
--- what a run shows of an answer: document 01's number of a refusal, Consume's packet, Entry's number
-pub data Seen : Type 0 where
-  refused : ℕ → Seen
-  done : Seen
-  taken : Packet → Seen
-  holds : ℕ → Seen
-
-abbrev pub seenOf : Answer → Seen
-seenOf (Refused w) = refused (refusalNumber w)
-seenOf Done = done
-seenOf (Taken x) = taken x
-seenOf (Holds e) = holds (entryNumber e)
-
 -- 'the entry, 4 for free', of a router, a side and a slot
 abbrev pub entryIn : State → ℕ → ℕ → ℕ → ℕ
 entryIn s r o t = entryNumber (s .table r o t)
 
 -- after a call: its answer, and in the state that it left the numbers and the queues that are looked at
 pub record After : Type 0 where
-  pub answer : Seen
+  pub answer : Value
   pub numbers : List ℕ
   pub queues : List (List Packet)
 
-abbrev pub after : Seen → List ℕ → List (List Packet) → After
+abbrev pub after : Value → List ℕ → List (List Packet) → After
 after a ns qs = record { answer = a; numbers = ns; queues = qs }
 
 -- after each call of a round that is done and leaves all that is looked at as it was
@@ -76,7 +63,7 @@ watching pl look qs [] s = []
 watching pl look qs (c ∷ cs) s =
     let r : Outcome = call pl c s in
     let rest : List After = watching pl look qs cs (r .state) in
-    after (seenOf (r .answer)) (look (r .state)) (contents (r .state) qs) ∷ rest
+    after (valueOf (r .answer)) (look (r .state)) (contents (r .state) qs) ∷ rest
 
 -- a run from Start of the plan that the bytes give: what numbers and what queues are looked at, and the calls
 unfoldable pub watch : List ℕ → (State → List ℕ) → List Queue → List Call → List After

@@ -32,10 +32,11 @@ use Rattle.machine.specs.Write.{sendHead, sendBy, send, doWrite}
 use Rattle.machine.specs.Calls.{Call, read, execute, write, launch, reply, consume, call, readCall, executeCall, writeCall, launched, launchCall, replyCall, removed, consumeCall}
 use Rattle.machine.specs.Valid.{bit, sum, onWires, total}
 use Rattle.valid.specs.Test.{meetsTest, aheadTest, returnsTest, backTest, fitsTest, packetTest, belongsTest, slotTest, entriesTest, capacitiesTest, placesTest, wiresTest, wiresEmptyTest, choicesTest, flagsDownTest, pickedDownTest, outFlagsTest, marksTest, freeEntryTest, creditsTest, outCreditsTest, allowancesTest, validTest}
+use Rattle.plan.specs.Samples.{planT as bytesT}
 
 -- plan T of document 01
 abbrev planT : Plan
-planT = planOf (8 ∷ 66 ∷ 17 ∷ 36 ∷ 146 ∷ 76 ∷ 6 ∷ 0 ∷ 0 ∷ 0 ∷ 32 ∷ [])
+planT = planOf bytesT
 
 abbrev round : List Call
 round = read ∷ execute ∷ write ∷ []

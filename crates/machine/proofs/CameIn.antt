@@ -2,7 +2,6 @@
 use mathlib.Core.Path.{_≡_, refl, sym, ap, _∙_}
 use mathlib.Core.Bool.{true, false}
 use Prim.Native.Nat.{ℕ, zero, suc, _+_, _-_, _<_}
-use native.Mathlib.Nat.{suc-add, zero-add}
 use native.Mathlib.Omega.{arith}
 use borrow.Author.Tests.{eq-eqb, ne-eqb}
 use Rattle.basis.specs.Walk.{Spot, on, end, lost, way-on}
@@ -12,6 +11,7 @@ use Rattle.paths.specs.declared.Index.the-variants.{At, Off}
 use Rattle.paths.specs.Walk.{onward, routerOf, walked}
 use Rattle.paths.specs.Served.{Served}
 use Rattle.paths.specs.Steps.{standsOn, indexIn, indexOn}
+use Rattle.paths.proofs.Ends.{index-none, index-off, index-at, index-stays}
 use Rattle.feeding.specs.Feeds.{Stands}
 use Rattle.wiring.specs.Wired.{Wired}
 use Rattle.wiring.proofs.Wires.{home-inside}
@@ -22,26 +22,15 @@ use Rattle.machine.proofs.Closure.{stands-below, span-short}
 -- ---- the first router of a walk that is r
 module _ (pl : Plan) (e : Interface) (x : Port) (r : ℕ) where
   -- where the first n routers are others, none is found among them
-  index-off : (n : ℕ) → ((k : ℕ) → k < n → standsOn r (walked pl e k x) ≡ false) → indexIn pl e x r n ≡ Off
-  unfolding indexIn
-  index-off zero f = refl
-  index-off (suc n) f = rw (index-off n (λ k h. f k (omega arith)), f n (omega arith))
-
-  index-at : (n : ℕ) → indexIn pl e x r n ≡ Off → standsOn r (walked pl e n x) ≡ true → indexIn pl e x r (suc n) ≡ At n
-  unfolding indexIn
-  index-at n f g = rw (f, g)
-
-  -- once found it stays
-  index-stays : (m n k : ℕ) → indexIn pl e x r n ≡ At k → indexIn pl e x r (m + n) ≡ At k
-  unfolding indexIn
-  index-stays zero n k f = rw zero-add f
-  index-stays (suc m) n k f = rw (suc-add, index-stays m n k f)
+  index-others : (n : ℕ) → ((k : ℕ) → k < n → standsOn r (walked pl e k x) ≡ false) → indexIn pl e x r n ≡ Off
+  index-others zero f = index-none pl e x r
+  index-others (suc n) f = index-off pl e x r n (index-others n (λ k h. f k (omega arith))) (f n (omega arith))
 
   -- the walk stands on r after n routers, and on others before: n is found among any number of routers behind it
   index-found : (n m : ℕ) → n < m → standsOn r (walked pl e n x) ≡ true → ((k : ℕ) → k < n → standsOn r (walked pl e k x) ≡ false) → indexIn pl e x r m ≡ At n
   index-found n m h f g =
       let at : m - suc n + suc n ≡ m = omega arith in
-      ap (indexIn pl e x r) (sym at) ∙ index-stays (m - suc n) (suc n) n (index-at n (index-off n g) f)
+      ap (indexIn pl e x r) (sym at) ∙ index-stays pl e x r (m - suc n) (suc n) n (index-at pl e x r n (index-others n g) f)
 
 module _ {pl : Plan} (wired : Wired pl) (a p : ℕ) (ha : a < A pl) (hp : p < P pl) (s : Served pl a p) where
   -- a router on the walk is the plan's, and so is the side by which the walk comes in

@@ -185,20 +185,20 @@ module _ (h : Head) (routes : List (List ℕ)) (joints : List ℕ) (a p : ℕ) (
 
 -- ---- a router's index
 module _ (pl : Plan) (e : Interface) (x : Port) (r : ℕ) where
-  index-none : indexIn pl e x r 0 ≡ Off
+  pub index-none : indexIn pl e x r 0 ≡ Off
   unfolding indexIn
   index-none = refl
 
-  index-off : (n : ℕ) → indexIn pl e x r n ≡ Off → standsOn r (walked pl e n x) ≡ false → indexIn pl e x r (suc n) ≡ Off
+  pub index-off : (n : ℕ) → indexIn pl e x r n ≡ Off → standsOn r (walked pl e n x) ≡ false → indexIn pl e x r (suc n) ≡ Off
   unfolding indexIn
   index-off n f g = rw (f, g)
 
-  index-at : (n : ℕ) → indexIn pl e x r n ≡ Off → standsOn r (walked pl e n x) ≡ true → indexIn pl e x r (suc n) ≡ At n
+  pub index-at : (n : ℕ) → indexIn pl e x r n ≡ Off → standsOn r (walked pl e n x) ≡ true → indexIn pl e x r (suc n) ≡ At n
   unfolding indexIn
   index-at n f g = rw (f, g)
 
   -- once met it stays
-  index-stays : (m n k : ℕ) → indexIn pl e x r n ≡ At k → indexIn pl e x r (m + n) ≡ At k
+  pub index-stays : (m n k : ℕ) → indexIn pl e x r n ≡ At k → indexIn pl e x r (m + n) ≡ At k
   unfolding indexIn
   index-stays zero n k f = rw zero-add f
   index-stays (suc m) n k f = rw (suc-add, index-stays m n k f)

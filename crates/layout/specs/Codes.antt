@@ -1,4 +1,5 @@
--- The byte of each value that is not a number, and the value of each byte. A byte that is no value's is read as some value: comparing back tells.
+-- The byte of each value that is not a number, and the value of each byte. A byte that is no value's is read as some
+-- value: comparing back tells.
 use mathlib.Core.Path.{_≡_, refl}
 use mathlib.Core.Bool.{Bool, true, false}
 use Prim.Native.Nat.{ℕ, zero, suc, _≤_}

@@ -1,4 +1,5 @@
--- The state of bytes, whatever they are: each part read at its offset where the plan has it, and as Start leaves it elsewhere.
+-- The state of bytes, whatever they are: each part read at its offset where the plan has it, and as Start leaves it
+-- elsewhere.
 -- So it is bounded, and small: its queues fit in their places, as those of every valid state do.
 use mathlib.Core.Path.{_≡_}
 use mathlib.Core.Bool.{Bool, true, false}
@@ -106,9 +107,13 @@ capacity-most h (K r i o) range = range .k .1
 
 -- a valid state's queues are within their capacities
 pub valid-small : (pl : Plan) (s : State) → InRange (pl .head) → Valid pl s → Small pl s
-valid-small pl s range v = record { few = λ q h. let c = v .capacities q h in let m = capacity-most (pl .head) q range in omega arith }
+valid-small pl s range v =
+    record { few = λ q h. let c = v .capacities q h in let m = capacity-most (pl .head) q range in omega arith }
 
 -- what is read from bytes is small
 pub decode-small : (pl : Plan) (b : List ℕ) → Small pl (decode pl b)
 unfolding decode
-decode-small pl b = record { few = λ q h. rw (exists-test pl q h) (packets-few places (lengthAt (queueRow pl q) b) (queueRow pl q + firstPlace) b) }
+decode-small pl b =
+    record {
+      few = λ q h. rw (exists-test pl q h) (packets-few places (lengthAt (queueRow pl q) b) (queueRow pl q + firstPlace) b);
+    }

@@ -1,4 +1,5 @@
--- The bytes of a state: header, a row for each queue, a row for each output, the allowances, the table; and the bytes past the state.
+-- The bytes of a state: header, a row for each queue, a row for each output, the allowances, the table; and the bytes
+-- past the state.
 use mathlib.Core.Path.{_≡_, refl}
 use mathlib.Core.List.{List, [], _∷_, _++_, append-assoc}
 use Prim.Native.Nat.{ℕ, zero, _+_, _*_, _/_, _%_}
@@ -20,7 +21,9 @@ use Rattle.layout.specs.Places.{packetBytes, blank, placeBytes, length-p
 -- ---- one row
 -- credit, flag, handled mark, length, places
 unfoldable pub queueBytes : State → Queue → List ℕ
-queueBytes s q = s .credit q .0 ∷ flagCode (s .flag q) ∷ flagCode (s .handled q) ∷ length (s .queue q) ∷ placeBytes places (s .queue q)
+queueBytes s q =
+    s .credit q .0 ∷ flagCode (s .flag q) ∷ flagCode (s .handled q) ∷ length (s .queue q) ∷ placeBytes places
+    (s .queue q)
 
 -- a full wire's packet, zero bytes where it is empty
 abbrev pub wireBytes : Wire → List ℕ
@@ -77,10 +80,12 @@ length-output s o = rw (length-append (wireBytes (s .wire o)), length-wire (s .w
 module _ (pl : Plan) (s : State) where
   -- and every part as many rows as it has
   pub length-queues : length (queuePart pl s) ≡ queueWidth * queues pl
-  length-queues = span-length queueWidth 0 (queues pl) (λ n. queueBytes s (queueAt pl n)) (λ n. length-queue s (queueAt pl n))
+  length-queues =
+      span-length queueWidth 0 (queues pl) (λ n. queueBytes s (queueAt pl n)) (λ n. length-queue s (queueAt pl n))
 
   pub length-outputs : length (outputPart pl s) ≡ outputWidth * outputs pl
-  length-outputs = span-length outputWidth 0 (outputs pl) (λ n. outputBytes s (outputAt pl n)) (λ n. length-output s (outputAt pl n))
+  length-outputs =
+      span-length outputWidth 0 (outputs pl) (λ n. outputBytes s (outputAt pl n)) (λ n. length-output s (outputAt pl n))
 
   pub length-allowances : length (allowancePart pl s) ≡ 1 * A pl
   length-allowances = span-length 1 0 (A pl) (allowanceBytes s) (λ n. refl)

@@ -1,4 +1,5 @@
--- The layout in figures for plan T, as docs/STATE.md gives them, and Start's bytes of plan T: a state's, but not one byte short or with a byte changed.
+-- The layout in figures for plan T, as docs/STATE.md gives them, and Start's bytes of plan T: a state's, but not one
+-- byte short or with a byte changed.
 use mathlib.Core.Path.{_≡_, refl}
 use mathlib.Core.Bool.{Bool, true, false}
 use mathlib.Core.List.{List, [], _∷_, _++_}

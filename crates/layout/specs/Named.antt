@@ -51,7 +51,8 @@ exists-test pl (passiveOut p) h = lt-ltb p (P pl) h
 exists-test pl (U r i) (h, l) = also-of (lt-ltb r (R pl) h) (lt-ltb i 4 l)
 exists-test pl (Q r) h = lt-ltb r (R pl) h
 exists-test pl (F r o) (h, l) = also-of (lt-ltb r (R pl) h) (lt-ltb o 4 l)
-exists-test pl (K r i o) (h, hi, ho, ne) = also-of (lt-ltb r (R pl) h) (also-of (lt-ltb i 4 hi) (also-of (lt-ltb o 4 ho) (rw (ne-eqb i o ne))))
+exists-test pl (K r i o) (h, hi, ho, ne) =
+    also-of (lt-ltb r (R pl) h) (also-of (lt-ltb i 4 hi) (also-of (lt-ltb o 4 ho) (rw (ne-eqb i o ne))))
 
 -- ---- the plan has an output
 abbrev pub drivesTest : Plan → Output → Bool
@@ -87,7 +88,9 @@ HasEntry pl r o t = (r < R pl) × (o < 4) × (t < S pl)
 
 -- the test is passed by the plan's entries alone
 pub test-entry : (pl : Plan) (r o t : ℕ) → entryTest pl r o t ≡ true → HasEntry pl r o t
-test-entry pl r o t e = let p = also-true e in let q = also-true (p .1) in (ltb-true r (R pl) (p .0), ltb-true o 4 (q .0), ltb-true t (S pl) (q .1))
+test-entry pl r o t e =
+    let p = also-true e in let q = also-true (p .1) in
+    (ltb-true r (R pl) (p .0), ltb-true o 4 (q .0), ltb-true t (S pl) (q .1))
 
 -- and by each of them
 pub entry-test : (pl : Plan) (r o t : ℕ) → HasEntry pl r o t → entryTest pl r o t ≡ true

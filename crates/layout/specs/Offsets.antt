@@ -1,4 +1,5 @@
--- The numbers of the layout: widths, counts, and the offset of every byte, linear in the plan's counts and in the place's numbers.
+-- The numbers of the layout: widths, counts, and the offset of every byte, linear in the plan's counts and in the
+-- place's numbers.
 use mathlib.Core.Path.{_≡_}
 use Prim.Native.Nat.{ℕ, _+_, _*_, _≤_}
 use native.Mathlib.Omega.{arith}

@@ -1,4 +1,5 @@
--- A packet's five bytes, and the places of a queue, any number of them: its packets from the first place on, and zero bytes past them.
+-- A packet's five bytes, and the places of a queue, any number of them: its packets from the first place on, and zero
+-- bytes past them.
 use mathlib.Core.Path.{_≡_, refl, ap₂}
 use mathlib.Core.List.{List, [], _∷_, _++_}
 use Prim.Native.Nat.{ℕ, zero, suc, _+_, _*_, _≤_}
@@ -68,7 +69,8 @@ packet-read i x b s =
     )
 
 -- and the packets of a queue that has as many places
-pub packets-read : (c i : ℕ) (xs : List Packet) (b : List ℕ) → length xs ≤ c → Stands i (placeBytes c xs) b → packetsAt c (length xs) i b ≡ xs
+pub packets-read : (c i : ℕ) (xs : List Packet) (b : List ℕ) → length xs ≤ c → Stands i (placeBytes c xs) b
+    → packetsAt c (length xs) i b ≡ xs
 unfolding placeBytes packetsAt
 packets-read zero i [] b h s = refl
 packets-read (suc c) i [] b h s = refl

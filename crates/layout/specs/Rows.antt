@@ -1,4 +1,5 @@
--- Rows of bytes one behind the other, and a row that stands at an offset in a list of bytes: for every width, count and offset.
+-- Rows of bytes one behind the other, and a row that stands at an offset in a list of bytes: for every width, count
+-- and offset.
 use mathlib.Core.Path.{_≡_, refl, sym, ap, ap₂, _∙_}
 use mathlib.Core.List.{List, [], _++_, append-assoc, append-nil}
 use Prim.Native.Nat.{ℕ, zero, suc, _+_, _*_, _-_, _<_, _≤_}
@@ -22,16 +23,19 @@ span-length w i (suc n) g l = rw (length-append, l i, span-length w (suc i) n g 
 pub span-same : (i n : ℕ) (g h : ℕ → List ℕ) → ((j : ℕ) → i ≤ j → j < i + n → g j ≡ h j) → span i n g ≡ span i n h
 unfolding span
 span-same i zero g h e = refl
-span-same i (suc n) g h e = ap₂ _++_ (e i (omega arith) (omega arith)) (span-same (suc i) n g h (λ j a b. e j (omega arith) (omega arith)))
+span-same i (suc n) g h e =
+    ap₂ _++_ (e i (omega arith) (omega arith)) (span-same (suc i) n g h (λ j a b. e j (omega arith) (omega arith)))
 
 -- the rows before one row, that row, and the rows after it
-pub span-split : (i a b : ℕ) (g : ℕ → List ℕ) → span i (a + suc b) g ≡ span i a g ++ (g (i + a) ++ span (suc (i + a)) b g)
+pub span-split : (i a b : ℕ) (g : ℕ → List ℕ)
+    → span i (a + suc b) g ≡ span i a g ++ (g (i + a) ++ span (suc (i + a)) b g)
 unfolding span
 span-split i zero b g = rw (zero-add (suc b), add-zero i)
 span-split i (suc a) b g =
     let p : suc a + suc b ≡ suc (a + suc b) = omega arith in
     let q : i + suc a ≡ suc i + a = omega arith in
-    rw (p, q) (ap (λ l. g i ++ l) (span-split (suc i) a b g) ∙ sym (append-assoc (g i) (span (suc i) a g) (g (suc i + a) ++ span (suc (suc i + a)) b g)))
+    rw (p, q)
+    (ap (λ l. g i ++ l) (span-split (suc i) a b g) ∙ sym (append-assoc (g i) (span (suc i) a g) (g (suc i + a) ++ span (suc (suc i + a)) b g)))
 
 -- the same of all n rows
 pub span-at : (n q : ℕ) (g : ℕ → List ℕ) → q < n → span 0 n g ≡ span 0 q g ++ (g q ++ span (suc q) (n - suc q) g)
@@ -52,7 +56,13 @@ stands-whole b = record { before = []; after = []; same = sym (append-nil b); of
 
 -- the first part of what stands at an offset stands there
 pub stands-left : (at : ℕ) (x y b : List ℕ) → Stands at (x ++ y) b → Stands at x b
-stands-left at x y b s = record { before = s .before; after = y ++ s .after; same = s .same ∙ ap (λ l. s .before ++ l) (append-assoc x y (s .after)); offset = s .offset }
+stands-left at x y b s =
+    record {
+      before = s .before;
+      after = y ++ s .after;
+      same = s .same ∙ ap (λ l. s .before ++ l) (append-assoc x y (s .after));
+      offset = s .offset;
+    }
 
 -- and the second part behind the first
 pub stands-right : (at to : ℕ) (x y b : List ℕ) → to ≡ at + length x → Stands at (x ++ y) b → Stands to y b
@@ -60,12 +70,15 @@ stands-right at to x y b e s =
     record {
       before = s .before ++ x;
       after = s .after;
-      same = s .same ∙ ap (λ l. s .before ++ l) (append-assoc x y (s .after)) ∙ sym (append-assoc (s .before) x (y ++ s .after));
+      same =
+          s .same ∙ ap (λ l. s .before ++ l) (append-assoc x y (s .after))
+          ∙ sym (append-assoc (s .before) x (y ++ s .after));
       offset = let o = s .offset in omega (arith, length-append (s .before) x);
     }
 
 -- row q of n rows of w bytes each stands w * q bytes behind the first
-pub stands-row : (w n at : ℕ) (g : ℕ → List ℕ) (b : List ℕ) → ((j : ℕ) → length (g j) ≡ w) → Stands at (span 0 n g) b → (q : ℕ) → q < n → Stands (at + w * q) (g q) b
+pub stands-row : (w n at : ℕ) (g : ℕ → List ℕ) (b : List ℕ) → ((j : ℕ) → length (g j) ≡ w) → Stands at (span 0 n g) b
+    → (q : ℕ) → q < n → Stands (at + w * q) (g q) b
 stands-row w n at g b l s q h =
     let t : Stands at (span 0 q g ++ (g q ++ span (suc q) (n - suc q) g)) b =
     record { before = s .before; after = s .after; same = s .same ∙ ap (λ x. s .before ++ (x ++ s .after)) (span-at n q g h); offset = s .offset } in
@@ -73,8 +86,10 @@ stands-row w n at g b l s q h =
     (stands-right at (at + w * q) (span 0 q g) (g q ++ span (suc q) (n - suc q) g) b (rw (span-length w 0 q g l)) t)
 
 -- the bytes of a row are read at its offset
-pub stands-get : (at : ℕ) (row b : List ℕ) → Stands at row b → (k : ℕ) → k < length row → getD b (at + k) 0 ≡ getD row k 0
-stands-get at row b s k h = rw (s .same, s .offset) (getD-append-add (s .before) (row ++ s .after) k 0 ∙ List·getD-append row (s .after) 0 k h)
+pub stands-get : (at : ℕ) (row b : List ℕ) → Stands at row b → (k : ℕ) → k < length row
+    → getD b (at + k) 0 ≡ getD row k 0
+stands-get at row b s k h =
+    rw (s .same, s .offset) (getD-append-add (s .before) (row ++ s .after) k 0 ∙ List·getD-append row (s .after) 0 k h)
 
 -- and its first byte, right there
 pub stands-byte : (at : ℕ) (row b : List ℕ) → Stands at row b → 0 < length row → getD b at 0 ≡ getD row 0 0

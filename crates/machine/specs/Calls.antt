@@ -63,6 +63,7 @@ writeCall pl s = refuse (not (isPhase (s .phase) Write)) WrongPhase s (gives Don
 abbrev pub setupOf : ℕ → ℕ → ℕ → Packet
 setupOf a p t = record { kind = Setup; active = a; passive = p; slot = record { 0 = t }; hub = record { 0 = 0 } }
 
+-- an allowance of 0 has been refused
 unfoldable pub launched : ℕ → ℕ → ℕ → State → State
 launched a p t s = withAllowance a (s .allowance a - 1) (join (activeOut a) (setupOf a p t) s)
 
@@ -83,6 +84,7 @@ replyKind c = pick (eqb c 1) Ack Nack
 abbrev pub repliedAs : Kind → Packet → Packet
 repliedAs k x = record { kind = k; active = x .active; passive = x .passive; slot = x .slot; hub = x .hub }
 
+-- an empty in-queue has been refused
 abbrev pub replied : ℕ → Kind → List Packet → State → State
 replied p k [] s = s
 replied p k (x ∷ rest) s =

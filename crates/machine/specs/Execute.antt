@@ -165,14 +165,8 @@ abbrev pub marked : Packet → Packet
 marked x = record { kind = x .kind; active = x .active; passive = x .passive; slot = x .slot; hub = record { 0 = 0 } }
 
 abbrev pub tdownOf : ℕ → Packet → Packet
-tdownOf slots x =
-    record {
-      kind = Tdown;
-      active = x .active;
-      passive = x .passive;
-      slot = startSlot (x .slot) (x .hub) slots;
-      hub = x .hub;
-    }
+tdownOf n x =
+    record { kind = Tdown; active = x .active; passive = x .passive; slot = startSlot (x .slot) (x .hub) n; hub = x .hub }
 
 abbrev pub hasRoom : Plan → Queue → State → Bool
 hasRoom pl q s = ltb (length (s .queue q)) (capacity (pl .head) q)

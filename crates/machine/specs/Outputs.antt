@@ -14,7 +14,8 @@ use Rattle.feeding.specs.Feeds.{Output, ofActive, ofPassive, ofSide, toUnit, fr
 abbrev pub nextBy : Plan → Output → Packet → Option Queue
 nextBy pl o x = beyond pl (headingOf (x .kind)) (x .active) (x .passive) o
 
--- 'the first of F[o], K[0,o] to K[3,o] for a side; the first of U[0] to U[3] to the unit; Q to F; an interface's out-queue'
+-- 'the first of F[o], K[0,o] to K[3,o] for a side; the first of U[0] to U[3] to the unit; Q to F; an interface's
+-- out-queue'
 abbrev pub senders : Output → List Queue
 senders (ofActive a) = activeOut a ∷ []
 senders (ofPassive p) = passiveOut p ∷ []

@@ -151,7 +151,7 @@ pub record Valid (pl : Plan) (s : State) : Type 0 where
   pub picked-down : (o : Output) (k : ℕ) (q : Queue) → Drives pl o → s .choice o ≡ sender k
       → ofRank (senders o) k ≡ some q → s .flag q ≡ false
   pub out-flags : (q : Queue) → Exists pl q → isFed q ≡ false → s .flag q ≡ false
-  -- 'a handled mark on an empty Q'
+  -- 'a handled mark on an empty Q'; no other queue has marks
   pub marks : (q : Queue) → Exists pl q → s .handled q ≡ true → (r : ℕ) × (q ≡ Q r) × (s .queue q ≢ [])
   -- 'a side with no free entry'
   pub free-entry : (r o : ℕ) → r < R pl → o < 4 → (t : ℕ) × (t < S pl) × (s .table r o t ≡ Free)

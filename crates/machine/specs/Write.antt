@@ -33,14 +33,17 @@ raise (Q r) s = withFlag (Q r) true (withHandled (Q r) false s)
 raise (F r o) s = withFlag (F r o) true s
 raise (K r i o) s = withFlag (K r i o) true s
 
+-- 'the next queue's credit falls by one'; a candidate has a next queue
 abbrev pub spend : Option Queue → State → State
 spend none s = s
 spend (some q) s = withCredit q (creditDown (s .credit q)) s
 
+-- what is picked has a head: in WRITE a choice is of a candidate
 unfoldable pub sendHead : Plan → Output → Queue → List Packet → State → State
 sendHead pl o q [] s = s
 sendHead pl o q (x ∷ rest) s = withWire o (Full x) (spend (nextBy pl o x) (raise q (withQueue q rest s)))
 
+-- and its rank is that of one of the output's senders
 abbrev pub sendFrom : Plan → Output → Option Queue → State → State
 sendFrom pl o none s = s
 sendFrom pl o (some q) s = sendHead pl o q (s .queue q) s

@@ -17,7 +17,8 @@ startSlot t h s = record { 0 = (t .0 + (s - h .0 % s)) % s }
 abbrev pub slotAfter : Slot → Hub → ℕ → Slot
 slotAfter t h s = record { 0 = (t .0 + h .0) % s }
 
--- a hub count and a credit grow or fall by one
+-- a hub count and a credit grow or fall by one; neither falls from 0: a TDOWN that goes on has a hub above 1, and a
+-- credit is spent for a candidate, whose next queue has one
 abbrev pub hubUp : Hub → Hub
 hubUp h = record { 0 = h .0 + 1 }
 

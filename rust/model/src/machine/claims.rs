@@ -131,7 +131,10 @@ impl<'n> Claims<'n> {
         for &(active, passive, start) in self.accepted.keys() {
             let journey = self.network.journey(active, passive).expect("accepted pairs are served");
             for (n, hop) in journey.walk.iter().enumerate() {
-                table.set(hop.router, hop.side, start.after(n, slots), Some(hop.came_in));
+                let slot = start.after(n, slots);
+                let made = table.entry(hop.router, hop.side, slot);
+                assert_eq!(made, None, "two accepted connections make one entry");
+                table.set(hop.router, hop.side, slot, Some(hop.came_in));
             }
         }
         table

@@ -34,8 +34,8 @@ use Rattle.machine.specs.Write.{send, doWrite}
 use Rattle.machine.specs.Calls.{Outcome, gives, refuse, isPhase, isEmpty, Call, read, execute, write, launch, reply, consume, entry, call, readCall, executeCall, writeCall, launched, launchCall, replyKind, replied, replyCall, removed, headUnmarked, consumed, consumeCall, entryCall}
 use Rattle.machine.specs.Accepted.{Connection, accept, acceptKind, MadeBy}
 use Rattle.machine.specs.Valid.{Drives}
-use Rattle.machine.specs.Progress.{Quiet}
-use Rattle.machine.specs.Ruled.{Ruled, ruledAfter, acceptedAfter, launchesCall, launches, times}
+use Rattle.machine.specs.Progress.{Within, Quiet}
+use Rattle.machine.specs.Ruled.{Good, Ruled, ruledAfter, acceptedAfter, launchesCall, launches, times}
 use Rattle.machine.proofs.Apart.{phase-of}
 use Rattle.machine.proofs.Core.{Core, Shape, Sendable, FlagsDown, WiresEmpty, ChoicesSendable}
 use Rattle.machine.proofs.ShapeCalls.{execute-has, write-has}
@@ -242,6 +242,18 @@ module _ {pl : Plan} (wired : Wired pl) (range : InRange (pl .head)) where
   pub reached : (cs : List Call) → Tracked pl (acceptedAfter pl cs (start pl) []) (λ d. launches pl d cs (start pl) + 0) (ruledAfter pl cs (start pl))
   reached cs = list-tracked cs [] (λ d. 0) (start pl) start-tracked
 
+  -- no state reached from Start is refused 7
+  pub reached-good : (cs : List Call) → Good pl (ruledAfter pl cs (start pl))
+  reached-good cs = good-of pl (ruledAfter pl cs (start pl)) (reached cs .inv)
+
+  -- no queue holds more than its capacity
+  pub reached-within : (cs : List Call) → Within pl (ruledAfter pl cs (start pl))
+  reached-within cs = reached-good cs .valid .capacities
+
+  -- the list has at least as many accepted Launches of a triple as Consumes that accepted it
+  pub reached-launches : (cs : List Call) (d : Connection) → times d (acceptedAfter pl cs (start pl) []) ≤ launches pl d cs (start pl)
+  reached-launches cs d = let m = counted-times pl d (reached cs .counted d) in omega arith
+
   -- every booked entry is owned by exactly one packet under way or accepted connection, and nothing else is booked
   pub reached-owned : (cs : List Call) → Owned pl (acceptedAfter pl cs (start pl) []) (ruledAfter pl cs (start pl))
   reached-owned cs = reached cs .owned
@@ -261,7 +273,7 @@ module _ {pl : Plan} (wired : Wired pl) (range : InRange (pl .head)) where
         starts = ([], (λ d. 0), start-tracked);
         keeps = held-kept;
         good = λ s k. good-of pl s (k .2 .inv);
-        table = λ cs q. owned-table wired (ruledAfter pl cs (start pl)) (reached cs .inv .core) (reached cs .owned) q;
+        table = λ cs q. owned-table wired (ruledAfter pl cs (start pl)) (reached cs .inv .core) (reached-owned cs) q;
         progress = λ s g w cs l. progress wired range free s g w cs l;
-        launched = λ cs d. let m = counted-times pl d (reached cs .counted d) in omega arith;
+        launched = reached-launches;
       }

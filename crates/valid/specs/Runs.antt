@@ -9,7 +9,7 @@ use Rattle.basis.specs.Fold.{upTo}
 use Rattle.basis.specs.Walk.{spot, onCount}
 use Rattle.fields.specs.Bits.{bitAt, fieldOf}
 use Rattle.packets.specs.declared.Kind.{Kind}
-use Rattle.packets.specs.declared.Kind.the-variants.{Setup, Tdown}
+use Rattle.packets.specs.declared.Kind.the-variants.{Setup, Tdown, Nack}
 use Rattle.packets.specs.declared.Packet.{Packet}
 use Rattle.packets.specs.declared.Wire.the-variants.{Full}
 use Rattle.packets.specs.declared.Phase.the-variants.{Execute, Write}
@@ -75,13 +75,19 @@ packet k hub = record { kind = k; active = 0; passive = 0; slot = record { 0 = 0
 abbrev underWay : ℕ → State → State
 underWay hub s = withWire (ofActive 0) (Full (packet Setup hub)) (withCredit (U 0 0) (record { 0 = 0 }) (withAllowance 0 0 s))
 
+-- a NACK that the first router made, in Q; handled or not
+abbrev inUnit : Bool → State → State
+inUnit done s =
+    withHandled (Q 0) done
+    (withQueue (Q 0) (packet Nack 0 ∷ []) (withCredit (Q 0) (record { 0 = 0 }) (withAllowance 0 0 s)))
+
 -- how many of the changes leave a state
 unfoldable pub countValid : List (State → State) → ℕ
 unfolding valid
 countValid [] = 0
 countValid (f ∷ fs) = bit (validTest planT (f (start planT))) + countValid fs
 
-pub t-packets : countValid ((λ s. s) ∷ underWay 0 ∷ (λ s. withQueue (activeOut 0) (packet Tdown 1 ∷ []) s) ∷ []) ≡ 3
+pub t-packets : countValid ((λ s. s) ∷ underWay 0 ∷ (λ s. withQueue (activeOut 0) (packet Tdown 1 ∷ []) s) ∷ inUnit true ∷ []) ≡ 4
 unfolding countValid
 t-packets = refl
 
@@ -91,8 +97,10 @@ pub t-spoilt : countValid (
     ∷ (λ s. withEntry 0 0 0 (Booked 4) s)
     ∷ (λ s. withQueue (activeOut 0) (packet Tdown 1 ∷ packet Tdown 1 ∷ []) s)
     ∷ (λ s. withQueue (activeOut 0) (packet Tdown 2 ∷ []) s)
+    ∷ (λ s. inUnit false s)
     ∷ (λ s. underWay 1 s)
     ∷ (λ s. withPhase Execute (underWay 0 s))
+    ∷ (λ s. withChoice (ofActive 0) (sender 0) (withQueue (activeOut 0) (packet Tdown 1 ∷ []) s))
     ∷ (λ s. withPhase Write (withChoice (ofActive 0) (sender 0) s))
     ∷ (λ s. withPhase Execute (withFlag (U 0 0) true (withCredit (U 0 0) (record { 0 = 0 }) s)))
     ∷ (λ s. withFlag (activeOut 0) true s)

@@ -9,3 +9,4 @@ pub mod Accepted
 pub mod Valid
 pub mod Progress
 pub mod Ruled
+pub mod Runs

@@ -1,0 +1,6 @@
+-- 'Runs to compare' of document 01, and more of the same kind: each is one list of calls and one theorem that evaluates it.
+pub mod Watch
+pub mod FirstBookings
+pub mod LastFree
+pub mod Spent
+pub mod Declined

@@ -1,0 +1,77 @@
+-- 'Runs to compare' of document 01: 'After that ACK is consumed, launch (0,0,1): last free entry, NACK with hub 0.' One
+-- list of calls and one theorem that evaluates it. Plan T; that ACK is the one of the launch in round 0.
+use mathlib.Core.Path.{_≡_, refl}
+use mathlib.Core.List.{List, [], _∷_, _++_}
+use Rattle.packets.specs.declared.Kind.the-variants.{Setup, Nack}
+use Rattle.packets.specs.declared.Packet.{Packet}
+use Rattle.feeding.specs.Queue.{activeOut, activeIn, Q}
+use Rattle.machine.specs.Calls.{Call, read, execute, write, launch, consume}
+use Rattle.machine.specs.Runs.Watch.{round, packet, after, steady, watch}
+use Rattle.machine.specs.Runs.FirstBookings.{side1, free, booked, launched, setup, ack, launchInRound0}
+use Rattle.plan.specs.Samples.{planT}
+use Rattle.packets.specs.Answers.{done, taken}
+
+abbrev pub lastFreeEntry : List Call
+lastFreeEntry =
+    launchInRound0 ++ write ∷ []
+    -- round 8
+    ++ launch 0 0 1 ∷ round
+    -- rounds 9 to 11
+    ++ round
+    ++ round
+    ++ round
+    -- round 12: consumed in its WRITE
+    ++ read ∷ execute ∷ consume 0 ∷ write ∷ []
+
+-- the set-up of Launch (0,0,1), and the NACK that it becomes, 'slot and hub kept': slot 1, hub 0
+abbrev pub last : Packet
+last = packet Setup 0 0 1 0
+
+abbrev pub nack : Packet
+nack = packet Nack 0 0 1 0
+
+-- the active's out-queue, Q and the active's in-queue: all are empty, or one has a packet
+abbrev pub quiet : List (List Packet)
+quiet = [] ∷ [] ∷ [] ∷ []
+
+abbrev pub inOut : Packet → List (List Packet)
+inOut x = (x ∷ []) ∷ [] ∷ [] ∷ []
+
+abbrev pub inQ : Packet → List (List Packet)
+inQ x = [] ∷ (x ∷ []) ∷ [] ∷ []
+
+abbrev pub inIn : Packet → List (List Packet)
+inIn x = [] ∷ [] ∷ (x ∷ []) ∷ []
+
+pub last-free-entry : watch planT side1 (activeOut 0 ∷ Q 0 ∷ activeIn 0 ∷ []) lastFreeEntry
+    -- round 0: Launch (0,0,0), then the round
+    ≡ after done free (inOut launched) ∷ []
+    ++ after done free (inOut launched) ∷ after done free (inOut launched) ∷ after done free quiet ∷ []
+    -- round 1
+    ++ steady free quiet
+    -- round 2: booked
+    ++ after done free (inQ launched) ∷ after done booked (inQ setup) ∷ after done booked quiet ∷ []
+    -- round 3
+    ++ steady booked quiet
+    -- round 4: accepted; four calls
+    ++ after done booked quiet ∷ steady booked quiet
+    -- rounds 5 and 6
+    ++ steady booked quiet
+    ++ steady booked quiet
+    -- round 7: the ACK is consumed
+    ++ after done booked (inIn ack) ∷ after done booked (inIn ack) ∷ after (taken ack) booked quiet ∷ []
+    ++ after done booked quiet ∷ []
+    -- round 8: Launch (0,0,1), then the round
+    ++ after done booked (inOut last) ∷ []
+    ++ after done booked (inOut last) ∷ after done booked (inOut last) ∷ after done booked quiet ∷ []
+    -- round 9
+    ++ steady booked quiet
+    -- round 10: declined by its Execute, for slot 1 is the last free entry of side 1; it stays free
+    ++ after done booked (inQ last) ∷ after done booked (inQ nack) ∷ after done booked quiet ∷ []
+    -- round 11
+    ++ steady booked quiet
+    -- round 12: the NACK has come with hub 0, so no TDOWN joins the out-queue; it is consumed
+    ++ after done booked (inIn nack) ∷ after done booked (inIn nack) ∷ after (taken nack) booked quiet ∷ []
+    ++ after done booked quiet ∷ []
+unfolding watch
+last-free-entry = refl

@@ -1,5 +1,0 @@
-pub mod Watch
-pub mod Runs
-pub mod LastFree
-pub mod Spent
-pub mod Declined

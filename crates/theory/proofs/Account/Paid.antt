@@ -1,0 +1,143 @@
+-- The credits' part of the core, and how it is shown of a step: the account of each fed queue stays, and no out-queue's credit or flag changes.
+use mathlib.Core.Path.{_≡_, refl, sym, ap, _∙_}
+use mathlib.Core.Logic.{_⊎_, inl, inr, _≢_}
+use mathlib.Core.Bool.{true, false}
+use mathlib.Core.List.{List, [], _∷_, _++_}
+use mathlib.Core.Option.{some}
+use Prim.Native.Nat.{_+_, _≤_, _<_}
+use native.Mathlib.Omega.{arith}
+use lib.ListN.{length, length-append}
+use Rattle.basis.specs.Choice.{not-both}
+use Rattle.kinds.specs.declared.Slot.{Slot}
+use Rattle.packets.specs.declared.Packet.{Packet}
+use Rattle.packets.specs.declared.Wire.the-variants.{Empty}
+use Rattle.packets.specs.declared.Phase.{Phase}
+use Rattle.plan.specs.Plan.{Plan}
+use Rattle.feeding.specs.Queue.{Queue, activeOut, activeIn, passiveIn, passiveOut, U, Q, F, K, Exists, capacity}
+use Rattle.feeding.specs.Feeds.{Output, headingOf}
+use Rattle.wiring.specs.Wired.{Wired}
+use Rattle.journeys.proofs.Places.{some-not-none}
+use Rattle.machine.specs.Store.{put, sameQueue}
+use Rattle.machine.specs.Outputs.{nextBy, outputs, outputAt}
+use Rattle.machine.specs.State.{State, start, withPhase, withSlot, withQueue, withFlag, join}
+use Rattle.machine.specs.Valid.{Drives, bit, brings, onWires, isFed}
+use Rattle.theory.proofs.Ground.Sums.{sum-nought}
+use Rattle.theory.proofs.Ground.Cells.{queue-here, queue-away, queue-or, cell-sum, fed-apart}
+use Rattle.theory.proofs.Core.{OutCapacities, OutFlags, OutCredits, Credits, account, Core}
+use Rattle.theory.proofs.Places.Feeders.{feeder, fed-by}
+
+-- the four parts of the core that speak of credits, room and flags
+pub record Paid (pl : Plan) (s : State) : Type 0 where
+  pub credits : Credits pl s
+  pub out-credits : OutCredits pl s
+  pub out-capacities : OutCapacities pl s
+  pub out-flags : OutFlags pl s
+
+-- the core has them
+pub paid-of : {pl : Plan} {s : State} → Core pl s → Paid pl s
+paid-of c = record { credits = c .credits; out-credits = c .out-credits; out-capacities = c .out-capacities; out-flags = c .out-flags }
+
+-- a fed queue's account stays over a step
+abbrev pub Kept : Plan → State → State → Type 0
+Kept pl s t = (q : Queue) → isFed q ≡ true → account pl q t ≡ account pl q s
+
+-- an out-queue's credit and flag stay over a step
+abbrev pub Spared : State → State → Type 0
+Spared s t = (q : Queue) → isFed q ≡ false → (t .credit q ≡ s .credit q) × (t .flag q ≡ s .flag q)
+
+-- so the step keeps the four parts, if no out-queue is over capacity after it
+pub paid-by : {pl : Plan} (s t : State) → Paid pl s → Kept pl s t → Spared s t → OutCapacities pl t → Paid pl t
+paid-by s t c k p r =
+    record {
+      credits = λ q h f. k q f ∙ c .credits q h f;
+      out-credits = λ q h f. rw (p q f .0) (c .out-credits q h f);
+      out-capacities = r;
+      out-flags = λ q h f. p q f .1 ∙ c .out-flags q h f;
+    }
+
+-- they look at queues, credits, flags and wires alone
+pub paid-alike : {pl : Plan} (s t : State) → t .queue ≡ s .queue → t .credit ≡ s .credit → t .flag ≡ s .flag → t .wire ≡ s .wire → Paid pl s → Paid pl t
+unfolding account onWires
+paid-alike s t q c f w p = paid-by s t p (λ x h. rw (q, c, f, w)) (λ x h. rw (c, f) (refl, refl)) (λ x h g. rw q (p .out-capacities x h g))
+
+-- ---- the next queue of a packet on a wire is fed
+feeder-fed : (pl : Plan) (q : Queue) (o : Output) → feeder pl q ≡ some o → isFed q ≡ true
+feeder-fed pl (activeOut x) o e = absurd (some-not-none e)
+feeder-fed pl (passiveOut x) o e = absurd (some-not-none e)
+feeder-fed pl (activeIn x) o e = refl
+feeder-fed pl (passiveIn x) o e = refl
+feeder-fed pl (U r i) o e = refl
+feeder-fed pl (Q r) o e = refl
+feeder-fed pl (F r k) o e = refl
+feeder-fed pl (K r i k) o e = refl
+
+-- the queue that an output brings a packet to is fed
+pub next-fed : {pl : Plan} → Wired pl → (o : Output) (x : Packet) (n : Queue) → Drives pl o → nextBy pl o x ≡ some n → isFed n ≡ true
+next-fed {pl} wired o x n d e = feeder-fed pl n o (fed-by wired (headingOf (x .kind)) (x .active) (x .passive) o d n e)
+
+-- ---- one queue is changed
+module _ {pl : Plan} (s : State) (c : Paid pl s) where
+  -- an out-queue that is changed stays within its capacity
+  pub out-put : (k : Queue) (xs : List Packet) → (isFed k ≡ false → length xs ≤ capacity (pl .head) k)
+      → (q : Queue) → Exists pl q → isFed q ≡ false → length (put sameQueue (s .queue) k xs q) ≤ capacity (pl .head) q
+  out-put k xs l q h f = by (queue-or q k)
+    where
+      by : (q ≡ k) ⊎ (q ≢ k) → length (put sameQueue (s .queue) k xs q) ≤ capacity (pl .head) q
+      by (inl e) = rw (e, queue-here (s .queue) k xs) (l (rw e at f))
+      by (inr ne) = rw (queue-away (s .queue) k xs q ne) (c .out-capacities q h f)
+
+  -- the head of a fed queue becomes another packet
+  pub head-paid : (k : Queue) (x y : Packet) (rest : List Packet) → isFed k ≡ true → s .queue k ≡ x ∷ rest → Paid pl (withQueue k (y ∷ rest) s)
+  unfolding account onWires
+  head-paid k x y rest fed e = paid-by s (withQueue k (y ∷ rest) s) c kept (λ q f. (refl, refl)) (out-put k (y ∷ rest) (λ f. absurd (not-both fed f)))
+    where
+      kept : Kept pl s (withQueue k (y ∷ rest) s)
+      kept q f = let queue = cell-sum length (s .queue) k (y ∷ rest) 0 0 (rw e (omega arith)) q in omega arith
+
+  -- a fed queue's head leaves and its flag rises
+  pub left-paid : (k : Queue) (x : Packet) (rest : List Packet) → isFed k ≡ true → s .queue k ≡ x ∷ rest → s .flag k ≡ false → Paid pl (withFlag k true (withQueue k rest s))
+  unfolding account onWires
+  left-paid k x rest fed e down = paid-by s (withFlag k true (withQueue k rest s)) c kept spared (out-put k rest (λ f. absurd (not-both fed f)))
+    where
+      kept : Kept pl s (withFlag k true (withQueue k rest s))
+      kept q f =
+          let queue = cell-sum length (s .queue) k rest 0 1 (rw e (omega arith)) q in
+          let flag = cell-sum bit (s .flag) k true 1 0 (rw down (omega arith)) q in
+          omega arith
+
+      spared : Spared s (withFlag k true (withQueue k rest s))
+      spared q f = (refl, queue-away (s .flag) k true q (fed-apart q k f fed))
+
+  -- an out-queue is changed within its capacity
+  pub out-paid : (k : Queue) (xs : List Packet) → isFed k ≡ false → length xs ≤ capacity (pl .head) k → Paid pl (withQueue k xs s)
+  unfolding account onWires
+  out-paid k xs out l = paid-by s (withQueue k xs s) c kept (λ q f. (refl, refl)) (out-put k xs (λ f. l))
+    where
+      kept : Kept pl s (withQueue k xs s)
+      kept q f = let same = ap length (queue-away (s .queue) k xs q (λ e. fed-apart k q out f (sym e))) in omega arith
+
+  -- a packet joins an out-queue with room
+  pub join-paid : (k : Queue) (x : Packet) → isFed k ≡ false → length (s .queue k) < capacity (pl .head) k → Paid pl (join k x s)
+  unfolding join
+  join-paid k x out l =
+      let more : length (s .queue k ++ (x ∷ [])) ≡ length (s .queue k) + 1 = length-append (s .queue k) (x ∷ []) in
+      out-paid k (s .queue k ++ (x ∷ [])) out (omega arith)
+
+-- ---- Start
+pub start-paid : (pl : Plan) → Paid pl (start pl)
+unfolding start account onWires
+start-paid pl =
+    record {
+      credits = λ q h f. let z = sum-nought (outputs pl) (λ n. brings pl q (outputAt pl n) Empty) (λ j l. refl) in omega arith;
+      out-credits = λ q h f. refl;
+      out-capacities = λ q h f. omega arith;
+      out-flags = λ q h f. refl;
+    }
+
+-- another phase
+pub phase-paid : {pl : Plan} {s : State} (x : Phase) → Core pl s → Paid pl (withPhase x s)
+phase-paid {pl} {s} x c = paid-alike s (withPhase x s) refl refl refl refl (paid-of c)
+
+-- another slot
+pub slot-paid : {pl : Plan} {s : State} (x : Slot) → Core pl s → Paid pl (withSlot x s)
+slot-paid {pl} {s} x c = paid-alike s (withSlot x s) refl refl refl refl (paid-of c)

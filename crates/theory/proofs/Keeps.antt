@@ -1,0 +1,244 @@
+-- What refusal 7 asks is kept by every call, from every valid state: the core by each step, the shape by each phase.
+use mathlib.Core.Path.{_≡_, refl, sym, ap, _∙_}
+use mathlib.Core.Logic.{_⊎_, inl, inr, _≢_}
+use mathlib.Core.Bool.{Bool, true, false, not, _&&_, true≢false, false≢true}
+use mathlib.Core.List.{List, [], _∷_}
+use Prim.Native.Nat.{ℕ, zero, suc, _+_, _≤_, _<_}
+use native.Mathlib.Omega.{arith}
+use lib.Dec.{eqb, ltb, leb}
+use borrow.Author.Tests.{ltb-true, eqb-false, eqb-true, not-false}
+use Rattle.kinds.specs.declared.Refusal.the-variants.{QueueEmpty, Unmarked}
+use Rattle.basis.specs.Choice.{pick, test}
+use Rattle.kinds.specs.declared.Refusal.{Refusal}
+use Rattle.packets.specs.declared.Kind.{Kind}
+use Rattle.packets.specs.declared.Kind.the-variants.{Setup, Tdown, Ack, Nack}
+use Rattle.packets.specs.declared.Packet.{Packet}
+use Rattle.packets.specs.declared.Wire.the-variants.{Empty}
+use Rattle.packets.specs.declared.Phase.{Phase}
+use Rattle.packets.specs.declared.Phase.the-variants.{Read, Execute, Write}
+use Rattle.packets.specs.declared.Answer.the-variants.{Refused}
+use Rattle.packets.specs.Counters.{slotNext}
+use Rattle.plan.specs.Head.{InRange}
+use Rattle.plan.specs.Plan.{Plan, R, A, P, S}
+use Rattle.paths.specs.Served.{Served, served}
+use Rattle.feeding.specs.Queue.{Queue, activeOut, activeIn, passiveIn, passiveOut, Q, Exists}
+use Rattle.feeding.specs.Feeds.{Output}
+use Rattle.wiring.proofs.Heads.{and-both}
+use Rattle.wiring.specs.Wired.{Wired}
+use Rattle.journeys.proofs.Walks.{served-of}
+use Rattle.machine.specs.State.{State, sender, start, withPhase, withSlot}
+use Rattle.machine.specs.Read.{deliver, settle, doRead}
+use Rattle.machine.specs.Execute.{unit, choose, undo, doExecute, hasRoom, unmarked}
+use Rattle.machine.specs.Write.{send, doWrite}
+use Rattle.machine.specs.Calls.{Outcome, gives, refuse, isPhase, isEmpty, Call, read, execute, write, launch, reply, consume, entry, call, readCall, executeCall, writeCall, launched, launchCall, replyKind, replied, replyCall, removed, headUnmarked, consumed, consumeCall, entryCall}
+use Rattle.machine.specs.Valid.{Drives, Valid, Bounded}
+use Rattle.machine.specs.Ruled.{Good}
+use Rattle.machine.proofs.Apart.{phase-of}
+use Rattle.theory.proofs.Core.{Core, Shape, in-read, in-execute, in-write, Sendable, NoChoices, WiresEmpty, FlagsDown, ChoicesSendable, Allowances, core-of, shape-of, valid-of}
+use Rattle.theory.proofs.Weights.Spending.{reply-spends}
+use Rattle.theory.proofs.Weights.Allowance.{start-allowances, phase-allowances, slot-allowances, deliver-allowances, settle-allowances, unit-allowances, choose-allowances, undo-allowances, send-allowances, launched-allowances, replied-allowances, removed-allowances}
+use Rattle.theory.proofs.Kept.Parts.{Kept, kept-of, start-kept, phase-kept, slot-kept}
+use Rattle.theory.proofs.Kept.Read.{deliver-kept, settle-kept}
+use Rattle.theory.proofs.Kept.Execute.{unit-kept, choose-kept, undo-kept}
+use Rattle.theory.proofs.Kept.Write.{send-kept, turn-kept}
+use Rattle.theory.proofs.Kept.Calls.{launched-kept, replied-kept, removed-kept}
+use Rattle.theory.proofs.Account.Paid.{Paid, paid-of, start-paid, phase-paid, slot-paid}
+use Rattle.theory.proofs.Account.Read.{deliver-paid, settle-paid}
+use Rattle.theory.proofs.Account.Execute.{unit-paid, choose-paid, undo-paid}
+use Rattle.theory.proofs.Account.Write.{send-paid}
+use Rattle.theory.proofs.Account.Calls.{launched-paid, replied-paid, removed-paid}
+use Rattle.theory.proofs.Shape.Read.{read-shape}
+use Rattle.theory.proofs.Shape.Execute.{execute-shape}
+use Rattle.theory.proofs.Shape.Write.{write-shape}
+use Rattle.theory.proofs.Shape.Calls.{read-has, execute-has, write-has, launched-shape, replied-shape, removed-shape}
+use Rattle.theory.proofs.Shape.Phases.{read-keeps, execute-keeps, write-keeps}
+
+-- the core from its parts
+pub core-by : {pl : Plan} {s : State} → Kept pl s → Paid pl s → Allowances pl s → Core pl s
+core-by k p a =
+    record {
+      slot = k .slot;
+      entries = k .entries;
+      out-capacities = p .out-capacities;
+      places = k .places;
+      wires = k .wires;
+      out-flags = p .out-flags;
+      marks = k .marks;
+      free-entry = k .free-entry;
+      credits = p .credits;
+      out-credits = p .out-credits;
+      allowances = a;
+      bounded = k .bounded;
+    }
+
+-- a core with its shape: what a state has
+pub record Inv (pl : Plan) (s : State) : Type 0 where
+  pub core : Core pl s
+  pub shape : Shape pl s
+
+pub inv-of : (pl : Plan) (s : State) → Good pl s → Inv pl s
+inv-of pl s g = record { core = core-of pl s (g .valid) (g .bounded); shape = shape-of pl s (g .valid) }
+
+pub good-of : (pl : Plan) (s : State) → Inv pl s → Good pl s
+good-of pl s i = record { valid = valid-of pl s (i .core) (i .shape); bounded = i .core .bounded }
+
+module _ {pl : Plan} (wired : Wired pl) (range : InRange (pl .head)) where
+  -- ---- the core is kept by each step
+  pub start-core : Core pl (start pl)
+  start-core = core-by (start-kept pl range) (start-paid pl) (start-allowances pl)
+
+  pub phase-core : (x : Phase) (s : State) → Core pl s → Core pl (withPhase x s)
+  phase-core x s c = core-by (phase-kept (kept-of pl s c) x) (phase-paid x c) (phase-allowances c x)
+
+  pub deliver-core : (o : Output) (s : State) → Drives pl o → Core pl s → Core pl (deliver pl o s)
+  deliver-core o s d c = core-by (deliver-kept wired range o s d (kept-of pl s c)) (deliver-paid wired o s d c) (deliver-allowances c wired o d)
+
+  pub settle-core : (q : Queue) (s : State) → Exists pl q → Core pl s → Core pl (settle q s)
+  settle-core q s h c = core-by (settle-kept wired range q s h (kept-of pl s c)) (settle-paid q s h c) (settle-allowances c q)
+
+  pub unit-core : (r : ℕ) (s : State) → r < R pl → s .flag (Q r) ≡ false → Core pl s → Core pl (unit pl r s)
+  unit-core r s h f c = core-by (unit-kept wired range r s h (kept-of pl s c)) (unit-paid s c r f) (unit-allowances c r h)
+
+  pub choose-core : (o : Output) (s : State) → Core pl s → Core pl (choose pl o s)
+  choose-core o s c = core-by (choose-kept wired range o s (kept-of pl s c)) (choose-paid s c o) (choose-allowances c o)
+
+  pub undo-core : (a : ℕ) (s : State) → a < A pl → Core pl s → Core pl (undo pl a s)
+  undo-core a s h c = core-by (undo-kept wired range a s h (kept-of pl s c)) (undo-paid s c a) (undo-allowances c a h)
+
+  pub send-core : (o : Output) (s : State) → Drives pl o → s .wire o ≡ Empty → ((k : ℕ) → s .choice o ≡ sender k → Sendable pl s o k) → Core pl s → Core pl (send pl o s)
+  send-core o s d w r c = core-by (send-kept wired range o s d r (kept-of pl s c)) (send-paid wired o s d c w r) (send-allowances c wired o d r w)
+
+  -- the end of a round: the next slot, and READ
+  pub turn-core : (x : State) (s : State) → Core pl x → Core pl s → Core pl (withPhase Read (withSlot (slotNext (x .slot) (S pl)) s))
+  turn-core x s b c =
+      let k = slot-kept (kept-of pl s c) (slotNext (x .slot) (S pl)) (turn-kept wired range x (kept-of pl x b) .slot) in
+      phase-core Read (withSlot (slotNext (x .slot) (S pl)) s) (core-by k (slot-paid (slotNext (x .slot) (S pl)) c) (slot-allowances c (slotNext (x .slot) (S pl))))
+
+  -- ---- and so by each phase
+  pub read-core : (s : State) → Core pl s → Core pl (doRead pl s)
+  read-core s c = read-keeps pl (Core pl) s deliver-core settle-core (phase-core Execute) c
+
+  pub execute-core : (s : State) → Core pl s → FlagsDown pl s → Core pl (doExecute pl s)
+  execute-core s c f = execute-keeps pl (Core pl) s unit-core (λ o t d. choose-core o t) undo-core (phase-core Write) f c
+
+  pub write-core : (s : State) → Core pl s → WiresEmpty pl s → ChoicesSendable pl s → Core pl (doWrite pl s)
+  write-core s c w d = write-keeps pl (Core pl) s wired send-core (λ t. turn-core s t c) w d c
+
+  -- ---- each call keeps core and shape
+  -- a refusal, or what follows it where its test fails
+  pub by-test : (P : Outcome → Type 0) (t : Bool) (w : Refusal) (s : State) (rest : Outcome) → P (gives (Refused w) s) → (t ≡ false → P rest) → P (refuse t w s rest)
+  by-test P true w s rest a b = a
+  by-test P false w s rest a b = b refl
+
+  abbrev Keeps : Outcome → Type 0
+  Keeps r = Inv pl (r .state)
+
+  read-inv : (s : State) → Inv pl s → Keeps (readCall pl s)
+  unfolding readCall
+  read-inv s i =
+      by-test Keeps (not (isPhase (s .phase) Read)) _ s (gives _ (doRead pl s)) i
+      (λ e. record { core = read-core s (i .core); shape = read-shape pl s (read-has s (phase-of (s .phase) Read e) (i .shape)) })
+
+  execute-inv : (s : State) → Inv pl s → Keeps (executeCall pl s)
+  unfolding executeCall
+  execute-inv s i =
+      by-test Keeps (not (isPhase (s .phase) Execute)) _ s (gives _ (doExecute pl s)) i
+      (λ e. let h = execute-has s (phase-of (s .phase) Execute e) (i .shape) in record { core = execute-core s (i .core) (h .2); shape = execute-shape pl s (h .1) (h .2) })
+
+  write-inv : (s : State) → Inv pl s → Keeps (writeCall pl s)
+  unfolding writeCall
+  write-inv s i =
+      by-test Keeps (not (isPhase (s .phase) Write)) _ s (gives _ (doWrite pl s)) i
+      (λ e. let h = write-has s (phase-of (s .phase) Write e) (i .shape) in record { core = write-core s (i .core) (h .0) (h .1); shape = write-shape pl s })
+
+  launch-inv : (a p t : ℕ) (s : State) → Inv pl s → Keeps (launchCall pl a p t s)
+  unfolding launchCall
+  launch-inv a p t s i =
+      by-test Keeps (not (isPhase (s .phase) Read)) _ s _ i
+      (λ e. by-test Keeps (not (ltb a (A pl) && ltb p (P pl) && ltb t (S pl))) _ s _ i
+      (λ f. by-test Keeps (not (served pl a p)) _ s _ i
+      (λ g. by-test Keeps (eqb (s .allowance a) 0) _ s _ i
+      (λ h. by-test Keeps (not (hasRoom pl (activeOut a) s)) _ s (gives _ (launched a p t s)) i
+      (λ r. accepted (phase-of (s .phase) Read e) (and-both (not-false _ f)) (not-false _ g) h (not-false _ r))))))
+    where
+      accepted : s .phase ≡ Read → ((ltb a (A pl) && ltb p (P pl)) ≡ true) × (ltb t (S pl) ≡ true) → served pl a p ≡ true → eqb (s .allowance a) 0 ≡ false → hasRoom pl (activeOut a) s ≡ true → Inv pl (launched a p t s)
+      accepted e (n, ht) g h r =
+          let m = and-both n in
+          let ha : a < A pl = ltb-true a (A pl) (m .0) in
+          let hp : p < P pl = ltb-true p (P pl) (m .1) in
+          let some : 1 ≤ s .allowance a = let ne = eqb-false (s .allowance a) 0 h in omega arith in
+          record {
+            core = core-by (launched-kept wired range a p t s ha hp (ltb-true t (S pl) ht) (served-of wired a p ha g) (kept-of pl s (i .core))) (launched-paid s (i .core) a p t r) (launched-allowances (i .core) a p t ha some);
+            shape = launched-shape s a p t e (i .shape);
+          }
+
+  pub reply-kind : (c : ℕ) → (replyKind c ≡ Ack) ⊎ (replyKind c ≡ Nack)
+  reply-kind c = by (eqb c 1)
+    where
+      by : (b : Bool) → (pick b Ack Nack ≡ Ack) ⊎ (pick b Ack Nack ≡ Nack)
+      by true = inl refl
+      by false = inr refl
+
+  reply-inv : (p c : ℕ) (s : State) → Inv pl s → Keeps (replyCall pl p c s)
+  unfolding replyCall
+  reply-inv p c s i =
+      by-test Keeps (not (isPhase (s .phase) Write)) _ s _ i
+      (λ e. by-test Keeps (not (ltb p (P pl) && leb c 1)) _ s _ i
+      (λ f. by-test Keeps (s .flag (passiveIn p)) _ s _ i
+      (λ g. by-test Keeps (isEmpty (s .queue (passiveIn p))) _ s _ i
+      (λ h. by-test Keeps (not (hasRoom pl (passiveOut p) s)) _ s (gives _ (replied p (replyKind c) (s .queue (passiveIn p)) s)) i
+      (λ r. accepted (phase-of (s .phase) Write e) (and-both (not-false _ f)) g (s .queue (passiveIn p)) refl h (not-false _ r))))))
+    where
+      accepted : s .phase ≡ Write → (ltb p (P pl) ≡ true) × (leb c 1 ≡ true) → s .flag (passiveIn p) ≡ false → (l : List Packet) → s .queue (passiveIn p) ≡ l → isEmpty (s .queue (passiveIn p)) ≡ false
+          → hasRoom pl (passiveOut p) s ≡ true → Inv pl (replied p (replyKind c) (s .queue (passiveIn p)) s)
+      accepted e n g [] q h r = absurd (true≢false (rw q at h))
+      accepted e n g (x ∷ rest) q h r =
+          let hp : p < P pl = ltb-true p (P pl) (n .0) in
+          record {
+            core = core-by (replied-kept wired range p (replyKind c) s hp (reply-kind c) (kept-of pl s (i .core))) (replied-paid s (i .core) p (replyKind c) g r)
+                (rw q (replied-allowances (i .core) wired p hp (replyKind c) (reply-spends c) x rest q));
+            shape = replied-shape s p (replyKind c) e (i .shape);
+          }
+
+  consume-inv : (a : ℕ) (s : State) → Inv pl s → Keeps (consumeCall pl a s)
+  unfolding consumeCall
+  consume-inv a s i =
+      by-test Keeps (not (isPhase (s .phase) Write)) _ s _ i
+      (λ e. by-test Keeps (not (ltb a (A pl))) _ s _ i
+      (λ f. by-test Keeps (s .flag (activeIn a)) _ s _ i
+      (λ g. accepted (phase-of (s .phase) Write e) (ltb-true a (A pl) (not-false _ f)) g (s .queue (activeIn a)) refl)))
+    where
+      taken : s .phase ≡ Write → a < A pl → s .flag (activeIn a) ≡ false → (x : Packet) (rest : List Packet) → s .queue (activeIn a) ≡ x ∷ rest → Inv pl (removed a rest s)
+      taken e h g x rest q =
+          record {
+            core = core-by (removed-kept wired range a x rest s h q (kept-of pl s (i .core))) (removed-paid s (i .core) a x rest q g) (removed-allowances (i .core) wired a h x rest q);
+            shape = removed-shape s a rest e (i .shape);
+          }
+
+      accepted : s .phase ≡ Write → a < A pl → s .flag (activeIn a) ≡ false → (l : List Packet) → s .queue (activeIn a) ≡ l → Keeps (refuse (isEmpty l) QueueEmpty s (refuse (headUnmarked l) Unmarked s (consumed a l s)))
+      accepted e h g [] q = i
+      accepted e h g (x ∷ rest) q = by-test Keeps (unmarked x) _ s (gives _ (removed a rest s)) i (λ u. taken e h g x rest q)
+
+  entry-inv : (r o t : ℕ) (s : State) → Inv pl s → Keeps (entryCall pl r o t s)
+  unfolding entryCall
+  entry-inv r o t s i = by-test Keeps (not (ltb r (R pl) && ltb o 4 && ltb t (S pl))) _ s _ i (λ e. i)
+
+  pub call-inv : (c : Call) (s : State) → Inv pl s → Inv pl (call pl c s .state)
+  call-inv read s i = read-inv s i
+  call-inv execute s i = execute-inv s i
+  call-inv write s i = write-inv s i
+  call-inv (launch a p t) s i = launch-inv a p t s i
+  call-inv (reply p c) s i = reply-inv p c s i
+  call-inv (consume a) s i = consume-inv a s i
+  call-inv (entry r o t) s i = entry-inv r o t s i
+
+  pub start-inv : Inv pl (start pl)
+  unfolding start
+  start-inv = record { core = start-core; shape = in-read refl (λ o d. refl) }
+
+  -- no state reached from Start, and none reached from a valid state, is refused 7
+  pub starts-good : Good pl (start pl)
+  starts-good = good-of pl (start pl) start-inv
+
+  pub keeps-good : (c : Call) (s : State) → Good pl s → Good pl (call pl c s .state)
+  keeps-good c s g = good-of pl (call pl c s .state) (call-inv c s (inv-of pl s g))

@@ -1,0 +1,169 @@
+-- The core's parts that speak of places: slot, entries, packets, marks, one free entry a side, and nothing outside the plan. Start has them, and a
+-- change of one part of a state keeps them under its condition.
+use mathlib.Core.Path.{_≡_, refl}
+use mathlib.Core.Bool.{Bool, true, false≢true}
+use mathlib.Core.List.{List, []}
+use mathlib.Core.Logic.{_≢_}
+use Prim.Native.Nat.{ℕ, _<_}
+use native.Mathlib.Omega.{arith}
+use lib.Dec.{eqb}
+use borrow.Author.Tests.{eqb-true}
+use Rattle.kinds.specs.declared.Slot.{Slot}
+use Rattle.kinds.specs.declared.Credit.{Credit}
+use Rattle.packets.specs.declared.Packet.{Packet}
+use Rattle.packets.specs.declared.Wire.{Wire}
+use Rattle.packets.specs.declared.Wire.the-variants.{Full}
+use Rattle.packets.specs.declared.Phase.{Phase}
+use Rattle.packets.specs.declared.Entry.{Entry}
+use Rattle.packets.specs.declared.Entry.the-variants.{Free, Booked}
+use Rattle.plan.specs.Head.{InRange}
+use Rattle.plan.specs.Plan.{Plan, R, A, S}
+use Rattle.feeding.specs.Queue.{Queue, Exists, Q}
+use Rattle.feeding.specs.Feeds.{Output}
+use Rattle.machine.specs.Store.{put, sameQueue, same-queue, queue-same, sameOutput, same-output, output-same}
+use Rattle.machine.specs.State.{State, Choice, start, withPhase, withSlot, withWire, withCredit, withFlag, withChoice, withEntry, withAllowance}
+use Rattle.machine.specs.Valid.{Drives, Carries, Bounded, Lined}
+use Rattle.machine.proofs.Apart.{full-not, booked-not}
+use Rattle.theory.proofs.Ground.Puts.{put-cases, put-outside, number-one, entry-cases}
+use Rattle.theory.proofs.Core.{Core, SlotIn, EntriesIn, Places, Wires, Marks, FreeEntry}
+
+-- what the steps keep of the places
+pub record Kept (pl : Plan) (s : State) : Type 0 where
+  pub slot : SlotIn pl s
+  pub entries : EntriesIn pl s
+  pub places : Places pl s
+  pub wires : Wires pl s
+  pub marks : Marks pl s
+  pub free-entry : FreeEntry pl s
+  pub bounded : Bounded pl s
+
+-- a core has these parts
+pub kept-of : (pl : Plan) (s : State) → Core pl s → Kept pl s
+kept-of pl s c =
+    record { slot = c .slot; entries = c .entries; places = c .places; wires = c .wires; marks = c .marks; free-entry = c .free-entry; bounded = c .bounded }
+
+-- Start has them
+pub start-kept : (pl : Plan) → InRange (pl .head) → Kept pl (start pl)
+unfolding start
+start-kept pl range =
+    record {
+      slot = omega (arith, range .slots);
+      entries = λ r o t i hr ho ht e. absurd (booked-not e);
+      places = λ q h. record {};
+      wires = λ o d x e. absurd (full-not e);
+      marks = λ q h e. absurd (false≢true e);
+      free-entry = λ r o hr ho. (0, omega (arith, range .slots), refl);
+      bounded = record {
+        queue = λ q n. refl;
+        credit = λ q n. refl;
+        flag = λ q n. refl;
+        handled = λ q n. refl;
+        wire = λ o n. refl;
+        choice = λ o n. refl;
+        table = λ r o t n. refl;
+        allowance = λ a n. refl;
+      };
+    }
+
+-- ---- what is kept, by the part of the state that it speaks of
+-- a store that is as at Start outside the plan
+abbrev Outside : {X B : Type 0} → (X → Type 0) → (X → B) → (X → B) → Type 0
+Outside {X} E m n = (x : X) → (E x → ⊥) → m x ≡ n x
+
+abbrev TableKept : Plan → State → Type 0
+TableKept pl s = EntriesIn pl s × FreeEntry pl s × ((r o t : ℕ) → ((r < R pl) × (o < 4) × (t < S pl) → ⊥) → s .table r o t ≡ start pl .table r o t)
+
+abbrev LinesKept : Plan → State → Type 0
+LinesKept pl s = Places pl s × Marks pl s × Outside (Exists pl) (s .queue) (start pl .queue) × Outside (Exists pl) (s .handled) (start pl .handled)
+
+abbrev WiresKept : Plan → State → Type 0
+WiresKept pl s = Wires pl s × Outside (Drives pl) (s .wire) (start pl .wire)
+
+-- a state is kept as its parts are: slot, table, lines, wires, credits, flags, choices and allowances
+by-parts : (pl : Plan) (s : State) → SlotIn pl s → TableKept pl s → LinesKept pl s → WiresKept pl s → Outside (Exists pl) (s .credit) (start pl .credit)
+    → Outside (Exists pl) (s .flag) (start pl .flag) → Outside (Drives pl) (s .choice) (start pl .choice) → Outside (λ a. a < A pl) (s .allowance) (start pl .allowance) → Kept pl s
+by-parts pl s slot table lines wires credit flag choice allowance =
+    record {
+      slot = slot;
+      entries = table .0;
+      places = lines .0;
+      wires = wires .0;
+      marks = lines .1;
+      free-entry = table .1;
+      bounded = record { queue = lines .2; credit = credit; flag = flag; handled = lines .3; wire = wires .1; choice = choice; table = table .2; allowance = allowance };
+    }
+
+module _ {pl : Plan} {s : State} (k : Kept pl s) where
+  abbrev b : Bounded pl s
+  b = k .bounded
+
+  abbrev table-of : TableKept pl s
+  table-of = (k .entries, k .free-entry, b .table)
+
+  abbrev lines-of : LinesKept pl s
+  lines-of = (k .places, k .marks, b .queue, b .handled)
+
+  abbrev wires-of : WiresKept pl s
+  wires-of = (k .wires, b .wire)
+
+  -- ---- a change of one part
+  -- any phase
+  pub phase-kept : (x : Phase) → Kept pl (withPhase x s)
+  phase-kept x = by-parts pl (withPhase x s) (k .slot) table-of lines-of wires-of (b .credit) (b .flag) (b .choice) (b .allowance)
+
+  -- a slot of the plan
+  pub slot-kept : (x : Slot) → x .0 < S pl → Kept pl (withSlot x s)
+  slot-kept x h = by-parts pl (withSlot x s) h table-of lines-of wires-of (b .credit) (b .flag) (b .choice) (b .allowance)
+
+  -- the lines, and the marks of their heads
+  pub lines-kept : (queue : Queue → List Packet) (handled : Queue → Bool)
+      → ((q : Queue) → Exists pl q → Lined pl q (handled q) (queue q)) → ((q : Queue) → Exists pl q → handled q ≡ true → (r : ℕ) × (q ≡ Q r) × (queue q ≢ []))
+      → ((q : Queue) → (Exists pl q → ⊥) → queue q ≡ start pl .queue q) → ((q : Queue) → (Exists pl q → ⊥) → handled q ≡ start pl .handled q)
+      → Kept pl (record { phase = s .phase; slot = s .slot; queue = queue; wire = s .wire; credit = s .credit; flag = s .flag; handled = handled; choice = s .choice; table = s .table; allowance = s .allowance })
+  lines-kept queue handled places marks lines heads = by-parts pl _ (k .slot) table-of (places, marks, lines, heads) wires-of (b .credit) (b .flag) (b .choice) (b .allowance)
+
+  -- a wire of the plan, what it carries being on its way
+  pub wire-kept : (o : Output) (x : Wire) → Drives pl o → ((y : Packet) → x ≡ Full y → Carries pl o y) → Kept pl (withWire o x s)
+  wire-kept o x h c =
+      by-parts pl (withWire o x s) (k .slot) table-of lines-of (
+        put-cases sameOutput output-same same-output (λ (u : Output) (v : Wire). Drives pl u → (y : Packet) → v ≡ Full y → Carries pl u y) (s .wire) o x (λ d. c) (λ u ne. k .wires u),
+        put-outside sameOutput output-same same-output (Drives pl) (s .wire) (start pl .wire) o x h (b .wire),
+      )
+      (b .credit) (b .flag) (b .choice) (b .allowance)
+
+  -- a credit of a queue of the plan
+  pub credit-kept : (q : Queue) (x : Credit) → Exists pl q → Kept pl (withCredit q x s)
+  credit-kept q x h =
+      by-parts pl (withCredit q x s) (k .slot) table-of lines-of wires-of (put-outside sameQueue queue-same same-queue (Exists pl) (s .credit) (start pl .credit) q x h (b .credit))
+      (b .flag) (b .choice) (b .allowance)
+
+  -- its flag
+  pub flag-kept : (q : Queue) (x : Bool) → Exists pl q → Kept pl (withFlag q x s)
+  flag-kept q x h =
+      by-parts pl (withFlag q x s) (k .slot) table-of lines-of wires-of (b .credit) (put-outside sameQueue queue-same same-queue (Exists pl) (s .flag) (start pl .flag) q x h (b .flag))
+      (b .choice) (b .allowance)
+
+  -- a choice of an output, as at Start if the output is not the plan's
+  pub choice-kept : (o : Output) (x : Choice) → ((Drives pl o → ⊥) → x ≡ start pl .choice o) → Kept pl (withChoice o x s)
+  choice-kept o x h =
+      by-parts pl (withChoice o x s) (k .slot) table-of lines-of wires-of (b .credit) (b .flag)
+      (put-cases sameOutput output-same same-output (λ (u : Output) (v : Choice). (Drives pl u → ⊥) → v ≡ start pl .choice u) (s .choice) o x h (λ u ne. b .choice u)) (b .allowance)
+
+  -- an allowance of an active of the plan
+  pub allowance-kept : (a x : ℕ) → a < A pl → Kept pl (withAllowance a x s)
+  allowance-kept a x h =
+      by-parts pl (withAllowance a x s) (k .slot) table-of lines-of wires-of (b .credit) (b .flag) (b .choice)
+      (put-outside eqb number-one eqb-true (λ (c : ℕ). c < A pl) (s .allowance) (start pl .allowance) a x h (b .allowance))
+
+  -- an entry of the plan, booked if at all with one of the four sides, where its side keeps a free entry u
+  pub entry-kept : (r o t : ℕ) (x : Entry) → r < R pl → o < 4 → t < S pl → ((i : ℕ) → x ≡ Booked i → i < 4) → (u : ℕ) → u < S pl → put eqb (s .table r o) t x u ≡ Free → Kept pl (withEntry r o t x s)
+  entry-kept r o t x hr ho ht side u hu free =
+      by-parts pl (withEntry r o t x s) (k .slot) (
+        λ r′ o′ t′ i. entry-cases (λ (r′ o′ t′ : ℕ) (v : Entry). (i : ℕ) → r′ < R pl → o′ < 4 → t′ < S pl → v ≡ Booked i → i < 4) (s .table) r o t x (λ i a c d. side i) (λ r′ o′ t′ i. k .entries r′ o′ t′ i) r′ o′ t′ i,
+        put-cases eqb number-one eqb-true (λ (r′ : ℕ) (v : ℕ → ℕ → Entry). (o′ : ℕ) → r′ < R pl → o′ < 4 → (t : ℕ) × (t < S pl) × (v o′ t ≡ Free)) (s .table) r (put eqb (s .table r) o (put eqb (s .table r o) t x))
+            (put-cases eqb number-one eqb-true (λ (o′ : ℕ) (v : ℕ → Entry). r < R pl → o′ < 4 → (t : ℕ) × (t < S pl) × (v t ≡ Free)) (s .table r) o (put eqb (s .table r o) t x)
+            (λ a c. (u, hu, free)) (λ o′ ne. k .free-entry r o′))
+            (λ r′ ne o′. k .free-entry r′ o′),
+        entry-cases (λ (r′ o′ t′ : ℕ) (v : Entry). ((r′ < R pl) × (o′ < 4) × (t′ < S pl) → ⊥) → v ≡ start pl .table r′ o′ t′) (s .table) r o t x (λ out. absurd (out (hr, ho, ht))) (b .table),
+      )
+      lines-of wires-of (b .credit) (b .flag) (b .choice) (b .allowance)

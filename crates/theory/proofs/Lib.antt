@@ -1,0 +1,12 @@
+pub mod Ground
+pub mod Core
+pub mod Places
+pub mod Cases
+pub mod Weights
+pub mod Kept
+pub mod Account
+pub mod Shape
+pub mod Keeps
+pub mod Progress
+pub mod Own
+pub mod Tracked

@@ -1,0 +1,196 @@
+-- A unit's turn keeps every entry owned: a set-up comes to own the entry that it books, a tear-down owned the entry that it frees.
+use mathlib.Core.Path.{_≡_, refl, sym, ap, subst, _∙_}
+use mathlib.Core.Logic.{_⊎_, inl, inr}
+use mathlib.Core.Bool.{Bool, true, false, _&&_, false≢true}
+use mathlib.Core.List.{List, _∷_}
+use mathlib.Core.Option.{Option, none, some}
+use Prim.Native.Nat.{ℕ, _+_, _<_}
+use native.Mathlib.Omega.{arith}
+use lib.Dec.{eqb}
+use borrow.Author.Tests.{eqb-true}
+use Rattle.basis.specs.Choice.{pick, also, also-true, pick-same, test}
+use Rattle.packets.specs.declared.Kind.the-variants.{Setup, Tdown}
+use Rattle.packets.specs.declared.Packet.{Packet}
+use Rattle.packets.specs.declared.Entry.{Entry}
+use Rattle.packets.specs.declared.Entry.the-variants.{Free, Booked}
+use Rattle.plan.specs.Plan.{Plan, R, S}
+use Rattle.feeding.specs.Queue.{Q}
+use Rattle.feeding.specs.Feeds.{inQueue, handledAt, Fits}
+use Rattle.wiring.specs.Wired.{Wired}
+use Rattle.machine.specs.State.{State, isFree}
+use Rattle.machine.specs.Execute.{cameIn, otherFree, mayBook, unit}
+use Rattle.machine.specs.Accepted.{Connection}
+use Rattle.machine.specs.Valid.{Belongs, headPlace}
+use Rattle.theory.proofs.Places.Closure.{unit-setup}
+use Rattle.theory.proofs.Core.{Core}
+use Rattle.theory.proofs.Places.CameIn.{stands-exit}
+use Rattle.theory.proofs.Weights.Total.{weighed}
+use Rattle.theory.proofs.Cases.{exitAt, mayBookAt, unit-books, unit-declines, unit-ends, unit-frees, UnitDoes, rests, books, declines, ends, frees, unit-does}
+use Rattle.theory.proofs.Weights.Moves.{head-belongs}
+use Rattle.theory.proofs.Weights.Changes.{booked-weighed, declined-weighed, freed-weighed, ended-weighed}
+use Rattle.theory.proofs.Own.Owners.{Claim, claimOf, owns, made, entryOf, holds, Owned}
+use Rattle.theory.proofs.Own.Owning.{claim-same, held, free-none, put3, sameEntry, put3-at, entry-same}
+use Rattle.theory.proofs.Own.Packets.{fits-as, declined-owns, oneAt, booked-owns, freed-owns, ended-owns}
+use Rattle.theory.proofs.Own.Steps.{owned-same}
+
+-- an entry that may be booked is free
+may-free : (slots : ℕ) (entries : ℕ → Entry) (t : ℕ) → mayBook slots entries t ≡ true → entries t ≡ Free
+unfolding mayBook
+may-free slots entries t e = by (entries t) refl e
+  where
+    by : (x : Entry) → entries t ≡ x → (isFree x && otherFree slots entries t) ≡ true → entries t ≡ Free
+    by Free q f = q
+    by (Booked i) q f = absurd (false≢true f)
+
+-- entries that the test finds one hold one value
+at-same : {X : Type 0} (m : ℕ → ℕ → ℕ → X) (r o t i j k : ℕ) → sameEntry r o t i j k ≡ true → m r o t ≡ m i j k
+at-same m r o t i j k e =
+    let p = also-true {a = eqb r i} {b = also (eqb o j) (eqb t k)} e in
+    let q = also-true {a = eqb o j} {b = eqb t k} (p .1) in
+    ap (λ (n : ℕ). m n o t) (eqb-true r i (p .0)) ∙ ap (λ (n : ℕ). m i n t) (eqb-true o j (q .0)) ∙ ap (m i j) (eqb-true t k (q .1))
+
+-- One entry of the table changed: its old claim went, and a new one came.
+pub put-owned : {pl : Plan} {acc : List Connection} (s t : State) (k : Owned pl acc s) (i j n : ℕ) (m : Option Claim) → t .table ≡ put3 (s .table) i j n (entryOf m)
+    → ((r o u : ℕ) (v : Claim)
+    → weighed pl (owns pl r o u v) t + pick (sameEntry r o u i j n) (holds (k .claims i j n) v) 0 ≡ weighed pl (owns pl r o u v) s + pick (sameEntry r o u i j n) (holds m v) 0)
+    → Owned pl acc t
+put-owned {pl} {acc} s t k i j n m e w = record { claims = put3 (k .claims) i j n m; entries = entries′; owners = owners′; agreed = k .agreed }
+  where
+    entries′ : (r o u : ℕ) → r < R pl → o < 4 → u < S pl → t .table r o u ≡ entryOf (put3 (k .claims) i j n m r o u)
+    entries′ r o u hr ho hu =
+        ap (λ (f : ℕ → ℕ → ℕ → Entry). f r o u) e
+        ∙ put3-at (s .table) i j n (entryOf m) r o u
+        ∙ by (sameEntry r o u i j n)
+        ∙ sym (ap entryOf (put3-at (k .claims) i j n m r o u))
+      where
+        by : (b : Bool) → pick b (entryOf m) (s .table r o u) ≡ entryOf (pick b m (k .claims r o u))
+        by true = refl
+        by false = k .entries r o u hr ho hu
+
+    owners′ : (r o u : ℕ) → r < R pl → o < 4 → u < S pl → (v : Claim) → weighed pl (owns pl r o u v) t + made pl r o u v acc ≡ holds (put3 (k .claims) i j n m r o u) v
+    owners′ r o u hr ho hu v = by (test (sameEntry r o u i j n)) (w r o u v) ∙ sym (ap (λ (c : Option Claim). holds c v) (put3-at (k .claims) i j n m r o u))
+      where
+        by : (sameEntry r o u i j n ≡ true) ⊎ (sameEntry r o u i j n ≡ false)
+            → weighed pl (owns pl r o u v) t + pick (sameEntry r o u i j n) (holds (k .claims i j n) v) 0 ≡ weighed pl (owns pl r o u v) s + pick (sameEntry r o u i j n) (holds m v) 0
+            → weighed pl (owns pl r o u v) t + made pl r o u v acc ≡ holds (pick (sameEntry r o u i j n) m (k .claims r o u)) v
+        by (inl q) f =
+            let g : weighed pl (owns pl r o u v) t + holds (k .claims i j n) v ≡ weighed pl (owns pl r o u v) s + holds m v = rw q at f in
+            let old = k .owners r o u hr ho hu v in
+            let same : holds (k .claims r o u) v ≡ holds (k .claims i j n) v = ap (λ (c : Option Claim). holds c v) (at-same (k .claims) r o u i j n q) in
+            rw q (omega arith)
+        by (inr q) f =
+            let g : weighed pl (owns pl r o u v) t + 0 ≡ weighed pl (owns pl r o u v) s + 0 = rw q at f in
+            let old = k .owners r o u hr ho hu v in
+            rw q (omega arith)
+
+module _ {pl : Plan} (wired : Wired pl) {acc : List Connection} (s : State) (c : Core pl s) (k : Owned pl acc s) (i : ℕ) (h : i < R pl) where
+  module _ (x : Packet) (rest : List Packet) (e : s .queue (Q i) ≡ x ∷ rest) (f : s .handled (Q i) ≡ false) where
+    -- the entry of the unit's head, and its pair's claim on it
+    abbrev exit : ℕ
+    exit = exitAt pl i x
+
+    abbrev own : Claim
+    own = claimOf pl (x .active) (x .passive) i
+
+    here : Belongs pl (inQueue (Q i)) x
+    here = subst (λ (d : Bool). Belongs pl (headPlace d (Q i)) x) f (head-belongs c (Q i) h x rest e)
+
+    -- the side out is one of the four
+    exit-below : (n : ℕ) → Fits pl Setup (x .active) (x .passive) n (inQueue (Q i)) → exit < 4
+    exit-below n g =
+        let p = unit-setup wired (x .active) (x .passive) (here .ranges .active) (here .ranges .passive) (here .serves) i n g in
+        stands-exit wired (x .active) (x .passive) (here .ranges .active) (here .ranges .passive) (here .serves) n i (p .0) (p .1)
+
+    -- ---- a set-up
+    -- A set-up that books keeps the ownership: nobody owned the entry, now the set-up does.
+    pub booked-owned : x .kind ≡ Setup → mayBookAt pl i s x ≡ true → Owned pl acc (unit pl i s)
+    booked-owned q t =
+        put-owned s (unit pl i s) k i exit (x .slot .0) (some own) (ap (λ (u : State). u .table) (unit-books pl i s x rest e f q t)) by
+      where
+        free : k .claims i exit (x .slot .0) ≡ none
+        free =
+            free-none (k .claims i exit (x .slot .0))
+            (sym (k .entries i exit (x .slot .0) h (exit-below (x .hub .0) (fits-as Setup q here)) (here .ranges .slot))
+            ∙ may-free (S pl) (s .table i exit) (x .slot .0) t)
+
+        by : (r o u : ℕ) (v : Claim) → weighed pl (owns pl r o u v) (unit pl i s) + pick (sameEntry r o u i exit (x .slot .0)) (holds (k .claims i exit (x .slot .0)) v) 0
+            ≡ weighed pl (owns pl r o u v) s + pick (sameEntry r o u i exit (x .slot .0)) (holds (some own) v) 0
+        by r o u v =
+            let all = booked-weighed pl (owns pl r o u v) i h s x rest e f q t in
+            let one = booked-owns pl r o u v wired i x q here in
+            let old : pick (sameEntry r o u i exit (x .slot .0)) (holds (k .claims i exit (x .slot .0)) v) 0 ≡ 0 = rw free (pick-same (sameEntry r o u i exit (x .slot .0)) 0) in
+            omega arith
+
+    -- A declined set-up keeps what it owned.
+    pub declined-owned : x .kind ≡ Setup → mayBookAt pl i s x ≡ false → Owned pl acc (unit pl i s)
+    declined-owned q t = owned-same s (unit pl i s) k (ap (λ (u : State). u .table) (unit-declines pl i s x rest e f q t)) by
+      where
+        by : (r o u : ℕ) (v : Claim) → weighed pl (owns pl r o u v) (unit pl i s) ≡ weighed pl (owns pl r o u v) s
+        by r o u v =
+            let all = declined-weighed pl (owns pl r o u v) i h s x rest e f q t in
+            let one = declined-owns pl r o u v (inQueue (Q i)) (handledAt i) x q in
+            omega arith
+
+    -- ---- a tear-down
+    -- the sum falls by the entry that is freed
+    down-weighed : x .kind ≡ Tdown → (r o u : ℕ) (v : Claim) → weighed pl (owns pl r o u v) (unit pl i s) + oneAt pl r o u v i x ≡ weighed pl (owns pl r o u v) s
+    down-weighed q r o u v = by (test (eqb (x .hub .0) 1))
+      where
+        by : (eqb (x .hub .0) 1 ≡ true) ⊎ (eqb (x .hub .0) 1 ≡ false) → weighed pl (owns pl r o u v) (unit pl i s) + oneAt pl r o u v i x ≡ weighed pl (owns pl r o u v) s
+        by (inl t) =
+            let all = ended-weighed pl (owns pl r o u v) i h s x rest e f q t in
+            let one = ended-owns pl r o u v wired i x q (eqb-true (x .hub .0) 1 t) here in
+            omega arith
+        by (inr t) =
+            let all = freed-weighed pl (owns pl r o u v) i h s x rest e f q t in
+            let one = freed-owns pl r o u v wired i x q here in
+            omega arith
+
+    -- A tear-down finds its entry claimed by its own pair.
+    pub tdown-claim : x .kind ≡ Tdown → k .claims i (exitAt pl i x) (x .slot .0) ≡ some (claimOf pl (x .active) (x .passive) i)
+    tdown-claim q =
+        let g = fits-as Tdown q here in
+        let all = down-weighed q i exit (x .slot .0) own in
+        let one : oneAt pl i exit (x .slot .0) own i x ≡ 1 = rw (entry-same i exit (x .slot .0), claim-same own) in
+        let sum = k .owners i exit (x .slot .0) h (exit-below (g .0) (g .1)) (here .ranges .slot) own in
+        held (k .claims i exit (x .slot .0)) own (omega arith)
+
+    -- A tear-down finds its entry booked with the side that its walk came in by.
+    pub tdown-entry : x .kind ≡ Tdown → s .table i (exitAt pl i x) (x .slot .0) ≡ Booked (cameIn pl (x .active) (x .passive) i)
+    tdown-entry q =
+        let g = fits-as Tdown q here in
+        k .entries i exit (x .slot .0) h (exit-below (g .0) (g .1)) (here .ranges .slot) ∙ ap entryOf (tdown-claim q)
+
+    -- A tear-down owns the entry that it frees: it is claimed by its own pair, and holds the side that the pair's walk came in by.
+    pub tdown-own : x .kind ≡ Tdown
+        → (k .claims i (exitAt pl i x) (x .slot .0) ≡ some (claimOf pl (x .active) (x .passive) i)) × (s .table i (exitAt pl i x) (x .slot .0) ≡ Booked (cameIn pl (x .active) (x .passive) i))
+    tdown-own q = (tdown-claim q, tdown-entry q)
+
+    torn-owned : x .kind ≡ Tdown → unit pl i s .table ≡ put3 (s .table) i exit (x .slot .0) Free → Owned pl acc (unit pl i s)
+    torn-owned q t = put-owned s (unit pl i s) k i exit (x .slot .0) none t by
+      where
+        by : (r o u : ℕ) (v : Claim) → weighed pl (owns pl r o u v) (unit pl i s) + pick (sameEntry r o u i exit (x .slot .0)) (holds (k .claims i exit (x .slot .0)) v) 0
+            ≡ weighed pl (owns pl r o u v) s + pick (sameEntry r o u i exit (x .slot .0)) 0 0
+        by r o u v =
+            let all = down-weighed q r o u v in
+            let none = pick-same {A = ℕ} (sameEntry r o u i exit (x .slot .0)) 0 in
+            rw (tdown-claim q) (omega arith)
+
+    -- A tear-down that frees its last entry keeps the ownership of the others.
+    pub ended-owned : x .kind ≡ Tdown → eqb (x .hub .0) 1 ≡ true → Owned pl acc (unit pl i s)
+    ended-owned q t = torn-owned q (ap (λ (u : State). u .table) (unit-ends pl i s x rest e f q t))
+
+    -- So does one that frees an entry and goes on.
+    pub freed-owned : x .kind ≡ Tdown → eqb (x .hub .0) 1 ≡ false → Owned pl acc (unit pl i s)
+    freed-owned q t = torn-owned q (ap (λ (u : State). u .table) (unit-frees pl i s x rest e f q t))
+
+  -- A unit's turn keeps the ownership.
+  pub unit-owned : Owned pl acc (unit pl i s)
+  unit-owned = by (unit-does pl i s)
+    where
+      by : UnitDoes pl i s → Owned pl acc (unit pl i s)
+      by (rests e) = subst (Owned pl acc) (sym e) k
+      by (books x rest e f q t) = booked-owned x rest e f q t
+      by (declines x rest e f q t) = declined-owned x rest e f q t
+      by (ends x rest e f q t) = ended-owned x rest e f q t
+      by (frees x rest e f q t) = freed-owned x rest e f q t

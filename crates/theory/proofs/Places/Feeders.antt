@@ -1,0 +1,89 @@
+-- Each queue is fed by one output, and is a sender of one output: so two outputs never meet in a credit, a wire or a queue.
+use mathlib.Core.Path.{_≡_, refl, sym, ap, _∙_}
+use mathlib.Core.Logic.{_⊎_, inl, inr, _≢_}
+use mathlib.Core.List.{List, [], _∷_}
+use mathlib.Core.Option.{Option, none, some}
+use Prim.Native.Nat.{ℕ, zero, suc, _<_}
+use native.Mathlib.Omega.{arith}
+use Rattle.basis.specs.Among.{In}
+use Rattle.plan.specs.declared.Joint.{Joint}
+use Rattle.plan.specs.declared.Joint.the-variants.{Nothing, Router, Active, Passive}
+use Rattle.plan.specs.Plan.{Plan, Port, Interface, active, passive, R, A, P, Has, jointOf}
+use Rattle.plan.specs.Rules.{home}
+use Rattle.feeding.specs.Queue.{Queue, activeOut, activeIn, passiveIn, passiveOut, U, Q, F, K}
+use Rattle.feeding.specs.Feeds.{Heading, ahead, back, Output, ofActive, ofPassive, ofSide, toUnit, fromUnit, enters, across, beyond, outputOf}
+use Rattle.wiring.specs.Wired.{Wired}
+use Rattle.journeys.proofs.Places.{some-same, some-not-none}
+use Rattle.machine.specs.Outputs.{senders}
+use Rattle.machine.specs.Valid.{Drives}
+use Rattle.machine.specs.Write.{ofRank}
+
+-- ---- the output that feeds a queue
+-- what leads in to a router's side
+abbrev leadsIn : Joint → Option Output
+leadsIn Nothing = none
+leadsIn (Router n t) = some (ofSide n t)
+leadsIn (Active n) = some (ofActive n)
+leadsIn (Passive n) = some (ofPassive n)
+
+abbrev pub feeder : Plan → Queue → Option Output
+feeder pl (activeOut x) = none
+feeder pl (passiveOut x) = none
+feeder pl (activeIn x) = some (ofSide (home pl (active x) .router) (home pl (active x) .side))
+feeder pl (passiveIn x) = some (ofSide (home pl (passive x) .router) (home pl (passive x) .side))
+feeder pl (U r i) = leadsIn (pl .joint r i)
+feeder pl (Q r) = some (toUnit r)
+feeder pl (F r o) = some (fromUnit r)
+feeder pl (K r i o) = leadsIn (pl .joint r i)
+
+module _ {pl : Plan} (wired : Wired pl) where
+  entered : (h : Heading) (a p : ℕ) (x : Port) → feeder pl (enters pl h a p x) ≡ leadsIn (pl .joint (x .router) (x .side))
+  entered ahead a p x = refl
+  entered back a p x = refl
+
+  across-fed : (h : Heading) (a p r o : ℕ) (j : Joint) → pl .joint r o ≡ j → (y : Queue) → across pl h a p j ≡ some y → feeder pl y ≡ some (ofSide r o)
+  across-fed h a p r o Nothing e y q = absurd (some-not-none q)
+  across-fed h a p r o (Router n t) e y q =
+      rw (← some-same q) (entered h a p (record { router = n; side = t }) ∙ ap leadsIn (wired .named r o n t e .1))
+  across-fed h a p r o (Active n) e y q =
+      let b = wired .joined (active n) (wired .known r o (active n) e) .only r o e in
+      rw (← some-same q, ← b .0, ← b .1)
+  across-fed h a p r o (Passive n) e y q =
+      let b = wired .joined (passive n) (wired .known r o (passive n) e) .only r o e in
+      rw (← some-same q, ← b .0, ← b .1)
+
+  -- the queue beyond an output is fed by that output
+  pub fed-by : (h : Heading) (a p : ℕ) (o : Output) → Drives pl o → (y : Queue) → beyond pl h a p o ≡ some y → feeder pl y ≡ some o
+  fed-by h a p (ofActive x) d y q = rw (← some-same q) (entered h a p (home pl (active x)) ∙ ap leadsIn (wired .joined (active x) d .there))
+  fed-by h a p (ofPassive x) d y q = rw (← some-same q) (entered h a p (home pl (passive x)) ∙ ap leadsIn (wired .joined (passive x) d .there))
+  fed-by h a p (ofSide r o) d y q = across-fed h a p r o (pl .joint r o) refl y q
+  fed-by h a p (toUnit r) d y q = rw (← some-same q)
+  fed-by h a p (fromUnit r) d y q = rw (← some-same q)
+
+  -- so two outputs with one next queue are one
+  pub one-feeder : (g h : Heading) (a p b q : ℕ) (o u : Output) → Drives pl o → Drives pl u → (y : Queue) → beyond pl g a p o ≡ some y → beyond pl h b q u ≡ some y → o ≡ u
+  one-feeder g h a p b q o u d e y m n = some-same (sym (fed-by g a p o d y m) ∙ fed-by h b q u e y n)
+
+-- ---- a queue's output
+-- the sender of a rank leaves by its output
+pub sender-leaves : (o : Output) (k : ℕ) (q : Queue) → ofRank (senders o) k ≡ some q → outputOf q ≡ some o
+sender-leaves (ofActive a) zero q e = rw (← some-same e)
+sender-leaves (ofActive a) (suc k) q e = absurd (some-not-none e)
+sender-leaves (ofPassive a) zero q e = rw (← some-same e)
+sender-leaves (ofPassive a) (suc k) q e = absurd (some-not-none e)
+sender-leaves (ofSide r o) zero q e = rw (← some-same e)
+sender-leaves (ofSide r o) (suc zero) q e = rw (← some-same e)
+sender-leaves (ofSide r o) (suc (suc zero)) q e = rw (← some-same e)
+sender-leaves (ofSide r o) (suc (suc (suc zero))) q e = rw (← some-same e)
+sender-leaves (ofSide r o) (suc (suc (suc (suc k)))) q e = absurd (some-not-none e)
+sender-leaves (toUnit r) zero q e = rw (← some-same e)
+sender-leaves (toUnit r) (suc zero) q e = rw (← some-same e)
+sender-leaves (toUnit r) (suc (suc zero)) q e = rw (← some-same e)
+sender-leaves (toUnit r) (suc (suc (suc zero))) q e = rw (← some-same e)
+sender-leaves (toUnit r) (suc (suc (suc (suc k)))) q e = absurd (some-not-none e)
+sender-leaves (fromUnit r) zero q e = rw (← some-same e)
+sender-leaves (fromUnit r) (suc k) q e = absurd (some-not-none e)
+
+-- so two outputs with one sender are one
+pub one-output : (o u : Output) (k m : ℕ) (q : Queue) → ofRank (senders o) k ≡ some q → ofRank (senders u) m ≡ some q → o ≡ u
+one-output o u k m q e f = some-same (sym (sender-leaves o k q e) ∙ sender-leaves u m q f)

@@ -1,0 +1,217 @@
+-- Progress from READ: until the first Read only Launches change the state; a full wire moves at that Read, else EXECUTE begins with the same queues.
+use mathlib.Core.Path.{_≡_, refl, sym, ap, _∙_}
+use mathlib.Core.Logic.{_⊎_, inl, inr, _≢_}
+use mathlib.Core.Bool.{Bool, true, false, not, _&&_, true≢false, false≢true}
+use mathlib.Core.List.{List, [], _∷_, _++_}
+use Prim.Native.Nat.{ℕ, zero, suc, _+_, _≤_, _<_}
+use native.Mathlib.Omega.{arith}
+use lib.Dec.{eqb, ltb}
+use lib.ListN.{length}
+use Rattle.basis.specs.Choice.{pick, test, refuted}
+use Rattle.basis.specs.Bounded.{Found, find}
+use Rattle.basis.specs.Fold.{upTo, up-keeps}
+use Rattle.kinds.specs.declared.Refusal.the-variants.{WrongPhase}
+use Rattle.packets.specs.declared.Packet.{Packet}
+use Rattle.packets.specs.declared.Wire.{Wire}
+use Rattle.packets.specs.declared.Wire.the-variants.{Empty, Full}
+use Rattle.packets.specs.declared.Phase.the-variants.{Read, Execute, Write}
+use Rattle.packets.specs.declared.Answer.the-variants.{Refused}
+use Rattle.plan.specs.Head.{InRange}
+use Rattle.plan.specs.Plan.{Plan, R, A, P, S}
+use Rattle.paths.specs.Served.{served}
+use Rattle.feeding.specs.Queue.{Queue, activeOut, activeIn, passiveIn, passiveOut, U, Q, F, K, Exists, queues, queueAt, capacity}
+use Rattle.feeding.specs.Feeds.{Output, FeedRing}
+use Rattle.wiring.specs.Wired.{Wired}
+use Rattle.machine.specs.Store.{put, sameQueue, same-queue}
+use Rattle.machine.specs.Outputs.{outputs, outputAt, outputNumber}
+use Rattle.machine.specs.State.{State, isFull, join}
+use Rattle.machine.specs.Read.{deliver, settle, lower, doRead}
+use Rattle.machine.specs.Execute.{hasRoom}
+use Rattle.machine.specs.Calls.{Outcome, gives, isPhase, Call, read, execute, write, launch, reply, consume, entry, call, setupOf, launched, launchCall, replyCall, consumeCall, entryCall}
+use Rattle.machine.specs.Valid.{Drives}
+use Rattle.machine.specs.Progress.{isInQueue, UnderWay, PassiveRoom, Waits, Moved, isTimed, endsRound}
+use Rattle.machine.specs.Ruled.{rounds, Moves, Good}
+use Rattle.machine.proofs.Apart.{full-not}
+use Rattle.machine.proofs.OutNumbers.{output-at, output-below, drives-at}
+use Rattle.theory.proofs.Core.{WiresEmpty}
+use Rattle.theory.proofs.Shape.Read.{read-wires}
+use Rattle.theory.proofs.Keeps.{Inv, inv-of, call-inv}
+use Rattle.theory.proofs.Progress.Stuck.{Closed, every, every-closed, answering, answering-closed}
+use Rattle.theory.proofs.Progress.Interval.{MovesNow, moves-now, moves-later}
+use Rattle.theory.proofs.Progress.Still.{none-delivered}
+use Rattle.theory.proofs.Progress.Undisturbed.{read-now, execute-not, write-not, out-of-phase, by-refusal}
+use Rattle.theory.proofs.Progress.Rounds.{from-execute, execute-phase}
+
+-- ---- what calls other than Read do in READ
+-- wires and in-queues stay, and a queue that has a packet keeps one
+record Before (s t : State) : Type 0 where
+  pub phase : t .phase ≡ s .phase
+  pub wire : t .wire ≡ s .wire
+  pub ins : (q : Queue) → isInQueue q ≡ true → t .queue q ≡ s .queue q
+  pub held : (q : Queue) (x : Packet) (rest : List Packet) → s .queue q ≡ x ∷ rest → (more : List Packet) × (t .queue q ≡ x ∷ more)
+
+unchanged : (s : State) → Before s s
+unchanged s = record { phase = refl; wire = refl; ins = λ q i. refl; held = λ q x rest e. (rest, e) }
+
+joined-before : (k : Queue) (y : Packet) (s : State) → isInQueue k ≡ false → Before s (join k y s)
+unfolding join
+joined-before k y s n = record { phase = refl; wire = refl; ins = ins′; held = held′ }
+  where
+    ins′ : (z : Queue) → isInQueue z ≡ true → put sameQueue (s .queue) k (s .queue k ++ (y ∷ [])) z ≡ s .queue z
+    ins′ z i = rw (refuted (sameQueue z k) (λ u. true≢false (sym i ∙ ap isInQueue (same-queue z k u) ∙ n)), pick)
+
+    held′ : (z : Queue) (x : Packet) (rest : List Packet) → s .queue z ≡ x ∷ rest → (more : List Packet) × (put sameQueue (s .queue) k (s .queue k ++ (y ∷ [])) z ≡ x ∷ more)
+    held′ z x rest e = by (test (sameQueue z k))
+      where
+        by : (sameQueue z k ≡ true) ⊎ (sameQueue z k ≡ false) → (more : List Packet) × (put sameQueue (s .queue) k (s .queue k ++ (y ∷ [])) z ≡ x ∷ more)
+        by (inl u) = (rest ++ (y ∷ []), rw (u, pick) (ap (λ (l : List Packet). l ++ (y ∷ [])) (ap (s .queue) (sym (same-queue z k u)) ∙ e)))
+        by (inr u) = (rest, rw (u, pick) e)
+
+launched-before : (a q t : ℕ) (s : State) → Before s (launched a q t s)
+unfolding launched
+launched-before a q t s = let j = joined-before (activeOut a) (setupOf a q t) s refl in record { phase = j .phase; wire = j .wire; ins = j .ins; held = j .held }
+
+module _ (pl : Plan) (s : State) (e : s .phase ≡ Read) where
+  not-execute : s .phase ≢ Execute
+  not-execute g = let z : _≡_ {A = ℕ} 0 1 = cc in omega arith
+
+  not-write : s .phase ≢ Write
+  not-write g = let z : _≡_ {A = ℕ} 0 1 = cc in omega arith
+
+  still : (c : Call) → call pl c s ≡ gives (Refused WrongPhase) s → Before s (call pl c s .state)
+  still c g = rw g (unchanged s)
+
+  only-read : (c : Call) → c ≢ read → Before s (call pl c s .state) × (endsRound c (call pl c s .answer) ≡ 0)
+  unfolding launchCall replyCall consumeCall entryCall
+  only-read read ne = absurd (ne refl)
+  only-read execute ne = (still execute (execute-not pl s not-execute), refl)
+  only-read write ne = let w = write-not pl s not-write in (still write w, ap (λ (r : Outcome). endsRound write (r .answer)) w)
+  only-read (launch a q t) ne = (
+    by-refusal (λ (r : Outcome). Before s (r .state)) (not (isPhase (s .phase) Read)) _ s _ (unchanged s)
+        (by-refusal (λ (r : Outcome). Before s (r .state)) (not (ltb a (A pl) && ltb q (P pl) && ltb t (S pl))) _ s _ (unchanged s)
+        (by-refusal (λ (r : Outcome). Before s (r .state)) (not (served pl a q)) _ s _ (unchanged s)
+        (by-refusal (λ (r : Outcome). Before s (r .state)) (eqb (s .allowance a) 0) _ s _ (unchanged s)
+        (by-refusal (λ (r : Outcome). Before s (r .state)) (not (hasRoom pl (activeOut a) s)) _ s _ (unchanged s) (launched-before a q t s))))),
+    refl,
+  )
+  only-read (reply q c) ne = (still (reply q c) (out-of-phase (s .phase) Write WrongPhase s _ not-write), refl)
+  only-read (consume a) ne = (still (consume a) (out-of-phase (s .phase) Write WrongPhase s _ not-write), refl)
+  only-read (entry r o t) ne = (by-refusal (λ (x : Outcome). Before s (x .state)) (not (ltb r (R pl) && ltb o 4 && ltb t (S pl))) _ s _ (unchanged s) (unchanged s), refl)
+
+-- READ with empty wires leaves the queues
+settle-queue : (q : Queue) (s : State) → settle q s .queue ≡ s .queue
+unfolding settle lower
+settle-queue q s = by (s .flag q)
+  where
+    by : (b : Bool) → lower q b s .queue ≡ s .queue
+    by true = refl
+    by false = refl
+
+read-queue : (pl : Plan) (s : State) → WiresEmpty pl s → doRead pl s .queue ≡ s .queue
+unfolding doRead
+read-queue pl s w =
+    up-keeps (λ (t : State). t .queue ≡ upTo (λ n. deliver pl (outputAt pl n)) (outputs pl) s .queue) (λ n. settle (queueAt pl n)) (queues pl) (upTo (λ n. deliver pl (outputAt pl n)) (outputs pl) s)
+    (λ n t h q. settle-queue (queueAt pl n) t ∙ q) refl
+    ∙ ap (λ (t : State). t .queue) (none-delivered pl s w)
+
+-- a full wire, or none
+some-wire : (pl : Plan) (s : State) → ((o : Output) × (x : Packet) × Drives pl o × (s .wire o ≡ Full x)) ⊎ WiresEmpty pl s
+some-wire pl s = by (find (outputs pl) (λ n. isFull (s .wire (outputAt pl n))))
+  where
+    full : (n : ℕ) → n < outputs pl → (w : Wire) → s .wire (outputAt pl n) ≡ w → isFull w ≡ true → (o : Output) × (x : Packet) × Drives pl o × (s .wire o ≡ Full x)
+    full n h Empty e b = absurd (false≢true b)
+    full n h (Full x) e b = (outputAt pl n, x, drives-at pl n h, e)
+
+    empty : (w : Wire) → isFull w ≡ false → w ≡ Empty
+    empty Empty b = refl
+    empty (Full x) b = absurd (true≢false b)
+
+    by : Found (outputs pl) (λ n. isFull (s .wire (outputAt pl n))) ⊎ ((n : ℕ) → n < outputs pl → isFull (s .wire (outputAt pl n)) ≡ false) → ((o : Output) × (x : Packet) × Drives pl o × (s .wire o ≡ Full x)) ⊎ WiresEmpty pl s
+    by (inl (n, h, b)) = inl (full n h (s .wire (outputAt pl n)) refl b)
+    by (inr f) = inr (λ o h. ap (s .wire) (sym (output-at pl o h)) ∙ empty (s .wire (outputAt pl (outputNumber pl o))) (f (outputNumber pl o) (output-below pl o h)))
+
+module _ {pl : Plan} (wired : Wired pl) (range : InRange (pl .head)) (free : FeedRing pl → ⊥) where
+  -- a packet under way: on a wire, or in a queue of the set
+  abbrev Going : (Queue → Bool) → State → Type 0
+  Going set s =
+      ((o : Output) × (x : Packet) × Drives pl o × (s .wire o ≡ Full x))
+      ⊎ ((q : Queue) × (x : Packet) × (rest : List Packet) × Exists pl q × (isInQueue q ≡ false) × (set q ≡ true) × (s .queue q ≡ x ∷ rest))
+
+  -- at the Read itself
+  at-read : (set : Queue → Bool) (s : State) → Inv pl s → s .phase ≡ Read → Closed pl set s → Going set s → (cs : List Call) → S pl ≤ rounds pl cs (doRead pl s) → MovesNow pl read s ⊎ Moves pl cs (doRead pl s)
+  at-read set s i e c g cs n = by (some-wire pl s) g
+    where
+      now : call pl read s .state ≡ doRead pl s
+      now = ap (λ (r : Outcome). r .state) (read-now pl s e)
+
+      brought : (o : Output) (x : Packet) → Drives pl o → s .wire o ≡ Full x → MovesNow pl read s
+      brought o x d f = (refl, inl (o, x, d, f, ap (λ (t : State). t .wire o) now ∙ read-wires pl s o d))
+
+      by : ((o : Output) × (x : Packet) × Drives pl o × (s .wire o ≡ Full x)) ⊎ WiresEmpty pl s → Going set s → MovesNow pl read s ⊎ Moves pl cs (doRead pl s)
+      by (inl (o, x, d, f)) w = inl (brought o x d f)
+      by (inr w) (inl (o, x, d, f)) = absurd (full-not (sym (w o d) ∙ f))
+      by (inr w) (inr (q, x, rest, h, ni, b, f)) =
+          let same = read-queue pl s w in
+          let there : Closed pl set (doRead pl s)
+          = record { stays = c .stays; room = λ hd a p k z ha hp d m v u l. rw (ap (λ (t : Queue → List Packet). t (passiveIn k)) same) (c .room hd a p k z ha hp d m v u l) } in
+          let kept : Inv pl (doRead pl s) = rw now at (call-inv wired range read s i) in
+          inr (from-execute wired range free (doRead pl s) kept (execute-phase pl s) set there q x rest h ni b (ap (λ (t : Queue → List Packet). t q) same ∙ f) cs n)
+
+  -- from any state in READ
+  pub from-read : (set : Queue → Bool) (cs : List Call) (s : State) → Inv pl s → s .phase ≡ Read → Closed pl set s → Going set s → S pl ≤ rounds pl cs s → Moves pl cs s
+  from-read set [] s i e c g n = absurd (omega (arith, range .slots .0))
+  from-read set (k ∷ cs) s i e c g n = by k (λ t j f d w m. from-read set cs t j f d w m) n
+    where
+      other : (k : Call) → k ≢ read → ((t : State) → Inv pl t → t .phase ≡ Read → Closed pl set t → Going set t → S pl ≤ rounds pl cs t → Moves pl cs t) → S pl ≤ rounds pl (k ∷ cs) s → Moves pl (k ∷ cs) s
+      other k ne rec m =
+          let o = only-read pl s e k ne in
+          moves-later pl k cs s
+          (rec (call pl k s .state) (call-inv wired range k s i) (o .0 .phase ∙ e)
+          (record { stays = c .stays; room = λ hd a p b z ha hp d u v w l. rw (o .0 .ins (passiveIn b) refl) (c .room hd a p b z ha hp d u v w l) })
+          (goes (o .0) g) (omega (arith, o .1)))
+        where
+          goes : Before s (call pl k s .state) → Going set s → Going set (call pl k s .state)
+          goes b (inl (o, x, d, f)) = inl (o, x, d, ap (λ (w : Output → Wire). w o) (b .wire) ∙ f)
+          goes b (inr (q, x, rest, h, ni, u, f)) = let l = b .held q x rest f in inr (q, x, l .0, h, ni, u, l .1)
+
+      reads : S pl ≤ rounds pl (read ∷ cs) s → Moves pl (read ∷ cs) s
+      reads m =
+          let now : call pl read s .state ≡ doRead pl s = ap (λ (r : Outcome). r .state) (read-now pl s e) in
+          let l : rounds pl cs (call pl read s .state) ≡ rounds pl cs (doRead pl s) = ap (rounds pl cs) now in
+          done now (at-read set s i e c g cs (omega arith))
+        where
+          done : call pl read s .state ≡ doRead pl s → MovesNow pl read s ⊎ Moves pl cs (doRead pl s) → Moves pl (read ∷ cs) s
+          done now (inl x) = moves-now pl read cs s x
+          done now (inr x) = moves-later pl read cs s (rw now x)
+
+      by : (k : Call) → ((t : State) → Inv pl t → t .phase ≡ Read → Closed pl set t → Going set t → S pl ≤ rounds pl cs t → Moves pl cs t) → S pl ≤ rounds pl (k ∷ cs) s → Moves pl (k ∷ cs) s
+      by read rec m = reads m
+      by execute rec m = other execute (λ h. let z : _≡_ {A = ℕ} 0 1 = cc in omega arith) rec m
+      by write rec m = other write (λ h. let z : _≡_ {A = ℕ} 0 1 = cc in omega arith) rec m
+      by (launch a q t) rec m = other (launch a q t) (λ h. let z : _≡_ {A = ℕ} 0 1 = cc in omega arith) rec m
+      by (reply q x) rec m = other (reply q x) (λ h. let z : _≡_ {A = ℕ} 0 1 = cc in omega arith) rec m
+      by (consume a) rec m = other (consume a) (λ h. let z : _≡_ {A = ℕ} 0 1 = cc in omega arith) rec m
+      by (entry r o t) rec m = other (entry r o t) (λ h. let z : _≡_ {A = ℕ} 0 1 = cc in omega arith) rec m
+
+  -- demand 3's last part, from every valid state
+  pub progress : (s : State) → Good pl s → Waits pl s → (cs : List Call) → S pl ≤ rounds pl cs s → Moves pl cs s
+  progress s g w cs n = from-read every cs s (inv-of pl s g) (w .phase) (every-closed pl s (w .room)) (going (w .packet)) n
+    where
+      going : UnderWay pl s → Going every s
+      going (inl x) = inl x
+      going (inr (q, x, rest, h, ni, f)) = inr (q, x, rest, h, ni, refl, f)
+
+  -- answers move whatever the passives do: a packet in some K or passive out-queue
+  pub answers-move : (s : State) → Good pl s → s .phase ≡ Read → (q : Queue) (x : Packet) (rest : List Packet) → Exists pl q → answering q ≡ true → s .queue q ≡ x ∷ rest
+      → (cs : List Call) → S pl ≤ rounds pl cs s → Moves pl cs s
+  answers-move s g e q x rest h a f cs n = from-read answering cs s (inv-of pl s g) e (answering-closed wired s) (inr (q, x, rest, h, no-in q a, a, f)) n
+    where
+      no-in : (q : Queue) → answering q ≡ true → isInQueue q ≡ false
+      no-in (activeOut x) b = refl
+      no-in (activeIn x) b = absurd (false≢true b)
+      no-in (passiveIn x) b = absurd (false≢true b)
+      no-in (passiveOut x) b = refl
+      no-in (U r i) b = refl
+      no-in (Q r) b = refl
+      no-in (F r o) b = refl
+      no-in (K r i o) b = refl

@@ -1,0 +1,502 @@
+-- Progress: from every valid state in READ with a packet under way, any list with S whole rounds moves a packet by a Read, an Execute or a Write.
+-- Suppose nothing moves. After the first EXECUTE's units the network is as in a state p, but for what Still allows. Each output comes to a round in
+-- which it is open and picks nobody, so no head of its senders finds credit: the network is jammed, and Stuck says that it then holds no packet.
+use mathlib.Core.Path.{_≡_, refl, sym, ap, _∙_}
+use mathlib.Core.Logic.{_⊎_, inl, inr, _≢_}
+use mathlib.Core.Bool.{Bool, true, false, not, _&&_, true≢false, false≢true}
+use mathlib.Core.List.{List, [], _∷_, _++_}
+use mathlib.Core.Option.{Option, none, some}
+use Prim.Native.Nat.{ℕ, zero, suc, _+_, _-_, _%_, _≤_, _<_}
+use native.Mathlib.Nat.{mod-add-mod, mod-eq-of-lt, mod-eq-sub-mod, add-zero}
+use native.Mathlib.Omega.{arith}
+use lib.Dec.{eqb, ltb}
+use lib.ListN.{length}
+use borrow.Author.Tests.{ltb-false, lt-ltb, not-true, not-false}
+use Rattle.basis.specs.Choice.{pick, also, test}
+use Rattle.basis.specs.Bounded.{Found, find, lt-or-ge}
+use Rattle.basis.specs.Fold.{upTo, up-keeps-at}
+use Rattle.kinds.specs.declared.Slot.{Slot}
+use Rattle.packets.specs.declared.Kind.{Kind}
+use Rattle.packets.specs.declared.Kind.the-variants.{Setup, Tdown, Ack, Nack}
+use Rattle.packets.specs.declared.Packet.{Packet}
+use Rattle.packets.specs.declared.Phase.the-variants.{Read, Execute, Write}
+use Rattle.packets.specs.declared.Entry.{Entry}
+use Rattle.packets.specs.declared.Entry.the-variants.{Free, Booked}
+use Rattle.plan.specs.Head.{InRange}
+use Rattle.plan.specs.Plan.{Plan, R, A, P, S}
+use Rattle.feeding.specs.Queue.{Queue, activeOut, activeIn, passiveIn, passiveOut, U, Q, F, K, Exists, capacity}
+use Rattle.feeding.specs.Feeds.{Output, ofActive, ofPassive, ofSide, toUnit, fromUnit, outputOf, headingOf, next, inQueue, FeedRing}
+use Rattle.wiring.specs.Wired.{Wired}
+use Rattle.machine.specs.Outputs.{nextBy, senders, outputs, outputAt, outputNumber}
+use Rattle.machine.specs.State.{State, Choice, nobody, sender, isFree}
+use Rattle.machine.specs.Execute.{unit, hasCredit, mayLeave, candidate, isOpen, picked, doExecute}
+use Rattle.machine.specs.Write.{ofRank, doWrite}
+use Rattle.machine.specs.Read.{doRead}
+use Rattle.machine.specs.Calls.{Outcome, Call, read, execute, write, launch, reply, consume, entry, call}
+use Rattle.machine.specs.Valid.{Belongs, Drives, isFed}
+use Rattle.machine.specs.Progress.{isInQueue, Moved, isTimed, endsRound}
+use Rattle.machine.specs.Ruled.{rounds, Moves}
+use Rattle.machine.proofs.Numbers.{sender-exists}
+use Rattle.machine.proofs.OutNumbers.{output-at, output-below, drives-at}
+use Rattle.theory.proofs.Core.{Core, Shape, WiresEmpty, FlagsDown, NoChoices, ChoicesSendable, Sendable}
+use Rattle.theory.proofs.Places.Closure.{unit-no-answer}
+use Rattle.theory.proofs.Places.Lines.{output-drives}
+use Rattle.theory.proofs.Places.Senders.{candidate-ready}
+use Rattle.theory.proofs.Shape.Arbitration.{picked-none}
+use Rattle.theory.proofs.Shape.Execute.{Quiet, quiet-start, quiet-down, unit-quiet, units-wires}
+use Rattle.theory.proofs.Shape.Calls.{execute-has, write-has}
+use Rattle.theory.proofs.Keeps.{Inv, unit-core, call-inv}
+use Rattle.theory.proofs.Progress.Stuck.{Jammed, Closed, none-waits}
+use Rattle.theory.proofs.Progress.Interval.{MovesNow, moves-now, moves-later, Turn, moves, stays, ends, interval}
+use Rattle.theory.proofs.Progress.Still.{Same, same-self, AllHandled, Picks, read-stays, execute-rest, execute-picks, write-stays}
+use Rattle.theory.proofs.Progress.Moving.{write-takes}
+use Rattle.theory.proofs.Progress.First.{Ends, Upto, units, ends-moves}
+use Rattle.theory.proofs.Progress.Undisturbed.{Undisturbed, read-now, execute-now, write-now, read-not, execute-not, write-not, launch-undisturbed, reply-undisturbed, consume-undisturbed, entry-undisturbed, only-execute}
+
+-- ---- every slot comes within S rounds
+pub slot-reached : (n s t : ℕ) → s < n → t < n → (j : ℕ) × (j < n) × ((s + j) % n ≡ t)
+slot-reached n s t hs ht = by (lt-or-ge t s)
+  where
+    wrap : (x : ℕ) → n ≤ x → x < n + n → x % n ≡ x - n
+    wrap x h l = mod-eq-sub-mod h ∙ mod-eq-of-lt (omega arith)
+
+    by : (t < s) ⊎ (s ≤ t) → (j : ℕ) × (j < n) × ((s + j) % n ≡ t)
+    by (inl l) = (n - s + t, omega arith, wrap (s + (n - s + t)) (omega arith) (omega arith) ∙ omega arith)
+    by (inr l) = (t - s, omega arith, mod-eq-of-lt (omega arith) ∙ omega arith)
+
+-- ---- an output's senders by rank
+pub ranked : (pl : Plan) (q : Queue) (o : Output) → Exists pl q → outputOf q ≡ some o → (k : ℕ) × (ofRank (senders o) k ≡ some q)
+ranked pl (activeOut x) o h e = let z : ofActive x ≡ o = cc in (0, rw (← z))
+ranked pl (activeIn x) o h e = let z : _≡_ {A = ℕ} 0 1 = cc in absurd (omega arith)
+ranked pl (passiveIn x) o h e = let z : _≡_ {A = ℕ} 0 1 = cc in absurd (omega arith)
+ranked pl (passiveOut x) o h e = let z : ofPassive x ≡ o = cc in (0, rw (← z))
+ranked pl (Q r) o h e = let z : fromUnit r ≡ o = cc in (0, rw (← z))
+ranked pl (F r s) o h e = let z : ofSide r s ≡ o = cc in (0, rw (← z))
+ranked pl (U r i) o (hr, hi) e = let z : toUnit r ≡ o = cc in rw (← z) (at i hi)
+  where
+    at : (i : ℕ) → i < 4 → (k : ℕ) × (ofRank (senders (toUnit r)) k ≡ some (U r i))
+    at zero l = (0, refl)
+    at (suc zero) l = (1, refl)
+    at (suc (suc zero)) l = (2, refl)
+    at (suc (suc (suc zero))) l = (3, refl)
+    at (suc (suc (suc (suc i)))) l = absurd (omega arith)
+ranked pl (K r i s) o (hr, hi, hs, ne) e = let z : ofSide r s ≡ o = cc in rw (← z) (at i s hi hs ne)
+  where
+    at : (i s : ℕ) → i < 4 → s < 4 → i ≢ s → (k : ℕ) × (ofRank (senders (ofSide r s)) k ≡ some (K r i s))
+    at zero zero a b n = absurd (n refl)
+    at zero (suc zero) a b n = (1, refl)
+    at zero (suc (suc zero)) a b n = (1, refl)
+    at zero (suc (suc (suc zero))) a b n = (1, refl)
+    at zero (suc (suc (suc (suc s)))) a b n = absurd (omega arith)
+    at (suc zero) zero a b n = (1, refl)
+    at (suc zero) (suc zero) a b n = absurd (n refl)
+    at (suc zero) (suc (suc zero)) a b n = (2, refl)
+    at (suc zero) (suc (suc (suc zero))) a b n = (2, refl)
+    at (suc zero) (suc (suc (suc (suc s)))) a b n = absurd (omega arith)
+    at (suc (suc zero)) zero a b n = (2, refl)
+    at (suc (suc zero)) (suc zero) a b n = (2, refl)
+    at (suc (suc zero)) (suc (suc zero)) a b n = absurd (n refl)
+    at (suc (suc zero)) (suc (suc (suc zero))) a b n = (3, refl)
+    at (suc (suc zero)) (suc (suc (suc (suc s)))) a b n = absurd (omega arith)
+    at (suc (suc (suc zero))) zero a b n = (3, refl)
+    at (suc (suc (suc zero))) (suc zero) a b n = (3, refl)
+    at (suc (suc (suc zero))) (suc (suc zero)) a b n = (3, refl)
+    at (suc (suc (suc zero))) (suc (suc (suc zero))) a b n = absurd (n refl)
+    at (suc (suc (suc zero))) (suc (suc (suc (suc s)))) a b n = absurd (omega arith)
+    at (suc (suc (suc (suc i)))) s a b n = absurd (omega arith)
+
+-- the output of a queue that is no in-queue
+leaves : (q : Queue) → isInQueue q ≡ false → (o : Output) × (outputOf q ≡ some o)
+leaves (activeOut x) e = (ofActive x, refl)
+leaves (activeIn x) e = absurd (true≢false e)
+leaves (passiveIn x) e = absurd (true≢false e)
+leaves (passiveOut x) e = (ofPassive x, refl)
+leaves (U r i) e = (toUnit r, refl)
+leaves (Q r) e = (fromUnit r, refl)
+leaves (F r o) e = (ofSide r o, refl)
+leaves (K r i o) e = (ofSide r o, refl)
+
+next-by : (pl : Plan) (q : Queue) (o : Output) (x : Packet) → outputOf q ≡ some o → next pl (headingOf (x .kind)) (x .active) (x .passive) q ≡ nextBy pl o x
+unfolding next
+next-by pl q o x e = rw e
+
+-- the phases' ends
+pub execute-phase : (pl : Plan) (s : State) → doRead pl s .phase ≡ Execute
+unfolding doRead
+execute-phase pl s = refl
+
+write-phase : (pl : Plan) (s : State) → doExecute pl s .phase ≡ Write
+unfolding doExecute
+write-phase pl s = refl
+
+read-phase : (pl : Plan) (s : State) → doWrite pl s .phase ≡ Read
+unfolding doWrite
+read-phase pl s = refl
+
+isNobody : Choice → Bool
+isNobody nobody = true
+isNobody (sender k) = false
+
+module _ {pl : Plan} (wired : Wired pl) (range : InRange (pl .head)) (free : FeedRing pl → ⊥) where
+  -- ---- from a state in EXECUTE
+  module _ (e : State) (inv : Inv pl e) (phase : e .phase ≡ Execute) where
+    has : NoChoices pl e × WiresEmpty pl e × FlagsDown pl e
+    has = execute-has e phase (inv .shape)
+
+    -- an unhandled head at a unit is a SETUP or a TDOWN
+    own : (r : ℕ) (x : Packet) (l : List Packet) → r < R pl → e .queue (Q r) ≡ x ∷ l → e .handled (Q r) ≡ false → (x .kind ≡ Setup) ⊎ (x .kind ≡ Tdown)
+    own r x l h q f = by (x .kind) refl
+      where
+        b : Belongs pl (inQueue (Q r)) x
+        b = rw f at ((rw q at (inv .core .places (Q r) h)) .0)
+
+        by : (k : Kind) → x .kind ≡ k → (k ≡ Setup) ⊎ (k ≡ Tdown)
+        by Setup g = inl refl
+        by Tdown g = inr refl
+        by Ack g = absurd (unit-no-answer wired (x .active) (x .passive) (b .ranges .active) (b .ranges .passive) (b .serves) r (x .hub .0) .0 (rw g at (b .fits)))
+        by Nack g = absurd (unit-no-answer wired (x .active) (x .passive) (b .ranges .active) (b .ranges .passive) (b .serves) r (x .hub .0) .1 (rw g at (b .fits)))
+
+    -- where Execute moves a packet, a list with a whole round does
+    until-execute : MovesNow pl execute e → (cs : List Call) → 1 ≤ rounds pl cs e → Moves pl cs e
+    until-execute m [] h = absurd (omega arith)
+    until-execute m (c ∷ cs) h = by c (λ g. until-execute m cs g) h
+      where
+        other : (c : Call) → c ≢ execute → (1 ≤ rounds pl cs e → Moves pl cs e) → 1 ≤ rounds pl (c ∷ cs) e → Moves pl (c ∷ cs) e
+        other c ne rec h =
+            let o = only-execute pl e phase c ne in
+            let n : 1 ≤ rounds pl cs e = let a : rounds pl cs (call pl c e .state) ≡ rounds pl cs e = ap (rounds pl cs) (o .0) in omega (arith, o .1) in
+            moves-later pl c cs e (rw (o .0) (rec n))
+
+        by : (c : Call) → (1 ≤ rounds pl cs e → Moves pl cs e) → 1 ≤ rounds pl (c ∷ cs) e → Moves pl (c ∷ cs) e
+        by execute rec h = moves-now pl execute cs e m
+        by read rec h = other read (λ g. let z : _≡_ {A = ℕ} 0 1 = cc in omega arith) rec h
+        by write rec h = other write (λ g. let z : _≡_ {A = ℕ} 0 1 = cc in omega arith) rec h
+        by (launch a q t) rec h = other (launch a q t) (λ g. let z : _≡_ {A = ℕ} 0 1 = cc in omega arith) rec h
+        by (reply q c) rec h = other (reply q c) (λ g. let z : _≡_ {A = ℕ} 0 1 = cc in omega arith) rec h
+        by (consume a) rec h = other (consume a) (λ g. let z : _≡_ {A = ℕ} 0 1 = cc in omega arith) rec h
+        by (entry r o t) rec h = other (entry r o t) (λ g. let z : _≡_ {A = ℕ} 0 1 = cc in omega arith) rec h
+
+    -- ---- no unit ends a packet: the state p after the units
+    module _ (u : Upto pl e own (R pl) (upTo (unit pl) (R pl) e)) where
+      p : State
+      p = upTo (unit pl) (R pl) e
+
+      core-p : Core pl p
+      unfolding p
+      core-p =
+          up-keeps-at (λ (n : ℕ) (t : State). Quiet pl n t × Core pl t) (unit pl) (R pl) e
+          (λ i t h q. (unit-quiet pl i t (q .0), unit-core wired range i t h (quiet-down pl i t h (q .0)) (q .1))) (quiet-start pl e (has .2), inv .core) .1
+
+      wires-p : WiresEmpty pl p
+      unfolding p
+      wires-p = units-wires pl e (has .1)
+
+      flags-p : FlagsDown pl p
+      unfolding p
+      flags-p q h = ap (λ (f : Queue → Bool). f q) (u .flag) ∙ has .2 q h
+
+      handled-p : AllHandled pl p
+      unfolding p
+      handled-p r h = u .done r h
+
+      slot-p : p .slot ≡ e .slot
+      unfolding p
+      slot-p = u .slot
+
+      -- the slot of the j-th round
+      abbrev At : ℕ → State → Type 0
+      At j s = s .slot .0 ≡ (e .slot .0 + j) % S pl
+
+      record Seen (j : ℕ) : Type 0 where
+        pub state : State
+        pub same : Same pl p state
+        pub slot : At j state
+        pub picks : (n : ℕ) → n < outputs pl → picked pl state (outputAt pl n) ≡ nobody
+
+      data Calm (j : ℕ) (s : State) : Type 0 where
+        first : j ≡ 0 → s ≡ e → Calm j s
+        reading : s .phase ≡ Read → Inv pl s → Same pl p s → At j s → Calm j s
+        executing : s .phase ≡ Execute → Inv pl s → Same pl p s → At j s → Calm j s
+        writing : s .phase ≡ Write → Inv pl s → Same pl p s → At j s → (d : State) → Same pl p d → At j d
+            → ((n : ℕ) → n < outputs pl → s .choice (outputAt pl n) ≡ picked pl d (outputAt pl n)) → Calm j s
+
+      handled-s : (s : State) → Same pl p s → AllHandled pl s
+      handled-s s k r h = by (handled-p r h)
+        where
+          by : (p .queue (Q r) ≡ []) ⊎ (p .handled (Q r) ≡ true) → (s .queue (Q r) ≡ []) ⊎ (s .handled (Q r) ≡ true)
+          by (inl a) = inl (k .inner (Q r) refl refl ∙ a)
+          by (inr a) = inr (k .handled (Q r) ∙ a)
+
+      at-start : At 0 e
+      at-start = sym (ap (λ (n : ℕ). n % S pl) (add-zero (e .slot .0)) ∙ mod-eq-of-lt (inv .core .slot))
+
+      -- ---- the calls in each stage
+      abbrev Next : ℕ → Call → State → Type 0
+      Next j c s = Turn pl Calm Seen j c s
+
+      -- the state after Execute where nothing ended: each output has picked in d
+      executed : (j : ℕ) (s d : State) → s .phase ≡ Execute → Inv pl s → Picks pl p d (doExecute pl s) → Same pl p d → At j d → Next j execute s
+      executed j s d f i k m t =
+          let g = execute-now pl s f in
+          let n : call pl execute s .state ≡ doExecute pl s = ap (λ (r : Outcome). r .state) g in
+          stays refl
+          (writing (ap (λ (x : State). x .phase) n ∙ write-phase pl s) (call-inv wired range execute s i) (rw n (k .same)) (ap (λ (x : State). x .slot .0) n ∙ ap (λ (x : Slot). x .0) (k .slot) ∙ t) d m t
+          (λ x h. ap (λ (y : State). y .choice (outputAt pl x)) n ∙ k .picks x h))
+
+      first-picks : Picks pl p p (doExecute pl e)
+      unfolding doExecute p
+      first-picks =
+          let k = execute-rest pl p p (same-self pl p wires-p) in
+          record {
+            same = record { inner = k .same .inner; outs = k .same .outs; handled = k .same .handled; table = k .same .table; credit = k .same .credit; wires = k .same .wires };
+            slot = k .slot;
+            picks = k .picks;
+          }
+
+      at-first : (c : Call) → Next 0 c e
+      at-first execute = executed 0 e p phase inv first-picks (same-self pl p wires-p) (ap (λ (x : Slot). x .0) slot-p ∙ at-start)
+      at-first read = let o = only-execute pl e phase read (λ g. let z : _≡_ {A = ℕ} 0 1 = cc in omega arith) in stays (o .1) (first refl (o .0))
+      at-first write = let o = only-execute pl e phase write (λ g. let z : _≡_ {A = ℕ} 0 1 = cc in omega arith) in stays (o .1) (first refl (o .0))
+      at-first (launch a q t) = let o = only-execute pl e phase (launch a q t) (λ g. let z : _≡_ {A = ℕ} 0 1 = cc in omega arith) in stays (o .1) (first refl (o .0))
+      at-first (reply q c) = let o = only-execute pl e phase (reply q c) (λ g. let z : _≡_ {A = ℕ} 0 1 = cc in omega arith) in stays (o .1) (first refl (o .0))
+      at-first (consume a) = let o = only-execute pl e phase (consume a) (λ g. let z : _≡_ {A = ℕ} 0 1 = cc in omega arith) in stays (o .1) (first refl (o .0))
+      at-first (entry r o t) = let g = only-execute pl e phase (entry r o t) (λ g. let z : _≡_ {A = ℕ} 0 1 = cc in omega arith) in stays (g .1) (first refl (g .0))
+
+      -- a call that leaves the stage as it is
+      reads-on : (j : ℕ) (c : Call) (s : State) → s .phase ≡ Read → Inv pl s → At j s → endsRound c (call pl c s .answer) ≡ 0 → Undisturbed pl p s (call pl c s .state) → Next j c s
+      reads-on j c s f i t z k = stays z (reading (k .phase ∙ f) (call-inv wired range c s i) (k .same) (ap (λ (x : Slot). x .0) (k .slot) ∙ t))
+
+      executes-on : (j : ℕ) (c : Call) (s : State) → s .phase ≡ Execute → Inv pl s → At j s → endsRound c (call pl c s .answer) ≡ 0 → Undisturbed pl p s (call pl c s .state) → Next j c s
+      executes-on j c s f i t z k = stays z (executing (k .phase ∙ f) (call-inv wired range c s i) (k .same) (ap (λ (x : Slot). x .0) (k .slot) ∙ t))
+
+      -- a refused call disturbs nothing
+      refused : (c : Call) (s : State) → Same pl p s → call pl c s .state ≡ s → Undisturbed pl p s (call pl c s .state)
+      refused c s k g = rw g (record { same = k; slot = refl; phase = refl; choice = refl })
+
+      at-reading : (j : ℕ) (c : Call) (s : State) → s .phase ≡ Read → Inv pl s → Same pl p s → At j s → Next j c s
+      at-reading j read s f i k t =
+          let g = read-now pl s f in
+          let n : call pl read s .state ≡ doRead pl s = ap (λ (r : Outcome). r .state) g in
+          let d = read-stays pl p s k in
+          stays refl (executing (ap (λ (x : State). x .phase) n ∙ execute-phase pl s) (call-inv wired range read s i) (rw n (d .same)) (ap (λ (x : State). x .slot .0) n ∙ ap (λ (x : Slot). x .0) (d .slot) ∙ t))
+      at-reading j execute s f i k t = reads-on j execute s f i t refl (refused execute s k (ap (λ (r : Outcome). r .state) (execute-not pl s (λ g. let z : _≡_ {A = ℕ} 0 1 = cc in omega arith))))
+      at-reading j write s f i k t =
+          let w = write-not pl s (λ g. let z : _≡_ {A = ℕ} 0 1 = cc in omega arith) in
+          reads-on j write s f i t (ap (λ (r : Outcome). endsRound write (r .answer)) w) (refused write s k (ap (λ (r : Outcome). r .state) w))
+      at-reading j (launch a q u) s f i k t = reads-on j (launch a q u) s f i t refl (launch-undisturbed pl p s k a q u)
+      at-reading j (reply q c) s f i k t = reads-on j (reply q c) s f i t refl (reply-undisturbed pl p s k q c)
+      at-reading j (consume a) s f i k t = reads-on j (consume a) s f i t refl (consume-undisturbed pl p s k a)
+      at-reading j (entry r o u) s f i k t = reads-on j (entry r o u) s f i t refl (entry-undisturbed pl p s k r o u)
+
+      at-executing : (j : ℕ) (c : Call) (s : State) → s .phase ≡ Execute → Inv pl s → Same pl p s → At j s → Next j c s
+      at-executing j execute s f i k t = executed j s s f i (execute-picks pl p s k (handled-s s k)) k t
+      at-executing j read s f i k t = executes-on j read s f i t refl (refused read s k (ap (λ (r : Outcome). r .state) (read-not pl s (λ g. let z : _≡_ {A = ℕ} 0 1 = cc in omega arith))))
+      at-executing j write s f i k t =
+          let w = write-not pl s (λ g. let z : _≡_ {A = ℕ} 0 1 = cc in omega arith) in
+          executes-on j write s f i t (ap (λ (r : Outcome). endsRound write (r .answer)) w) (refused write s k (ap (λ (r : Outcome). r .state) w))
+      at-executing j (launch a q u) s f i k t = executes-on j (launch a q u) s f i t refl (launch-undisturbed pl p s k a q u)
+      at-executing j (reply q c) s f i k t = executes-on j (reply q c) s f i t refl (reply-undisturbed pl p s k q c)
+      at-executing j (consume a) s f i k t = executes-on j (consume a) s f i t refl (consume-undisturbed pl p s k a)
+      at-executing j (entry r o u) s f i k t = executes-on j (entry r o u) s f i t refl (entry-undisturbed pl p s k r o u)
+
+      module _ (j : ℕ) (s : State) (f : s .phase ≡ Write) (i : Inv pl s) (k : Same pl p s) (t : At j s) (d : State) (m : Same pl p d) (v : At j d)
+          (picks : (n : ℕ) → n < outputs pl → s .choice (outputAt pl n) ≡ picked pl d (outputAt pl n)) where
+        writes-on : (c : Call) → endsRound c (call pl c s .answer) ≡ 0 → Undisturbed pl p s (call pl c s .state) → Next j c s
+        writes-on c z w =
+            stays z
+            (writing (w .phase ∙ f) (call-inv wired range c s i) (w .same) (ap (λ (x : Slot). x .0) (w .slot) ∙ t) d m v
+            (λ n h. ap (λ (x : Output → Choice). x (outputAt pl n)) (w .choice) ∙ picks n h))
+
+        -- a picked head moves
+        sends : (n : ℕ) → n < outputs pl → (c : Choice) → s .choice (outputAt pl n) ≡ c → isNobody c ≡ false → MovesNow pl write s
+        unfolding isNobody
+        sends n h nobody e b = absurd (true≢false b)
+        sends n h (sender r) e b =
+            let o : Output = outputAt pl n in
+            let g = write-has s f (i .shape) .1 (outputAt pl n) r (drives-at pl n h) e in
+            let y = candidate-ready pl s (outputAt pl n) (g .queue) (g .ready) in
+            let left : doWrite pl s .queue (g .queue) ≡ y .rest = write-takes pl s (outputAt pl n) r (g .queue) (y .head) (y .rest) (g .rank) e (y .queue) n h refl in
+            let now : call pl write s .state ≡ doWrite pl s = ap (λ (x : Outcome). x .state) (write-now pl s f) in
+            let a : length (call pl write s .state .queue (g .queue)) ≡ length (y .rest) = ap length (ap (λ (x : State). x .queue (g .queue)) now ∙ left) in
+            let c : length (s .queue (g .queue)) ≡ suc (length (y .rest)) = ap length (y .queue) in
+            (refl, inr (g .queue, sender-exists pl (outputAt pl n) r (g .queue) (drives-at pl n h) (g .rank), omega arith))
+
+        -- nobody is picked: the round was seen
+        unsent : ((n : ℕ) → n < outputs pl → isNobody (s .choice (outputAt pl n)) ≡ true) → Next j write s
+        unfolding isNobody
+        unsent nil =
+            let quiet : NoChoices pl s = λ o h. ap (s .choice) (sym (output-at pl o h)) ∙ nobody-of (s .choice (outputAt pl (outputNumber pl o))) (nil (outputNumber pl o) (output-below pl o h)) in
+            let w = write-stays pl p s k quiet in
+            let now = write-now pl s f in
+            let n : call pl write s .state ≡ doWrite pl s = ap (λ (x : Outcome). x .state) now in
+            let slot : doWrite pl s .slot .0 ≡ (e .slot .0 + suc j) % S pl
+            = ap (λ (x : Slot). x .0) (w .1) ∙ ap (λ (x : ℕ). (x + 1) % S pl) t ∙ mod-add-mod (e .slot .0 + j) (S pl) 1 ∙ ap (λ (x : ℕ). x % S pl) (plus-suc (e .slot .0) j) in
+            ends (ap (λ (x : Outcome). endsRound write (x .answer)) now)
+            (reading (ap (λ (x : State). x .phase) n ∙ read-phase pl s) (call-inv wired range write s i) (rw n (w .0)) (ap (λ (x : State). x .slot .0) n ∙ slot))
+            (record { state = d; same = m; slot = v; picks = λ x h. sym (picks x h) ∙ nobody-of (s .choice (outputAt pl x)) (nil x h) })
+          where
+            plus-suc : (a b : ℕ) → a + b + 1 ≡ a + suc b
+            plus-suc a b = omega arith
+
+            nobody-of : (c : Choice) → isNobody c ≡ true → c ≡ nobody
+            nobody-of nobody b = refl
+            nobody-of (sender r) b = absurd (false≢true b)
+
+        at-writing : (c : Call) → Next j c s
+        at-writing write = by (find (outputs pl) (λ n. not (isNobody (s .choice (outputAt pl n)))))
+          where
+            by : Found (outputs pl) (λ n. not (isNobody (s .choice (outputAt pl n)))) ⊎ ((n : ℕ) → n < outputs pl → not (isNobody (s .choice (outputAt pl n))) ≡ false) → Next j write s
+            by (inl (n, h, b)) = moves (sends n h (s .choice (outputAt pl n)) refl (not-true _ b))
+            by (inr nil) = unsent (λ n h. not-false _ (nil n h))
+        at-writing read = writes-on read refl (refused read s k (ap (λ (r : Outcome). r .state) (read-not pl s (λ g. let z : _≡_ {A = ℕ} 0 1 = cc in omega arith))))
+        at-writing execute = writes-on execute refl (refused execute s k (ap (λ (r : Outcome). r .state) (execute-not pl s (λ g. let z : _≡_ {A = ℕ} 0 1 = cc in omega arith))))
+        at-writing (launch a q u) = writes-on (launch a q u) refl (launch-undisturbed pl p s k a q u)
+        at-writing (reply q c) = writes-on (reply q c) refl (reply-undisturbed pl p s k q c)
+        at-writing (consume a) = writes-on (consume a) refl (consume-undisturbed pl p s k a)
+        at-writing (entry r o u) = writes-on (entry r o u) refl (entry-undisturbed pl p s k r o u)
+
+      turn : (j : ℕ) (c : Call) (s : State) → Calm j s → Next j c s
+      turn j c s (first z g) = rw (z, g) (at-first c)
+      turn j c s (reading f i k t) = at-reading j c s f i k t
+      turn j c s (executing f i k t) = at-executing j c s f i k t
+      turn j c s (writing f i k t d m v picks) = at-writing j s f i k t d m v picks c
+
+      -- ---- every round was seen: no head finds credit
+      module _ (seen : (j : ℕ) → j < S pl → Seen j) where
+        -- a round in which an output is open
+        open-round : (o : Output) → Drives pl o → (j : ℕ) × (j < S pl) × ((d : State) → Same pl p d → At j d → isOpen d o ≡ true)
+        open-round (ofActive a) h = (0, omega (arith, range .slots .0), λ d k t. refl)
+        open-round (ofPassive a) h = (0, omega (arith, range .slots .0), λ d k t. refl)
+        open-round (toUnit r) h = (0, omega (arith, range .slots .0), λ d k t. refl)
+        open-round (fromUnit r) h = (0, omega (arith, range .slots .0), λ d k t. refl)
+        open-round (ofSide r o) (hr, ho) = by (core-p .free-entry r o hr ho)
+          where
+            by : (t : ℕ) × (t < S pl) × (p .table r o t ≡ Free) → (j : ℕ) × (j < S pl) × ((d : State) → Same pl p d → At j d → isOpen d (ofSide r o) ≡ true)
+            by (t, h, f) = at (slot-reached (S pl) (e .slot .0) t (inv .core .slot) h)
+              where
+                at : (j : ℕ) × (j < S pl) × ((e .slot .0 + j) % S pl ≡ t) → (j : ℕ) × (j < S pl) × ((d : State) → Same pl p d → At j d → isOpen d (ofSide r o) ≡ true)
+                at (j, l, g) = (j, l, λ d k v. ap isFree (ap (d .table r o) (v ∙ g) ∙ k .table r o t ∙ f))
+
+        -- the head in p is the head in any later state
+        head-in : (d : State) → Same pl p d → (q : Queue) (x : Packet) (rest : List Packet) → isInQueue q ≡ false → p .queue q ≡ x ∷ rest → (more : List Packet) × (d .queue q ≡ x ∷ more)
+        head-in d k q x rest ni g = by (test (isFed q))
+          where
+            by : (isFed q ≡ true) ⊎ (isFed q ≡ false) → (more : List Packet) × (d .queue q ≡ x ∷ more)
+            by (inl b) = (rest, k .inner q b ni ∙ g)
+            by (inr b) = let o = k .outs q b in (rest ++ o .0, o .1 ∙ ap (λ (l : List Packet). l ++ o .0) g)
+
+        -- a head that may leave: at a unit it is handled
+        may-leave : (d : State) → Same pl p d → (q : Queue) (x : Packet) (rest : List Packet) → Exists pl q → p .queue q ≡ x ∷ rest → mayLeave d q ≡ true
+        may-leave d k (activeOut a) x rest h g = refl
+        may-leave d k (activeIn a) x rest h g = refl
+        may-leave d k (passiveIn a) x rest h g = refl
+        may-leave d k (passiveOut a) x rest h g = refl
+        may-leave d k (U r a) x rest h g = refl
+        may-leave d k (Q r) x rest h g = k .handled (Q r) ∙ handled-head r x rest h g
+          where
+            handled-head : (r : ℕ) (x : Packet) (rest : List Packet) → r < R pl → p .queue (Q r) ≡ x ∷ rest → p .handled (Q r) ≡ true
+            handled-head r x rest h g = by (handled-p r h)
+              where
+                by : (p .queue (Q r) ≡ []) ⊎ (p .handled (Q r) ≡ true) → p .handled (Q r) ≡ true
+                by (inl z) = let w : [] ≡ x ∷ rest = sym z ∙ g in let z′ : _≡_ {A = ℕ} 0 1 = cc in absurd (omega arith)
+                by (inr b) = b
+        may-leave d k (F r o) x rest h g = refl
+        may-leave d k (K r a o) x rest h g = refl
+
+        blocked : (q y : Queue) (x : Packet) (rest : List Packet) → Exists pl q → isInQueue q ≡ false → p .queue q ≡ x ∷ rest
+            → next pl (headingOf (x .kind)) (x .active) (x .passive) q ≡ some y → p .credit y .0 ≡ 0
+        unfolding candidate
+        blocked q y x rest h ni g n = out (leaves q ni)
+          where
+            out : (o : Output) × (outputOf q ≡ some o) → p .credit y .0 ≡ 0
+            out (o, w) = at (open-round o drives)
+              where
+                drives : Drives pl o
+                drives = output-drives pl q o h w
+
+                goes : nextBy pl o x ≡ some y
+                goes = sym (next-by pl q o x w) ∙ n
+
+                closed : (d : State) → Same pl p d → isOpen d o ≡ true → picked pl d o ≡ nobody → p .credit y .0 ≡ 0
+                closed d k b c = by (picked-none pl d o c)
+                  where
+                    stuck : candidate pl d o q ≡ false → d .credit y .0 ≡ 0
+                    stuck z = let l = head-in d k q x rest ni g in no-credit (rw (l .1, may-leave d k q x rest h g, goes) at z)
+                      where
+                        no-credit : ltb 0 (d .credit y .0) ≡ false → d .credit y .0 ≡ 0
+                        no-credit u = let v = ltb-false 0 (d .credit y .0) u in omega arith
+
+                    by : (isOpen d o ≡ false) ⊎ ((r : ℕ) (z : Queue) → ofRank (senders o) r ≡ some z → candidate pl d o z ≡ false) → p .credit y .0 ≡ 0
+                    by (inl z) = absurd (true≢false (sym b ∙ z))
+                    by (inr nil) = let r = ranked pl q o h w in let z = stuck (nil (r .0) q (r .1)) in let l = k .credit y in omega arith
+
+                at : (j : ℕ) × (j < S pl) × ((d : State) → Same pl p d → At j d → isOpen d o ≡ true) → p .credit y .0 ≡ 0
+                at (j, l, opens) =
+                    let z = seen j l in
+                    closed (z .state) (z .same) (opens (z .state) (z .same) (z .slot)) (ap (picked pl (z .state)) (sym (output-at pl o drives)) ∙ z .picks (outputNumber pl o) (output-below pl o drives))
+
+        jammed : Jammed pl p
+        jammed =
+            record {
+              core = core-p;
+              wires = wires-p;
+              flags = flags-p;
+              handled = λ r x rest h g. head-done r x rest h g (handled-p r h);
+              blocked = blocked;
+            }
+          where
+            head-done : (r : ℕ) (x : Packet) (rest : List Packet) → r < R pl → p .queue (Q r) ≡ x ∷ rest → (p .queue (Q r) ≡ []) ⊎ (p .handled (Q r) ≡ true) → p .handled (Q r) ≡ true
+            head-done r x rest h g (inl z) = let w : [] ≡ x ∷ rest = sym z ∙ g in let z′ : _≡_ {A = ℕ} 0 1 = cc in absurd (omega arith)
+            head-done r x rest h g (inr b) = b
+
+    -- ---- so a list with S whole rounds moves a packet
+    pub from-execute : (set : Queue → Bool) → Closed pl set e → (q : Queue) (x : Packet) (rest : List Packet) → Exists pl q → isInQueue q ≡ false → set q ≡ true → e .queue q ≡ x ∷ rest
+        → (cs : List Call) → S pl ≤ rounds pl cs e → Moves pl cs e
+    unfolding p
+    from-execute set c q x rest h ni b g cs n = by (units pl e own (R pl) (omega arith))
+      where
+        ended : (r : ℕ) → r < R pl → Ends e r → Moves pl cs e
+        ended r l w =
+            let now : call pl execute e .state ≡ doExecute pl e = ap (λ (o : Outcome). o .state) (execute-now pl e phase) in
+            until-execute (refl, rw now (ends-moves pl e r w l)) cs (omega (arith, range .slots .0))
+
+        -- the packet is still there
+        there : (u : Upto pl e own (R pl) (upTo (unit pl) (R pl) e)) (z : Queue) → e .queue z ≡ x ∷ rest → (y : Packet) × (more : List Packet) × (upTo (unit pl) (R pl) e .queue z ≡ y ∷ more)
+        there u z w = at z w
+          where
+            same : (z : Queue) → e .queue z ≡ x ∷ rest → ((r : ℕ) → z ≢ Q r) → (y : Packet) × (more : List Packet) × (upTo (unit pl) (R pl) e .queue z ≡ y ∷ more)
+            same z w ne = (x, rest, u .others z ne ∙ w)
+
+            long : (r : ℕ) (l : List Packet) → upTo (unit pl) (R pl) e .queue (Q r) ≡ l → e .queue (Q r) ≡ x ∷ rest → (y : Packet) × (more : List Packet) × (upTo (unit pl) (R pl) e .queue (Q r) ≡ y ∷ more)
+            long r [] v w = let a : 0 ≡ length (e .queue (Q r)) = ap length (sym v) ∙ u .long r in let d : length (e .queue (Q r)) ≡ suc (length rest) = ap length w in absurd (omega arith)
+            long r (y ∷ more) v w = (y, more, v)
+
+            at : (z : Queue) → e .queue z ≡ x ∷ rest → (y : Packet) × (more : List Packet) × (upTo (unit pl) (R pl) e .queue z ≡ y ∷ more)
+            at (activeOut a) w = same (activeOut a) w (λ r k. let z : _≡_ {A = ℕ} 0 1 = cc in omega arith)
+            at (activeIn a) w = same (activeIn a) w (λ r k. let z : _≡_ {A = ℕ} 0 1 = cc in omega arith)
+            at (passiveIn a) w = same (passiveIn a) w (λ r k. let z : _≡_ {A = ℕ} 0 1 = cc in omega arith)
+            at (passiveOut a) w = same (passiveOut a) w (λ r k. let z : _≡_ {A = ℕ} 0 1 = cc in omega arith)
+            at (U r i) w = same (U r i) w (λ r k. let z : _≡_ {A = ℕ} 0 1 = cc in omega arith)
+            at (Q r) w = long r (upTo (unit pl) (R pl) e .queue (Q r)) refl w
+            at (F r o) w = same (F r o) w (λ r k. let z : _≡_ {A = ℕ} 0 1 = cc in omega arith)
+            at (K r i o) w = same (K r i o) w (λ r k. let z : _≡_ {A = ℕ} 0 1 = cc in omega arith)
+
+        closed-p : Upto pl e own (R pl) (upTo (unit pl) (R pl) e) → Closed pl set (upTo (unit pl) (R pl) e)
+        closed-p u =
+            record {
+              stays = c .stays;
+              room = λ hd a z b q ha hz d k v m l. rw (u .others (passiveIn b) (λ r w. let z : _≡_ {A = ℕ} 0 1 = cc in omega arith)) (c .room hd a z b q ha hz d k v m l);
+            }
+
+        stuck : (u : Upto pl e own (R pl) (upTo (unit pl) (R pl) e)) → ((j : ℕ) → j < S pl → Seen u j) → ⊥
+        stuck u seen =
+            let w = there u q g in
+            none-waits wired range free (upTo (unit pl) (R pl) e) (jammed u seen) set (closed-p u) q (w .0) (w .1) h ni b (w .2)
+
+        rest-of : (u : Upto pl e own (R pl) (upTo (unit pl) (R pl) e)) → Moves pl cs e ⊎ ((j : ℕ) → j < S pl → Seen u j) → Moves pl cs e
+        rest-of u (inl m) = m
+        rest-of u (inr seen) = absurd (stuck u seen)
+
+        by : ((r : ℕ) × (r < R pl) × Ends e r) ⊎ Upto pl e own (R pl) (upTo (unit pl) (R pl) e) → Moves pl cs e
+        by (inl (r, l, w)) = ended r l w
+        by (inr u) = rest-of u (interval pl (Calm u) (Seen u) (turn u) (S pl) cs e (first refl refl) n)

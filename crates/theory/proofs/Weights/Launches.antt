@@ -1,0 +1,196 @@
+-- A connection is accepted no more times than it was launched: accepted ones, and the set-ups and ACKs that are on the way, count against the
+-- accepted Launches of the same pair and start slot.
+use mathlib.Core.Path.{_≡_, refl, sym, ap, _∙_}
+use mathlib.Core.Logic.{_⊎_, inl, inr}
+use mathlib.Core.Bool.{_&&_}
+use mathlib.Core.List.{List, [], _∷_}
+use Prim.Native.Nat.{ℕ, _+_, _≤_, _<_}
+use native.Mathlib.Omega.{arith}
+use lib.Dec.{eqb}
+use Rattle.basis.specs.Choice.{pick}
+use Rattle.kinds.specs.declared.Slot.{Slot}
+use Rattle.packets.specs.declared.Kind.{Kind}
+use Rattle.packets.specs.declared.Kind.the-variants.{Setup, Tdown, Ack, Nack}
+use Rattle.packets.specs.declared.Packet.{Packet}
+use Rattle.packets.specs.declared.Phase.{Phase}
+use Rattle.packets.specs.declared.Wire.the-variants.{Empty}
+use Rattle.packets.specs.declared.Answer.the-variants.{Done}
+use Rattle.plan.specs.Plan.{Plan, R, A, P, S}
+use Rattle.feeding.specs.Queue.{Queue, activeIn, passiveIn, Q}
+use Rattle.feeding.specs.Feeds.{Output}
+use Rattle.wiring.specs.Wired.{Wired}
+use Rattle.machine.specs.State.{State, sender, start, withPhase, withSlot}
+use Rattle.machine.specs.Read.{deliver, settle}
+use Rattle.machine.specs.Execute.{booked, freed, declined, choose, unit, marked, tdownOf, undo}
+use Rattle.machine.specs.Write.{send}
+use Rattle.machine.specs.Calls.{launch, setupOf, launched, repliedAs, replied, removed}
+use Rattle.machine.specs.Accepted.{Connection, connectionOf, acceptKind}
+use Rattle.machine.specs.Ruled.{launchesCall, sameConnection, times}
+use Rattle.machine.specs.Valid.{Drives}
+use Rattle.theory.proofs.Places.Closure.{passive-setup}
+use Rattle.theory.proofs.Core.{Core, Sendable}
+use Rattle.theory.proofs.Weights.Total.{anywhere, weighed, start-weighed}
+use Rattle.theory.proofs.Cases.{UnitDoes, rests, books, declines, ends, frees, unit-does, unmarked-nack, ActiveDoes, waits, tears, undo-does}
+use Rattle.theory.proofs.Weights.Moves.{head-belongs, phase-weighed, slot-weighed, settle-weighed, choose-weighed, deliver-weighed, send-weighed}
+use Rattle.theory.proofs.Weights.Changes.{booked-weighed, declined-weighed, freed-weighed, ended-weighed, torn-weighed, launched-weighed, replied-weighed, removed-weighed}
+use Rattle.theory.proofs.Places.Slots.{start-next, start-none}
+
+-- what a packet of a kind bears: of a set-up and an ACK, the connection of its pair and start slot
+abbrev pub bearsKind : Plan → Connection → Kind → Packet → ℕ
+bearsKind pl d Setup x = pick (sameConnection (connectionOf pl x) d) 1 0
+bearsKind pl d Tdown x = 0
+bearsKind pl d Ack x = pick (sameConnection (connectionOf pl x) d) 1 0
+bearsKind pl d Nack x = 0
+
+-- 1 if the packet may come to be the connection d, else 0
+unfoldable pub bears : Plan → Connection → Packet → ℕ
+bears pl d x = bearsKind pl d (x .kind) x
+
+-- all packets of a state that may come to be d
+unfoldable pub borne : Plan → Connection → State → ℕ
+borne pl d s = weighed pl (anywhere (bears pl d)) s
+
+-- accepted and on the way, d is found at most n times
+pub record Counted (pl : Plan) (d : Connection) (acc : List Connection) (n : ℕ) (s : State) : Type 0 where
+  pub count : times d acc + borne pl d s ≤ n
+
+module _ (pl : Plan) (d : Connection) where
+  -- What a packet of a kind bears.
+  pub bears-of : (k : Kind) (x : Packet) → x .kind ≡ k → bears pl d x ≡ bearsKind pl d k x
+  unfolding bears
+  bears-of k x e = ap (λ (k : Kind). bearsKind pl d k x) e
+
+  -- A booked set-up keeps its start slot, and so its connection.
+  pub booked-bears : (x : Packet) → x .kind ≡ Setup → x .slot .0 < S pl → bears pl d (booked (S pl) x) ≡ bears pl d x
+  booked-bears x e h =
+      bears-of Setup (booked (S pl) x) e
+      ∙ ap (λ (u : Slot). pick (eqb (x .active) (d .active) && eqb (x .passive) (d .passive) && eqb (u .0) (d .start .0)) 1 0) (start-next (S pl) (x .slot) (x .hub) h)
+      ∙ sym (bears-of Setup x e)
+
+  -- A launched set-up is the connection of its Launch.
+  pub launched-bears : (a p t : ℕ) → t < S pl → bears pl d (setupOf a p t) ≡ launchesCall d (launch a p t) Done
+  launched-bears a p t h =
+      bears-of Setup (setupOf a p t) refl
+      ∙ ap (λ (u : Slot). pick (eqb a (d .active) && eqb p (d .passive) && eqb (u .0) (d .start .0)) 1 0) (start-none (S pl) (record { 0 = t }) h)
+
+  -- An answer is that of its set-up, or none.
+  pub replied-bears : (k : Kind) (x : Packet) → (k ≡ Ack) ⊎ (k ≡ Nack) → x .kind ≡ Setup → bears pl d (repliedAs k x) ≤ bears pl d x
+  replied-bears k x (inl q) e = let a = bears-of Ack (repliedAs k x) q in let b = bears-of Setup x e in omega arith
+  replied-bears k x (inr q) e = let a = bears-of Nack (repliedAs k x) q in omega arith
+
+  -- Start has none.
+  pub start-counted : Counted pl d [] 0 (start pl)
+  unfolding borne
+  start-counted = record { count = let z = start-weighed pl (anywhere (bears pl d)) in omega arith }
+
+  module _ {acc : List Connection} {n : ℕ} where
+    -- Accepted are no more than launched.
+    pub counted-times : {s : State} → Counted pl d acc n s → times d acc ≤ n
+    counted-times k = let c = k .count in omega arith
+
+    -- What bears no more is counted alike.
+    pub counted-less : (s t : State) → Counted pl d acc n s → borne pl d t ≤ borne pl d s → Counted pl d acc n t
+    counted-less s t k l = record { count = let c = k .count in omega arith }
+
+    same : (s t : State) → Counted pl d acc n s → borne pl d t ≡ borne pl d s → Counted pl d acc n t
+    same s t k e = counted-less s t k (omega arith)
+
+    module _ (s : State) (k : Counted pl d acc n s) where
+      -- The phase does not matter.
+      pub phase-counted : (x : Phase) → Counted pl d acc n (withPhase x s)
+      unfolding borne
+      phase-counted x = same s (withPhase x s) k (phase-weighed pl (anywhere (bears pl d)) x s)
+
+      -- The slot does not matter.
+      pub slot-counted : (x : Slot) → Counted pl d acc n (withSlot x s)
+      unfolding borne
+      slot-counted x = same s (withSlot x s) k (slot-weighed pl (anywhere (bears pl d)) x s)
+
+      -- Settling a flag keeps the count.
+      pub settle-counted : (q : Queue) → Counted pl d acc n (settle q s)
+      unfolding borne
+      settle-counted q = same s (settle q s) k (settle-weighed pl (anywhere (bears pl d)) q s)
+
+      -- So does a choice.
+      pub choose-counted : (o : Output) → Counted pl d acc n (choose pl o s)
+      unfolding borne
+      choose-counted o = same s (choose pl o s) k (choose-weighed pl (anywhere (bears pl d)) o s)
+
+      -- So does a Consume: an ACK's connection is accepted, and another packet bears none.
+      pub removed-counted : (a : ℕ) (x : Packet) (rest : List Packet) → a < A pl → s .queue (activeIn a) ≡ x ∷ rest → Counted pl d (acceptKind pl (x .kind) x acc) n (removed a rest s)
+      unfolding borne
+      removed-counted a x rest h e = by (x .kind) refl
+        where
+          all : borne pl d (removed a rest s) + bears pl d x ≡ borne pl d s
+          all = removed-weighed pl (anywhere (bears pl d)) s a h x rest e
+
+          by : (k : Kind) → x .kind ≡ k → Counted pl d (acceptKind pl k x acc) n (removed a rest s)
+          by Setup q = counted-less s (removed a rest s) k (let w = all in omega arith)
+          by Tdown q = counted-less s (removed a rest s) k (let w = all in omega arith)
+          by Ack q = record { count = let w = all in let b = bears-of Ack x q in let c = k .count in omega arith }
+          by Nack q = counted-less s (removed a rest s) k (let w = all in omega arith)
+
+    module _ (wired : Wired pl) (s : State) (c : Core pl s) (k : Counted pl d acc n s) where
+      -- A delivery keeps the count.
+      pub deliver-counted : (o : Output) → Drives pl o → Counted pl d acc n (deliver pl o s)
+      unfolding borne
+      deliver-counted o h = same s (deliver pl o s) k (deliver-weighed pl (anywhere (bears pl d)) wired c o h)
+
+      -- So does a sending.
+      pub send-counted : (o : Output) → Drives pl o → ((m : ℕ) → s .choice o ≡ sender m → Sendable pl s o m) → s .wire o ≡ Empty → Counted pl d acc n (send pl o s)
+      unfolding borne
+      send-counted o h ready z = same s (send pl o s) k (send-weighed pl (anywhere (bears pl d)) wired c o h (λ u m q y x g e f b. refl) ready z)
+
+      -- So does a unit's turn: a booked set-up is the same connection, a declined one is none.
+      pub unit-counted : (r : ℕ) → r < R pl → Counted pl d acc n (unit pl r s)
+      unfolding borne
+      unit-counted r h = counted-less s (unit pl r s) k (by (unit-does pl r s))
+        where
+          by : UnitDoes pl r s → borne pl d (unit pl r s) ≤ borne pl d s
+          by (rests e) = let w = ap (weighed pl (anywhere (bears pl d))) e in omega arith
+          by (books x rest e f q t) =
+              let w = booked-weighed pl (anywhere (bears pl d)) r h s x rest e f q t in
+              let b = booked-bears x q (head-belongs c (Q r) h x rest e .ranges .slot) in
+              omega arith
+          by (declines x rest e f q t) =
+              let w = declined-weighed pl (anywhere (bears pl d)) r h s x rest e f q t in
+              let b = bears-of Nack (declined x) refl in
+              omega arith
+          by (ends x rest e f q t) = let w = ended-weighed pl (anywhere (bears pl d)) r h s x rest e f q t in omega arith
+          by (frees x rest e f q t) =
+              let w = freed-weighed pl (anywhere (bears pl d)) r h s x rest e f q t in
+              let b = bears-of Tdown (freed (S pl) x) q in
+              omega arith
+
+      -- So does an active that tears down.
+      pub undo-counted : (a : ℕ) → a < A pl → Counted pl d acc n (undo pl a s)
+      unfolding borne
+      undo-counted a h = counted-less s (undo pl a s) k (by (undo-does pl a s))
+        where
+          by : ActiveDoes pl a s → borne pl d (undo pl a s) ≤ borne pl d s
+          by (waits e) = let w = ap (weighed pl (anywhere (bears pl d))) e in omega arith
+          by (tears x rest e m g) =
+              let w = torn-weighed pl (anywhere (bears pl d)) c a h x rest e m g in
+              let b = bears-of Nack (marked x) (unmarked-nack x m) in
+              let t = bears-of Tdown (tdownOf (S pl) x) refl in
+              omega arith
+
+      -- A Launch counts on both sides.
+      pub launched-counted : (a p t : ℕ) → a < A pl → t < S pl → Counted pl d acc (launchesCall d (launch a p t) Done + n) (launched a p t s)
+      unfolding borne
+      launched-counted a p t h l =
+          record { count = let w = launched-weighed pl (anywhere (bears pl d)) c a p t h in let b = launched-bears a p t l in let m = k .count in omega arith }
+
+      -- A Reply keeps the count.
+      pub replied-counted : (p : ℕ) (kind : Kind) → p < P pl → (kind ≡ Ack) ⊎ (kind ≡ Nack) → Counted pl d acc n (replied p kind (s .queue (passiveIn p)) s)
+      unfolding borne
+      replied-counted p kind h q = by (s .queue (passiveIn p)) refl
+        where
+          by : (l : List Packet) → s .queue (passiveIn p) ≡ l → Counted pl d acc n (replied p kind l s)
+          by [] e = k
+          by (x ∷ rest) e =
+              let b = head-belongs c (passiveIn p) h x rest e in
+              let setup = passive-setup wired (x .active) (x .passive) (b .ranges .active) (b .ranges .passive) (b .serves) (x .kind) (x .hub .0) p (b .fits) .0 in
+              let less = replied-bears kind x q setup in
+              let w = replied-weighed pl (anywhere (bears pl d)) c p h kind x rest e in
+              counted-less s (replied p kind (x ∷ rest) s) k (omega arith)

@@ -1,0 +1,179 @@
+-- What READ and WRITE do to the sum of weights: a packet that goes from a queue to a wire and from a wire to a queue keeps its weight, if the
+-- weight is steady. Delivery, settling and choice keep every weight.
+use mathlib.Core.Path.{_≡_, refl, ap, subst, _∙_}
+use mathlib.Core.Bool.{Bool, true, false}
+use mathlib.Core.List.{List, _∷_}
+use mathlib.Core.Option.{some}
+use Prim.Native.Nat.{ℕ, suc, _+_, _<_}
+use native.Mathlib.Omega.{arith}
+use Rattle.basis.specs.Fold.{upTo, up-keeps-at}
+use Rattle.packets.specs.declared.Packet.{Packet}
+use Rattle.kinds.specs.declared.Slot.{Slot}
+use Rattle.packets.specs.declared.Phase.{Phase}
+use Rattle.packets.specs.declared.Wire.{Wire}
+use Rattle.packets.specs.declared.Wire.the-variants.{Empty, Full}
+use Rattle.plan.specs.Plan.{Plan}
+use Rattle.feeding.specs.Queue.{Queue, activeOut, activeIn, passiveIn, passiveOut, U, Q, F, K, Exists, queueAt, queues}
+use Rattle.feeding.specs.Feeds.{Output, Place, inQueue, leavesFrom}
+use Rattle.wiring.specs.Wired.{Wired}
+use Rattle.machine.specs.Outputs.{nextBy, senders, outputs, outputAt}
+use Rattle.machine.specs.State.{State, sender, withPhase, withSlot, withQueue, withWire}
+use Rattle.machine.specs.Read.{deliver, lower, settle, doRead}
+use Rattle.machine.specs.Execute.{mayLeave, choose}
+use Rattle.machine.specs.Write.{ofRank, raise, spend, send, doWrite}
+use Rattle.machine.specs.Valid.{Belongs, headPlace, Lined, Drives, Carries, inAll}
+use Rattle.machine.proofs.Numbers.{sender-exists}
+use Rattle.machine.proofs.OutNumbers.{drives-at}
+use Rattle.theory.proofs.Core.{Core, Sendable}
+use Rattle.theory.proofs.Places.Lines.{head-leaves, belongs-exists}
+use Rattle.theory.proofs.Places.Senders.{raise-wire}
+use Rattle.theory.proofs.Cases.{deliver-none, deliver-one, afterSent, send-one, SendDoes, none-sent, sent, send-does}
+use Rattle.theory.proofs.Weights.Total.{Weight, inLine, onWire, weighed, line-in, line-fresh, weighed-queue, weighed-line, weighed-wire, weighed-join}
+
+-- ---- where packets are
+-- A queue's head belongs where the handled mark puts it.
+pub head-belongs : {pl : Plan} {s : State} → Core pl s → (q : Queue) → Exists pl q → (x : Packet) (rest : List Packet) → s .queue q ≡ x ∷ rest → Belongs pl (headPlace (s .handled q) q) x
+head-belongs {pl} {s} c q h x rest e = subst (Lined pl q (s .handled q)) e (c .places q h) .0
+
+-- ---- weights that a packet keeps as it leaves a queue for the next
+abbrev pub Steady : Plan → Weight → Type 0
+Steady pl w =
+    (o : Output) (k : ℕ) (q y : Queue) (x : Packet) → Drives pl o → ofRank (senders o) k ≡ some q → nextBy pl o x ≡ some y → Belongs pl (leavesFrom q) x
+    → w (leavesFrom q) x ≡ w (inQueue y) x
+
+-- what a sending needs of the state
+pub record Sends (pl : Plan) (o : Output) (s : State) : Type 0 where
+  pub core : Core pl s
+  pub ready : (k : ℕ) → s .choice o ≡ sender k → Sendable pl s o k
+  pub clear : s .wire o ≡ Empty
+
+module _ (pl : Plan) (w : Weight) where
+  -- The phase does not matter.
+  pub phase-weighed : (x : Phase) (s : State) → weighed pl w (withPhase x s) ≡ weighed pl w s
+  unfolding weighed
+  phase-weighed x s = refl
+
+  -- The slot does not matter.
+  pub slot-weighed : (x : Slot) (s : State) → weighed pl w (withSlot x s) ≡ weighed pl w s
+  unfolding weighed
+  slot-weighed x s = refl
+
+  -- Settling a flag keeps every weight.
+  pub settle-weighed : (q : Queue) (s : State) → weighed pl w (settle q s) ≡ weighed pl w s
+  unfolding settle lower weighed
+  settle-weighed q s = by (s .flag q)
+    where
+      by : (b : Bool) → weighed pl w (lower q b s) ≡ weighed pl w s
+      by true = refl
+      by false = refl
+
+  -- A choice keeps every weight.
+  pub choose-weighed : (o : Output) (s : State) → weighed pl w (choose pl o s) ≡ weighed pl w s
+  unfolding choose weighed
+  choose-weighed o s = refl
+
+  -- The packets of a queue whose head is in the queue, replaced.
+  pub queue-weighed : (q : Queue) → Exists pl q → (xs : List Packet) (s : State) → headPlace (s .handled q) q ≡ inQueue q
+      → weighed pl w (withQueue q xs s) + inAll (w (inQueue q)) (s .queue q) ≡ weighed pl w s + inAll (w (inQueue q)) xs
+  queue-weighed q h xs s e =
+      let all = weighed-queue pl w q h xs s in
+      let old = line-in w q (s .handled q) (s .queue q) e in
+      let new = line-in w q (s .handled q) xs e in
+      omega arith
+
+  -- the packets of a queue replaced as its head leaves
+  leave-weighed : (q : Queue) → Exists pl q → (xs : List Packet) (s : State)
+      → weighed pl w (raise q (withQueue q xs s)) + inLine w q (s .handled q) (s .queue q) ≡ weighed pl w s + inAll (w (inQueue q)) xs
+  unfolding weighed
+  leave-weighed q h xs s = by q h
+    where
+      plain : (q : Queue) → Exists pl q → headPlace (s .handled q) q ≡ inQueue q → weighed pl w (withQueue q xs s) + inLine w q (s .handled q) (s .queue q) ≡ weighed pl w s + inAll (w (inQueue q)) xs
+      plain q h e = weighed-queue pl w q h xs s ∙ ap (λ (n : ℕ). weighed pl w s + n) (line-in w q (s .handled q) xs e)
+
+      by : (q : Queue) → Exists pl q → weighed pl w (raise q (withQueue q xs s)) + inLine w q (s .handled q) (s .queue q) ≡ weighed pl w s + inAll (w (inQueue q)) xs
+      by (activeOut x) h = plain (activeOut x) h refl
+      by (activeIn x) h = plain (activeIn x) h refl
+      by (passiveIn x) h = plain (passiveIn x) h refl
+      by (passiveOut x) h = plain (passiveOut x) h refl
+      by (U r i) h = plain (U r i) h refl
+      by (Q r) h = weighed-line pl w (Q r) h false xs s ∙ ap (λ (n : ℕ). weighed pl w s + n) (line-fresh w (Q r) xs)
+      by (F r o) h = plain (F r o) h refl
+      by (K r i o) h = plain (K r i o) h refl
+
+  -- A head that is sent weighs as in its next queue from then on.
+  pub sent-weighed : (s : State) (o : Output) (q y : Queue) (x : Packet) (rest : List Packet) → Drives pl o → Exists pl q → s .wire o ≡ Empty
+      → s .queue q ≡ x ∷ rest → mayLeave s q ≡ true → nextBy pl o x ≡ some y → weighed pl w (afterSent pl o s q y x rest) + w (leavesFrom q) x ≡ weighed pl w s + w (inQueue y) x
+  unfolding weighed inLine onWire
+  sent-weighed s o q y x rest d h z e m n =
+      let u : State = spend (some y) (raise q (withQueue q rest s)) in
+      let clear : onWire pl w o (raise q (withQueue q rest s) .wire o) ≡ 0 = ap (λ (v : Output → Wire). onWire pl w o (v o)) (raise-wire q (withQueue q rest s)) ∙ ap (onWire pl w o) z in
+      let onto : onWire pl w o (Full x) ≡ w (inQueue y) x = rw n in
+      let wire = weighed-wire pl w o d (Full x) u in
+      let old : inLine w q (s .handled q) (s .queue q) ≡ w (leavesFrom q) x + inAll (w (inQueue q)) rest =
+      ap (inLine w q (s .handled q)) e ∙ ap (λ (at : Place). w at x + inAll (w (inQueue q)) rest) (head-leaves s q m)
+      in
+      let line = leave-weighed q h rest s in
+      omega arith
+
+  module _ (wired : Wired pl) {s : State} (c : Core pl s) (o : Output) (d : Drives pl o) where
+    -- A delivery keeps every weight.
+    pub deliver-weighed : weighed pl w (deliver pl o s) ≡ weighed pl w s
+    unfolding onWire
+    deliver-weighed = by (s .wire o) refl
+      where
+        by : (v : Wire) → s .wire o ≡ v → weighed pl w (deliver pl o s) ≡ weighed pl w s
+        by Empty e = ap (weighed pl w) (deliver-none pl o s e)
+        by (Full x) e =
+            let k : Carries pl o x = c .wires o d x e in
+            let h = belongs-exists wired (k .queue) x (k .belongs) in
+            let joined = weighed-join pl w (k .queue) h x (withWire o Empty s) (λ t. c .marks (k .queue) h t .2) in
+            let wire = weighed-wire pl w o d Empty s in
+            let was : onWire pl w o (s .wire o) ≡ w (inQueue (k .queue)) x = rw (e, k .next) in
+            let left : onWire pl w o Empty ≡ 0 = refl in
+            ap (weighed pl w) (deliver-one pl o s x (k .queue) e (k .next)) ∙ omega arith
+
+    -- A sending keeps a steady weight.
+    pub send-weighed : Steady pl w → ((k : ℕ) → s .choice o ≡ sender k → Sendable pl s o k) → s .wire o ≡ Empty → weighed pl w (send pl o s) ≡ weighed pl w s
+    send-weighed steady ready z = by (send-does pl o s ready)
+      where
+        by : SendDoes pl o s → weighed pl w (send pl o s) ≡ weighed pl w s
+        by (none-sent e) = ap (weighed pl w) e
+        by (sent k q e r g) =
+            let h = sender-exists pl o k q d r in
+            let belongs = subst (λ (at : Place). Belongs pl at (g .packet)) (head-leaves s q (g .leaves)) (head-belongs c q h (g .packet) (g .rest) (g .line)) in
+            let same = steady o k q (g .onto) (g .packet) d r (g .next) belongs in
+            let all = sent-weighed s o q (g .onto) (g .packet) (g .rest) d h z (g .line) (g .leaves) (g .next) in
+            ap (weighed pl w) (send-one pl o s k q e r g) ∙ omega arith
+
+  -- ---- folds
+  -- Steps that keep the weight, each where a fact holds that they hand on, keep it together.
+  pub fold-weighed : (P : ℕ → State → Type 0) (step : ℕ → State → State) (n : ℕ) (s : State)
+      → ((i : ℕ) (t : State) → i < n → P i t → P (suc i) (step i t) × (weighed pl w (step i t) ≡ weighed pl w t)) → P 0 s
+      → P n (upTo step n s) × (weighed pl w (upTo step n s) ≡ weighed pl w s)
+  fold-weighed P step n s keeps p =
+      up-keeps-at (λ (i : ℕ) (t : State). P i t × (weighed pl w t ≡ weighed pl w s)) step n s
+      (λ i t l g. let k = keeps i t l (g .0) in (k .0, k .1 ∙ g .1)) (p, refl)
+
+  -- The settling of all flags keeps every weight.
+  pub settles-weighed : (n : ℕ) (s : State) → weighed pl w (upTo (λ i. settle (queueAt pl i)) n s) ≡ weighed pl w s
+  settles-weighed n s = fold-weighed (λ (i : ℕ) (t : State). record {}) (λ i. settle (queueAt pl i)) n s (λ i t l p. (record {}, settle-weighed (queueAt pl i) t)) (record {}) .1
+
+  -- All choices keep every weight.
+  pub chooses-weighed : (n : ℕ) (s : State) → weighed pl w (upTo (λ i. choose pl (outputAt pl i)) n s) ≡ weighed pl w s
+  chooses-weighed n s = fold-weighed (λ (i : ℕ) (t : State). record {}) (λ i. choose pl (outputAt pl i)) n s (λ i t l p. (record {}, choose-weighed (outputAt pl i) t)) (record {}) .1
+
+  -- READ keeps every weight, if a delivery keeps the core.
+  pub read-weighed : Wired pl → ((o : Output) (t : State) → Drives pl o → Core pl t → Core pl (deliver pl o t)) → (s : State) → Core pl s → weighed pl w (doRead pl s) ≡ weighed pl w s
+  unfolding doRead weighed
+  read-weighed wired keeps s c =
+      settles-weighed (queues pl) (upTo (λ i. deliver pl (outputAt pl i)) (outputs pl) s)
+      ∙ fold-weighed (λ (i : ℕ) (t : State). Core pl t) (λ i. deliver pl (outputAt pl i)) (outputs pl) s
+      (λ i t l g. (keeps (outputAt pl i) t (drives-at pl i l) g, deliver-weighed wired g (outputAt pl i) (drives-at pl i l))) c .1
+
+  -- WRITE keeps a steady weight, where a fact gives what each sending needs and each sending hands it on.
+  pub write-weighed : Wired pl → Steady pl w → (P : ℕ → State → Type 0) (s : State)
+      → ((i : ℕ) (t : State) → i < outputs pl → P i t → P (suc i) (send pl (outputAt pl i) t) × Sends pl (outputAt pl i) t) → P 0 s → weighed pl w (doWrite pl s) ≡ weighed pl w s
+  unfolding doWrite weighed
+  write-weighed wired steady P s keeps p =
+      fold-weighed P (λ i. send pl (outputAt pl i)) (outputs pl) s
+      (λ i t l g. let k = keeps i t l g in (k .0, send-weighed wired (k .1 .core) (outputAt pl i) (drives-at pl i l) steady (k .1 .ready) (k .1 .clear))) p .1

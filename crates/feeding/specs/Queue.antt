@@ -1,11 +1,10 @@
--- The queues by name, their capacities, and their numbers: out-queues first, then each router's, then the in-queues.
+-- The queues by name, and their numbers: out-queues first, then each router's, then the in-queues.
 use mathlib.Core.Path.{_≡_}
 use mathlib.Core.Logic.{_≢_}
 use mathlib.Core.Bool.{Bool, true, false}
 use Prim.Native.Nat.{ℕ, zero, suc, _+_, _*_, _-_, _/_, _%_, _<_}
 use lib.Dec.{ltb, eqb}
 use Rattle.basis.specs.Choice.{pick}
-use Rattle.plan.specs.declared.Head.{Head}
 use Rattle.plan.specs.Plan.{Plan, R, A, P}
 
 -- 'active out and in; passive in and out; per router U[i] (system packets from side i, for the unit), Q (at the unit),
@@ -30,17 +29,6 @@ Exists pl (U r i) = (r < R pl) × (i < 4)
 Exists pl (Q r) = r < R pl
 Exists pl (F r o) = (r < R pl) × (o < 4)
 Exists pl (K r i o) = (r < R pl) × (i < 4) × (o < 4) × (i ≢ o)
-
--- 'eight capacities': of a queue by its kind
-abbrev pub capacity : Head → Queue → ℕ
-capacity h (activeOut a) = h .aout .0
-capacity h (activeIn a) = h .ain .0
-capacity h (passiveIn p) = h .pin .0
-capacity h (passiveOut p) = h .pout .0
-capacity h (U r i) = h .u .0
-capacity h (Q r) = h .q .0
-capacity h (F r o) = h .f .0
-capacity h (K r i o) = h .k .0
 
 -- ---- numbers
 -- a router's queues: U[0] to U[3], Q, then for each side its senders in order, F[o] and K[i,o] by i

@@ -18,7 +18,8 @@ use Rattle.packets.specs.declared.Entry.{Entry}
 use Rattle.plan.specs.declared.Head.{Head}
 use Rattle.plan.specs.Head.{InRange}
 use Rattle.plan.specs.Plan.{Plan, A}
-use Rattle.feeding.specs.Queue.{Queue, activeOut, activeIn, passiveIn, passiveOut, U, Q, F, K, Exists, capacity}
+use Rattle.feeding.specs.Queue.{Queue, activeOut, activeIn, passiveIn, passiveOut, U, Q, F, K, Exists}
+use Rattle.machine.specs.Capacity.{capacity}
 use Rattle.machine.specs.State.{State, Choice, start}
 use Rattle.machine.specs.Valid.{Valid, Bounded}
 use Rattle.layout.specs.Named.{existsTest, test-exists, exists-test, drivesTest, test-drives, entryTest, test-entry}

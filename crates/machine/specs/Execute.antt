@@ -23,8 +23,9 @@ use Rattle.paths.specs.declared.Index.{Index}
 use Rattle.paths.specs.declared.Index.the-variants.{At, Off}
 use Rattle.paths.specs.Walk.{walked}
 use Rattle.paths.specs.Steps.{indexOn, sideAt}
-use Rattle.feeding.specs.Queue.{Queue, activeOut, activeIn, passiveIn, passiveOut, U, Q, F, K, capacity}
+use Rattle.feeding.specs.Queue.{Queue, activeOut, activeIn, passiveIn, passiveOut, U, Q, F, K}
 use Rattle.feeding.specs.Feeds.{Output, ofActive, ofPassive, ofSide, toUnit, fromUnit}
+use Rattle.machine.specs.Capacity.{capacity}
 use Rattle.machine.specs.Outputs.{nextBy, senders, outputs, outputAt}
 use Rattle.machine.specs.State.{State, Choice, nobody, sender, withPhase, withQueue, withFlag, withHandled, withChoice, withEntry, join, isFree}
 

@@ -1,3 +1,4 @@
+pub mod Capacity
 pub mod Store
 pub mod Outputs
 pub mod State

@@ -13,8 +13,9 @@ use Rattle.packets.specs.declared.Answer.{Answer}
 use Rattle.packets.specs.declared.Answer.the-variants.{Refused, Done, Taken, Holds}
 use Rattle.plan.specs.declared.Joint.the-variants.{Nothing}
 use Rattle.plan.specs.Plan.{Plan, R, A, P}
-use Rattle.feeding.specs.Queue.{Queue, activeOut, activeIn, passiveIn, passiveOut, U, Q, F, K, Exists, capacity}
+use Rattle.feeding.specs.Queue.{Queue, activeOut, activeIn, passiveIn, passiveOut, U, Q, F, K, Exists}
 use Rattle.feeding.specs.Feeds.{Output, ofActive, ofPassive, ofSide, toUnit, fromUnit}
+use Rattle.machine.specs.Capacity.{capacity}
 use Rattle.machine.specs.State.{State}
 use Rattle.machine.specs.Valid.{Drives}
 use Rattle.machine.specs.Calls.{Call, read, execute, write, launch, reply, consume, entry}

@@ -14,8 +14,9 @@ use Rattle.packets.specs.declared.Phase.the-variants.{Read, Execute, Write}
 use Rattle.packets.specs.declared.Entry.{Entry}
 use Rattle.packets.specs.declared.Entry.the-variants.{Free, Booked}
 use Rattle.plan.specs.Plan.{Plan}
-use Rattle.feeding.specs.Queue.{Queue, activeOut, capacity}
+use Rattle.feeding.specs.Queue.{Queue, activeOut}
 use Rattle.feeding.specs.Feeds.{Output}
+use Rattle.machine.specs.Capacity.{capacity}
 use Rattle.machine.specs.Store.{put, sameQueue, sameOutput}
 
 -- an output's choice: nobody, or the sender of a rank in its order

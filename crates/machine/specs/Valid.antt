@@ -19,8 +19,9 @@ use Rattle.packets.specs.declared.Phase.the-variants.{Read, Execute, Write}
 use Rattle.packets.specs.declared.Entry.the-variants.{Free, Booked}
 use Rattle.plan.specs.Plan.{Plan, R, A, P, S}
 use Rattle.paths.specs.Served.{Served}
-use Rattle.feeding.specs.Queue.{Queue, activeOut, activeIn, passiveIn, passiveOut, U, Q, F, K, Exists, capacity, queues, queueAt}
+use Rattle.feeding.specs.Queue.{Queue, activeOut, activeIn, passiveIn, passiveOut, U, Q, F, K, Exists, queues, queueAt}
 use Rattle.feeding.specs.Feeds.{Output, ofActive, ofPassive, ofSide, toUnit, fromUnit, Place, inQueue, handledAt, Fits}
+use Rattle.machine.specs.Capacity.{capacity}
 use Rattle.machine.specs.Store.{sameQueue}
 use Rattle.machine.specs.Outputs.{nextBy, senders, outputs, outputAt}
 use Rattle.machine.specs.State.{State, Choice, nobody, sender, start, startAllowance}

@@ -15,9 +15,10 @@ use Rattle.packets.specs.declared.Phase.{Phase}
 use Rattle.packets.specs.declared.Phase.the-variants.{Read, Execute, Write}
 use Rattle.packets.specs.declared.Entry.the-variants.{Free, Booked}
 use Rattle.plan.specs.Plan.{Plan, R, A, P, S}
-use Rattle.feeding.specs.Queue.{Queue, Q, Exists, capacity}
+use Rattle.feeding.specs.Queue.{Queue, Q, Exists}
 use Rattle.feeding.specs.Feeds.{Output}
 use Rattle.journeys.proofs.Places.{some-same}
+use Rattle.machine.specs.Capacity.{capacity}
 use Rattle.machine.specs.Outputs.{senders}
 use Rattle.machine.specs.State.{State, Choice, nobody, sender, startAllowance}
 use Rattle.machine.specs.Execute.{candidate}

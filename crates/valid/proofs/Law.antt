@@ -12,8 +12,9 @@ use Rattle.packets.specs.declared.Wire.the-variants.{Empty, Full}
 use Rattle.packets.specs.declared.Phase.the-variants.{Read, Execute, Write}
 use Rattle.packets.specs.declared.Entry.the-variants.{Free, Booked}
 use Rattle.plan.specs.Plan.{Plan, R, A, S}
-use Rattle.feeding.specs.Queue.{Queue, Q, Exists, capacity}
+use Rattle.feeding.specs.Queue.{Queue, Q, Exists}
 use Rattle.feeding.specs.Feeds.{Output}
+use Rattle.machine.specs.Capacity.{capacity}
 use Rattle.machine.specs.Outputs.{senders}
 use Rattle.machine.specs.State.{State, sender, startAllowance}
 use Rattle.machine.specs.Execute.{candidate}

@@ -21,8 +21,9 @@ use Rattle.plan.specs.Rules.{home}
 use Rattle.paths.specs.Walk.{onward, walked}
 use Rattle.paths.specs.Served.{served}
 use Rattle.paths.specs.Steps.{standsOn}
-use Rattle.feeding.specs.Queue.{Queue, activeOut, activeIn, passiveIn, passiveOut, U, Q, F, K, capacity, queues, queueAt}
+use Rattle.feeding.specs.Queue.{Queue, activeOut, activeIn, passiveIn, passiveOut, U, Q, F, K, queues, queueAt}
 use Rattle.feeding.specs.Feeds.{Output, Place, inQueue, handledAt, span}
+use Rattle.machine.specs.Capacity.{capacity}
 use Rattle.machine.specs.Outputs.{nextBy, senders, outputs, outputAt}
 use Rattle.machine.specs.State.{State, Choice, nobody, sender, startAllowance, isFree, isFull}
 use Rattle.machine.specs.Execute.{candidate}

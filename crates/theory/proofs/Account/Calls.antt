@@ -8,7 +8,8 @@ use borrow.Author.Tests.{ltb-true}
 use Rattle.packets.specs.declared.Kind.{Kind}
 use Rattle.packets.specs.declared.Packet.{Packet}
 use Rattle.plan.specs.Plan.{Plan}
-use Rattle.feeding.specs.Queue.{activeOut, activeIn, passiveIn, passiveOut, capacity}
+use Rattle.feeding.specs.Queue.{activeOut, activeIn, passiveIn, passiveOut}
+use Rattle.machine.specs.Capacity.{capacity}
 use Rattle.machine.specs.Store.{put, sameQueue}
 use Rattle.machine.specs.State.{State, withQueue, withFlag, join}
 use Rattle.machine.specs.Execute.{hasRoom}

@@ -8,8 +8,9 @@ use borrow.Author.Tests.{ltb-true}
 use Rattle.packets.specs.declared.Packet.{Packet}
 use Rattle.packets.specs.declared.Entry.{Entry}
 use Rattle.plan.specs.Plan.{Plan, S}
-use Rattle.feeding.specs.Queue.{activeOut, activeIn, Q, capacity}
+use Rattle.feeding.specs.Queue.{activeOut, activeIn, Q}
 use Rattle.feeding.specs.Feeds.{Output}
+use Rattle.machine.specs.Capacity.{capacity}
 use Rattle.machine.specs.Store.{put, sameQueue}
 use Rattle.machine.specs.State.{State, withQueue, withFlag, withEntry, join}
 use Rattle.machine.specs.Execute.{handledAs, unit, choose, marked, tdownOf, torn, hasRoom, undo}

@@ -24,9 +24,10 @@ use Rattle.packets.specs.declared.Entry.{Entry}
 use Rattle.packets.specs.declared.Entry.the-variants.{Free, Booked}
 use Rattle.plan.specs.Head.{InRange}
 use Rattle.plan.specs.Plan.{Plan, R, A, P, S}
-use Rattle.feeding.specs.Queue.{Queue, activeOut, activeIn, passiveIn, passiveOut, U, Q, F, K, Exists, capacity}
+use Rattle.feeding.specs.Queue.{Queue, activeOut, activeIn, passiveIn, passiveOut, U, Q, F, K, Exists}
 use Rattle.feeding.specs.Feeds.{Output, ofActive, ofPassive, ofSide, toUnit, fromUnit, outputOf, headingOf, next, inQueue, FeedRing}
 use Rattle.wiring.specs.Wired.{Wired}
+use Rattle.machine.specs.Capacity.{capacity}
 use Rattle.machine.specs.Outputs.{nextBy, senders, outputs, outputAt, outputNumber}
 use Rattle.machine.specs.State.{State, Choice, nobody, sender, isFree}
 use Rattle.machine.specs.Execute.{unit, hasCredit, mayLeave, candidate, isOpen, picked, doExecute}

@@ -25,7 +25,7 @@ use Rattle.plan.specs.Plan.{Plan, Port, Interface, active, passive, R, A, P, ro
 use Rattle.plan.specs.Rules.{home}
 use Rattle.paths.specs.Walk.{onward}
 use Rattle.paths.specs.Served.{Served}
-use Rattle.feeding.specs.Queue.{Queue, activeOut, activeIn, passiveIn, passiveOut, U, Q, F, K, Exists, capacity, number, queues, queueAt}
+use Rattle.feeding.specs.Queue.{Queue, activeOut, activeIn, passiveIn, passiveOut, U, Q, F, K, Exists, number, queues, queueAt}
 use Rattle.feeding.specs.Feeds.{Output, outputOf, Heading, ahead, back, headingOf, destination, enters, across, next, beyond, span, leavesFrom, Fits, Place, inQueue, handledAt, Feeds, FeedRing}
 use Rattle.wiring.specs.Wired.{Wired}
 use Rattle.wiring.proofs.Joints.{router-some, interface-some}
@@ -34,6 +34,7 @@ use Rattle.journeys.proofs.Places.{may-exist, may-next, goes-from, nack-walk, r
 use Rattle.journeys.specs.Visits.{Visits}
 use Rattle.journeys.proofs.Walks.{onward-on, onward-end}
 use Rattle.journeys.proofs.Fitting.{fits-visits}
+use Rattle.machine.specs.Capacity.{capacity}
 use Rattle.machine.specs.Outputs.{nextBy, senders}
 use Rattle.machine.specs.State.{State, startAllowance}
 use Rattle.machine.specs.Valid.{PacketOk, Belongs, headPlace, Lined, brings, bit, isFed, onWires, inAll, inWire, total, spends}

@@ -1,5 +1,5 @@
 -- Demand 3 on bytes from demand 3 on the rules: along a list from an accepted Start the bytes are those of the rules' states, all of them good.
-use mathlib.Core.Path.{_≡_, sym, ap, _∙_, subst, subst⁻¹}
+use mathlib.Core.Path.{_≡_, refl, sym, ap, _∙_, subst, subst⁻¹}
 use mathlib.Core.Bool.{true}
 use mathlib.Core.List.{List, []}
 use Prim.Native.Nat.{ℕ, _≤_}
@@ -10,6 +10,7 @@ use Rattle.load.specs.declared.Loaded.the-variants.{Accepted}
 use Rattle.load.specs.Load.{loadOf}
 use Rattle.machine.specs.State.{State, start}
 use Rattle.machine.specs.Calls.{Call, call}
+use Rattle.machine.proofs.Does.{call-does, refused-leaves}
 use Rattle.machine.specs.Progress.{Within, Quiet, Waits}
 use Rattle.machine.specs.Ruled.{Good, Ruled, Moves, ruledAfter, rounds}
 use Rattle.layout.specs.Rows.{past}
@@ -17,9 +18,8 @@ use Rattle.layout.specs.Offsets.{size}
 use Rattle.layout.specs.Encode.{encode}
 use Rattle.layout.specs.Decode.{decode}
 use Rattle.claims.specs.Calls.{Given, isState, callOn, startOn}
-use Rattle.claims.specs.Demand.{bytesAfter, stateOf, roundsIn, MovesIn, Claim, Demand3}
+use Rattle.claims.specs.Demand3.{bytesAfter, stateOf, roundsIn, MovesIn, Claim, Demand3}
 use Rattle.claims.proofs.Exact.{accepted-wired, accepted-range, state-encode}
-use Rattle.claims.proofs.Cases.{rule-never-7}
 use Rattle.claims.proofs.Run.{reached-after, decode-good, on-encode, start-encode, good-after, run-encode, accepted-encode, rounds-encode, launches-encode}
 
 module _ (p : List ℕ) (h : Head) (loads : loadOf p ≡ Accepted h) (ruled : Ruled (planOf p)) where
@@ -95,7 +95,9 @@ module _ (p : List ℕ) (h : Head) (loads : loadOf p ≡ Accepted h) (ruled : Ru
     claim-start cs =
         record {
           state = λ before more e. state-reached before (start (planOf p)) rest (ruled .starts);
-          never-7 = λ before more c e k. rule-never-7 (planOf p) c (after before) (sym (answer-after before c (start (planOf p)) rest (ruled .starts)) ∙ k);
+          never-7 = λ before more c e k.
+              refused-leaves (call-does (planOf p) (after before) c)
+              (sym (answer-after before c (start (planOf p)) rest (ruled .starts)) ∙ k) .1 refl;
           capacity = λ before more e. subst⁻¹ (Within (planOf p)) (reads before) (good before .valid .capacities);
           table = λ before more e q.
               rw (reads before, accepted-encode p h loads ruled before (start (planOf p)) rest [] (ruled .starts))

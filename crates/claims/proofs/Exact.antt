@@ -21,6 +21,7 @@ use Rattle.layout.specs.Decode.{decode, decode-bounded, valid-small}
 use Rattle.layout.proofs.Round.{decode-encode}
 use Rattle.layout.proofs.StateBytes.{canonical-encode, encode-canonical}
 use Rattle.claims.specs.Calls.{isState}
+use Rattle.claims.specs.Conditions.{StateBytes}
 
 -- ---- what the laws below need of a plan, for every plan that Load accepts
 -- its joints may be trusted
@@ -35,13 +36,7 @@ head-range p r = r
 pub accepted-range : (p : List ℕ) (h : Head) → loadOf p ≡ Accepted h → InRange (planOf p .head)
 accepted-range p h e = head-range p (accepted-obeys p h e .ranges)
 
--- ---- the bytes of a good state, and any bytes past them
-pub record StateBytes (pl : Plan) (b : List ℕ) : Type 0 where
-  pub state : State
-  pub rest : List ℕ
-  pub good : Good pl state
-  pub same : b ≡ encode pl state rest
-
+-- ---- the bytes of a good state
 module _ (pl : Plan) (wired : Wired pl) (range : InRange (pl .head)) where
   -- what is read from a good state's bytes is that state
   pub read-back : (s : State) (rest : List ℕ) → Good pl s → decode pl (encode pl s rest) ≡ s

@@ -1,7 +1,6 @@
-pub mod Exact
-pub mod Cases
+pub mod Rounds
 pub mod Refusals
+pub mod Exact
 pub mod Run
 pub mod Bridge
-pub mod Rounds
-pub mod Theorem
+pub mod Demand3

@@ -17,25 +17,14 @@ use Rattle.load.specs.declared.Loaded.{Loaded}
 use Rattle.load.specs.declared.Loaded.the-variants.{Accepted, Refused as Unloaded}
 use Rattle.load.specs.Load.{loadOf}
 use Rattle.machine.specs.State.{State, start}
-use Rattle.machine.specs.Calls.{Outcome, Call, read, execute, write, launch, reply, consume, entry, call}
+use Rattle.machine.specs.Calls.{Outcome, Call, call}
+use Rattle.machine.proofs.Does.{call-does, refused-leaves}
 use Rattle.layout.specs.Rows.{past}
 use Rattle.layout.specs.Offsets.{size}
 use Rattle.layout.specs.Encode.{encode, encode-append, length-encode}
 use Rattle.layout.specs.Decode.{decode}
 use Rattle.layout.proofs.StateBytes.{encode-canonical, past-encode}
-use Rattle.claims.specs.Calls.{Given, given, onPlan, isState, stored, onState, startOn, readOn, executeOn, writeOn, launchOn, replyOn, consumeOn, entryOn, callOn}
-use Rattle.claims.proofs.Cases.{rule-refused}
-
--- every call on bytes in one form: Load, then refusal 7, then its rule
-pub call-on : (p : List ℕ) (c : Call) (b : List ℕ) → callOn p c b ≡ onPlan p b (λ pl. onState (call pl c) b pl) (loadOf p)
-unfolding readOn executeOn writeOn launchOn replyOn consumeOn entryOn
-call-on p read b = refl
-call-on p execute b = refl
-call-on p write b = refl
-call-on p (launch a q t) b = refl
-call-on p (reply q c) b = refl
-call-on p (consume a) b = refl
-call-on p (entry r o t) b = refl
+use Rattle.claims.specs.Calls.{Given, given, onPlan, isState, stored, onState, startOn, callOn}
 
 -- a state's bytes and what is past them, counted
 pub length-encoded : (pl : Plan) (s : State) (rest : List ℕ) → length (encode pl s rest) ≡ size pl + length rest
@@ -65,7 +54,7 @@ unfolding onState
 kept-state pl c b = by (isState pl b) refl
   where
     by : (t : Bool) → isState pl b ≡ t → Kept pl b (pick t (stored pl b (call pl c (decode pl b))) (given (Refused NotState) b))
-    by true e = kept-stored pl b (call pl c (decode pl b)) (rule-refused pl c (decode pl b)) e
+    by true e = kept-stored pl b (call pl c (decode pl b)) (λ w a. refused-leaves (call-does pl (decode pl b) c) a .0) e
     by false e = kept-refused pl b NotState
 
 kept-plan : (p b : List ℕ) (go : Plan → Given) → Kept (planOf p) b (go (planOf p)) → (l : Loaded) → Kept (planOf p) b (onPlan p b go l)
@@ -74,19 +63,8 @@ kept-plan p b go k (Accepted h) = k
 
 -- so does every call
 pub kept-call : (p : List ℕ) (c : Call) (b : List ℕ) → Kept (planOf p) b (callOn p c b)
-kept-call p c b = rw (call-on p c b) (kept-plan p b (λ pl. onState (call pl c) b pl) (kept-state (planOf p) c b) (loadOf p))
-
--- a refused call alters no byte
-pub refused-same : (p : List ℕ) (c : Call) (b : List ℕ) (w : Refusal) → callOn p c b .answer ≡ Refused w → callOn p c b .bytes ≡ b
-refused-same p c b = kept-call p c b .refused
-
--- the bytes past the state are never written
-pub past-same : (p : List ℕ) (c : Call) (b : List ℕ) → past (size (planOf p)) (callOn p c b .bytes) ≡ past (size (planOf p)) b
-past-same p c b = kept-call p c b .beyond
-
--- there are as many bytes after a call as before it
-pub length-same : (p : List ℕ) (c : Call) (b : List ℕ) → length (callOn p c b .bytes) ≡ length b
-length-same p c b = kept-call p c b .count
+unfolding callOn
+kept-call p c b = kept-plan p b (λ pl. onState (call pl c) b pl) (kept-state (planOf p) c b) (loadOf p)
 
 -- ---- Start
 kept-started : (pl : Plan) (b : List ℕ) → size pl ≤ length b → Kept pl b (given Done (encode pl (start pl) (past (size pl) b)))
@@ -107,15 +85,3 @@ kept-start p b = kept-plan p b _ (by (ltb (length b) (size (planOf p))) refl) (l
         → Kept (planOf p) b (pick t (given (Refused NotState) b) (given Done (encode (planOf p) (start (planOf p)) (past (size (planOf p)) b))))
     by true e = kept-refused (planOf p) b NotState
     by false e = kept-started (planOf p) b (ltb-false (length b) (size (planOf p)) e)
-
--- a refused Start alters no byte
-pub start-refused-same : (p b : List ℕ) (w : Refusal) → startOn p b .answer ≡ Refused w → startOn p b .bytes ≡ b
-start-refused-same p b = kept-start p b .refused
-
--- the bytes past the state are never written by Start
-pub start-past-same : (p b : List ℕ) → past (size (planOf p)) (startOn p b .bytes) ≡ past (size (planOf p)) b
-start-past-same p b = kept-start p b .beyond
-
--- there are as many bytes after Start as before it
-pub start-length-same : (p b : List ℕ) → length (startOn p b .bytes) ≡ length b
-start-length-same p b = kept-start p b .count

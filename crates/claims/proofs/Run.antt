@@ -25,9 +25,8 @@ use Rattle.layout.specs.Encode.{encode}
 use Rattle.layout.specs.Decode.{decode}
 use Rattle.layout.proofs.StateBytes.{past-encode}
 use Rattle.claims.specs.Calls.{Given, given, onState, startOn, callOn}
-use Rattle.claims.specs.Demand.{bytesAfter, acceptedBy, roundsIn, launchesIn}
+use Rattle.claims.specs.Demand3.{bytesAfter, acceptedBy, roundsIn, launchesIn}
 use Rattle.claims.proofs.Exact.{accepted-wired, accepted-range, read-back, state-encode}
-use Rattle.claims.proofs.Refusals.{call-on}
 
 -- ---- one call, and Start, on a plan that Load accepts
 module _ (p : List ℕ) (h : Head) (loads : loadOf p ≡ Accepted h) where
@@ -38,10 +37,9 @@ module _ (p : List ℕ) (h : Head) (loads : loadOf p ≡ Accepted h) where
   -- a call on a good state's bytes gives the rule's answer and the bytes of the rule's state; those past them stay
   pub on-encode : (c : Call) (s : State) (rest : List ℕ) → Good (planOf p) s
       → callOn p c (encode (planOf p) s rest) ≡ given (call (planOf p) c s .answer) (encode (planOf p) (call (planOf p) c s .state) rest)
-  unfolding onState
+  unfolding callOn onState
   on-encode c s rest g =
-      call-on p c (encode (planOf p) s rest)
-      ∙ rw (
+      rw (
         loads,
         state-encode (planOf p) (accepted-wired p h loads) (accepted-range p h loads) s rest g,
         decode-good s rest g,

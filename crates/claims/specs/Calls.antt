@@ -17,7 +17,7 @@ use Rattle.load.specs.declared.Loaded.{Loaded}
 use Rattle.load.specs.declared.Loaded.the-variants.{Accepted, Refused as Unloaded}
 use Rattle.load.specs.Load.{loadOf}
 use Rattle.machine.specs.State.{State, start}
-use Rattle.machine.specs.Calls.{Outcome, Call, read, execute, write, launch, reply, consume, entry, readCall, executeCall, writeCall, launchCall, replyCall, consumeCall, entryCall}
+use Rattle.machine.specs.Calls.{Outcome, Call, call}
 use Rattle.valid.specs.Test.{validTest}
 use Rattle.layout.specs.Rows.{past}
 use Rattle.layout.specs.Offsets.{size}
@@ -50,7 +50,7 @@ stored pl b r = given (r .answer) (encode pl (r .state) (past (size pl) b))
 unfoldable pub onState : (State → Outcome) → List ℕ → Plan → Given
 onState rule b pl = pick (isState pl b) (stored pl b (rule (decode pl b))) (given (Refused NotState) b)
 
--- ---- one definition for each call
+-- ---- the calls
 -- '**Start**: 7 state buffer too short'
 abbrev pub startIn : List ℕ → Plan → Given
 startIn b pl =
@@ -59,32 +59,6 @@ startIn b pl =
 unfoldable pub startOn : List ℕ → List ℕ → Given
 startOn p b = onPlan p b (startIn b) (loadOf p)
 
-unfoldable pub readOn : List ℕ → List ℕ → Given
-readOn p b = onPlan p b (λ pl. onState (readCall pl) b pl) (loadOf p)
-
-unfoldable pub executeOn : List ℕ → List ℕ → Given
-executeOn p b = onPlan p b (λ pl. onState (executeCall pl) b pl) (loadOf p)
-
-unfoldable pub writeOn : List ℕ → List ℕ → Given
-writeOn p b = onPlan p b (λ pl. onState (writeCall pl) b pl) (loadOf p)
-
-unfoldable pub launchOn : List ℕ → ℕ → ℕ → ℕ → List ℕ → Given
-launchOn p a q t b = onPlan p b (λ pl. onState (launchCall pl a q t) b pl) (loadOf p)
-
-unfoldable pub replyOn : List ℕ → ℕ → ℕ → List ℕ → Given
-replyOn p q c b = onPlan p b (λ pl. onState (replyCall pl q c) b pl) (loadOf p)
-
-unfoldable pub consumeOn : List ℕ → ℕ → List ℕ → Given
-consumeOn p a b = onPlan p b (λ pl. onState (consumeCall pl a) b pl) (loadOf p)
-
-unfoldable pub entryOn : List ℕ → ℕ → ℕ → ℕ → List ℕ → Given
-entryOn p r o t b = onPlan p b (λ pl. onState (entryCall pl r o t) b pl) (loadOf p)
-
-abbrev pub callOn : List ℕ → Call → List ℕ → Given
-callOn p read b = readOn p b
-callOn p execute b = executeOn p b
-callOn p write b = writeOn p b
-callOn p (launch a q t) b = launchOn p a q t b
-callOn p (reply q c) b = replyOn p q c b
-callOn p (consume a) b = consumeOn p a b
-callOn p (entry r o t) b = entryOn p r o t b
+-- every other call
+unfoldable pub callOn : List ℕ → Call → List ℕ → Given
+callOn p c b = onPlan p b (λ pl. onState (call pl c) b pl) (loadOf p)

@@ -1,2 +1,5 @@
 pub mod Calls
-pub mod Demand
+pub mod Conditions
+pub mod Demand1
+pub mod Demand2
+pub mod Demand3

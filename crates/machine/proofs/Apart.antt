@@ -1,6 +1,6 @@
 -- Values of different constructors differ, and values of one constructor have one content.
-use mathlib.Core.Path.{_≡_, refl}
-use mathlib.Core.Bool.{not, false, true≢false}
+use mathlib.Core.Path.{_≡_, refl, sym, ap, _∙_}
+use mathlib.Core.Bool.{not, true, false, true≢false}
 use Prim.Native.Nat.{ℕ}
 use native.Mathlib.Omega.{arith}
 use Rattle.packets.specs.declared.Packet.{Packet}
@@ -10,7 +10,7 @@ use Rattle.packets.specs.declared.Phase.the-variants.{Read, Execute, Write}
 use Rattle.packets.specs.declared.Entry.the-variants.{Free, Booked}
 use Rattle.feeding.specs.Queue.{Q}
 use Rattle.machine.specs.State.{nobody, sender}
-use Rattle.machine.specs.Calls.{isPhase}
+use Rattle.machine.specs.Calls.{Visit, Call, turn, visit, isPhase}
 
 -- ---- phases
 pub read-execute : Read ≡ Execute → ⊥
@@ -33,6 +33,15 @@ phase-of Execute Write e = absurd (true≢false e)
 phase-of Write Read e = absurd (true≢false e)
 phase-of Write Execute e = absurd (true≢false e)
 phase-of Write Write e = refl
+
+-- and the test tells of a phase that it is itself
+phase-itself : (x : Phase) → isPhase x x ≡ true
+phase-itself Read = refl
+phase-itself Execute = refl
+phase-itself Write = refl
+
+pub phase-is : (x y : Phase) → x ≡ y → isPhase x y ≡ true
+phase-is x y e = ap (isPhase x) (sym e) ∙ phase-itself x
 
 -- ---- choices
 pub nobody-not : {k : ℕ} → nobody ≡ sender k → ⊥
@@ -58,3 +67,10 @@ booked-same e = cc
 -- ---- units
 pub unit-same : {r n : ℕ} → Q r ≡ Q n → r ≡ n
 unit-same e = cc
+
+-- ---- calls
+pub turn-same : {x y : Phase} → turn x ≡ turn y → x ≡ y
+turn-same e = cc
+
+pub visit-not : (v : Visit) (x : Phase) → visit v ≡ turn x → ⊥
+visit-not v x e = let z : _≡_ {A = ℕ} 0 1 = cc in omega arith

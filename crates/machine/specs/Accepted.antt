@@ -18,7 +18,7 @@ use Rattle.packets.specs.declared.Answer.the-variants.{Refused, Done, Taken, Ho
 use Rattle.packets.specs.Counters.{startSlot, slotAfter}
 use Rattle.plan.specs.Plan.{Plan, Port, active, passive, R, S, routeTo}
 use Rattle.feeding.specs.Feeds.{Stands}
-use Rattle.machine.specs.Calls.{Call, read, execute, write, launch, reply, consume, entry}
+use Rattle.machine.specs.Calls.{Visit, ofLaunch, ofReply, ofConsume, ofEntry, Call, turn, visit}
 
 pub record Connection : Type 0 where
   pub active : ℕ
@@ -35,18 +35,23 @@ acceptKind pl Tdown x cs = cs
 acceptKind pl Ack x cs = connectionOf pl x ∷ cs
 acceptKind pl Nack x cs = cs
 
+-- what a Consume gave
+abbrev pub acceptTaken : Plan → Answer → List Connection → List Connection
+acceptTaken pl (Refused w) cs = cs
+acceptTaken pl Done cs = cs
+acceptTaken pl (Holds e) cs = cs
+acceptTaken pl (Taken x) cs = acceptKind pl (x .kind) x cs
+
+abbrev pub acceptVisit : Plan → Visit → Answer → List Connection → List Connection
+acceptVisit pl (ofLaunch a p t) x cs = cs
+acceptVisit pl (ofReply p c) x cs = cs
+acceptVisit pl (ofConsume a) x cs = acceptTaken pl x cs
+acceptVisit pl (ofEntry r o t) x cs = cs
+
 -- one call and its answer: the connections accepted after it
 abbrev pub accept : Plan → Call → Answer → List Connection → List Connection
-accept pl read a cs = cs
-accept pl execute a cs = cs
-accept pl write a cs = cs
-accept pl (launch a p t) x cs = cs
-accept pl (reply p c) x cs = cs
-accept pl (entry r o t) x cs = cs
-accept pl (consume a) (Refused w) cs = cs
-accept pl (consume a) Done cs = cs
-accept pl (consume a) (Holds e) cs = cs
-accept pl (consume a) (Taken x) cs = acceptKind pl (x .kind) x cs
+accept pl (turn x) a cs = cs
+accept pl (visit v) a cs = acceptVisit pl v a cs
 
 -- 'At its n-th router, n from 0, an accepted connection makes the entry (walk's side, start slot + n modulo S),
 -- holding the side the walk came in by'

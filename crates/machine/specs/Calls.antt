@@ -1,38 +1,72 @@
--- The calls, each with its refusals in document 01's order. A refusal leaves the state.
+-- The calls. Each has its refusals in document 01's order and, where none applies, what it gives. A refusal leaves the
+-- state.
 use mathlib.Core.Bool.{Bool, true, false, not, _&&_}
 use mathlib.Core.List.{List, [], _∷_}
-use Prim.Native.Nat.{ℕ, _+_, _-_}
+use mathlib.Core.Option.{Option, none, some}
+use Prim.Native.Nat.{ℕ}
 use lib.Dec.{eqb, ltb, leb}
-use Rattle.basis.specs.Choice.{pick}
 use Rattle.kinds.specs.declared.Refusal.{Refusal}
 use Rattle.kinds.specs.declared.Refusal.the-variants.{WrongPhase, BadNumber, NotServed, NoAllowance, QueueFull, QueueEmpty, FlagUp, Unmarked}
-use Rattle.packets.specs.declared.Kind.{Kind}
-use Rattle.packets.specs.declared.Kind.the-variants.{Setup, Tdown, Ack, Nack}
 use Rattle.packets.specs.declared.Packet.{Packet}
 use Rattle.packets.specs.declared.Phase.{Phase}
 use Rattle.packets.specs.declared.Phase.the-variants.{Read, Execute, Write}
-use Rattle.packets.specs.declared.Entry.{Entry}
 use Rattle.packets.specs.declared.Answer.{Answer}
 use Rattle.packets.specs.declared.Answer.the-variants.{Refused, Done, Taken, Holds}
 use Rattle.plan.specs.Plan.{Plan, R, A, P, S}
 use Rattle.paths.specs.Served.{served}
-use Rattle.feeding.specs.Queue.{Queue, activeOut, activeIn, passiveIn, passiveOut}
-use Rattle.machine.specs.State.{State, withQueue, withFlag, withAllowance, join}
+use Rattle.feeding.specs.Queue.{activeOut, activeIn, passiveIn, passiveOut}
+use Rattle.machine.specs.State.{State}
 use Rattle.machine.specs.Read.{doRead}
-use Rattle.machine.specs.Execute.{doExecute, hasRoom, unmarked}
+use Rattle.machine.specs.Execute.{doExecute, hasRoom}
 use Rattle.machine.specs.Write.{doWrite}
+use Rattle.machine.specs.Visits.{launched, replyKind, replied, removed, isEmpty, headUnmarked}
+use Rattle.machine.specs.Guards.{Guard, guard, refusalOf}
 
--- what a call gives: its answer, and the state that it leaves
+-- ---- which call
+-- the calls between the phases: of the interfaces, and of who looks at the table
+pub data Visit : Type 0 where
+  ofLaunch : ℕ → ℕ → ℕ → Visit
+  ofReply : ℕ → ℕ → Visit
+  ofConsume : ℕ → Visit
+  ofEntry : ℕ → ℕ → ℕ → Visit
+
+-- 'the calls Read, Execute, Write', which turn the phase, and the others
+pub data Call : Type 0 where
+  turn : Phase → Call
+  visit : Visit → Call
+
+abbrev pub read : Call
+read = turn Read
+
+abbrev pub execute : Call
+execute = turn Execute
+
+abbrev pub write : Call
+write = turn Write
+
+-- Launch (active, passive, slot)
+abbrev pub launch : ℕ → ℕ → ℕ → Call
+launch a p t = visit (ofLaunch a p t)
+
+-- Reply (passive, 1 accept or 0 decline)
+abbrev pub reply : ℕ → ℕ → Call
+reply p c = visit (ofReply p c)
+
+-- Consume (active)
+abbrev pub consume : ℕ → Call
+consume a = visit (ofConsume a)
+
+-- Entry (router, side, slot)
+abbrev pub entry : ℕ → ℕ → ℕ → Call
+entry r o t = visit (ofEntry r o t)
+
+-- ---- what a call gives: its answer, and the state that it leaves
 pub record Outcome : Type 0 where
   pub answer : Answer
   pub state : State
 
 abbrev pub gives : Answer → State → Outcome
 gives a s = record { answer = a; state = s }
-
--- the refusal w where the test holds, else what follows
-abbrev pub refuse : Bool → Refusal → State → Outcome → Outcome
-refuse t w s rest = pick t (gives (Refused w) s) rest
 
 abbrev pub isPhase : Phase → Phase → Bool
 isPhase Read Read = true
@@ -45,103 +79,73 @@ isPhase Write Read = false
 isPhase Write Execute = false
 isPhase Write Write = true
 
-abbrev pub isEmpty : List Packet → Bool
-isEmpty [] = true
-isEmpty (x ∷ xs) = false
+-- ---- the refusals of each call, in order
+-- '**Launch** (active, passive, slot): 8 not READ; 9 a number out of range; 10 pair not served; 11 allowance 0; 12
+-- out-queue full'
+abbrev pub launchGuards : Plan → ℕ → ℕ → ℕ → State → List Guard
+launchGuards pl a p t s =
+    guard WrongPhase (not (isPhase (s .phase) Read))
+    ∷ guard BadNumber (not (ltb a (A pl) && ltb p (P pl) && ltb t (S pl)))
+    ∷ guard NotServed (not (served pl a p))
+    ∷ guard NoAllowance (eqb (s .allowance a) 0)
+    ∷ guard QueueFull (not (hasRoom pl (activeOut a) s))
+    ∷ []
+
+-- '**Reply** (passive, 1 accept or 0 decline): 8 not WRITE; 9 number or choice out of range; 14 in-queue flag up; 13
+-- in-queue empty; 12 out-queue full'
+abbrev pub replyGuards : Plan → ℕ → ℕ → State → List Guard
+replyGuards pl p c s =
+    guard WrongPhase (not (isPhase (s .phase) Write))
+    ∷ guard BadNumber (not (ltb p (P pl) && leb c 1))
+    ∷ guard FlagUp (s .flag (passiveIn p))
+    ∷ guard QueueEmpty (isEmpty (s .queue (passiveIn p)))
+    ∷ guard QueueFull (not (hasRoom pl (passiveOut p) s))
+    ∷ []
+
+-- '**Consume** (active): 8 not WRITE; 9; 14; 13; 15 head is an unmarked NACK'
+abbrev pub consumeGuards : Plan → ℕ → State → List Guard
+consumeGuards pl a s =
+    guard WrongPhase (not (isPhase (s .phase) Write))
+    ∷ guard BadNumber (not (ltb a (A pl)))
+    ∷ guard FlagUp (s .flag (activeIn a))
+    ∷ guard QueueEmpty (isEmpty (s .queue (activeIn a)))
+    ∷ guard Unmarked (headUnmarked (s .queue (activeIn a)))
+    ∷ []
+
+-- '**Entry** (router, side, slot): 9'
+abbrev pub entryGuards : Plan → ℕ → ℕ → ℕ → List Guard
+entryGuards pl r o t = guard BadNumber (not (ltb r (R pl) && ltb o 4 && ltb t (S pl))) ∷ []
 
 -- '**Read, Execute, Write**: 8 another phase'
-unfoldable pub readCall : Plan → State → Outcome
-readCall pl s = refuse (not (isPhase (s .phase) Read)) WrongPhase s (gives Done (doRead pl s))
+abbrev pub guards : Plan → Call → State → List Guard
+guards pl (turn x) s = guard WrongPhase (not (isPhase (s .phase) x)) ∷ []
+guards pl (visit (ofLaunch a p t)) s = launchGuards pl a p t s
+guards pl (visit (ofReply p c)) s = replyGuards pl p c s
+guards pl (visit (ofConsume a)) s = consumeGuards pl a s
+guards pl (visit (ofEntry r o t)) s = entryGuards pl r o t
 
-unfoldable pub executeCall : Plan → State → Outcome
-executeCall pl s = refuse (not (isPhase (s .phase) Execute)) WrongPhase s (gives Done (doExecute pl s))
+-- ---- what each call gives where no refusal applies
+abbrev pub stepOf : Plan → Phase → State → State
+stepOf pl Read s = doRead pl s
+stepOf pl Execute s = doExecute pl s
+stepOf pl Write s = doWrite pl s
 
-unfoldable pub writeCall : Plan → State → Outcome
-writeCall pl s = refuse (not (isPhase (s .phase) Write)) WrongPhase s (gives Done (doWrite pl s))
-
--- '**Launch** (active, passive, slot) .. a SETUP, hub 0, joins and the allowance falls by one'
-abbrev pub setupOf : ℕ → ℕ → ℕ → Packet
-setupOf a p t = record { kind = Setup; active = a; passive = p; slot = record { 0 = t }; hub = record { 0 = 0 } }
-
--- an allowance of 0 has been refused
-unfoldable pub launched : ℕ → ℕ → ℕ → State → State
-launched a p t s = withAllowance a (s .allowance a - 1) (join (activeOut a) (setupOf a p t) s)
-
-unfoldable pub launchCall : Plan → ℕ → ℕ → ℕ → State → Outcome
-launchCall pl a p t s =
-    refuse (not (isPhase (s .phase) Read)) WrongPhase s
-    (refuse (not (ltb a (A pl) && ltb p (P pl) && ltb t (S pl))) BadNumber s
-    (refuse (not (served pl a p)) NotServed s
-    (refuse (eqb (s .allowance a) 0) NoAllowance s
-    (refuse (not (hasRoom pl (activeOut a) s)) QueueFull s
-    (gives Done (launched a p t s))))))
-
--- '**Reply** (passive, 1 accept or 0 decline) .. the head becomes ACK or NACK, slot and hub kept, in the out-queue;
--- the flag rises'
-abbrev pub replyKind : ℕ → Kind
-replyKind c = pick (eqb c 1) Ack Nack
-
-abbrev pub repliedAs : Kind → Packet → Packet
-repliedAs k x = record { kind = k; active = x .active; passive = x .passive; slot = x .slot; hub = x .hub }
-
--- an empty in-queue has been refused
-abbrev pub replied : ℕ → Kind → List Packet → State → State
-replied p k [] s = s
-replied p k (x ∷ rest) s =
-    join (passiveOut p) (repliedAs k x) (withFlag (passiveIn p) true (withQueue (passiveIn p) rest s))
-
-unfoldable pub replyCall : Plan → ℕ → ℕ → State → Outcome
-replyCall pl p c s =
-    refuse (not (isPhase (s .phase) Write)) WrongPhase s
-    (refuse (not (ltb p (P pl) && leb c 1)) BadNumber s
-    (refuse (s .flag (passiveIn p)) FlagUp s
-    (refuse (isEmpty (s .queue (passiveIn p))) QueueEmpty s
-    (refuse (not (hasRoom pl (passiveOut p) s)) QueueFull s
-    (gives Done (replied p (replyKind c) (s .queue (passiveIn p)) s))))))
-
--- '**Consume** (active) .. the packet is returned and removed, the flag rises, the allowance grows by one': the head,
--- and its removal
-unfoldable pub removed : ℕ → List Packet → State → State
-removed a rest s = withAllowance a (s .allowance a + 1) (withFlag (activeIn a) true (withQueue (activeIn a) rest s))
-
-abbrev pub headUnmarked : List Packet → Bool
-headUnmarked [] = false
-headUnmarked (x ∷ rest) = unmarked x
-
--- an empty in-queue has been refused
+-- 'the packet is returned and removed'; an empty in-queue has been refused
 abbrev pub consumed : ℕ → List Packet → State → Outcome
 consumed a [] s = gives (Refused QueueEmpty) s
 consumed a (x ∷ rest) s = gives (Taken x) (removed a rest s)
 
-unfoldable pub consumeCall : Plan → ℕ → State → Outcome
-consumeCall pl a s =
-    refuse (not (isPhase (s .phase) Write)) WrongPhase s
-    (refuse (not (ltb a (A pl))) BadNumber s
-    (refuse (s .flag (activeIn a)) FlagUp s
-    (refuse (isEmpty (s .queue (activeIn a))) QueueEmpty s
-    (refuse (headUnmarked (s .queue (activeIn a))) Unmarked s
-    (consumed a (s .queue (activeIn a)) s)))))
+abbrev pub accepted : Plan → Call → State → Outcome
+accepted pl (turn x) s = gives Done (stepOf pl x s)
+accepted pl (visit (ofLaunch a p t)) s = gives Done (launched a p t s)
+accepted pl (visit (ofReply p c)) s = gives Done (replied p (replyKind c) (s .queue (passiveIn p)) s)
+accepted pl (visit (ofConsume a)) s = consumed a (s .queue (activeIn a)) s
+accepted pl (visit (ofEntry r o t)) s = gives (Holds (s .table r o t)) s
 
--- '**Entry** (router, side, slot): 9. Else the entry'
-unfoldable pub entryCall : Plan → ℕ → ℕ → ℕ → State → Outcome
-entryCall pl r o t s =
-    refuse (not (ltb r (R pl) && ltb o 4 && ltb t (S pl))) BadNumber s (gives (Holds (s .table r o t)) s)
+-- ---- a call
+abbrev pub decided : Option Refusal → State → Outcome → Outcome
+decided none s o = o
+decided (some w) s o = gives (Refused w) s
 
--- ---- a list of calls
-pub data Call : Type 0 where
-  read : Call
-  execute : Call
-  write : Call
-  launch : ℕ → ℕ → ℕ → Call
-  reply : ℕ → ℕ → Call
-  consume : ℕ → Call
-  entry : ℕ → ℕ → ℕ → Call
-
-abbrev pub call : Plan → Call → State → Outcome
-call pl read s = readCall pl s
-call pl execute s = executeCall pl s
-call pl write s = writeCall pl s
-call pl (launch a p t) s = launchCall pl a p t s
-call pl (reply p c) s = replyCall pl p c s
-call pl (consume a) s = consumeCall pl a s
-call pl (entry r o t) s = entryCall pl r o t s
+unfoldable pub call : Plan → Call → State → Outcome
+call pl c s = decided (refusalOf (guards pl c s)) s (accepted pl c s)

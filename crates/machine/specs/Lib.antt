@@ -5,7 +5,11 @@ pub mod State
 pub mod Read
 pub mod Execute
 pub mod Write
+pub mod Visits
+pub mod Guards
 pub mod Calls
+pub mod Does
+pub mod Conditions
 pub mod Accepted
 pub mod Valid
 pub mod Progress

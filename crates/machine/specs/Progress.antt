@@ -5,10 +5,12 @@ use mathlib.Core.Bool.{Bool, true, false}
 use mathlib.Core.List.{List, [], _∷_, _++_}
 use Prim.Native.Nat.{ℕ, zero, suc, _+_, _≤_, _<_}
 use lib.ListN.{length}
+use Rattle.basis.specs.Choice.{pick}
 use Rattle.kinds.specs.declared.Refusal.{Refusal}
 use Rattle.packets.specs.declared.Packet.{Packet}
 use Rattle.packets.specs.declared.Wire.the-variants.{Empty, Full}
-use Rattle.packets.specs.declared.Phase.the-variants.{Read}
+use Rattle.packets.specs.declared.Phase.{Phase}
+use Rattle.packets.specs.declared.Phase.the-variants.{Read, Write}
 use Rattle.packets.specs.declared.Answer.{Answer}
 use Rattle.packets.specs.declared.Answer.the-variants.{Refused, Done, Taken, Holds}
 use Rattle.plan.specs.declared.Joint.the-variants.{Nothing}
@@ -18,7 +20,7 @@ use Rattle.feeding.specs.Feeds.{Output, ofActive, ofPassive, ofSide, toUnit, fr
 use Rattle.machine.specs.Capacity.{capacity}
 use Rattle.machine.specs.State.{State}
 use Rattle.machine.specs.Valid.{Drives}
-use Rattle.machine.specs.Calls.{Call, read, execute, write, launch, reply, consume, entry}
+use Rattle.machine.specs.Calls.{Call, turn, visit, isPhase}
 
 -- 'no queue holds more than its capacity'
 abbrev pub Within : Plan → State → Type 0
@@ -68,18 +70,13 @@ pub record Waits (pl : Plan) (s : State) : Type 0 where
 -- 'that call takes it out of the queue or wire it was in': told by the states before and after it
 abbrev pub Moved : Plan → State → State → Type 0
 Moved pl s t =
-    ((o : Output) × (x : Packet) × Drives pl o × (s .wire o ≡ Full x) × (t .wire o ≡ Empty))
+    ((o : Output) × (x : Packet) × HasWire pl o × (s .wire o ≡ Full x) × (t .wire o ≡ Empty))
     ⊎ ((q : Queue) × Exists pl q × (length (t .queue q) < length (s .queue q)))
 
 -- 'by a Read, an Execute or a Write'
 abbrev pub isTimed : Call → Bool
-isTimed read = true
-isTimed execute = true
-isTimed write = true
-isTimed (launch a p t) = false
-isTimed (reply p c) = false
-isTimed (consume a) = false
-isTimed (entry r o t) = false
+isTimed (turn x) = true
+isTimed (visit v) = false
 
 -- 'A whole round is one accepted Read, Execute and Write': an accepted Write ends one
 abbrev pub isDone : Answer → ℕ
@@ -88,11 +85,10 @@ isDone Done = 1
 isDone (Taken x) = 0
 isDone (Holds e) = 0
 
+-- an accepted Read, Execute or Write of that phase
+abbrev pub turnsCall : Phase → Call → Answer → ℕ
+turnsCall x (turn y) a = pick (isPhase y x) (isDone a) 0
+turnsCall x (visit v) a = 0
+
 abbrev pub endsRound : Call → Answer → ℕ
-endsRound read x = 0
-endsRound execute x = 0
-endsRound write x = isDone x
-endsRound (launch a p t) x = 0
-endsRound (reply p c) x = 0
-endsRound (consume a) x = 0
-endsRound (entry r o t) x = 0
+endsRound c a = turnsCall Write c a

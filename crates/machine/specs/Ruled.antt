@@ -9,7 +9,7 @@ use Rattle.basis.specs.Choice.{pick}
 use Rattle.packets.specs.declared.Answer.{Answer}
 use Rattle.plan.specs.Plan.{Plan, S}
 use Rattle.machine.specs.State.{State, start}
-use Rattle.machine.specs.Calls.{Call, read, execute, write, launch, reply, consume, entry, call}
+use Rattle.machine.specs.Calls.{Visit, ofLaunch, ofReply, ofConsume, ofEntry, Call, turn, visit, call}
 use Rattle.machine.specs.Accepted.{Connection, accept, MadeBy}
 use Rattle.machine.specs.Valid.{Valid, Bounded}
 use Rattle.machine.specs.Progress.{Quiet, Waits, Moved, isTimed, isDone, endsRound}
@@ -30,14 +30,15 @@ rounds pl [] s = 0
 rounds pl (c ∷ cs) s = endsRound c (call pl c s .answer) + rounds pl cs (call pl c s .state)
 
 -- accepted Launches of a triple: in one call, in a list
+abbrev pub launchesVisit : Connection → Visit → Answer → ℕ
+launchesVisit d (ofLaunch a q t) x = pick (eqb a (d .active) && eqb q (d .passive) && eqb t (d .start .0)) (isDone x) 0
+launchesVisit d (ofReply q c) x = 0
+launchesVisit d (ofConsume a) x = 0
+launchesVisit d (ofEntry r o t) x = 0
+
 abbrev pub launchesCall : Connection → Call → Answer → ℕ
-launchesCall d read x = 0
-launchesCall d execute x = 0
-launchesCall d write x = 0
-launchesCall d (launch a q t) x = pick (eqb a (d .active) && eqb q (d .passive) && eqb t (d .start .0)) (isDone x) 0
-launchesCall d (reply q c) x = 0
-launchesCall d (consume a) x = 0
-launchesCall d (entry r o t) x = 0
+launchesCall d (turn x) a = 0
+launchesCall d (visit v) a = launchesVisit d v a
 
 abbrev pub launches : Plan → Connection → List Call → State → ℕ
 launches pl d [] s = 0

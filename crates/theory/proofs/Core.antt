@@ -16,14 +16,15 @@ use Rattle.packets.specs.declared.Phase.the-variants.{Read, Execute, Write}
 use Rattle.packets.specs.declared.Entry.the-variants.{Free, Booked}
 use Rattle.plan.specs.Plan.{Plan, R, A, P, S}
 use Rattle.feeding.specs.Queue.{Queue, Q, Exists}
-use Rattle.feeding.specs.Feeds.{Output}
-use Rattle.journeys.proofs.Places.{some-same}
+use Rattle.feeding.specs.Feeds.{Output, ofActive, ofPassive, ofSide, toUnit, fromUnit, headingOf, across}
+use Rattle.journeys.proofs.Places.{some-same, some-not-none}
 use Rattle.machine.specs.Capacity.{capacity}
 use Rattle.machine.specs.Outputs.{senders}
 use Rattle.machine.specs.State.{State, Choice, nobody, sender, startAllowance}
 use Rattle.machine.specs.Execute.{candidate}
 use Rattle.machine.specs.Write.{ofRank}
 use Rattle.machine.specs.Valid.{Lined, Drives, Carries, bit, onWires, total, spends, isFed, Valid, Bounded}
+use Rattle.machine.specs.Progress.{HasWire}
 use Rattle.machine.proofs.Apart.{nobody-not, read-execute, read-write, execute-write}
 
 -- ---- the core's parts
@@ -192,3 +193,18 @@ valid-of pl s c t =
     picked′ (in-read e n) o k q h d r = absurd (nobody-not (sym (n o h) ∙ d))
     picked′ (in-execute e n w f) o k q h d r = absurd (nobody-not (sym (n o h) ∙ d))
     picked′ (in-write e w c′) o k q h d r = let g = c′ o k h d in rw (some-same (sym (g .rank) ∙ r)) at (g .down)
+
+-- ---- wires
+-- A full wire is one that there is: from a side that is not joined nothing goes on.
+pub full-wire : (pl : Plan) (s : State) → Core pl s → (o : Output) → Drives pl o → (x : Packet) → s .wire o ≡ Full x
+    → HasWire pl o
+full-wire pl s c (ofActive a) d x e = d
+full-wire pl s c (ofPassive p) d x e = d
+full-wire pl s c (ofSide r o) (hr, ho) x e = (
+  hr,
+  ho,
+  λ z. some-not-none
+      (sym (ap (across pl (headingOf (x .kind)) (x .active) (x .passive)) z) ∙ c .wires (ofSide r o) (hr, ho) x e .next),
+)
+full-wire pl s c (toUnit r) d x e = d
+full-wire pl s c (fromUnit r) d x e = d

@@ -30,10 +30,12 @@ use Rattle.machine.specs.State.{State, sender, start, withPhase, withSlot}
 use Rattle.machine.specs.Read.{deliver, settle, doRead}
 use Rattle.machine.specs.Execute.{unit, choose, undo, doExecute, hasRoom, unmarked}
 use Rattle.machine.specs.Write.{send, doWrite}
-use Rattle.machine.specs.Calls.{Outcome, gives, refuse, isPhase, isEmpty, Call, read, execute, write, launch, reply, consume, entry, call, readCall, executeCall, writeCall, launched, launchCall, replyKind, replied, replyCall, removed, headUnmarked, consumed, consumeCall, entryCall}
+use Rattle.machine.specs.Visits.{replyKind}
+use Rattle.machine.specs.Calls.{Visit, Call, Outcome, stepOf, call}
+use Rattle.machine.specs.Does.{Visits, launches, replies, consumes, looks, Does, refuses, turns, visits}
 use Rattle.machine.specs.Valid.{Drives, Valid, Bounded}
 use Rattle.machine.specs.Ruled.{Good}
-use Rattle.machine.proofs.Apart.{phase-of}
+use Rattle.machine.proofs.Does.{call-does}
 use Rattle.theory.proofs.Core.{Core, Shape, in-read, in-execute, in-write, Sendable, NoChoices, WiresEmpty, FlagsDown, ChoicesSendable, Allowances, core-of, shape-of, valid-of}
 use Rattle.theory.proofs.Weights.Spending.{reply-spends}
 use Rattle.theory.proofs.Weights.Allowance.{start-allowances, phase-allowances, slot-allowances, deliver-allowances, settle-allowances, unit-allowances, choose-allowances, undo-allowances, send-allowances, launched-allowances, replied-allowances, removed-allowances}
@@ -125,53 +127,6 @@ module _ {pl : Plan} (wired : Wired pl) (range : InRange (pl .head)) where
   write-core s c w d = write-keeps pl (Core pl) s wired send-core (λ t. turn-core s t c) w d c
 
   -- ---- each call keeps core and shape
-  -- a refusal, or what follows it where its test fails
-  pub by-test : (P : Outcome → Type 0) (t : Bool) (w : Refusal) (s : State) (rest : Outcome) → P (gives (Refused w) s) → (t ≡ false → P rest) → P (refuse t w s rest)
-  by-test P true w s rest a b = a
-  by-test P false w s rest a b = b refl
-
-  abbrev Keeps : Outcome → Type 0
-  Keeps r = Inv pl (r .state)
-
-  read-inv : (s : State) → Inv pl s → Keeps (readCall pl s)
-  unfolding readCall
-  read-inv s i =
-      by-test Keeps (not (isPhase (s .phase) Read)) _ s (gives _ (doRead pl s)) i
-      (λ e. record { core = read-core s (i .core); shape = read-shape pl s (read-has s (phase-of (s .phase) Read e) (i .shape)) })
-
-  execute-inv : (s : State) → Inv pl s → Keeps (executeCall pl s)
-  unfolding executeCall
-  execute-inv s i =
-      by-test Keeps (not (isPhase (s .phase) Execute)) _ s (gives _ (doExecute pl s)) i
-      (λ e. let h = execute-has s (phase-of (s .phase) Execute e) (i .shape) in record { core = execute-core s (i .core) (h .2); shape = execute-shape pl s (h .1) (h .2) })
-
-  write-inv : (s : State) → Inv pl s → Keeps (writeCall pl s)
-  unfolding writeCall
-  write-inv s i =
-      by-test Keeps (not (isPhase (s .phase) Write)) _ s (gives _ (doWrite pl s)) i
-      (λ e. let h = write-has s (phase-of (s .phase) Write e) (i .shape) in record { core = write-core s (i .core) (h .0) (h .1); shape = write-shape pl s })
-
-  launch-inv : (a p t : ℕ) (s : State) → Inv pl s → Keeps (launchCall pl a p t s)
-  unfolding launchCall
-  launch-inv a p t s i =
-      by-test Keeps (not (isPhase (s .phase) Read)) _ s _ i
-      (λ e. by-test Keeps (not (ltb a (A pl) && ltb p (P pl) && ltb t (S pl))) _ s _ i
-      (λ f. by-test Keeps (not (served pl a p)) _ s _ i
-      (λ g. by-test Keeps (eqb (s .allowance a) 0) _ s _ i
-      (λ h. by-test Keeps (not (hasRoom pl (activeOut a) s)) _ s (gives _ (launched a p t s)) i
-      (λ r. accepted (phase-of (s .phase) Read e) (and-both (not-false _ f)) (not-false _ g) h (not-false _ r))))))
-    where
-      accepted : s .phase ≡ Read → ((ltb a (A pl) && ltb p (P pl)) ≡ true) × (ltb t (S pl) ≡ true) → served pl a p ≡ true → eqb (s .allowance a) 0 ≡ false → hasRoom pl (activeOut a) s ≡ true → Inv pl (launched a p t s)
-      accepted e (n, ht) g h r =
-          let m = and-both n in
-          let ha : a < A pl = ltb-true a (A pl) (m .0) in
-          let hp : p < P pl = ltb-true p (P pl) (m .1) in
-          let some : 1 ≤ s .allowance a = let ne = eqb-false (s .allowance a) 0 h in omega arith in
-          record {
-            core = core-by (launched-kept wired range a p t s ha hp (ltb-true t (S pl) ht) (served-of wired a p ha g) (kept-of pl s (i .core))) (launched-paid s (i .core) a p t r) (launched-allowances (i .core) a p t ha some);
-            shape = launched-shape s a p t e (i .shape);
-          }
-
   pub reply-kind : (c : ℕ) → (replyKind c ≡ Ack) ⊎ (replyKind c ≡ Nack)
   reply-kind c = by (eqb c 1)
     where
@@ -179,58 +134,48 @@ module _ {pl : Plan} (wired : Wired pl) (range : InRange (pl .head)) where
       by true = inl refl
       by false = inr refl
 
-  reply-inv : (p c : ℕ) (s : State) → Inv pl s → Keeps (replyCall pl p c s)
-  unfolding replyCall
-  reply-inv p c s i =
-      by-test Keeps (not (isPhase (s .phase) Write)) _ s _ i
-      (λ e. by-test Keeps (not (ltb p (P pl) && leb c 1)) _ s _ i
-      (λ f. by-test Keeps (s .flag (passiveIn p)) _ s _ i
-      (λ g. by-test Keeps (isEmpty (s .queue (passiveIn p))) _ s _ i
-      (λ h. by-test Keeps (not (hasRoom pl (passiveOut p) s)) _ s (gives _ (replied p (replyKind c) (s .queue (passiveIn p)) s)) i
-      (λ r. accepted (phase-of (s .phase) Write e) (and-both (not-false _ f)) g (s .queue (passiveIn p)) refl h (not-false _ r))))))
-    where
-      accepted : s .phase ≡ Write → (ltb p (P pl) ≡ true) × (leb c 1 ≡ true) → s .flag (passiveIn p) ≡ false → (l : List Packet) → s .queue (passiveIn p) ≡ l → isEmpty (s .queue (passiveIn p)) ≡ false
-          → hasRoom pl (passiveOut p) s ≡ true → Inv pl (replied p (replyKind c) (s .queue (passiveIn p)) s)
-      accepted e n g [] q h r = absurd (true≢false (rw q at h))
-      accepted e n g (x ∷ rest) q h r =
-          let hp : p < P pl = ltb-true p (P pl) (n .0) in
-          record {
-            core = core-by (replied-kept wired range p (replyKind c) s hp (reply-kind c) (kept-of pl s (i .core))) (replied-paid s (i .core) p (replyKind c) g r)
-                (rw q (replied-allowances (i .core) wired p hp (replyKind c) (reply-spends c) x rest q));
-            shape = replied-shape s p (replyKind c) e (i .shape);
-          }
+  turn-inv : (x : Phase) (s : State) → s .phase ≡ x → Inv pl s → Inv pl (stepOf pl x s)
+  turn-inv Read s e i = record { core = read-core s (i .core); shape = read-shape pl s (read-has s e (i .shape)) }
+  turn-inv Execute s e i =
+      let h = execute-has s e (i .shape) in
+      record { core = execute-core s (i .core) (h .2); shape = execute-shape pl s (h .1) (h .2) }
+  turn-inv Write s e i =
+      let h = write-has s e (i .shape) in
+      record { core = write-core s (i .core) (h .0) (h .1); shape = write-shape pl s }
 
-  consume-inv : (a : ℕ) (s : State) → Inv pl s → Keeps (consumeCall pl a s)
-  unfolding consumeCall
-  consume-inv a s i =
-      by-test Keeps (not (isPhase (s .phase) Write)) _ s _ i
-      (λ e. by-test Keeps (not (ltb a (A pl))) _ s _ i
-      (λ f. by-test Keeps (s .flag (activeIn a)) _ s _ i
-      (λ g. accepted (phase-of (s .phase) Write e) (ltb-true a (A pl) (not-false _ f)) g (s .queue (activeIn a)) refl)))
-    where
-      taken : s .phase ≡ Write → a < A pl → s .flag (activeIn a) ≡ false → (x : Packet) (rest : List Packet) → s .queue (activeIn a) ≡ x ∷ rest → Inv pl (removed a rest s)
-      taken e h g x rest q =
-          record {
-            core = core-by (removed-kept wired range a x rest s h q (kept-of pl s (i .core))) (removed-paid s (i .core) a x rest q g) (removed-allowances (i .core) wired a h x rest q);
-            shape = removed-shape s a rest e (i .shape);
-          }
+  visit-inv : (v : Visit) (o : Outcome) (s : State) → Visits pl s v o → Inv pl s → Inv pl (o .state)
+  visit-inv v o s (launches a p t m) i =
+      record {
+        core = core-by
+            (launched-kept wired range a p t s (m .active) (m .passive) (m .slot)
+            (served-of wired a p (m .active) (m .serves)) (kept-of pl s (i .core)))
+            (launched-paid s (i .core) a p t (m .room)) (launched-allowances (i .core) a p t (m .active) (m .allowance));
+        shape = launched-shape s a p t (m .phase) (i .shape);
+      }
+  visit-inv v o s (replies p c x rest m) i =
+      record {
+        core = core-by
+            (replied-kept wired range p (replyKind c) x rest s (m .passive) (reply-kind c) (m .line) (kept-of pl s (i .core)))
+            (replied-paid s (i .core) p (replyKind c) x rest (m .line) (m .down) (m .room))
+            (replied-allowances (i .core) wired p (m .passive) (replyKind c) (reply-spends c) x rest (m .line));
+        shape = replied-shape s p (replyKind c) x rest (m .phase) (i .shape);
+      }
+  visit-inv v o s (consumes a x rest m) i =
+      record {
+        core = core-by (removed-kept wired range a x rest s (m .active) (m .line) (kept-of pl s (i .core)))
+            (removed-paid s (i .core) a x rest (m .line) (m .down))
+            (removed-allowances (i .core) wired a (m .active) x rest (m .line));
+        shape = removed-shape s a rest (m .phase) (i .shape);
+      }
+  visit-inv v o s (looks r q t m) i = i
 
-      accepted : s .phase ≡ Write → a < A pl → s .flag (activeIn a) ≡ false → (l : List Packet) → s .queue (activeIn a) ≡ l → Keeps (refuse (isEmpty l) QueueEmpty s (refuse (headUnmarked l) Unmarked s (consumed a l s)))
-      accepted e h g [] q = i
-      accepted e h g (x ∷ rest) q = by-test Keeps (unmarked x) _ s (gives _ (removed a rest s)) i (λ u. taken e h g x rest q)
-
-  entry-inv : (r o t : ℕ) (s : State) → Inv pl s → Keeps (entryCall pl r o t s)
-  unfolding entryCall
-  entry-inv r o t s i = by-test Keeps (not (ltb r (R pl) && ltb o 4 && ltb t (S pl))) _ s _ i (λ e. i)
+  does-inv : (c : Call) (o : Outcome) (s : State) → Does pl s c o → Inv pl s → Inv pl (o .state)
+  does-inv c o s (refuses d w n) i = i
+  does-inv c o s (turns x e) i = turn-inv x s e i
+  does-inv c o s (visits v r d) i = visit-inv v r s d i
 
   pub call-inv : (c : Call) (s : State) → Inv pl s → Inv pl (call pl c s .state)
-  call-inv read s i = read-inv s i
-  call-inv execute s i = execute-inv s i
-  call-inv write s i = write-inv s i
-  call-inv (launch a p t) s i = launch-inv a p t s i
-  call-inv (reply p c) s i = reply-inv p c s i
-  call-inv (consume a) s i = consume-inv a s i
-  call-inv (entry r o t) s i = entry-inv r o t s i
+  call-inv c s i = does-inv c (call pl c s) s (call-does pl s c) i
 
   pub start-inv : Inv pl (start pl)
   unfolding start

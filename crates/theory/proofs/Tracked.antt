@@ -31,16 +31,18 @@ use Rattle.machine.specs.State.{State, sender, start, withPhase, withSlot}
 use Rattle.machine.specs.Read.{deliver, settle, doRead}
 use Rattle.machine.specs.Execute.{unit, choose, undo, doExecute, hasRoom, unmarked}
 use Rattle.machine.specs.Write.{send, doWrite}
-use Rattle.machine.specs.Calls.{Outcome, gives, refuse, isPhase, isEmpty, Call, read, execute, write, launch, reply, consume, entry, call, readCall, executeCall, writeCall, launched, launchCall, replyKind, replied, replyCall, removed, headUnmarked, consumed, consumeCall, entryCall}
+use Rattle.machine.specs.Visits.{replyKind, replied}
+use Rattle.machine.specs.Calls.{Visit, ofLaunch, ofReply, ofConsume, ofEntry, Call, turn, visit, reply, entry, Outcome, gives, stepOf, call}
+use Rattle.machine.specs.Does.{Visits, launches, replies, consumes, looks, Does, refuses, turns, visits}
 use Rattle.machine.specs.Accepted.{Connection, accept, acceptKind, MadeBy}
 use Rattle.machine.specs.Valid.{Drives}
 use Rattle.machine.specs.Progress.{Within, Quiet}
-use Rattle.machine.specs.Ruled.{Good, Ruled, ruledAfter, acceptedAfter, launchesCall, launches, times}
-use Rattle.machine.proofs.Apart.{phase-of}
+use Rattle.machine.specs.Ruled.{Good, Ruled, ruledAfter, acceptedAfter, launchesCall, launches as launchesIn, times}
+use Rattle.machine.proofs.Does.{call-does}
 use Rattle.theory.proofs.Core.{Core, Shape, Sendable, FlagsDown, WiresEmpty, ChoicesSendable}
 use Rattle.theory.proofs.Shape.Calls.{execute-has, write-has}
 use Rattle.theory.proofs.Shape.Phases.{read-keeps, execute-keeps, write-keeps}
-use Rattle.theory.proofs.Keeps.{Inv, good-of, start-inv, call-inv, by-test, reply-kind, phase-core, turn-core, deliver-core, settle-core, unit-core, choose-core, undo-core, send-core}
+use Rattle.theory.proofs.Keeps.{Inv, good-of, start-inv, call-inv, reply-kind, phase-core, turn-core, deliver-core, settle-core, unit-core, choose-core, undo-core, send-core}
 use Rattle.theory.proofs.Progress.FromRead.{progress}
 use Rattle.theory.proofs.Own.Owners.{Owned}
 use Rattle.theory.proofs.Own.Steps.{start-owned, phase-owned, slot-owned, settle-owned, choose-owned, deliver-owned, send-owned, undo-owned, launched-owned, replied-owned, removed-owned}
@@ -131,100 +133,47 @@ module _ {pl : Plan} (wired : Wired pl) (range : InRange (pl .head)) where
       as-before : (c : Call) (r : Outcome) → accept pl c (r .answer) acc ≡ acc → Owned pl acc (r .state) → ((d : Connection) → Counted pl d acc (n d) (r .state)) → Told c r
       as-before c r e o f = record { owned = rw e o; counted = λ d. rw e (more d (r .state) (launchesCall d c (r .answer)) (f d)) }
 
-      refused : (c : Call) (w : Refusal) → Told c (gives (Refused w) s)
-      refused c w = as-before c (gives (Refused w) s) (by c) (k .owned) (k .counted)
-        where
-          by : (c : Call) → accept pl c (Refused w) acc ≡ acc
-          by read = refl
-          by execute = refl
-          by write = refl
-          by (launch a p t) = refl
-          by (reply p x) = refl
-          by (consume a) = refl
-          by (entry r o t) = refl
+      none-accepted : (c : Call) (w : Refusal) → accept pl c (Refused w) acc ≡ acc
+      none-accepted (turn x) w = refl
+      none-accepted (visit (ofLaunch a p t)) w = refl
+      none-accepted (visit (ofReply p x)) w = refl
+      none-accepted (visit (ofConsume a)) w = refl
+      none-accepted (visit (ofEntry r o t)) w = refl
 
-      read-told : Told read (readCall pl s)
-      unfolding readCall
-      read-told = by-test wired range (Told read) (not (isPhase (s .phase) Read)) _ s _ (refused read _) (λ e. let m = read-mid s mid in as-before read (gives Done (doRead pl s)) refl (m .owned) (m .counted))
+      turn-mid-at : (x : Phase) → s .phase ≡ x → M (stepOf pl x s)
+      turn-mid-at Read e = read-mid s mid
+      turn-mid-at Execute e = execute-mid s (execute-has s e (k .inv .shape) .2) mid
+      turn-mid-at Write e = let h = write-has s e (k .inv .shape) in write-mid s (h .0) (h .1) mid
 
-      execute-told : Told execute (executeCall pl s)
-      unfolding executeCall
-      execute-told =
-          by-test wired range (Told execute) (not (isPhase (s .phase) Execute)) _ s _ (refused execute _)
-          (λ e. let m = execute-mid s (execute-has s (phase-of (s .phase) Execute e) (k .inv .shape) .2) mid in as-before execute (gives Done (doExecute pl s)) refl (m .owned) (m .counted))
+      visit-told : (v : Visit) (o : Outcome) → Visits pl s v o → Told (visit v) o
+      visit-told v o (launches a p t m) =
+          record {
+            owned = launched-owned wired s (k .inv .core) (k .owned) a p t (m .active);
+            counted = λ d. launched-counted pl d wired s (k .inv .core) (k .counted d) a p t (m .active) (m .slot);
+          }
+      visit-told v o (replies p c x rest m) =
+          let kind = reply-kind wired range c in
+          as-before (reply p c) (gives Done (replied p (replyKind c) (x ∷ rest) s)) refl
+          (replied-owned wired s (k .inv .core) (k .owned) p (replyKind c) x rest (m .passive) kind (m .line))
+          (λ d. replied-counted pl d wired s (k .inv .core) (k .counted d) p (replyKind c) x rest (m .passive) kind (m .line))
+      visit-told v o (consumes a x rest m) =
+          record {
+            owned = removed-owned wired s (k .inv .core) (k .owned) a x rest (m .active) (m .line) (m .marked);
+            counted = λ d. record {
+              count = omega (arith, removed-counted pl d s (k .counted d) a x rest (m .active) (m .line) .count);
+            };
+          }
+      visit-told v o (looks r i t m) = as-before (entry r i t) (gives (Holds (s .table r i t)) s) refl (k .owned) (k .counted)
 
-      write-told : Told write (writeCall pl s)
-      unfolding writeCall
-      write-told =
-          by-test wired range (Told write) (not (isPhase (s .phase) Write)) _ s _ (refused write _)
-          (λ e. let h = write-has s (phase-of (s .phase) Write e) (k .inv .shape) in let m = write-mid s (h .0) (h .1) mid in as-before write (gives Done (doWrite pl s)) refl (m .owned) (m .counted))
-
-      launch-told : (a p t : ℕ) → Told (launch a p t) (launchCall pl a p t s)
-      unfolding launchCall
-      launch-told a p t =
-          by-test wired range (Told (launch a p t)) (not (isPhase (s .phase) Read)) _ s _ (refused (launch a p t) _)
-          (λ e. by-test wired range (Told (launch a p t)) (not (ltb a (A pl) && ltb p (P pl) && ltb t (S pl))) _ s _ (refused (launch a p t) _)
-          (λ f. by-test wired range (Told (launch a p t)) (not (served pl a p)) _ s _ (refused (launch a p t) _)
-          (λ g. by-test wired range (Told (launch a p t)) (eqb (s .allowance a) 0) _ s _ (refused (launch a p t) _)
-          (λ h. by-test wired range (Told (launch a p t)) (not (hasRoom pl (activeOut a) s)) _ s _ (refused (launch a p t) _)
-          (λ r. accepted (and-both (not-false _ f)))))))
-        where
-          accepted : ((ltb a (A pl) && ltb p (P pl)) ≡ true) × (ltb t (S pl) ≡ true) → Told (launch a p t) (gives Done (launched a p t s))
-          accepted (x, y) =
-              let z = and-both x in
-              let ha : a < A pl = ltb-true a (A pl) (z .0) in
-              record { owned = launched-owned wired s (k .inv .core) (k .owned) a p t ha; counted = λ d. launched-counted pl d wired s (k .inv .core) (k .counted d) a p t ha (ltb-true t (S pl) y) }
-
-      reply-told : (p c : ℕ) → Told (reply p c) (replyCall pl p c s)
-      unfolding replyCall
-      reply-told p c =
-          by-test wired range (Told (reply p c)) (not (isPhase (s .phase) Write)) _ s _ (refused (reply p c) _)
-          (λ e. by-test wired range (Told (reply p c)) (not (ltb p (P pl) && leb c 1)) _ s _ (refused (reply p c) _)
-          (λ f. by-test wired range (Told (reply p c)) (s .flag (passiveIn p)) _ s _ (refused (reply p c) _)
-          (λ g. by-test wired range (Told (reply p c)) (isEmpty (s .queue (passiveIn p))) _ s _ (refused (reply p c) _)
-          (λ h. by-test wired range (Told (reply p c)) (not (hasRoom pl (passiveOut p) s)) _ s _ (refused (reply p c) _)
-          (λ r. accepted (and-both (not-false _ f)))))))
-        where
-          accepted : (ltb p (P pl) ≡ true) × (leb c 1 ≡ true) → Told (reply p c) (gives Done (replied p (replyKind c) (s .queue (passiveIn p)) s))
-          accepted (x, y) =
-              let hp : p < P pl = ltb-true p (P pl) x in
-              as-before (reply p c) (gives Done (replied p (replyKind c) (s .queue (passiveIn p)) s)) refl (replied-owned wired s (k .inv .core) (k .owned) p (replyKind c) hp (reply-kind wired range c))
-              (λ d. replied-counted pl d wired s (k .inv .core) (k .counted d) p (replyKind c) hp (reply-kind wired range c))
-
-      consume-told : (a : ℕ) → Told (consume a) (consumeCall pl a s)
-      unfolding consumeCall
-      consume-told a =
-          by-test wired range (Told (consume a)) (not (isPhase (s .phase) Write)) _ s _ (refused (consume a) _)
-          (λ e. by-test wired range (Told (consume a)) (not (ltb a (A pl))) _ s _ (refused (consume a) _)
-          (λ f. by-test wired range (Told (consume a)) (s .flag (activeIn a)) _ s _ (refused (consume a) _)
-          (λ g. accepted (ltb-true a (A pl) (not-false _ f)) (s .queue (activeIn a)) refl)))
-        where
-          accepted : a < A pl → (l : List Packet) → s .queue (activeIn a) ≡ l → Told (consume a) (refuse (isEmpty l) QueueEmpty s (refuse (headUnmarked l) Unmarked s (consumed a l s)))
-          accepted h [] q = refused (consume a) _
-          accepted h (x ∷ rest) q =
-              by-test wired range (Told (consume a)) (unmarked x) _ s (gives (Taken x) (removed a rest s)) (refused (consume a) _)
-              (λ u. record {
-                owned = removed-owned wired s (k .inv .core) (k .owned) a x rest h q u;
-                counted = λ d. record { count = omega (arith, removed-counted pl d s (k .counted d) a x rest h q .count) };
-              })
-
-      entry-told : (r o t : ℕ) → Told (entry r o t) (entryCall pl r o t s)
-      unfolding entryCall
-      entry-told r o t =
-          by-test wired range (Told (entry r o t)) (not (ltb r (R pl) && ltb o 4 && ltb t (S pl))) _ s _ (refused (entry r o t) _)
-          (λ e. as-before (entry r o t) (gives (Holds (s .table r o t)) s) refl (k .owned) (k .counted))
-
-      told : (c : Call) → Told c (call pl c s)
-      told read = read-told
-      told execute = execute-told
-      told write = write-told
-      told (launch a p t) = launch-told a p t
-      told (reply p c) = reply-told p c
-      told (consume a) = consume-told a
-      told (entry r o t) = entry-told r o t
+      told : (c : Call) (o : Outcome) → Does pl s c o → Told c o
+      told c o (refuses d w n) = as-before d (gives (Refused w) s) (none-accepted d w) (k .owned) (k .counted)
+      told c o (turns x e) = let m = turn-mid-at x e in as-before (turn x) (gives Done (stepOf pl x s)) refl (m .owned) (m .counted)
+      told c o (visits v r d) = visit-told v r d
 
       pub call-tracked : (c : Call) → Tracked pl (accept pl c (call pl c s .answer) acc) (λ d. launchesCall d c (call pl c s .answer) + n d) (call pl c s .state)
-      call-tracked c = record { inv = call-inv wired range c s (k .inv); owned = told c .owned; counted = told c .counted }
+      call-tracked c =
+          let d = told c (call pl c s) (call-does pl s c) in
+          record { inv = call-inv wired range c s (k .inv); owned = d .owned; counted = d .counted }
 
   -- ---- along a list
   pub start-tracked : Tracked pl [] (λ d. 0) (start pl)
@@ -232,14 +181,14 @@ module _ {pl : Plan} (wired : Wired pl) (range : InRange (pl .head)) where
 
   -- after every list: the accepted connections, and at least as many launches
   pub list-tracked : (cs : List Call) (acc : List Connection) (n : Connection → ℕ) (s : State) → Tracked pl acc n s
-      → Tracked pl (acceptedAfter pl cs s acc) (λ d. launches pl d cs s + n d) (ruledAfter pl cs s)
+      → Tracked pl (acceptedAfter pl cs s acc) (λ d. launchesIn pl d cs s + n d) (ruledAfter pl cs s)
   list-tracked [] acc n s k = record { inv = k .inv; owned = k .owned; counted = λ d. record { count = omega (arith, k .counted d .count) } }
   list-tracked (c ∷ cs) acc n s k =
       let g = list-tracked cs (accept pl c (call pl c s .answer) acc) (λ d. launchesCall d c (call pl c s .answer) + n d) (call pl c s .state) (call-tracked acc n s k c) in
       record { inv = g .inv; owned = g .owned; counted = λ d. record { count = omega (arith, g .counted d .count) } }
 
   -- from Start
-  pub reached : (cs : List Call) → Tracked pl (acceptedAfter pl cs (start pl) []) (λ d. launches pl d cs (start pl) + 0) (ruledAfter pl cs (start pl))
+  pub reached : (cs : List Call) → Tracked pl (acceptedAfter pl cs (start pl) []) (λ d. launchesIn pl d cs (start pl) + 0) (ruledAfter pl cs (start pl))
   reached cs = list-tracked cs [] (λ d. 0) (start pl) start-tracked
 
   -- no state reached from Start is refused 7
@@ -251,7 +200,7 @@ module _ {pl : Plan} (wired : Wired pl) (range : InRange (pl .head)) where
   reached-within cs = reached-good cs .valid .capacities
 
   -- the list has at least as many accepted Launches of a triple as Consumes that accepted it
-  pub reached-launches : (cs : List Call) (d : Connection) → times d (acceptedAfter pl cs (start pl) []) ≤ launches pl d cs (start pl)
+  pub reached-launches : (cs : List Call) (d : Connection) → times d (acceptedAfter pl cs (start pl) []) ≤ launchesIn pl d cs (start pl)
   reached-launches cs d = let m = counted-times pl d (reached cs .counted d) in omega arith
 
   -- every booked entry is owned by exactly one packet under way or accepted connection, and nothing else is booked

@@ -21,7 +21,8 @@ use Rattle.machine.specs.Outputs.{senders, outputs, outputAt, outputNumber}
 use Rattle.machine.specs.State.{State, Choice, nobody, sender, isFree, isFull}
 use Rattle.machine.specs.Execute.{candidate}
 use Rattle.machine.specs.Write.{ofRank}
-use Rattle.machine.specs.Calls.{isPhase, isEmpty}
+use Rattle.machine.specs.Visits.{isEmpty}
+use Rattle.machine.specs.Calls.{isPhase}
 use Rattle.machine.specs.Valid.{Drives}
 use Rattle.journeys.proofs.Numbers.{queue-at, number-below}
 use Rattle.journeys.proofs.Places.{some-not-none, some-same}

@@ -28,7 +28,8 @@ use Rattle.machine.specs.Outputs.{nextBy, senders, outputs, outputAt}
 use Rattle.machine.specs.State.{State, Choice, nobody, sender, startAllowance, isFree, isFull}
 use Rattle.machine.specs.Execute.{candidate}
 use Rattle.machine.specs.Write.{ofRank}
-use Rattle.machine.specs.Calls.{isPhase, isEmpty}
+use Rattle.machine.specs.Visits.{isEmpty}
+use Rattle.machine.specs.Calls.{isPhase}
 use Rattle.machine.specs.Valid.{headPlace, bit, onWires, total, spends, isFed}
 
 -- every one of a list passes

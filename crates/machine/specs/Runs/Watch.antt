@@ -24,7 +24,8 @@ use Rattle.machine.specs.State.{State, start, join}
 use Rattle.machine.specs.Read.{arrive, deliver, lower, settle, doRead}
 use Rattle.machine.specs.Execute.{cameIn, otherFree, mayBook, setUp, tearOne, tearDown, handle, atUnit, unit, candidate, firstOf, picked, choose, answer, atActive, undo, doExecute}
 use Rattle.machine.specs.Write.{sendHead, sendBy, send, doWrite}
-use Rattle.machine.specs.Calls.{Outcome, Call, read, execute, write, call, readCall, executeCall, writeCall, launched, launchCall, replyCall, removed, consumeCall, entryCall}
+use Rattle.machine.specs.Visits.{launched, removed}
+use Rattle.machine.specs.Calls.{Outcome, Call, read, execute, write, call}
 
 -- ---- calls
 -- 'A whole round is one accepted Read, Execute and Write', here with no other call between them
@@ -67,5 +68,5 @@ watching pl look qs (c ∷ cs) s =
 
 -- a run from Start of the plan that the bytes give: what numbers and what queues are looked at, and the calls
 unfoldable pub watch : List ℕ → (State → List ℕ) → List Queue → List Call → List After
-unfolding anyBelow allBelow upTo spot bitAt fieldOf capacityAt headOf jointIn planOf portsOf home onward arrives backsArrive servedFrom indexIn indexOn queueAt queues outputAt start join arrive deliver lower settle doRead cameIn otherFree mayBook setUp tearOne tearDown handle atUnit unit candidate firstOf picked choose answer atActive undo doExecute sendHead sendBy send doWrite readCall executeCall writeCall launched launchCall replyCall removed consumeCall entryCall
+unfolding anyBelow allBelow upTo spot bitAt fieldOf capacityAt headOf jointIn planOf portsOf home onward arrives backsArrive servedFrom indexIn indexOn queueAt queues outputAt start join arrive deliver lower settle doRead cameIn otherFree mayBook setUp tearOne tearDown handle atUnit unit candidate firstOf picked choose answer atActive undo doExecute sendHead sendBy send doWrite launched removed call
 watch b look qs cs = let pl : Plan = planOf b in watching pl look qs cs (start pl)

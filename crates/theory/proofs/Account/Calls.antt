@@ -13,7 +13,7 @@ use Rattle.machine.specs.Capacity.{capacity}
 use Rattle.machine.specs.Store.{put, sameQueue}
 use Rattle.machine.specs.State.{State, withQueue, withFlag, join}
 use Rattle.machine.specs.Execute.{hasRoom}
-use Rattle.machine.specs.Calls.{setupOf, launched, repliedAs, replied, removed}
+use Rattle.machine.specs.Visits.{setupOf, launched, repliedAs, replied, removed}
 use Rattle.theory.proofs.Core.{Core}
 use Rattle.theory.proofs.Ground.Cells.{queue-away, fed-apart}
 use Rattle.theory.proofs.Account.Paid.{Paid, paid-of, paid-alike, left-paid, join-paid}
@@ -27,17 +27,14 @@ module _ {pl : Plan} (s : State) (c : Core pl s) where
       (join-paid s (paid-of c) (activeOut a) (setupOf a p t) refl (ltb-true (length (s .queue (activeOut a))) (capacity (pl .head) (activeOut a)) room))
 
   -- a passive answers: the head leaves its in-queue and joins its out-queue
-  pub replied-paid : (p : ℕ) (k : Kind) → s .flag (passiveIn p) ≡ false → hasRoom pl (passiveOut p) s ≡ true → Paid pl (replied p k (s .queue (passiveIn p)) s)
-  replied-paid p k down room = by (s .queue (passiveIn p)) refl
-    where
-      by : (xs : List Packet) → s .queue (passiveIn p) ≡ xs → Paid pl (replied p k xs s)
-      by [] e = paid-of c
-      by (x ∷ rest) e =
-          let same : put sameQueue (s .queue) (passiveIn p) rest (passiveOut p) ≡ s .queue (passiveOut p) =
-          queue-away (s .queue) (passiveIn p) rest (passiveOut p) (fed-apart (passiveOut p) (passiveIn p) refl refl) in
-          let l = ltb-true (length (s .queue (passiveOut p))) (capacity (pl .head) (passiveOut p)) room in
-          join-paid (withFlag (passiveIn p) true (withQueue (passiveIn p) rest s)) (left-paid s (paid-of c) (passiveIn p) x rest refl e down)
-          (passiveOut p) (repliedAs k x) refl (rw same l)
+  pub replied-paid : (p : ℕ) (k : Kind) (x : Packet) (rest : List Packet) → s .queue (passiveIn p) ≡ x ∷ rest
+      → s .flag (passiveIn p) ≡ false → hasRoom pl (passiveOut p) s ≡ true → Paid pl (replied p k (x ∷ rest) s)
+  replied-paid p k x rest e down room =
+      let same : put sameQueue (s .queue) (passiveIn p) rest (passiveOut p) ≡ s .queue (passiveOut p)
+      = queue-away (s .queue) (passiveIn p) rest (passiveOut p) (fed-apart (passiveOut p) (passiveIn p) refl refl) in
+      let l = ltb-true (length (s .queue (passiveOut p))) (capacity (pl .head) (passiveOut p)) room in
+      join-paid (withFlag (passiveIn p) true (withQueue (passiveIn p) rest s))
+      (left-paid s (paid-of c) (passiveIn p) x rest refl e down) (passiveOut p) (repliedAs k x) refl (rw same l)
 
   -- an active takes its in-queue's head
   pub removed-paid : (a : ℕ) (x : Packet) (rest : List Packet) → s .queue (activeIn a) ≡ x ∷ rest → s .flag (activeIn a) ≡ false → Paid pl (removed a rest s)

@@ -14,7 +14,7 @@ use Rattle.feeding.specs.Queue.{Queue, activeOut, activeIn, passiveIn, passiveO
 use Rattle.feeding.specs.Feeds.{inQueue}
 use Rattle.wiring.specs.Wired.{Wired}
 use Rattle.machine.specs.State.{State, withQueue, withFlag}
-use Rattle.machine.specs.Calls.{setupOf, launched, repliedAs, replied, removed}
+use Rattle.machine.specs.Visits.{setupOf, launched, repliedAs, replied, removed}
 use Rattle.theory.proofs.Places.Lines.{isUnit, no-mark}
 use Rattle.theory.proofs.Places.Makes.{setup-belongs, replied-belongs}
 use Rattle.theory.proofs.Kept.Parts.{Kept, flag-kept, allowance-kept}
@@ -32,14 +32,11 @@ module _ {pl : Plan} (wired : Wired pl) (range : InRange (pl .head)) where
       allowance-kept (join-kept k (activeOut a) (setupOf a p t) ha (setup-belongs wired range a p t ha hp ht served)) a (s .allowance a - 1) ha
 
   -- Reply: the head of a passive's in-queue becomes an answer in its out-queue
-  pub replied-kept : (p : ℕ) (kind : Kind) (s : State) → p < P pl → (kind ≡ Ack) ⊎ (kind ≡ Nack) → Kept pl s → Kept pl (replied p kind (s .queue (passiveIn p)) s)
-  replied-kept p kind s hp answer k = by (s .queue (passiveIn p)) refl
-    where
-      by : (l : List Packet) → s .queue (passiveIn p) ≡ l → Kept pl (replied p kind l s)
-      by [] e = k
-      by (x ∷ rest) e =
-          join-kept (taken-kept pl (passiveIn p) x rest s hp refl e k) (passiveOut p) (repliedAs kind x) hp
-          (replied-belongs wired range x (inQueue (passiveIn p)) (head-belongs k (passiveIn p) x rest hp e) p kind refl answer)
+  pub replied-kept : (p : ℕ) (kind : Kind) (x : Packet) (rest : List Packet) (s : State) → p < P pl
+      → (kind ≡ Ack) ⊎ (kind ≡ Nack) → s .queue (passiveIn p) ≡ x ∷ rest → Kept pl s → Kept pl (replied p kind (x ∷ rest) s)
+  replied-kept p kind x rest s hp answer e k =
+      join-kept (taken-kept pl (passiveIn p) x rest s hp refl e k) (passiveOut p) (repliedAs kind x) hp
+      (replied-belongs wired range x (inQueue (passiveIn p)) (head-belongs k (passiveIn p) x rest hp e) p kind refl answer)
 
   -- Consume: the head of an active's in-queue goes
   pub removed-kept : (a : ℕ) (x : Packet) (rest : List Packet) (s : State) → a < A pl → s .queue (activeIn a) ≡ x ∷ rest → Kept pl s → Kept pl (removed a rest s)

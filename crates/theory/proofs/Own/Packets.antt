@@ -17,7 +17,7 @@ use Rattle.feeding.specs.Queue.{Queue, activeOut, activeIn, passiveIn, passiveO
 use Rattle.feeding.specs.Feeds.{Place, inQueue, handledAt, headingOf, ahead, leaving, next, Stands, Ahead, Fits, leavesFrom}
 use Rattle.wiring.specs.Wired.{Wired}
 use Rattle.machine.specs.Execute.{declined, booked, freed, marked, tdownOf}
-use Rattle.machine.specs.Calls.{setupOf, repliedAs}
+use Rattle.machine.specs.Visits.{setupOf, repliedAs}
 use Rattle.machine.specs.Valid.{Belongs, bit}
 use Rattle.theory.proofs.Places.Closure.{fits-next, unit-setup}
 use Rattle.theory.proofs.Places.Feeders.{sender-leaves}

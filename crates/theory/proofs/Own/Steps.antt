@@ -25,7 +25,7 @@ use Rattle.machine.specs.State.{State, sender, start, withPhase, withSlot, join
 use Rattle.machine.specs.Read.{deliver, settle}
 use Rattle.machine.specs.Execute.{choose, unmarked, undo}
 use Rattle.machine.specs.Write.{send}
-use Rattle.machine.specs.Calls.{launched, replied, removed}
+use Rattle.machine.specs.Visits.{launched, replied, removed}
 use Rattle.machine.specs.Accepted.{Connection, connectionOf, acceptKind}
 use Rattle.machine.specs.Valid.{Belongs, Drives}
 use Rattle.theory.proofs.Places.Closure.{passive-setup, active-answer}
@@ -111,25 +111,22 @@ module _ {pl : Plan} (wired : Wired pl) {acc : List Connection} (s : State) (c :
           omega arith
 
   -- So does a Reply: slot and hub are kept.
-  pub replied-owned : (p : ℕ) (kind : Kind) → p < P pl → (kind ≡ Ack) ⊎ (kind ≡ Nack) → Owned pl acc (replied p kind (s .queue (passiveIn p)) s)
+  pub replied-owned : (p : ℕ) (kind : Kind) (x : Packet) (rest : List Packet) → p < P pl → (kind ≡ Ack) ⊎ (kind ≡ Nack)
+      → s .queue (passiveIn p) ≡ x ∷ rest → Owned pl acc (replied p kind (x ∷ rest) s)
   unfolding join
-  replied-owned p kind h q = by (s .queue (passiveIn p)) refl
+  replied-owned p kind x rest h q e = owned-same s (replied p kind (x ∷ rest) s) k refl (λ r o u v. same r o u v)
     where
-      by : (l : List Packet) → s .queue (passiveIn p) ≡ l → Owned pl acc (replied p kind l s)
-      by [] e = k
-      by (x ∷ rest) e = owned-same s (replied p kind (x ∷ rest) s) k refl (λ r o u v. same r o u v)
-        where
-          b : Belongs pl (inQueue (passiveIn p)) x
-          b = head-belongs c (passiveIn p) h x rest e
+      b : Belongs pl (inQueue (passiveIn p)) x
+      b = head-belongs c (passiveIn p) h x rest e
 
-          setup : x .kind ≡ Setup
-          setup = passive-setup wired (x .active) (x .passive) (b .ranges .active) (b .ranges .passive) (b .serves) (x .kind) (x .hub .0) p (b .fits) .0
+      setup : x .kind ≡ Setup
+      setup = passive-setup wired (x .active) (x .passive) (b .ranges .active) (b .ranges .passive) (b .serves) (x .kind) (x .hub .0) p (b .fits) .0
 
-          same : (r o u : ℕ) (v : Claim) → weighed pl (owns pl r o u v) (replied p kind (x ∷ rest) s) ≡ weighed pl (owns pl r o u v) s
-          same r o u v =
-              let all = replied-weighed pl (owns pl r o u v) c p h kind x rest e in
-              let one = replied-owns pl r o u v (inQueue (passiveIn p)) (inQueue (passiveOut p)) kind x q setup in
-              omega arith
+      same : (r o u : ℕ) (v : Claim) → weighed pl (owns pl r o u v) (replied p kind (x ∷ rest) s) ≡ weighed pl (owns pl r o u v) s
+      same r o u v =
+          let all = replied-weighed pl (owns pl r o u v) c p h kind x rest e in
+          let one = replied-owns pl r o u v (inQueue (passiveIn p)) (inQueue (passiveOut p)) kind x q setup in
+          omega arith
 
   -- So does a Consume: what an ACK owned the accepted connection owns, and a marked NACK owned nothing.
   pub removed-owned : (a : ℕ) (x : Packet) (rest : List Packet) → a < A pl → s .queue (activeIn a) ≡ x ∷ rest → unmarked x ≡ false → Owned pl (acceptKind pl (x .kind) x acc) (removed a rest s)

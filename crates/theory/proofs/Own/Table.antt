@@ -16,22 +16,18 @@ use Rattle.packets.specs.declared.Wire.{Wire}
 use Rattle.packets.specs.declared.Wire.the-variants.{Empty, Full}
 use Rattle.packets.specs.declared.Entry.the-variants.{Free, Booked}
 use Rattle.packets.specs.Counters.{slotAfter}
-use Rattle.plan.specs.declared.Joint.{Joint}
-use Rattle.plan.specs.declared.Joint.the-variants.{Nothing, Router, Active, Passive}
 use Rattle.plan.specs.Plan.{Plan, active, passive, R, S, routeTo}
 use Rattle.paths.specs.declared.Index.{Index}
 use Rattle.paths.specs.declared.Index.the-variants.{At, Off}
 use Rattle.feeding.specs.Queue.{queueAt, queues}
-use Rattle.feeding.specs.Feeds.{Output, ofActive, ofPassive, ofSide, toUnit, fromUnit, headingOf, across, Stands, span}
+use Rattle.feeding.specs.Feeds.{Output, Stands, span}
 use Rattle.wiring.specs.Wired.{Wired}
-use Rattle.wiring.proofs.Joints.{router-some, interface-some}
-use Rattle.journeys.proofs.Places.{some-not-none}
 use Rattle.machine.specs.Outputs.{outputs, outputAt}
 use Rattle.machine.specs.State.{State}
 use Rattle.machine.specs.Accepted.{Connection, Makes, MadeBy}
 use Rattle.machine.specs.Progress.{Quiet}
 use Rattle.machine.specs.Valid.{Drives, bit}
-use Rattle.theory.proofs.Core.{Core}
+use Rattle.theory.proofs.Core.{Core, full-wire}
 use Rattle.machine.proofs.Numbers.{exists-at}
 use Rattle.machine.proofs.OutNumbers.{drives-at}
 use Rattle.theory.proofs.Ground.Sums.{sum-nought}
@@ -43,29 +39,13 @@ use Rattle.theory.proofs.Own.Owners.{Claim, sameClaim, claimOf, reaches
 use Rattle.theory.proofs.Own.Owning.{claim-same, same-claim, bit-true, held}
 
 -- ---- an empty network
--- A side that is not joined has no wire: what would stand for it is empty, since nothing goes on from there.
-pub unjoined-empty : (pl : Plan) (s : State) → Core pl s → (r o : ℕ) → r < R pl → o < 4 → pl .joint r o ≡ Nothing → s .wire (ofSide r o) ≡ Empty
-unjoined-empty pl s c r o hr ho e = by (s .wire (ofSide r o)) refl
-  where
-    by : (w : Wire) → s .wire (ofSide r o) ≡ w → w ≡ Empty
-    by Empty q = refl
-    by (Full x) q =
-        let g = c .wires (ofSide r o) (hr, ho) x q in
-        absurd (some-not-none (sym (ap (across pl (headingOf (x .kind)) (x .active) (x .passive)) e) ∙ g .next))
-
--- So where every wire that there is is empty, every output's is.
+-- Where every wire that there is is empty, every output's is.
 pub quiet-wires : (pl : Plan) (s : State) → Core pl s → Quiet pl s → (o : Output) → Drives pl o → s .wire o ≡ Empty
-quiet-wires pl s c q (ofActive a) d = q .wires (ofActive a) d
-quiet-wires pl s c q (ofPassive p) d = q .wires (ofPassive p) d
-quiet-wires pl s c q (toUnit r) d = q .wires (toUnit r) d
-quiet-wires pl s c q (fromUnit r) d = q .wires (fromUnit r) d
-quiet-wires pl s c q (ofSide r o) (hr, ho) = by (pl .joint r o) refl
+quiet-wires pl s c q o d = by (s .wire o) refl
   where
-    by : (j : Joint) → pl .joint r o ≡ j → s .wire (ofSide r o) ≡ Empty
-    by Nothing e = unjoined-empty pl s c r o hr ho e
-    by (Router n t) e = q .wires (ofSide r o) (hr, ho, λ z. router-some (sym e ∙ z))
-    by (Active n) e = q .wires (ofSide r o) (hr, ho, λ z. interface-some (active n) (sym e ∙ z))
-    by (Passive n) e = q .wires (ofSide r o) (hr, ho, λ z. interface-some (passive n) (sym e ∙ z))
+    by : (w : Wire) → s .wire o ≡ w → w ≡ Empty
+    by Empty e = refl
+    by (Full x) e = sym e ∙ q .wires o (full-wire pl s c o d x e)
 
 -- Where every queue and wire is empty, every weight is 0.
 pub quiet-weighed : (pl : Plan) (w : Weight) (s : State) → Core pl s → Quiet pl s → weighed pl w s ≡ 0

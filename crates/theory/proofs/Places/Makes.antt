@@ -19,7 +19,7 @@ use Rattle.feeding.specs.Feeds.{Output, next, outputOf, Place, inQueue, handled
 use Rattle.wiring.specs.Wired.{Wired}
 use Rattle.machine.specs.Outputs.{nextBy}
 use Rattle.machine.specs.Execute.{cameIn, declined, booked, freed, marked, tdownOf}
-use Rattle.machine.specs.Calls.{setupOf, repliedAs}
+use Rattle.machine.specs.Visits.{setupOf, repliedAs}
 use Rattle.machine.specs.Valid.{Belongs}
 use Rattle.theory.proofs.Places.Closure.{stands-below, span-short, fits-next, unit-setup, unit-booked, unit-declined, unit-freed, unit-no-answer, passive-setup, passive-ack, passive-nack, active-answer, active-tdown, active-marked, active-setup}
 use Rattle.theory.proofs.Places.CameIn.{stands-inside, stands-exit, came-in}

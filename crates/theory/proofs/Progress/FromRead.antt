@@ -28,19 +28,22 @@ use Rattle.machine.specs.Outputs.{outputs, outputAt, outputNumber}
 use Rattle.machine.specs.State.{State, isFull, join}
 use Rattle.machine.specs.Read.{deliver, settle, lower, doRead}
 use Rattle.machine.specs.Execute.{hasRoom}
-use Rattle.machine.specs.Calls.{Outcome, gives, isPhase, Call, read, execute, write, launch, reply, consume, entry, call, setupOf, launched, launchCall, replyCall, consumeCall, entryCall}
+use Rattle.machine.specs.Visits.{setupOf, launched}
+use Rattle.machine.specs.Calls.{Visit, Call, turn, visit, read, execute, write, Outcome, call}
+use Rattle.machine.specs.Does.{Visits, launches, replies, consumes, looks, Does, refuses, turns, visits}
 use Rattle.machine.specs.Valid.{Drives}
 use Rattle.machine.specs.Progress.{isInQueue, UnderWay, PassiveRoom, Waits, Moved, isTimed, endsRound}
 use Rattle.machine.specs.Ruled.{rounds, Moves, Good}
-use Rattle.machine.proofs.Apart.{full-not}
+use Rattle.machine.proofs.Apart.{read-execute, read-write, full-not, turn-same, visit-not}
+use Rattle.machine.proofs.Does.{call-does, refused-turns}
 use Rattle.machine.proofs.OutNumbers.{output-at, output-below, drives-at}
-use Rattle.theory.proofs.Core.{WiresEmpty}
+use Rattle.theory.proofs.Core.{WiresEmpty, full-wire}
 use Rattle.theory.proofs.Shape.Read.{read-wires}
 use Rattle.theory.proofs.Keeps.{Inv, inv-of, call-inv}
 use Rattle.theory.proofs.Progress.Stuck.{Closed, every, every-closed, answering, answering-closed}
 use Rattle.theory.proofs.Progress.Interval.{MovesNow, moves-now, moves-later}
 use Rattle.theory.proofs.Progress.Still.{none-delivered}
-use Rattle.theory.proofs.Progress.Undisturbed.{read-now, execute-not, write-not, out-of-phase, by-refusal}
+use Rattle.theory.proofs.Progress.Undisturbed.{turn-now}
 use Rattle.theory.proofs.Progress.Rounds.{from-execute, execute-phase}
 
 -- ---- what calls other than Read do in READ
@@ -73,31 +76,19 @@ unfolding launched
 launched-before a q t s = let j = joined-before (activeOut a) (setupOf a q t) s refl in record { phase = j .phase; wire = j .wire; ins = j .ins; held = j .held }
 
 module _ (pl : Plan) (s : State) (e : s .phase ≡ Read) where
-  not-execute : s .phase ≢ Execute
-  not-execute g = let z : _≡_ {A = ℕ} 0 1 = cc in omega arith
-
-  not-write : s .phase ≢ Write
-  not-write g = let z : _≡_ {A = ℕ} 0 1 = cc in omega arith
-
-  still : (c : Call) → call pl c s ≡ gives (Refused WrongPhase) s → Before s (call pl c s .state)
-  still c g = rw g (unchanged s)
+  only : (c : Call) (o : Outcome) → Does pl s c o → c ≢ read → Before s (o .state) × (endsRound c (o .answer) ≡ 0)
+  only c o (refuses d w n) ne = (unchanged s, refused-turns Write d w)
+  only c o (turns x f) ne = absurd (ne (ap turn (sym f ∙ e)))
+  only c o (visits v r d) ne = by v r d
+    where
+      by : (v : Visit) (r : Outcome) → Visits pl s v r → Before s (r .state) × (endsRound (visit v) (r .answer) ≡ 0)
+      by v r (launches a q t m) = (launched-before a q t s, refl)
+      by v r (replies q c x rest m) = absurd (read-write (sym e ∙ m .phase))
+      by v r (consumes a x rest m) = absurd (read-write (sym e ∙ m .phase))
+      by v r (looks i q t m) = (unchanged s, refl)
 
   only-read : (c : Call) → c ≢ read → Before s (call pl c s .state) × (endsRound c (call pl c s .answer) ≡ 0)
-  unfolding launchCall replyCall consumeCall entryCall
-  only-read read ne = absurd (ne refl)
-  only-read execute ne = (still execute (execute-not pl s not-execute), refl)
-  only-read write ne = let w = write-not pl s not-write in (still write w, ap (λ (r : Outcome). endsRound write (r .answer)) w)
-  only-read (launch a q t) ne = (
-    by-refusal (λ (r : Outcome). Before s (r .state)) (not (isPhase (s .phase) Read)) _ s _ (unchanged s)
-        (by-refusal (λ (r : Outcome). Before s (r .state)) (not (ltb a (A pl) && ltb q (P pl) && ltb t (S pl))) _ s _ (unchanged s)
-        (by-refusal (λ (r : Outcome). Before s (r .state)) (not (served pl a q)) _ s _ (unchanged s)
-        (by-refusal (λ (r : Outcome). Before s (r .state)) (eqb (s .allowance a) 0) _ s _ (unchanged s)
-        (by-refusal (λ (r : Outcome). Before s (r .state)) (not (hasRoom pl (activeOut a) s)) _ s _ (unchanged s) (launched-before a q t s))))),
-    refl,
-  )
-  only-read (reply q c) ne = (still (reply q c) (out-of-phase (s .phase) Write WrongPhase s _ not-write), refl)
-  only-read (consume a) ne = (still (consume a) (out-of-phase (s .phase) Write WrongPhase s _ not-write), refl)
-  only-read (entry r o t) ne = (by-refusal (λ (x : Outcome). Before s (x .state)) (not (ltb r (R pl) && ltb o 4 && ltb t (S pl))) _ s _ (unchanged s) (unchanged s), refl)
+  only-read c = only c (call pl c s) (call-does pl s c)
 
 -- READ with empty wires leaves the queues
 settle-queue : (q : Queue) (s : State) → settle q s .queue ≡ s .queue
@@ -143,10 +134,10 @@ module _ {pl : Plan} (wired : Wired pl) (range : InRange (pl .head)) (free : Fee
   at-read set s i e c g cs n = by (some-wire pl s) g
     where
       now : call pl read s .state ≡ doRead pl s
-      now = ap (λ (r : Outcome). r .state) (read-now pl s e)
+      now = ap (λ (r : Outcome). r .state) (turn-now pl s Read e)
 
       brought : (o : Output) (x : Packet) → Drives pl o → s .wire o ≡ Full x → MovesNow pl read s
-      brought o x d f = (refl, inl (o, x, d, f, ap (λ (t : State). t .wire o) now ∙ read-wires pl s o d))
+      brought o x d f = (refl, inl (o, x, full-wire pl s (i .core) o d x f, f, ap (λ (t : State). t .wire o) now ∙ read-wires pl s o d))
 
       by : ((o : Output) × (x : Packet) × Drives pl o × (s .wire o ≡ Full x)) ⊎ WiresEmpty pl s → Going set s → MovesNow pl read s ⊎ Moves pl cs (doRead pl s)
       by (inl (o, x, d, f)) w = inl (brought o x d f)
@@ -177,7 +168,7 @@ module _ {pl : Plan} (wired : Wired pl) (range : InRange (pl .head)) (free : Fee
 
       reads : S pl ≤ rounds pl (read ∷ cs) s → Moves pl (read ∷ cs) s
       reads m =
-          let now : call pl read s .state ≡ doRead pl s = ap (λ (r : Outcome). r .state) (read-now pl s e) in
+          let now : call pl read s .state ≡ doRead pl s = ap (λ (r : Outcome). r .state) (turn-now pl s Read e) in
           let l : rounds pl cs (call pl read s .state) ≡ rounds pl cs (doRead pl s) = ap (rounds pl cs) now in
           done now (at-read set s i e c g cs (omega arith))
         where
@@ -186,13 +177,10 @@ module _ {pl : Plan} (wired : Wired pl) (range : InRange (pl .head)) (free : Fee
           done now (inr x) = moves-later pl read cs s (rw now x)
 
       by : (k : Call) → ((t : State) → Inv pl t → t .phase ≡ Read → Closed pl set t → Going set t → S pl ≤ rounds pl cs t → Moves pl cs t) → S pl ≤ rounds pl (k ∷ cs) s → Moves pl (k ∷ cs) s
-      by read rec m = reads m
-      by execute rec m = other execute (λ h. let z : _≡_ {A = ℕ} 0 1 = cc in omega arith) rec m
-      by write rec m = other write (λ h. let z : _≡_ {A = ℕ} 0 1 = cc in omega arith) rec m
-      by (launch a q t) rec m = other (launch a q t) (λ h. let z : _≡_ {A = ℕ} 0 1 = cc in omega arith) rec m
-      by (reply q x) rec m = other (reply q x) (λ h. let z : _≡_ {A = ℕ} 0 1 = cc in omega arith) rec m
-      by (consume a) rec m = other (consume a) (λ h. let z : _≡_ {A = ℕ} 0 1 = cc in omega arith) rec m
-      by (entry r o t) rec m = other (entry r o t) (λ h. let z : _≡_ {A = ℕ} 0 1 = cc in omega arith) rec m
+      by (turn Read) rec m = reads m
+      by (turn Execute) rec m = other execute (λ h. read-execute (sym (turn-same h))) rec m
+      by (turn Write) rec m = other write (λ h. read-write (sym (turn-same h))) rec m
+      by (visit v) rec m = other (visit v) (λ h. visit-not v Read h) rec m
 
   -- demand 3's last part, from every valid state
   pub progress : (s : State) → Good pl s → Waits pl s → (cs : List Call) → S pl ≤ rounds pl cs s → Moves pl cs s

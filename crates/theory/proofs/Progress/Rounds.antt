@@ -16,9 +16,11 @@ use Rattle.basis.specs.Choice.{pick, also, test}
 use Rattle.basis.specs.Bounded.{Found, find, lt-or-ge}
 use Rattle.basis.specs.Fold.{upTo, up-keeps-at}
 use Rattle.kinds.specs.declared.Slot.{Slot}
+use Rattle.kinds.specs.declared.Refusal.the-variants.{WrongPhase}
 use Rattle.packets.specs.declared.Kind.{Kind}
 use Rattle.packets.specs.declared.Kind.the-variants.{Setup, Tdown, Ack, Nack}
 use Rattle.packets.specs.declared.Packet.{Packet}
+use Rattle.packets.specs.declared.Phase.{Phase}
 use Rattle.packets.specs.declared.Phase.the-variants.{Read, Execute, Write}
 use Rattle.packets.specs.declared.Entry.{Entry}
 use Rattle.packets.specs.declared.Entry.the-variants.{Free, Booked}
@@ -33,10 +35,12 @@ use Rattle.machine.specs.State.{State, Choice, nobody, sender, isFree}
 use Rattle.machine.specs.Execute.{unit, hasCredit, mayLeave, candidate, isOpen, picked, doExecute}
 use Rattle.machine.specs.Write.{ofRank, doWrite}
 use Rattle.machine.specs.Read.{doRead}
-use Rattle.machine.specs.Calls.{Outcome, Call, read, execute, write, launch, reply, consume, entry, call}
+use Rattle.machine.specs.Calls.{Outcome, Call, turn, visit, read, execute, write, call}
 use Rattle.machine.specs.Valid.{Belongs, Drives, isFed}
 use Rattle.machine.specs.Progress.{isInQueue, Moved, isTimed, endsRound}
 use Rattle.machine.specs.Ruled.{rounds, Moves}
+use Rattle.machine.proofs.Apart.{read-execute, read-write, execute-write, turn-same, visit-not}
+use Rattle.machine.proofs.Does.{refused-turns}
 use Rattle.machine.proofs.Numbers.{sender-exists}
 use Rattle.machine.proofs.OutNumbers.{output-at, output-below, drives-at}
 use Rattle.theory.proofs.Core.{Core, Shape, WiresEmpty, FlagsDown, NoChoices, ChoicesSendable, Sendable}
@@ -52,7 +56,7 @@ use Rattle.theory.proofs.Progress.Interval.{MovesNow, moves-now, moves-
 use Rattle.theory.proofs.Progress.Still.{Same, same-self, AllHandled, Picks, read-stays, execute-rest, execute-picks, write-stays}
 use Rattle.theory.proofs.Progress.Moving.{write-takes}
 use Rattle.theory.proofs.Progress.First.{Ends, Upto, units, ends-moves}
-use Rattle.theory.proofs.Progress.Undisturbed.{Undisturbed, read-now, execute-now, write-now, read-not, execute-not, write-not, launch-undisturbed, reply-undisturbed, consume-undisturbed, entry-undisturbed, only-execute}
+use Rattle.theory.proofs.Progress.Undisturbed.{Undisturbed, turn-now, turn-not, still, visit-undisturbed, only-execute}
 
 -- ---- every slot comes within S rounds
 pub slot-reached : (n s t : ℕ) → s < n → t < n → (j : ℕ) × (j < n) × ((s + j) % n ≡ t)
@@ -169,13 +173,10 @@ module _ {pl : Plan} (wired : Wired pl) (range : InRange (pl .head)) (free : Fee
             moves-later pl c cs e (rw (o .0) (rec n))
 
         by : (c : Call) → (1 ≤ rounds pl cs e → Moves pl cs e) → 1 ≤ rounds pl (c ∷ cs) e → Moves pl (c ∷ cs) e
-        by execute rec h = moves-now pl execute cs e m
-        by read rec h = other read (λ g. let z : _≡_ {A = ℕ} 0 1 = cc in omega arith) rec h
-        by write rec h = other write (λ g. let z : _≡_ {A = ℕ} 0 1 = cc in omega arith) rec h
-        by (launch a q t) rec h = other (launch a q t) (λ g. let z : _≡_ {A = ℕ} 0 1 = cc in omega arith) rec h
-        by (reply q c) rec h = other (reply q c) (λ g. let z : _≡_ {A = ℕ} 0 1 = cc in omega arith) rec h
-        by (consume a) rec h = other (consume a) (λ g. let z : _≡_ {A = ℕ} 0 1 = cc in omega arith) rec h
-        by (entry r o t) rec h = other (entry r o t) (λ g. let z : _≡_ {A = ℕ} 0 1 = cc in omega arith) rec h
+        by (turn Execute) rec h = moves-now pl execute cs e m
+        by (turn Read) rec h = other read (λ g. read-execute (turn-same g)) rec h
+        by (turn Write) rec h = other write (λ g. execute-write (sym (turn-same g))) rec h
+        by (visit v) rec h = other (visit v) (λ g. visit-not v Execute g) rec h
 
     -- ---- no unit ends a packet: the state p after the units
     module _ (u : Upto pl e own (R pl) (upTo (unit pl) (R pl) e)) where
@@ -238,7 +239,7 @@ module _ {pl : Plan} (wired : Wired pl) (range : InRange (pl .head)) (free : Fee
       -- the state after Execute where nothing ended: each output has picked in d
       executed : (j : ℕ) (s d : State) → s .phase ≡ Execute → Inv pl s → Picks pl p d (doExecute pl s) → Same pl p d → At j d → Next j execute s
       executed j s d f i k m t =
-          let g = execute-now pl s f in
+          let g = turn-now pl s Execute f in
           let n : call pl execute s .state ≡ doExecute pl s = ap (λ (r : Outcome). r .state) g in
           stays refl
           (writing (ap (λ (x : State). x .phase) n ∙ write-phase pl s) (call-inv wired range execute s i) (rw n (k .same)) (ap (λ (x : State). x .slot .0) n ∙ ap (λ (x : Slot). x .0) (k .slot) ∙ t) d m t
@@ -254,14 +255,14 @@ module _ {pl : Plan} (wired : Wired pl) (range : InRange (pl .head)) (free : Fee
             picks = k .picks;
           }
 
+      waits : (c : Call) → c ≢ execute → Next 0 c e
+      waits c ne = let o = only-execute pl e phase c ne in stays (o .1) (first refl (o .0))
+
       at-first : (c : Call) → Next 0 c e
-      at-first execute = executed 0 e p phase inv first-picks (same-self pl p wires-p) (ap (λ (x : Slot). x .0) slot-p ∙ at-start)
-      at-first read = let o = only-execute pl e phase read (λ g. let z : _≡_ {A = ℕ} 0 1 = cc in omega arith) in stays (o .1) (first refl (o .0))
-      at-first write = let o = only-execute pl e phase write (λ g. let z : _≡_ {A = ℕ} 0 1 = cc in omega arith) in stays (o .1) (first refl (o .0))
-      at-first (launch a q t) = let o = only-execute pl e phase (launch a q t) (λ g. let z : _≡_ {A = ℕ} 0 1 = cc in omega arith) in stays (o .1) (first refl (o .0))
-      at-first (reply q c) = let o = only-execute pl e phase (reply q c) (λ g. let z : _≡_ {A = ℕ} 0 1 = cc in omega arith) in stays (o .1) (first refl (o .0))
-      at-first (consume a) = let o = only-execute pl e phase (consume a) (λ g. let z : _≡_ {A = ℕ} 0 1 = cc in omega arith) in stays (o .1) (first refl (o .0))
-      at-first (entry r o t) = let g = only-execute pl e phase (entry r o t) (λ g. let z : _≡_ {A = ℕ} 0 1 = cc in omega arith) in stays (g .1) (first refl (g .0))
+      at-first (turn Execute) = executed 0 e p phase inv first-picks (same-self pl p wires-p) (ap (λ (x : Slot). x .0) slot-p ∙ at-start)
+      at-first (turn Read) = waits read (λ g. read-execute (turn-same g))
+      at-first (turn Write) = waits write (λ g. execute-write (sym (turn-same g)))
+      at-first (visit v) = waits (visit v) (λ g. visit-not v Execute g)
 
       -- a call that leaves the stage as it is
       reads-on : (j : ℕ) (c : Call) (s : State) → s .phase ≡ Read → Inv pl s → At j s → endsRound c (call pl c s .answer) ≡ 0 → Undisturbed pl p s (call pl c s .state) → Next j c s
@@ -270,35 +271,32 @@ module _ {pl : Plan} (wired : Wired pl) (range : InRange (pl .head)) (free : Fee
       executes-on : (j : ℕ) (c : Call) (s : State) → s .phase ≡ Execute → Inv pl s → At j s → endsRound c (call pl c s .answer) ≡ 0 → Undisturbed pl p s (call pl c s .state) → Next j c s
       executes-on j c s f i t z k = stays z (executing (k .phase ∙ f) (call-inv wired range c s i) (k .same) (ap (λ (x : Slot). x .0) (k .slot) ∙ t))
 
-      -- a refused call disturbs nothing
-      refused : (c : Call) (s : State) → Same pl p s → call pl c s .state ≡ s → Undisturbed pl p s (call pl c s .state)
-      refused c s k g = rw g (record { same = k; slot = refl; phase = refl; choice = refl })
+      -- a phase's call outside its phase disturbs nothing, and ends no round
+      out-of-phase : (x : Phase) (s : State) → Same pl p s → s .phase ≢ x
+          → (endsRound (turn x) (call pl (turn x) s .answer) ≡ 0) × Undisturbed pl p s (call pl (turn x) s .state)
+      out-of-phase x s k ne =
+          let g = turn-not pl s x ne in
+          (ap (λ (r : Outcome). endsRound (turn x) (r .answer)) g ∙ refused-turns Write (turn x) WrongPhase, rw g (still pl p s k))
 
       at-reading : (j : ℕ) (c : Call) (s : State) → s .phase ≡ Read → Inv pl s → Same pl p s → At j s → Next j c s
-      at-reading j read s f i k t =
-          let g = read-now pl s f in
+      at-reading j (turn Read) s f i k t =
+          let g = turn-now pl s Read f in
           let n : call pl read s .state ≡ doRead pl s = ap (λ (r : Outcome). r .state) g in
           let d = read-stays pl p s k in
           stays refl (executing (ap (λ (x : State). x .phase) n ∙ execute-phase pl s) (call-inv wired range read s i) (rw n (d .same)) (ap (λ (x : State). x .slot .0) n ∙ ap (λ (x : Slot). x .0) (d .slot) ∙ t))
-      at-reading j execute s f i k t = reads-on j execute s f i t refl (refused execute s k (ap (λ (r : Outcome). r .state) (execute-not pl s (λ g. let z : _≡_ {A = ℕ} 0 1 = cc in omega arith))))
-      at-reading j write s f i k t =
-          let w = write-not pl s (λ g. let z : _≡_ {A = ℕ} 0 1 = cc in omega arith) in
-          reads-on j write s f i t (ap (λ (r : Outcome). endsRound write (r .answer)) w) (refused write s k (ap (λ (r : Outcome). r .state) w))
-      at-reading j (launch a q u) s f i k t = reads-on j (launch a q u) s f i t refl (launch-undisturbed pl p s k a q u)
-      at-reading j (reply q c) s f i k t = reads-on j (reply q c) s f i t refl (reply-undisturbed pl p s k q c)
-      at-reading j (consume a) s f i k t = reads-on j (consume a) s f i t refl (consume-undisturbed pl p s k a)
-      at-reading j (entry r o u) s f i k t = reads-on j (entry r o u) s f i t refl (entry-undisturbed pl p s k r o u)
+      at-reading j (turn Execute) s f i k t =
+          let o = out-of-phase Execute s k (λ g. read-execute (sym f ∙ g)) in reads-on j execute s f i t (o .0) (o .1)
+      at-reading j (turn Write) s f i k t =
+          let o = out-of-phase Write s k (λ g. read-write (sym f ∙ g)) in reads-on j write s f i t (o .0) (o .1)
+      at-reading j (visit v) s f i k t = reads-on j (visit v) s f i t refl (visit-undisturbed pl p s k v)
 
       at-executing : (j : ℕ) (c : Call) (s : State) → s .phase ≡ Execute → Inv pl s → Same pl p s → At j s → Next j c s
-      at-executing j execute s f i k t = executed j s s f i (execute-picks pl p s k (handled-s s k)) k t
-      at-executing j read s f i k t = executes-on j read s f i t refl (refused read s k (ap (λ (r : Outcome). r .state) (read-not pl s (λ g. let z : _≡_ {A = ℕ} 0 1 = cc in omega arith))))
-      at-executing j write s f i k t =
-          let w = write-not pl s (λ g. let z : _≡_ {A = ℕ} 0 1 = cc in omega arith) in
-          executes-on j write s f i t (ap (λ (r : Outcome). endsRound write (r .answer)) w) (refused write s k (ap (λ (r : Outcome). r .state) w))
-      at-executing j (launch a q u) s f i k t = executes-on j (launch a q u) s f i t refl (launch-undisturbed pl p s k a q u)
-      at-executing j (reply q c) s f i k t = executes-on j (reply q c) s f i t refl (reply-undisturbed pl p s k q c)
-      at-executing j (consume a) s f i k t = executes-on j (consume a) s f i t refl (consume-undisturbed pl p s k a)
-      at-executing j (entry r o u) s f i k t = executes-on j (entry r o u) s f i t refl (entry-undisturbed pl p s k r o u)
+      at-executing j (turn Execute) s f i k t = executed j s s f i (execute-picks pl p s k (handled-s s k)) k t
+      at-executing j (turn Read) s f i k t =
+          let o = out-of-phase Read s k (λ g. read-execute (sym g ∙ f)) in executes-on j read s f i t (o .0) (o .1)
+      at-executing j (turn Write) s f i k t =
+          let o = out-of-phase Write s k (λ g. execute-write (sym f ∙ g)) in executes-on j write s f i t (o .0) (o .1)
+      at-executing j (visit v) s f i k t = executes-on j (visit v) s f i t refl (visit-undisturbed pl p s k v)
 
       module _ (j : ℕ) (s : State) (f : s .phase ≡ Write) (i : Inv pl s) (k : Same pl p s) (t : At j s) (d : State) (m : Same pl p d) (v : At j d)
           (picks : (n : ℕ) → n < outputs pl → s .choice (outputAt pl n) ≡ picked pl d (outputAt pl n)) where
@@ -317,7 +315,7 @@ module _ {pl : Plan} (wired : Wired pl) (range : InRange (pl .head)) (free : Fee
             let g = write-has s f (i .shape) .1 (outputAt pl n) r (drives-at pl n h) e in
             let y = candidate-ready pl s (outputAt pl n) (g .queue) (g .ready) in
             let left : doWrite pl s .queue (g .queue) ≡ y .rest = write-takes pl s (outputAt pl n) r (g .queue) (y .head) (y .rest) (g .rank) e (y .queue) n h refl in
-            let now : call pl write s .state ≡ doWrite pl s = ap (λ (x : Outcome). x .state) (write-now pl s f) in
+            let now : call pl write s .state ≡ doWrite pl s = ap (λ (x : Outcome). x .state) (turn-now pl s Write f) in
             let a : length (call pl write s .state .queue (g .queue)) ≡ length (y .rest) = ap length (ap (λ (x : State). x .queue (g .queue)) now ∙ left) in
             let c : length (s .queue (g .queue)) ≡ suc (length (y .rest)) = ap length (y .queue) in
             (refl, inr (g .queue, sender-exists pl (outputAt pl n) r (g .queue) (drives-at pl n h) (g .rank), omega arith))
@@ -328,7 +326,7 @@ module _ {pl : Plan} (wired : Wired pl) (range : InRange (pl .head)) (free : Fee
         unsent nil =
             let quiet : NoChoices pl s = λ o h. ap (s .choice) (sym (output-at pl o h)) ∙ nobody-of (s .choice (outputAt pl (outputNumber pl o))) (nil (outputNumber pl o) (output-below pl o h)) in
             let w = write-stays pl p s k quiet in
-            let now = write-now pl s f in
+            let now = turn-now pl s Write f in
             let n : call pl write s .state ≡ doWrite pl s = ap (λ (x : Outcome). x .state) now in
             let slot : doWrite pl s .slot .0 ≡ (e .slot .0 + suc j) % S pl
             = ap (λ (x : Slot). x .0) (w .1) ∙ ap (λ (x : ℕ). (x + 1) % S pl) t ∙ mod-add-mod (e .slot .0 + j) (S pl) 1 ∙ ap (λ (x : ℕ). x % S pl) (plus-suc (e .slot .0) j) in
@@ -344,23 +342,20 @@ module _ {pl : Plan} (wired : Wired pl) (range : InRange (pl .head)) (free : Fee
             nobody-of (sender r) b = absurd (false≢true b)
 
         at-writing : (c : Call) → Next j c s
-        at-writing write = by (find (outputs pl) (λ n. not (isNobody (s .choice (outputAt pl n)))))
+        at-writing (turn Write) = by (find (outputs pl) (λ n. not (isNobody (s .choice (outputAt pl n)))))
           where
             by : Found (outputs pl) (λ n. not (isNobody (s .choice (outputAt pl n)))) ⊎ ((n : ℕ) → n < outputs pl → not (isNobody (s .choice (outputAt pl n))) ≡ false) → Next j write s
             by (inl (n, h, b)) = moves (sends n h (s .choice (outputAt pl n)) refl (not-true _ b))
             by (inr nil) = unsent (λ n h. not-false _ (nil n h))
-        at-writing read = writes-on read refl (refused read s k (ap (λ (r : Outcome). r .state) (read-not pl s (λ g. let z : _≡_ {A = ℕ} 0 1 = cc in omega arith))))
-        at-writing execute = writes-on execute refl (refused execute s k (ap (λ (r : Outcome). r .state) (execute-not pl s (λ g. let z : _≡_ {A = ℕ} 0 1 = cc in omega arith))))
-        at-writing (launch a q u) = writes-on (launch a q u) refl (launch-undisturbed pl p s k a q u)
-        at-writing (reply q c) = writes-on (reply q c) refl (reply-undisturbed pl p s k q c)
-        at-writing (consume a) = writes-on (consume a) refl (consume-undisturbed pl p s k a)
-        at-writing (entry r o u) = writes-on (entry r o u) refl (entry-undisturbed pl p s k r o u)
+        at-writing (turn Read) = let o = out-of-phase Read s k (λ g. read-write (sym g ∙ f)) in writes-on read (o .0) (o .1)
+        at-writing (turn Execute) = let o = out-of-phase Execute s k (λ g. execute-write (sym g ∙ f)) in writes-on execute (o .0) (o .1)
+        at-writing (visit v) = writes-on (visit v) refl (visit-undisturbed pl p s k v)
 
-      turn : (j : ℕ) (c : Call) (s : State) → Calm j s → Next j c s
-      turn j c s (first z g) = rw (z, g) (at-first c)
-      turn j c s (reading f i k t) = at-reading j c s f i k t
-      turn j c s (executing f i k t) = at-executing j c s f i k t
-      turn j c s (writing f i k t d m v picks) = at-writing j s f i k t d m v picks c
+      goes-on : (j : ℕ) (c : Call) (s : State) → Calm j s → Next j c s
+      goes-on j c s (first z g) = rw (z, g) (at-first c)
+      goes-on j c s (reading f i k t) = at-reading j c s f i k t
+      goes-on j c s (executing f i k t) = at-executing j c s f i k t
+      goes-on j c s (writing f i k t d m v picks) = at-writing j s f i k t d m v picks c
 
       -- ---- every round was seen: no head finds credit
       module _ (seen : (j : ℕ) → j < S pl → Seen j) where
@@ -458,7 +453,7 @@ module _ {pl : Plan} (wired : Wired pl) (range : InRange (pl .head)) (free : Fee
       where
         ended : (r : ℕ) → r < R pl → Ends e r → Moves pl cs e
         ended r l w =
-            let now : call pl execute e .state ≡ doExecute pl e = ap (λ (o : Outcome). o .state) (execute-now pl e phase) in
+            let now : call pl execute e .state ≡ doExecute pl e = ap (λ (o : Outcome). o .state) (turn-now pl e Execute phase) in
             until-execute (refl, rw now (ends-moves pl e r w l)) cs (omega (arith, range .slots .0))
 
         -- the packet is still there
@@ -500,4 +495,4 @@ module _ {pl : Plan} (wired : Wired pl) (range : InRange (pl .head)) (free : Fee
 
         by : ((r : ℕ) × (r < R pl) × Ends e r) ⊎ Upto pl e own (R pl) (upTo (unit pl) (R pl) e) → Moves pl cs e
         by (inl (r, l, w)) = ended r l w
-        by (inr u) = rest-of u (interval pl (Calm u) (Seen u) (turn u) (S pl) cs e (first refl refl) n)
+        by (inr u) = rest-of u (interval pl (Calm u) (Seen u) (goes-on u) (S pl) cs e (first refl refl) n)

@@ -26,7 +26,7 @@ use Rattle.machine.specs.State.{State, Choice, nobody, sender, join, withPhase,
 use Rattle.machine.specs.Read.{arrive, deliver, lower, settle, doRead}
 use Rattle.machine.specs.Execute.{unit, atUnit, hasCredit, mayLeave, headReady, candidate, isOpen, firstOf, picked, choose, answer, atActive, undo, doExecute, hasRoom, unmarked}
 use Rattle.machine.specs.Write.{sendBy, send, doWrite}
-use Rattle.machine.specs.Calls.{launched, replied, removed}
+use Rattle.machine.specs.Visits.{launched, replied, removed}
 use Rattle.machine.specs.Valid.{Drives, isFed}
 use Rattle.machine.specs.Progress.{isInQueue}
 use Rattle.machine.proofs.OutNumbers.{drives-at}
@@ -263,9 +263,9 @@ launch-same pl p s a q t k =
     let j = join-same pl p s k (activeOut a) _ refl in
     record { inner = j .inner; outs = j .outs; handled = j .handled; table = j .table; credit = j .credit; wires = j .wires }
 
-pub reply-same : (pl : Plan) (p s : State) (q : ℕ) (k : Kind) (l : List Packet) → Same pl p s → Same pl p (replied q k l s)
-reply-same pl p s q k [] d = d
-reply-same pl p s q k (x ∷ l) d =
+pub reply-same : (pl : Plan) (p s : State) (q : ℕ) (k : Kind) (x : Packet) (l : List Packet) → Same pl p s
+    → Same pl p (replied q k (x ∷ l) s)
+reply-same pl p s q k x l d =
     let i = in-same pl p s d (passiveIn q) l refl refl in
     let f : Same pl p (withFlag (passiveIn q) true (withQueue (passiveIn q) l s)) = record { inner = i .inner; outs = i .outs; handled = i .handled; table = i .table; credit = i .credit; wires = i .wires } in
     join-same pl p _ f (passiveOut q) _ refl

@@ -1,82 +1,32 @@
 -- What calls do to a state in which nothing moves, by the phase: refused ones nothing, the others only what Still allows.
 use mathlib.Core.Path.{_≡_, refl, sym, ap, _∙_}
-use mathlib.Core.Logic.{_⊎_, inl, inr, _≢_}
-use mathlib.Core.Bool.{Bool, true, false, not, _&&_, true≢false, false≢true}
-use mathlib.Core.List.{List, [], _∷_}
-use Prim.Native.Nat.{ℕ, zero, suc}
-use native.Mathlib.Omega.{arith}
-use lib.Dec.{eqb, ltb, leb}
-use Rattle.kinds.specs.declared.Refusal.{Refusal}
-use Rattle.kinds.specs.declared.Refusal.the-variants.{WrongPhase, QueueEmpty, Unmarked}
-use Rattle.packets.specs.declared.Kind.{Kind}
-use Rattle.packets.specs.declared.Packet.{Packet}
+use mathlib.Core.Logic.{_≢_}
+use mathlib.Core.Bool.{true, false, true≢false}
+use Prim.Native.Nat.{ℕ}
+use Rattle.basis.specs.Choice.{refuted}
+use Rattle.kinds.specs.declared.Refusal.the-variants.{WrongPhase}
 use Rattle.packets.specs.declared.Phase.{Phase}
 use Rattle.packets.specs.declared.Phase.the-variants.{Read, Execute, Write}
 use Rattle.packets.specs.declared.Answer.the-variants.{Refused, Done}
-use Rattle.plan.specs.Plan.{Plan, R, A, P, S}
-use Rattle.paths.specs.Served.{served}
-use Rattle.feeding.specs.Queue.{Queue, activeOut, activeIn, passiveIn, passiveOut}
+use Rattle.plan.specs.Plan.{Plan}
 use Rattle.machine.specs.State.{State, join}
-use Rattle.machine.specs.Read.{doRead}
-use Rattle.machine.specs.Execute.{doExecute, hasRoom, unmarked}
-use Rattle.machine.specs.Write.{doWrite}
-use Rattle.machine.specs.Calls.{Outcome, gives, refuse, isPhase, isEmpty, Call, read, execute, write, launch, reply, consume, entry, call, readCall, executeCall, writeCall, launched, launchCall, replyKind, replied, replyCall, removed, headUnmarked, consumed, consumeCall, entryCall}
-use Rattle.machine.specs.Progress.{endsRound}
+use Rattle.machine.specs.Visits.{launched, replyKind, removed}
+use Rattle.machine.specs.Calls.{Visit, Call, turn, visit, execute, Outcome, gives, isPhase, stepOf, call}
+use Rattle.machine.specs.Does.{Visits, launches, replies, consumes, looks, Does, refuses, turns, visits}
+use Rattle.machine.specs.Progress.{isTimed, endsRound}
+use Rattle.machine.proofs.Apart.{phase-of, phase-is, read-execute, execute-write}
+use Rattle.machine.proofs.Does.{call-does, refused-turns}
 use Rattle.theory.proofs.Progress.Still.{Same, launch-same, reply-same, remove-same}
 
--- a refusal, or what follows it
-pub by-refusal : (H : Outcome → Type 0) (t : Bool) (w : Refusal) (s : State) (rest : Outcome) → H (gives (Refused w) s) → H rest → H (refuse t w s rest)
-by-refusal H true w s rest a b = a
-by-refusal H false w s rest a b = b
-
--- the phase's test decides a call
-pub in-phase : (x : Phase) (y : Phase) (w : Refusal) (s : State) (rest : Outcome) → x ≡ y → refuse (not (isPhase x y)) w s rest ≡ rest
-in-phase Read Read w s rest e = refl
-in-phase Read Execute w s rest e = cc
-in-phase Read Write w s rest e = cc
-in-phase Execute Read w s rest e = cc
-in-phase Execute Execute w s rest e = refl
-in-phase Execute Write w s rest e = cc
-in-phase Write Read w s rest e = cc
-in-phase Write Execute w s rest e = cc
-in-phase Write Write w s rest e = refl
-
-pub out-of-phase : (x : Phase) (y : Phase) (w : Refusal) (s : State) (rest : Outcome) → x ≢ y → refuse (not (isPhase x y)) w s rest ≡ gives (Refused w) s
-out-of-phase Read Read w s rest e = absurd (e refl)
-out-of-phase Read Execute w s rest e = refl
-out-of-phase Read Write w s rest e = refl
-out-of-phase Execute Read w s rest e = refl
-out-of-phase Execute Execute w s rest e = absurd (e refl)
-out-of-phase Execute Write w s rest e = refl
-out-of-phase Write Read w s rest e = refl
-out-of-phase Write Execute w s rest e = refl
-out-of-phase Write Write w s rest e = absurd (e refl)
-
 -- ---- the three timed calls, in their phase and outside it
-module _ (pl : Plan) (s : State) where
-  pub read-now : s .phase ≡ Read → call pl read s ≡ gives Done (doRead pl s)
-  unfolding readCall
-  read-now e = in-phase (s .phase) Read WrongPhase s (gives Done (doRead pl s)) e
+module _ (pl : Plan) (s : State) (x : Phase) where
+  pub turn-now : s .phase ≡ x → call pl (turn x) s ≡ gives Done (stepOf pl x s)
+  unfolding call
+  turn-now e = rw (phase-is (s .phase) x e)
 
-  pub execute-now : s .phase ≡ Execute → call pl execute s ≡ gives Done (doExecute pl s)
-  unfolding executeCall
-  execute-now e = in-phase (s .phase) Execute WrongPhase s (gives Done (doExecute pl s)) e
-
-  pub write-now : s .phase ≡ Write → call pl write s ≡ gives Done (doWrite pl s)
-  unfolding writeCall
-  write-now e = in-phase (s .phase) Write WrongPhase s (gives Done (doWrite pl s)) e
-
-  pub read-not : s .phase ≢ Read → call pl read s ≡ gives (Refused WrongPhase) s
-  unfolding readCall
-  read-not e = out-of-phase (s .phase) Read WrongPhase s (gives Done (doRead pl s)) e
-
-  pub execute-not : s .phase ≢ Execute → call pl execute s ≡ gives (Refused WrongPhase) s
-  unfolding executeCall
-  execute-not e = out-of-phase (s .phase) Execute WrongPhase s (gives Done (doExecute pl s)) e
-
-  pub write-not : s .phase ≢ Write → call pl write s ≡ gives (Refused WrongPhase) s
-  unfolding writeCall
-  write-not e = out-of-phase (s .phase) Write WrongPhase s (gives Done (doWrite pl s)) e
+  pub turn-not : s .phase ≢ x → call pl (turn x) s ≡ gives (Refused WrongPhase) s
+  unfolding call
+  turn-not ne = rw (refuted (isPhase (s .phase) x) (λ t. ne (phase-of (s .phase) x (rw t))))
 
 -- ---- the other calls
 pub record Undisturbed (pl : Plan) (p s t : State) : Type 0 where
@@ -86,76 +36,39 @@ pub record Undisturbed (pl : Plan) (p s t : State) : Type 0 where
   pub choice : t .choice ≡ s .choice
 
 module _ (pl : Plan) (p s : State) (k : Same pl p s) where
-  abbrev Fine : Outcome → Type 0
-  Fine r = Undisturbed pl p s (r .state)
-
-  still : Undisturbed pl p s s
+  pub still : Undisturbed pl p s s
   still = record { same = k; slot = refl; phase = refl; choice = refl }
 
-  launches : (a q t : ℕ) → Fine (launchCall pl a q t s)
-  unfolding launchCall launched join
-  launches a q t =
-      by-refusal Fine (not (isPhase (s .phase) Read)) _ s _ still
-      (by-refusal Fine (not (ltb a (A pl) && ltb q (P pl) && ltb t (S pl))) _ s _ still
-      (by-refusal Fine (not (served pl a q)) _ s _ still
-      (by-refusal Fine (eqb (s .allowance a) 0) _ s _ still
-      (by-refusal Fine (not (hasRoom pl (activeOut a) s)) _ s _ still
-      (record { same = launch-same pl p s a q t k; slot = refl; phase = refl; choice = refl })))))
+  visits-undisturbed : (v : Visit) (o : Outcome) → Visits pl s v o → Undisturbed pl p s (o .state)
+  unfolding launched join removed
+  visits-undisturbed v o (launches a q t m) =
+      record { same = launch-same pl p s a q t k; slot = refl; phase = refl; choice = refl }
+  visits-undisturbed v o (replies q c x rest m) =
+      record { same = reply-same pl p s q (replyKind c) x rest k; slot = refl; phase = refl; choice = refl }
+  visits-undisturbed v o (consumes a x rest m) =
+      record { same = remove-same pl p s a rest k; slot = refl; phase = refl; choice = refl }
+  visits-undisturbed v o (looks r i t m) = still
 
-  replies : (q c : ℕ) → Fine (replyCall pl q c s)
-  unfolding replyCall join
-  replies q c =
-      by-refusal Fine (not (isPhase (s .phase) Write)) _ s _ still
-      (by-refusal Fine (not (ltb q (P pl) && leb c 1)) _ s _ still
-      (by-refusal Fine (s .flag (passiveIn q)) _ s _ still
-      (by-refusal Fine (isEmpty (s .queue (passiveIn q))) _ s _ still
-      (by-refusal Fine (not (hasRoom pl (passiveOut q) s)) _ s _ still (answered (s .queue (passiveIn q)))))))
-    where
-      answered : (l : List Packet) → Undisturbed pl p s (replied q (replyKind c) l s)
-      answered [] = still
-      answered (x ∷ l) = record { same = reply-same pl p s q (replyKind c) (x ∷ l) k; slot = refl; phase = refl; choice = refl }
+  untimed : (c : Call) (o : Outcome) → Does pl s c o → isTimed c ≡ false → Undisturbed pl p s (o .state)
+  untimed c o (refuses d w n) f = still
+  untimed c o (turns x e) f = absurd (true≢false f)
+  untimed c o (visits v r d) f = visits-undisturbed v r d
 
-  consumes : (a : ℕ) → Fine (consumeCall pl a s)
-  unfolding consumeCall removed
-  consumes a =
-      by-refusal Fine (not (isPhase (s .phase) Write)) _ s _ still
-      (by-refusal Fine (not (ltb a (A pl))) _ s _ still
-      (by-refusal Fine (s .flag (activeIn a)) _ s _ still (taken (s .queue (activeIn a)))))
-    where
-      taken : (l : List Packet) → Fine (refuse (isEmpty l) QueueEmpty s (refuse (headUnmarked l) Unmarked s (consumed a l s)))
-      taken [] = still
-      taken (x ∷ l) = by-refusal Fine (unmarked x) _ s _ still (record { same = remove-same pl p s a l k; slot = refl; phase = refl; choice = refl })
-
-  entries : (r o t : ℕ) → Fine (entryCall pl r o t s)
-  unfolding entryCall
-  entries r o t = by-refusal Fine (not (ltb r (R pl) && ltb o 4 && ltb t (S pl))) _ s _ still still
-
-  pub launch-undisturbed : (a q t : ℕ) → Undisturbed pl p s (call pl (launch a q t) s .state)
-  launch-undisturbed a q t = launches a q t
-
-  pub reply-undisturbed : (q c : ℕ) → Undisturbed pl p s (call pl (reply q c) s .state)
-  reply-undisturbed q c = replies q c
-
-  pub consume-undisturbed : (a : ℕ) → Undisturbed pl p s (call pl (consume a) s .state)
-  consume-undisturbed a = consumes a
-
-  pub entry-undisturbed : (r o t : ℕ) → Undisturbed pl p s (call pl (entry r o t) s .state)
-  entry-undisturbed r o t = entries r o t
+  pub visit-undisturbed : (v : Visit) → Undisturbed pl p s (call pl (visit v) s .state)
+  visit-undisturbed v = untimed (visit v) (call pl (visit v) s) (call-does pl s (visit v)) refl
 
 -- in EXECUTE all but Execute leave the state
 module _ (pl : Plan) (s : State) (e : s .phase ≡ Execute) where
-  not-read : s .phase ≢ Read
-  not-read g = let z : _≡_ {A = ℕ} 0 1 = cc in omega arith
-
-  not-write : s .phase ≢ Write
-  not-write g = let z : _≡_ {A = ℕ} 0 1 = cc in omega arith
+  only : (c : Call) (o : Outcome) → Does pl s c o → c ≢ execute → (o .state ≡ s) × (endsRound c (o .answer) ≡ 0)
+  only c o (refuses d w n) ne = (refl, refused-turns Write d w)
+  only c o (turns x f) ne = absurd (ne (ap turn (sym f ∙ e)))
+  only c o (visits v r d) ne = by v r d
+    where
+      by : (v : Visit) (r : Outcome) → Visits pl s v r → (r .state ≡ s) × (endsRound (visit v) (r .answer) ≡ 0)
+      by v r (launches a q t m) = absurd (read-execute (sym (m .phase) ∙ e))
+      by v r (replies q c x rest m) = absurd (execute-write (sym e ∙ m .phase))
+      by v r (consumes a x rest m) = absurd (execute-write (sym e ∙ m .phase))
+      by v r (looks i q t m) = (refl, refl)
 
   pub only-execute : (c : Call) → c ≢ execute → (call pl c s .state ≡ s) × (endsRound c (call pl c s .answer) ≡ 0)
-  unfolding launchCall replyCall consumeCall entryCall
-  only-execute read ne = (ap (λ (r : Outcome). r .state) (read-not pl s not-read), refl)
-  only-execute execute ne = absurd (ne refl)
-  only-execute write ne = let w = write-not pl s not-write in (ap (λ (r : Outcome). r .state) w, ap (λ (r : Outcome). endsRound write (r .answer)) w)
-  only-execute (launch a q t) ne = (ap (λ (r : Outcome). r .state) (out-of-phase (s .phase) Read WrongPhase s _ not-read), refl)
-  only-execute (reply q c) ne = (ap (λ (r : Outcome). r .state) (out-of-phase (s .phase) Write WrongPhase s _ not-write), refl)
-  only-execute (consume a) ne = (ap (λ (r : Outcome). r .state) (out-of-phase (s .phase) Write WrongPhase s _ not-write), refl)
-  only-execute (entry r o t) ne = (by-refusal (λ (x : Outcome). x .state ≡ s) (not (ltb r (R pl) && ltb o 4 && ltb t (S pl))) _ s _ refl refl, refl)
+  only-execute c = only c (call pl c s) (call-does pl s c)

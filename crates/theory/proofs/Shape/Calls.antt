@@ -12,7 +12,7 @@ use Rattle.feeding.specs.Queue.{activeIn, passiveIn, passiveOut}
 use Rattle.feeding.specs.Feeds.{Output}
 use Rattle.journeys.proofs.Places.{some-not-none}
 use Rattle.machine.specs.State.{State, Choice, withQueue, withFlag, join}
-use Rattle.machine.specs.Calls.{launched, repliedAs, replied, removed}
+use Rattle.machine.specs.Visits.{launched, repliedAs, replied, removed}
 use Rattle.machine.proofs.Apart.{read-execute, read-write, execute-write}
 use Rattle.theory.proofs.Core.{WiresEmpty, FlagsDown, NoChoices, ChoicesSendable, Shape, in-read, in-execute, in-write}
 use Rattle.theory.proofs.Shape.Spared.{Spares, spared-sendable, spares-alike, spares-then, join-spares, turn-spares, flag-spares}
@@ -50,20 +50,18 @@ module _ {pl : Plan} (s : State) where
   launched-shape a p t q h = in-read q (read-has q h)
 
   -- Reply, in WRITE
-  pub replied-shape : (p : ℕ) (k : Kind) → s .phase ≡ Write → Shape pl s → Shape pl (replied p k (s .queue (passiveIn p)) s)
+  pub replied-shape : (p : ℕ) (k : Kind) (x : Packet) (rest : List Packet) → s .phase ≡ Write → Shape pl s
+      → Shape pl (replied p k (x ∷ rest) s)
   unfolding join
-  replied-shape p k q h = by (s .queue (passiveIn p))
+  replied-shape p k x rest q h = spared-shape (replied p k (x ∷ rest) s) refl refl refl spares q h
     where
-      by : (xs : List Packet) → Shape pl (replied p k xs s)
-      by [] = h
-      by (x ∷ rest) = spared-shape (replied p k (x ∷ rest) s) refl refl refl spares q h
-        where
-          spares : (o : Output) → Spares pl s (replied p k (x ∷ rest) s) o
-          spares o =
-              spares-then s (withQueue (passiveIn p) rest s) (replied p k (x ∷ rest) s) (turn-spares (passiveIn p) (λ z. some-not-none z) rest s)
-              (spares-then (withQueue (passiveIn p) rest s) (withFlag (passiveIn p) true (withQueue (passiveIn p) rest s)) (replied p k (x ∷ rest) s)
-              (flag-spares (passiveIn p) (λ z. some-not-none z) true (withQueue (passiveIn p) rest s))
-              (join-spares (passiveOut p) (repliedAs k x) (withFlag (passiveIn p) true (withQueue (passiveIn p) rest s))))
+      spares : (o : Output) → Spares pl s (replied p k (x ∷ rest) s) o
+      spares o =
+          spares-then s (withQueue (passiveIn p) rest s) (replied p k (x ∷ rest) s)
+          (turn-spares (passiveIn p) (λ z. some-not-none z) rest s)
+          (spares-then (withQueue (passiveIn p) rest s) (withFlag (passiveIn p) true (withQueue (passiveIn p) rest s))
+          (replied p k (x ∷ rest) s) (flag-spares (passiveIn p) (λ z. some-not-none z) true (withQueue (passiveIn p) rest s))
+          (join-spares (passiveOut p) (repliedAs k x) (withFlag (passiveIn p) true (withQueue (passiveIn p) rest s))))
 
   -- Consume, in WRITE
   pub removed-shape : (a : ℕ) (rest : List Packet) → s .phase ≡ Write → Shape pl s → Shape pl (removed a rest s)

@@ -26,7 +26,7 @@ use Rattle.machine.specs.State.{State, sender, start, withPhase, withSlot, with
 use Rattle.machine.specs.Read.{deliver, lower, settle}
 use Rattle.machine.specs.Execute.{declined, unit, tdownOf, choose, undo}
 use Rattle.machine.specs.Write.{send}
-use Rattle.machine.specs.Calls.{launched, repliedAs, replied, removed}
+use Rattle.machine.specs.Visits.{launched, repliedAs, replied, removed}
 use Rattle.machine.specs.Valid.{Drives, Carries, spendsKind, spends}
 use Rattle.machine.proofs.Apart.{full-not}
 use Rattle.theory.proofs.Core.{Core, Sendable, Allowances}

@@ -14,7 +14,7 @@ use Rattle.feeding.specs.Queue.{Queue, activeOut, activeIn, passiveIn, passiveO
 use Rattle.feeding.specs.Feeds.{inQueue, handledAt}
 use Rattle.machine.specs.State.{State, withQueue, withFlag, join}
 use Rattle.machine.specs.Execute.{declined, booked, freed, handledAs, unit, unmarked, marked, tdownOf, hasRoom, undo}
-use Rattle.machine.specs.Calls.{setupOf, launched, repliedAs, replied, removed}
+use Rattle.machine.specs.Visits.{setupOf, launched, repliedAs, replied, removed}
 use Rattle.machine.specs.Valid.{headPlace, inAll}
 use Rattle.theory.proofs.Core.{Core}
 use Rattle.theory.proofs.Weights.Total.{Weight, inLine, weighed, weighed-line, weighed-join}

@@ -23,7 +23,8 @@ use Rattle.machine.specs.State.{State, sender, start, withPhase, withSlot}
 use Rattle.machine.specs.Read.{deliver, settle}
 use Rattle.machine.specs.Execute.{booked, freed, declined, choose, unit, marked, tdownOf, undo}
 use Rattle.machine.specs.Write.{send}
-use Rattle.machine.specs.Calls.{launch, setupOf, launched, repliedAs, replied, removed}
+use Rattle.machine.specs.Visits.{setupOf, launched, repliedAs, replied, removed}
+use Rattle.machine.specs.Calls.{launch}
 use Rattle.machine.specs.Accepted.{Connection, connectionOf, acceptKind}
 use Rattle.machine.specs.Ruled.{launchesCall, sameConnection, times}
 use Rattle.machine.specs.Valid.{Drives}
@@ -182,15 +183,13 @@ module _ (pl : Plan) (d : Connection) where
           record { count = let w = launched-weighed pl (anywhere (bears pl d)) c a p t h in let b = launched-bears a p t l in let m = k .count in omega arith }
 
       -- A Reply keeps the count.
-      pub replied-counted : (p : ℕ) (kind : Kind) → p < P pl → (kind ≡ Ack) ⊎ (kind ≡ Nack) → Counted pl d acc n (replied p kind (s .queue (passiveIn p)) s)
+      pub replied-counted : (p : ℕ) (kind : Kind) (x : Packet) (rest : List Packet) → p < P pl
+          → (kind ≡ Ack) ⊎ (kind ≡ Nack) → s .queue (passiveIn p) ≡ x ∷ rest
+          → Counted pl d acc n (replied p kind (x ∷ rest) s)
       unfolding borne
-      replied-counted p kind h q = by (s .queue (passiveIn p)) refl
-        where
-          by : (l : List Packet) → s .queue (passiveIn p) ≡ l → Counted pl d acc n (replied p kind l s)
-          by [] e = k
-          by (x ∷ rest) e =
-              let b = head-belongs c (passiveIn p) h x rest e in
-              let setup = passive-setup wired (x .active) (x .passive) (b .ranges .active) (b .ranges .passive) (b .serves) (x .kind) (x .hub .0) p (b .fits) .0 in
-              let less = replied-bears kind x q setup in
-              let w = replied-weighed pl (anywhere (bears pl d)) c p h kind x rest e in
-              counted-less s (replied p kind (x ∷ rest) s) k (omega arith)
+      replied-counted p kind x rest h q e =
+          let b = head-belongs c (passiveIn p) h x rest e in
+          let setup = passive-setup wired (x .active) (x .passive) (b .ranges .active) (b .ranges .passive) (b .serves) (x .kind) (x .hub .0) p (b .fits) .0 in
+          let less = replied-bears kind x q setup in
+          let w = replied-weighed pl (anywhere (bears pl d)) c p h kind x rest e in
+          counted-less s (replied p kind (x ∷ rest) s) k (omega arith)

@@ -11,7 +11,7 @@ use Rattle.packets.specs.declared.Kind.{Kind}
 use Rattle.packets.specs.declared.Kind.the-variants.{Tdown, Ack, Nack}
 use Rattle.packets.specs.declared.Packet.{Packet}
 use Rattle.machine.specs.Store.{put}
-use Rattle.machine.specs.Calls.{replyKind}
+use Rattle.machine.specs.Visits.{replyKind}
 use Rattle.machine.specs.Valid.{spendsKind, spends}
 
 -- A tear-down takes nothing.

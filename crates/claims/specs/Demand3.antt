@@ -15,7 +15,7 @@ use Rattle.plan.specs.Plan.{Plan, planOf, S}
 use Rattle.load.specs.declared.Loaded.the-variants.{Accepted}
 use Rattle.load.specs.Load.{loadOf}
 use Rattle.machine.specs.State.{State, start}
-use Rattle.machine.specs.Calls.{Call, read, execute, write, launch, reply, consume, entry, call}
+use Rattle.machine.specs.Calls.{Call, call}
 use Rattle.machine.specs.Accepted.{Connection, accept, MadeBy}
 use Rattle.machine.specs.Progress.{Within, Quiet, Waits, Moved, isTimed, endsRound}
 use Rattle.machine.specs.Ruled.{ruledAfter, launchesCall, times}

@@ -1,0 +1,153 @@
+-- Every call does one of the things that specs/Does lists: its refusals taken one after another, once for all calls.
+use mathlib.Core.Path.{_≡_, refl, sym, ap, _∙_, subst}
+use mathlib.Core.Logic.{_≢_, _⊎_, inl, inr}
+use mathlib.Core.Bool.{Bool, true, false, not, _&&_, true≢false, false≢true}
+use mathlib.Core.List.{List, [], _∷_}
+use mathlib.Core.Option.{Option, none, some}
+use Prim.Native.Nat.{ℕ, _<_}
+use native.Mathlib.Omega.{arith}
+use lib.Dec.{eqb, ltb, leb}
+use borrow.Author.Tests.{ltb-true, leb-true, eqb-false, not-false}
+use Rattle.basis.specs.Choice.{not-both, pick-same}
+use Rattle.kinds.specs.Refusals.{refusalNumber}
+use Rattle.kinds.specs.declared.Refusal.{Refusal}
+use Rattle.kinds.specs.declared.Refusal.the-variants.{NotState}
+use Rattle.packets.specs.declared.Packet.{Packet}
+use Rattle.packets.specs.declared.Phase.{Phase}
+use Rattle.packets.specs.declared.Phase.the-variants.{Read, Write}
+use Rattle.packets.specs.declared.Answer.{Answer}
+use Rattle.packets.specs.declared.Answer.the-variants.{Refused, Done}
+use Rattle.plan.specs.Plan.{Plan, R, A, P, S}
+use Rattle.feeding.specs.Queue.{activeIn, passiveIn}
+use Rattle.wiring.proofs.Heads.{and-both}
+use Rattle.machine.specs.State.{State}
+use Rattle.machine.specs.Visits.{isEmpty, headUnmarked, replyKind, replied}
+use Rattle.machine.specs.Guards.{Guard, refusalOf, Passed}
+use Rattle.machine.specs.Calls.{Visit, ofLaunch, ofReply, ofConsume, ofEntry, Call, turn, visit, Outcome, isPhase, launchGuards, replyGuards, consumeGuards, entryGuards, guards, consumed, accepted, decided, call}
+use Rattle.machine.specs.Does.{MayLaunch, MayReply, MayConsume, MayLook, Visits, launches, replies, consumes, looks, Does, refuses, turns, visits}
+use Rattle.machine.specs.Progress.{turnsCall}
+use Rattle.machine.proofs.Apart.{phase-of}
+
+-- ---- a list of guards
+-- none of its refusals is 7
+abbrev pub no7 : List Guard → Bool
+no7 [] = true
+no7 (g ∷ gs) = not (eqb (refusalNumber (g .why)) 7) && no7 gs
+
+not-so : {b : Bool} → not b ≡ true → b ≡ false
+not-so {b = true} h = absurd (false≢true h)
+not-so {b = false} h = refl
+
+-- what follows from the list's first refusal, or from none
+by-guards : (F : Option Refusal → Type 0) (gs : List Guard) → no7 gs ≡ true → ((w : Refusal) → w ≢ NotState → F (some w))
+    → (Passed gs → F none) → F (refusalOf gs)
+by-guards F [] n r a = a (record {})
+by-guards F (g ∷ gs) n r a = by (λ e. by-guards F gs (both .1) r (λ p. a (e, p))) (g .holds) refl
+  where
+    both : (not (eqb (refusalNumber (g .why)) 7) ≡ true) × (no7 gs ≡ true)
+    both = and-both n
+
+    not7 : g .why ≢ NotState
+    not7 e = not-both (ap (λ (w : Refusal). eqb (refusalNumber w) 7) e) (not-so (both .0))
+
+    by : (g .holds ≡ false → F (refusalOf gs)) → (t : Bool) → g .holds ≡ t → F (refusalOf (g ∷ gs))
+    by more true e = rw e (r (g .why) not7)
+    by more false e = rw e (more e)
+
+-- ---- what a visit that passed them found
+module _ (pl : Plan) (s : State) where
+  may-launch : (a p t : ℕ) → Passed (launchGuards pl a p t s) → MayLaunch pl s a p t
+  may-launch a p t (e, (f, (g, (h, (r, n))))) =
+      let x = and-both (not-false _ f) in
+      let y = and-both (x .0) in
+      record {
+        phase = phase-of (s .phase) Read e;
+        active = ltb-true a (A pl) (y .0);
+        passive = ltb-true p (P pl) (y .1);
+        slot = ltb-true t (S pl) (x .1);
+        serves = not-false _ g;
+        allowance = let ne = eqb-false (s .allowance a) 0 h in omega arith;
+        room = not-false _ r;
+      }
+
+  replies-to : (p c : ℕ) (l : List Packet) → s .queue (passiveIn p) ≡ l → Passed (replyGuards pl p c s)
+      → Visits pl s (ofReply p c) (accepted pl (visit (ofReply p c)) s)
+  replies-to p c [] q (e, (f, (g, (h, (r, n))))) = absurd (true≢false (sym (ap isEmpty q) ∙ h))
+  replies-to p c (x ∷ rest) q (e, (f, (g, (h, (r, n))))) =
+      let y = and-both (not-false _ f) in
+      rw q
+      (replies p c x rest
+      (record {
+        phase = phase-of (s .phase) Write e;
+        passive = ltb-true p (P pl) (y .0);
+        choice = leb-true c 1 (y .1);
+        down = g;
+        line = q;
+        room = not-false _ r;
+      }))
+
+  consumes-from : (a : ℕ) (l : List Packet) → s .queue (activeIn a) ≡ l → Passed (consumeGuards pl a s)
+      → Visits pl s (ofConsume a) (consumed a (s .queue (activeIn a)) s)
+  consumes-from a [] q (e, (f, (g, (h, (u, n))))) = absurd (true≢false (sym (ap isEmpty q) ∙ h))
+  consumes-from a (x ∷ rest) q (e, (f, (g, (h, (u, n))))) =
+      rw q
+      (consumes a x rest
+      (record {
+        phase = phase-of (s .phase) Write e;
+        active = ltb-true a (A pl) (not-false _ f);
+        down = g;
+        line = q;
+        marked = sym (ap headUnmarked q) ∙ u;
+      }))
+
+  looks-at : (r o t : ℕ) → Passed (entryGuards pl r o t) → MayLook pl r o t
+  looks-at r o t (f, n) =
+      let x = and-both (not-false _ f) in
+      let y = and-both (x .0) in
+      record { router = ltb-true r (R pl) (y .0); side = ltb-true o 4 (y .1); slot = ltb-true t (S pl) (x .1) }
+
+  -- ---- every call
+  accepted-does : (c : Call) → Passed (guards pl c s) → Does pl s c (accepted pl c s)
+  accepted-does (turn x) (e, n) = turns x (phase-of (s .phase) x e)
+  accepted-does (visit (ofLaunch a p t)) g = visits _ _ (launches a p t (may-launch a p t g))
+  accepted-does (visit (ofReply p c)) g = visits _ _ (replies-to p c (s .queue (passiveIn p)) refl g)
+  accepted-does (visit (ofConsume a)) g = visits _ _ (consumes-from a (s .queue (activeIn a)) refl g)
+  accepted-does (visit (ofEntry r o t)) g = visits _ _ (looks r o t (looks-at r o t g))
+
+  never-7 : (c : Call) → no7 (guards pl c s) ≡ true
+  never-7 (turn x) = refl
+  never-7 (visit (ofLaunch a p t)) = refl
+  never-7 (visit (ofReply p c)) = refl
+  never-7 (visit (ofConsume a)) = refl
+  never-7 (visit (ofEntry r o t)) = refl
+
+  -- Every call is refused or accepted so.
+  pub call-does : (c : Call) → Does pl s c (call pl c s)
+  unfolding call
+  call-does c =
+      by-guards (λ (w : Option Refusal). Does pl s c (decided w s (accepted pl c s))) (guards pl c s) (never-7 c)
+      (λ w n. refuses c w n) (accepted-does c)
+
+-- ---- what follows for every call
+-- a refused call turns no phase
+pub refused-turns : (x : Phase) (c : Call) (w : Refusal) → turnsCall x c (Refused w) ≡ 0
+refused-turns x (turn y) w = pick-same (isPhase y x) 0
+refused-turns x (visit v) w = refl
+
+done-not : {w : Refusal} → _≡_ {A = Answer} Done (Refused w) → ⊥
+done-not e = let z : _≡_ {A = ℕ} 0 1 = cc in omega arith
+
+module _ {pl : Plan} {s : State} where
+  -- an accepted visit does not answer with a refusal
+  visit-not-refused : {v : Visit} {o : Outcome} → Visits pl s v o → {w : Refusal} → o .answer ≡ Refused w → ⊥
+  visit-not-refused (launches a p t m) e = done-not e
+  visit-not-refused (replies p c x rest m) e = done-not e
+  visit-not-refused (consumes a x rest m) e = let z : _≡_ {A = ℕ} 0 1 = cc in omega arith
+  visit-not-refused (looks r q t m) e = let z : _≡_ {A = ℕ} 0 1 = cc in omega arith
+
+  -- a refused call leaves the state, and is not refused 7
+  pub refused-leaves : {c : Call} {o : Outcome} → Does pl s c o → {w : Refusal} → o .answer ≡ Refused w
+      → (o .state ≡ s) × (w ≢ NotState)
+  refused-leaves (refuses d v n) {w} e = let same : v ≡ w = cc in (refl, λ k. n (same ∙ k))
+  refused-leaves (turns x f) e = absurd (done-not e)
+  refused-leaves (visits v o d) e = absurd (visit-not-refused d e)

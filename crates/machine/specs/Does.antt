@@ -1,0 +1,66 @@
+-- What a call can do, by cases: refused with the state left, a phase turned, or a visit with what it found and what it
+-- gives. proofs/Does shows that every call does one of these; all that is shown of calls goes by it.
+use mathlib.Core.Path.{_≡_}
+use mathlib.Core.Logic.{_≢_}
+use mathlib.Core.Bool.{true, false}
+use mathlib.Core.List.{List, _∷_}
+use Prim.Native.Nat.{ℕ, _≤_, _<_}
+use lib.ListN.{length}
+use Rattle.kinds.specs.declared.Refusal.{Refusal}
+use Rattle.kinds.specs.declared.Refusal.the-variants.{NotState}
+use Rattle.packets.specs.declared.Packet.{Packet}
+use Rattle.packets.specs.declared.Phase.{Phase}
+use Rattle.packets.specs.declared.Phase.the-variants.{Read, Write}
+use Rattle.packets.specs.declared.Answer.the-variants.{Refused, Done, Taken, Holds}
+use Rattle.plan.specs.Plan.{Plan, R, A, P, S}
+use Rattle.paths.specs.Served.{served}
+use Rattle.feeding.specs.Queue.{activeOut, activeIn, passiveIn, passiveOut}
+use Rattle.machine.specs.State.{State}
+use Rattle.machine.specs.Execute.{hasRoom, unmarked}
+use Rattle.machine.specs.Visits.{launched, replyKind, replied, removed}
+use Rattle.machine.specs.Calls.{Visit, ofLaunch, ofReply, ofConsume, ofEntry, Call, turn, visit, Outcome, gives, stepOf}
+
+-- ---- what an accepted visit found
+pub record MayLaunch (pl : Plan) (s : State) (a p t : ℕ) : Type 0 where
+  pub phase : s .phase ≡ Read
+  pub active : a < A pl
+  pub passive : p < P pl
+  pub slot : t < S pl
+  pub serves : served pl a p ≡ true
+  pub allowance : 1 ≤ s .allowance a
+  pub room : hasRoom pl (activeOut a) s ≡ true
+
+pub record MayReply (pl : Plan) (s : State) (p c : ℕ) (x : Packet) (rest : List Packet) : Type 0 where
+  pub phase : s .phase ≡ Write
+  pub passive : p < P pl
+  pub choice : c ≤ 1
+  pub down : s .flag (passiveIn p) ≡ false
+  pub line : s .queue (passiveIn p) ≡ x ∷ rest
+  pub room : hasRoom pl (passiveOut p) s ≡ true
+
+pub record MayConsume (pl : Plan) (s : State) (a : ℕ) (x : Packet) (rest : List Packet) : Type 0 where
+  pub phase : s .phase ≡ Write
+  pub active : a < A pl
+  pub down : s .flag (activeIn a) ≡ false
+  pub line : s .queue (activeIn a) ≡ x ∷ rest
+  pub marked : unmarked x ≡ false
+
+pub record MayLook (pl : Plan) (r o t : ℕ) : Type 0 where
+  pub router : r < R pl
+  pub side : o < 4
+  pub slot : t < S pl
+
+-- ---- an accepted visit, and what it gives
+pub data Visits (pl : Plan) (s : State) : Visit → Outcome → Type 0 where
+  launches : (a p t : ℕ) → MayLaunch pl s a p t → Visits pl s (ofLaunch a p t) (gives Done (launched a p t s))
+  replies : (p c : ℕ) (x : Packet) (rest : List Packet) → MayReply pl s p c x rest
+      → Visits pl s (ofReply p c) (gives Done (replied p (replyKind c) (x ∷ rest) s))
+  consumes : (a : ℕ) (x : Packet) (rest : List Packet) → MayConsume pl s a x rest
+      → Visits pl s (ofConsume a) (gives (Taken x) (removed a rest s))
+  looks : (r o t : ℕ) → MayLook pl r o t → Visits pl s (ofEntry r o t) (gives (Holds (s .table r o t)) s)
+
+-- ---- a call: refused (7 is asked before it), a phase turned, a visit
+pub data Does (pl : Plan) (s : State) : Call → Outcome → Type 0 where
+  refuses : (c : Call) (w : Refusal) → w ≢ NotState → Does pl s c (gives (Refused w) s)
+  turns : (x : Phase) → s .phase ≡ x → Does pl s (turn x) (gives Done (stepOf pl x s))
+  visits : (v : Visit) (o : Outcome) → Visits pl s v o → Does pl s (visit v) o

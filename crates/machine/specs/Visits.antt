@@ -1,0 +1,48 @@
+-- What the accepted calls of the interfaces do: Launch, Reply and Consume.
+use mathlib.Core.Bool.{Bool, true, false}
+use mathlib.Core.List.{List, [], _∷_}
+use Prim.Native.Nat.{ℕ, _+_, _-_}
+use lib.Dec.{eqb}
+use Rattle.basis.specs.Choice.{pick}
+use Rattle.packets.specs.declared.Kind.{Kind}
+use Rattle.packets.specs.declared.Kind.the-variants.{Setup, Ack, Nack}
+use Rattle.packets.specs.declared.Packet.{Packet}
+use Rattle.feeding.specs.Queue.{activeOut, activeIn, passiveIn, passiveOut}
+use Rattle.machine.specs.State.{State, withQueue, withFlag, withAllowance, join}
+use Rattle.machine.specs.Execute.{unmarked}
+
+-- ---- 'a SETUP, hub 0, joins and the allowance falls by one'
+abbrev pub setupOf : ℕ → ℕ → ℕ → Packet
+setupOf a p t = record { kind = Setup; active = a; passive = p; slot = record { 0 = t }; hub = record { 0 = 0 } }
+
+-- an allowance of 0 has been refused
+unfoldable pub launched : ℕ → ℕ → ℕ → State → State
+launched a p t s = withAllowance a (s .allowance a - 1) (join (activeOut a) (setupOf a p t) s)
+
+-- ---- 'the head becomes ACK or NACK, slot and hub kept, in the out-queue; the flag rises'
+-- '1 accept or 0 decline'
+abbrev pub replyKind : ℕ → Kind
+replyKind c = pick (eqb c 1) Ack Nack
+
+abbrev pub repliedAs : Kind → Packet → Packet
+repliedAs k x = record { kind = k; active = x .active; passive = x .passive; slot = x .slot; hub = x .hub }
+
+-- an empty in-queue has been refused
+abbrev pub replied : ℕ → Kind → List Packet → State → State
+replied p k [] s = s
+replied p k (x ∷ rest) s =
+    join (passiveOut p) (repliedAs k x) (withFlag (passiveIn p) true (withQueue (passiveIn p) rest s))
+
+-- ---- 'the packet is returned and removed, the flag rises, the allowance grows by one': its removal
+unfoldable pub removed : ℕ → List Packet → State → State
+removed a rest s = withAllowance a (s .allowance a + 1) (withFlag (activeIn a) true (withQueue (activeIn a) rest s))
+
+-- ---- the head of a queue
+abbrev pub isEmpty : List Packet → Bool
+isEmpty [] = true
+isEmpty (x ∷ xs) = false
+
+-- 'head is an unmarked NACK'
+abbrev pub headUnmarked : List Packet → Bool
+headUnmarked [] = false
+headUnmarked (x ∷ rest) = unmarked x

@@ -28,7 +28,7 @@ use Rattle.claims.specs.Conditions.{StateBytes}
 pub accepted-wired : (p : List ℕ) (h : Head) → loadOf p ≡ Accepted h → Wired (planOf p)
 accepted-wired p h e = passed-wired p (passes p h e .0)
 
-head-range : (p : List ℕ) → InRange (headOf p) → InRange (planOf p .head)
+pub head-range : (p : List ℕ) → InRange (headOf p) → InRange (planOf p .head)
 unfolding planOf
 head-range p r = r
 

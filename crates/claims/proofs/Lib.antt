@@ -1,6 +1,10 @@
 pub mod Rounds
+pub mod Tests
+pub mod Tell
 pub mod Refusals
 pub mod Exact
 pub mod Run
+pub mod Demand1
+pub mod Demand2
 pub mod Bridge
 pub mod Demand3

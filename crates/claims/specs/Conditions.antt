@@ -39,11 +39,16 @@ pub record StateBytes (pl : Plan) (b : List ℕ) : Type 0 where
   pub same : b ≡ encode pl state rest
 
 -- '**Start**: 7 state buffer too short'
+abbrev pub bufferConditions : List ℕ → List ℕ → List Condition
+bufferConditions p b = condition NotState (length b < size (planOf p)) ∷ []
+
 abbrev pub startConditions : List ℕ → List ℕ → List Condition
-startConditions p b = loadConditions p ++ (condition NotState (length b < size (planOf p)) ∷ [])
+startConditions p b = loadConditions p ++ bufferConditions p b
 
 -- '**Every other call**: 7 not a state', then its own
+abbrev pub stateConditions : List ℕ → Call → List ℕ → List Condition
+stateConditions p c b =
+    condition NotState (StateBytes (planOf p) b → ⊥) ∷ conditions (planOf p) c (decode (planOf p) b)
+
 abbrev pub callConditions : List ℕ → Call → List ℕ → List Condition
-callConditions p c b =
-    loadConditions p
-    ++ (condition NotState (StateBytes (planOf p) b → ⊥) ∷ conditions (planOf p) c (decode (planOf p) b))
+callConditions p c b = loadConditions p ++ stateConditions p c b

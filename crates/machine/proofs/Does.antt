@@ -20,6 +20,7 @@ use Rattle.packets.specs.declared.Answer.the-variants.{Refused, Done}
 use Rattle.plan.specs.Plan.{Plan, R, A, P, S}
 use Rattle.feeding.specs.Queue.{activeIn, passiveIn}
 use Rattle.wiring.proofs.Heads.{and-both}
+use Rattle.journeys.proofs.Places.{some-not-none}
 use Rattle.machine.specs.State.{State}
 use Rattle.machine.specs.Visits.{isEmpty, headUnmarked, replyKind, replied}
 use Rattle.machine.specs.Guards.{Guard, refusalOf, Passed}
@@ -107,12 +108,15 @@ module _ (pl : Plan) (s : State) where
       record { router = ltb-true r (R pl) (y .0); side = ltb-true o 4 (y .1); slot = ltb-true t (S pl) (x .1) }
 
   -- ---- every call
+  accepted-visits : (v : Visit) → Passed (guards pl (visit v) s) → Visits pl s v (accepted pl (visit v) s)
+  accepted-visits (ofLaunch a p t) g = launches a p t (may-launch a p t g)
+  accepted-visits (ofReply p c) g = replies-to p c (s .queue (passiveIn p)) refl g
+  accepted-visits (ofConsume a) g = consumes-from a (s .queue (activeIn a)) refl g
+  accepted-visits (ofEntry r o t) g = looks r o t (looks-at r o t g)
+
   accepted-does : (c : Call) → Passed (guards pl c s) → Does pl s c (accepted pl c s)
   accepted-does (turn x) (e, n) = turns x (phase-of (s .phase) x e)
-  accepted-does (visit (ofLaunch a p t)) g = visits _ _ (launches a p t (may-launch a p t g))
-  accepted-does (visit (ofReply p c)) g = visits _ _ (replies-to p c (s .queue (passiveIn p)) refl g)
-  accepted-does (visit (ofConsume a)) g = visits _ _ (consumes-from a (s .queue (activeIn a)) refl g)
-  accepted-does (visit (ofEntry r o t)) g = visits _ _ (looks r o t (looks-at r o t g))
+  accepted-does (visit v) g = visits v (accepted pl (visit v) s) (accepted-visits v g)
 
   never-7 : (c : Call) → no7 (guards pl c s) ≡ true
   never-7 (turn x) = refl
@@ -151,3 +155,26 @@ module _ {pl : Plan} {s : State} where
   refused-leaves (refuses d v n) {w} e = let same : v ≡ w = cc in (refl, λ k. n (same ∙ k))
   refused-leaves (turns x f) e = absurd (done-not e)
   refused-leaves (visits v o d) e = absurd (visit-not-refused d e)
+
+-- ---- a call whose refusals do not apply
+passed-none : (gs : List Guard) → refusalOf gs ≡ none → Passed gs
+passed-none [] e = record {}
+passed-none (g ∷ gs) e = by (λ f. passed-none gs f) (g .holds) refl
+  where
+    by : (refusalOf gs ≡ none → Passed gs) → (b : Bool) → g .holds ≡ b → Passed (g ∷ gs)
+    by more true h = let f : some (g .why) ≡ none = rw h at e in absurd (some-not-none (sym f))
+    by more false h = (h, more (rw h at e))
+
+module _ (pl : Plan) (c : Call) (s : State) (e : refusalOf (guards pl c s) ≡ none) where
+  -- gives what the rule gives
+  pub call-accepted : call pl c s ≡ accepted pl c s
+  unfolding call
+  call-accepted = rw e
+
+  -- which is no refusal
+  pub accepted-not : (w : Refusal) → accepted pl c s .answer ≢ Refused w
+  accepted-not w f = by c (passed-none (guards pl c s) e) f
+    where
+      by : (c : Call) → Passed (guards pl c s) → accepted pl c s .answer ≡ Refused w → ⊥
+      by (turn x) g k = done-not k
+      by (visit v) g k = visit-not-refused (accepted-visits pl s v g) k

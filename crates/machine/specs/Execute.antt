@@ -9,7 +9,6 @@ use lib.ListN.{length}
 use Rattle.basis.specs.Choice.{pick, also}
 use Rattle.basis.specs.Bounded.{anyBelow}
 use Rattle.basis.specs.Fold.{upTo}
-use Rattle.basis.specs.Walk.{Spot, on, end, lost}
 use Rattle.packets.specs.declared.Kind.{Kind}
 use Rattle.packets.specs.declared.Kind.the-variants.{Setup, Tdown, Ack, Nack}
 use Rattle.packets.specs.declared.Packet.{Packet}
@@ -17,13 +16,14 @@ use Rattle.packets.specs.declared.Phase.the-variants.{Write}
 use Rattle.packets.specs.declared.Entry.{Entry}
 use Rattle.packets.specs.declared.Entry.the-variants.{Free, Booked}
 use Rattle.packets.specs.Counters.{slotNext, startSlot, hubUp, hubDown}
-use Rattle.plan.specs.Plan.{Plan, Port, active, passive, R, A, S, noSide, routeTo}
+use Rattle.plan.specs.Plan.{Plan, active, passive, R, A, S, noSide, routeTo}
 use Rattle.plan.specs.Rules.{home}
 use Rattle.paths.specs.declared.Index.{Index}
 use Rattle.paths.specs.declared.Index.the-variants.{At, Off}
 use Rattle.paths.specs.Walk.{walked}
 use Rattle.paths.specs.Steps.{indexOn, sideAt}
-use Rattle.feeding.specs.Queue.{Queue, activeOut, activeIn, passiveIn, passiveOut, U, Q, F, K}
+use Rattle.feeding.specs.Queue.{Queue, activeOut, activeIn, Q}
+use Rattle.feeding.specs.Role.{Role, sending, receiving, handling, passing, role}
 use Rattle.feeding.specs.Feeds.{Output, ofActive, ofPassive, ofSide, toUnit, fromUnit}
 use Rattle.machine.specs.Capacity.{capacity}
 use Rattle.machine.specs.Outputs.{nextBy, senders, outputs, outputAt}
@@ -113,15 +113,14 @@ hasCredit s none = false
 hasCredit s (some q) = ltb 0 (s .credit q .0)
 
 -- 'in Q a handled one'
+abbrev pub mayLeaveAs : Role → Bool → Bool
+mayLeaveAs sending done = true
+mayLeaveAs receiving done = true
+mayLeaveAs (handling r) done = done
+mayLeaveAs passing done = true
+
 abbrev pub mayLeave : State → Queue → Bool
-mayLeave s (activeOut x) = true
-mayLeave s (activeIn x) = true
-mayLeave s (passiveIn x) = true
-mayLeave s (passiveOut x) = true
-mayLeave s (U r i) = true
-mayLeave s (Q r) = s .handled (Q r)
-mayLeave s (F r o) = true
-mayLeave s (K r i o) = true
+mayLeave s q = mayLeaveAs (role q) (s .handled q)
 
 -- 'A candidate has a head (in Q a handled one) and its next queue has credit'
 abbrev pub headReady : Plan → State → Output → Bool → List Packet → Bool

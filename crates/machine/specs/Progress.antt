@@ -2,8 +2,8 @@
 use mathlib.Core.Path.{_≡_}
 use mathlib.Core.Logic.{_⊎_, _≢_}
 use mathlib.Core.Bool.{Bool, true, false}
-use mathlib.Core.List.{List, [], _∷_, _++_}
-use Prim.Native.Nat.{ℕ, zero, suc, _+_, _≤_, _<_}
+use mathlib.Core.List.{List, [], _∷_}
+use Prim.Native.Nat.{ℕ, _≤_, _<_}
 use lib.ListN.{length}
 use Rattle.kinds.specs.declared.Refusal.{Refusal}
 use Rattle.packets.specs.declared.Packet.{Packet}
@@ -13,7 +13,8 @@ use Rattle.packets.specs.declared.Answer.{Answer}
 use Rattle.packets.specs.declared.Answer.the-variants.{Refused, Done, Taken, Holds}
 use Rattle.plan.specs.declared.Joint.the-variants.{Nothing}
 use Rattle.plan.specs.Plan.{Plan, R, A, P}
-use Rattle.feeding.specs.Queue.{Queue, activeOut, activeIn, passiveIn, passiveOut, U, Q, F, K, Exists}
+use Rattle.feeding.specs.Queue.{Queue, passiveIn, Exists}
+use Rattle.feeding.specs.Role.{Role, sending, receiving, handling, passing, role}
 use Rattle.feeding.specs.Feeds.{Output, ofActive, ofPassive, ofSide, toUnit, fromUnit}
 use Rattle.machine.specs.Capacity.{capacity}
 use Rattle.machine.specs.State.{State}
@@ -39,15 +40,14 @@ pub record Quiet (pl : Plan) (s : State) : Type 0 where
   pub wires : (o : Output) → HasWire pl o → s .wire o ≡ Empty
 
 -- 'an interface's in-queue'
+abbrev pub isInQueueAs : Role → Bool
+isInQueueAs sending = false
+isInQueueAs receiving = true
+isInQueueAs (handling r) = false
+isInQueueAs passing = false
+
 abbrev pub isInQueue : Queue → Bool
-isInQueue (activeOut x) = false
-isInQueue (activeIn x) = true
-isInQueue (passiveIn x) = true
-isInQueue (passiveOut x) = false
-isInQueue (U r i) = false
-isInQueue (Q r) = false
-isInQueue (F r o) = false
-isInQueue (K r i o) = false
+isInQueue q = isInQueueAs (role q)
 
 -- 'a packet is in a wire, or in a queue other than an interface's in-queue'
 abbrev pub UnderWay : Plan → State → Type 0

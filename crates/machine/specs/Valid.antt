@@ -19,12 +19,13 @@ use Rattle.packets.specs.declared.Phase.the-variants.{Read, Execute, Write}
 use Rattle.packets.specs.declared.Entry.the-variants.{Free, Booked}
 use Rattle.plan.specs.Plan.{Plan, R, A, P, S}
 use Rattle.paths.specs.Served.{Served}
-use Rattle.feeding.specs.Queue.{Queue, activeOut, activeIn, passiveIn, passiveOut, U, Q, F, K, Exists, queues, queueAt}
-use Rattle.feeding.specs.Feeds.{Output, ofActive, ofPassive, ofSide, toUnit, fromUnit, Place, inQueue, handledAt, Fits}
+use Rattle.feeding.specs.Queue.{Queue, Q, Exists, queues, queueAt}
+use Rattle.feeding.specs.Role.{Role, sending, receiving, handling, passing, role}
+use Rattle.feeding.specs.Feeds.{Output, ofActive, ofPassive, ofSide, toUnit, fromUnit, Place, inQueue, Fits, headPlace}
 use Rattle.machine.specs.Capacity.{capacity}
 use Rattle.machine.specs.Store.{sameQueue}
 use Rattle.machine.specs.Outputs.{nextBy, senders, outputs, outputAt}
-use Rattle.machine.specs.State.{State, Choice, nobody, sender, start, startAllowance}
+use Rattle.machine.specs.State.{State, Choice, sender, start, startAllowance}
 use Rattle.machine.specs.Execute.{candidate}
 use Rattle.machine.specs.Write.{ofRank}
 
@@ -41,17 +42,6 @@ pub record Belongs (pl : Plan) (at : Place) (x : Packet) : Type 0 where
   pub ranges : PacketOk pl x
   pub serves : Served pl (x .active) (x .passive)
   pub fits : Fits pl (x .kind) (x .active) (x .passive) (x .hub .0) at
-
--- the place of a queue's head: at a unit it may have been handled
-abbrev pub headPlace : Bool → Queue → Place
-headPlace done (activeOut x) = inQueue (activeOut x)
-headPlace done (activeIn x) = inQueue (activeIn x)
-headPlace done (passiveIn x) = inQueue (passiveIn x)
-headPlace done (passiveOut x) = inQueue (passiveOut x)
-headPlace done (U r i) = inQueue (U r i)
-headPlace done (Q r) = pick done (handledAt r) (inQueue (Q r))
-headPlace done (F r o) = inQueue (F r o)
-headPlace done (K r i o) = inQueue (K r i o)
 
 -- the head where it may be, and all behind it in the queue itself
 abbrev pub Lined : Plan → Queue → Bool → List Packet → Type 0
@@ -120,15 +110,14 @@ abbrev pub spends : ℕ → Packet → ℕ
 spends a x = pick (eqb (x .active) a) (spendsKind (x .kind)) 0
 
 -- a queue fed by a wire: all but the out-queues
+abbrev pub isFedAs : Role → Bool
+isFedAs sending = false
+isFedAs receiving = true
+isFedAs (handling r) = true
+isFedAs passing = true
+
 abbrev pub isFed : Queue → Bool
-isFed (activeOut x) = false
-isFed (passiveOut x) = false
-isFed (activeIn x) = true
-isFed (passiveIn x) = true
-isFed (U r i) = true
-isFed (Q r) = true
-isFed (F r o) = true
-isFed (K r i o) = true
+isFed q = isFedAs (role q)
 
 -- ---- a state
 pub record Valid (pl : Plan) (s : State) : Type 0 where

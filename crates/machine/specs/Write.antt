@@ -11,7 +11,8 @@ use Rattle.packets.specs.declared.Wire.the-variants.{Full}
 use Rattle.packets.specs.declared.Phase.the-variants.{Read}
 use Rattle.packets.specs.Counters.{slotNext, creditDown}
 use Rattle.plan.specs.Plan.{Plan, S}
-use Rattle.feeding.specs.Queue.{Queue, activeOut, activeIn, passiveIn, passiveOut, U, Q, F, K}
+use Rattle.feeding.specs.Queue.{Queue}
+use Rattle.feeding.specs.Role.{Role, sending, receiving, handling, passing, role}
 use Rattle.feeding.specs.Feeds.{Output}
 use Rattle.machine.specs.Outputs.{nextBy, senders, outputs, outputAt}
 use Rattle.machine.specs.State.{State, Choice, nobody, sender, withPhase, withSlot, withQueue, withWire, withCredit, withFlag, withHandled, withChoice}
@@ -23,15 +24,14 @@ ofRank (q ∷ qs) zero = some q
 ofRank (q ∷ qs) (suc k) = ofRank qs k
 
 -- 'none for out-queues'
+abbrev pub raiseAs : Role → Queue → State → State
+raiseAs sending q s = s
+raiseAs receiving q s = withFlag q true s
+raiseAs (handling r) q s = withFlag q true (withHandled q false s)
+raiseAs passing q s = withFlag q true s
+
 abbrev pub raise : Queue → State → State
-raise (activeOut x) s = s
-raise (passiveOut x) s = s
-raise (activeIn x) s = withFlag (activeIn x) true s
-raise (passiveIn x) s = withFlag (passiveIn x) true s
-raise (U r i) s = withFlag (U r i) true s
-raise (Q r) s = withFlag (Q r) true (withHandled (Q r) false s)
-raise (F r o) s = withFlag (F r o) true s
-raise (K r i o) s = withFlag (K r i o) true s
+raise q s = raiseAs (role q) q s
 
 -- 'the next queue's credit falls by one'; a candidate has a next queue
 abbrev pub spend : Option Queue → State → State

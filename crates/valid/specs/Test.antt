@@ -22,14 +22,15 @@ use Rattle.paths.specs.Walk.{onward, walked}
 use Rattle.paths.specs.Served.{served}
 use Rattle.paths.specs.Steps.{standsOn}
 use Rattle.feeding.specs.Queue.{Queue, activeOut, activeIn, passiveIn, passiveOut, U, Q, F, K, queues, queueAt}
-use Rattle.feeding.specs.Feeds.{Output, Place, inQueue, handledAt, span}
+use Rattle.feeding.specs.Role.{Role, isUnit}
+use Rattle.feeding.specs.Feeds.{Output, Place, inQueue, handledAt, span, headPlace}
 use Rattle.machine.specs.Capacity.{capacity}
 use Rattle.machine.specs.Outputs.{nextBy, senders, outputs, outputAt}
 use Rattle.machine.specs.State.{State, Choice, nobody, sender, startAllowance, isFree, isFull}
 use Rattle.machine.specs.Execute.{candidate}
 use Rattle.machine.specs.Write.{ofRank}
 use Rattle.machine.specs.Calls.{isPhase, isEmpty}
-use Rattle.machine.specs.Valid.{headPlace, bit, onWires, total, spends, isFed}
+use Rattle.machine.specs.Valid.{bit, onWires, total, spends, isFed}
 
 -- every one of a list passes
 abbrev pub allIn : {X : Type 0} → (X → Bool) → List X → Bool
@@ -147,17 +148,7 @@ abbrev pub pickedTest : State → Output → Choice → Bool
 pickedTest s o nobody = true
 pickedTest s o (sender k) = downTest s (ofRank (senders o) k)
 
--- ---- marks and entries
-abbrev pub isUnit : Queue → Bool
-isUnit (activeOut x) = false
-isUnit (activeIn x) = false
-isUnit (passiveIn x) = false
-isUnit (passiveOut x) = false
-isUnit (U r i) = false
-isUnit (Q r) = true
-isUnit (F r o) = false
-isUnit (K r i o) = false
-
+-- ---- entries
 abbrev pub entryTest : Entry → Bool
 entryTest Free = true
 entryTest (Booked i) = ltb i 4

@@ -12,10 +12,11 @@ use Rattle.plan.specs.Plan.{Plan, A, P, S}
 use Rattle.paths.specs.Served.{Served}
 use Rattle.feeding.specs.Queue.{Queue, activeOut, activeIn, passiveIn, passiveOut, Exists}
 use Rattle.feeding.specs.Feeds.{inQueue}
+use Rattle.feeding.specs.Role.{isUnit}
 use Rattle.wiring.specs.Wired.{Wired}
 use Rattle.machine.specs.State.{State, withQueue, withFlag}
 use Rattle.machine.specs.Calls.{setupOf, launched, repliedAs, replied, removed}
-use Rattle.theory.proofs.Places.Lines.{isUnit, no-mark}
+use Rattle.theory.proofs.Places.Lines.{no-mark}
 use Rattle.theory.proofs.Places.Makes.{setup-belongs, replied-belongs}
 use Rattle.theory.proofs.Kept.Parts.{Kept, flag-kept, allowance-kept}
 use Rattle.theory.proofs.Kept.Lines.{head-belongs, join-kept, gone-kept}

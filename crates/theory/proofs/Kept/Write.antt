@@ -13,19 +13,20 @@ use Rattle.packets.specs.declared.Wire.the-variants.{Full}
 use Rattle.packets.specs.Counters.{slotNext, creditDown}
 use Rattle.plan.specs.Head.{InRange}
 use Rattle.plan.specs.Plan.{Plan, S}
-use Rattle.feeding.specs.Queue.{Queue, activeOut, activeIn, passiveIn, passiveOut, U, Q, F, K, Exists}
-use Rattle.feeding.specs.Feeds.{Output, outputOf, inQueue}
+use Rattle.feeding.specs.Queue.{Queue, Exists}
+use Rattle.feeding.specs.Role.{Role, sending, receiving, handling, passing, role, isUnit}
+use Rattle.feeding.specs.Feeds.{Output, outputOf, inQueue, headPlace}
 use Rattle.wiring.specs.Wired.{Wired}
 use Rattle.machine.specs.Outputs.{nextBy, senders}
 use Rattle.machine.specs.State.{State, Choice, nobody, sender, withSlot, withQueue, withWire}
 use Rattle.machine.specs.Execute.{hasCredit, mayLeave, candidate}
-use Rattle.machine.specs.Write.{ofRank, raise, spend, sendHead, sendFrom, sendBy, send}
-use Rattle.machine.specs.Valid.{Belongs, headPlace, Drives}
+use Rattle.machine.specs.Write.{ofRank, raiseAs, raise, spend, sendHead, sendFrom, sendBy, send}
+use Rattle.machine.specs.Valid.{Belongs, Drives}
 use Rattle.machine.proofs.Apart.{full-same}
 use Rattle.machine.proofs.Numbers.{sender-exists}
 use Rattle.theory.proofs.Core.{Sendable}
 use Rattle.theory.proofs.Places.Feeders.{sender-leaves}
-use Rattle.theory.proofs.Places.Lines.{isUnit, no-mark, head-leaves, line-of, belongs-exists}
+use Rattle.theory.proofs.Places.Lines.{no-mark, head-leaves, line-of, belongs-exists}
 use Rattle.theory.proofs.Places.Makes.{next-belongs}
 use Rattle.theory.proofs.Kept.Parts.{Kept, slot-kept, choice-kept, credit-kept, flag-kept, wire-kept}
 use Rattle.theory.proofs.Kept.Lines.{head-belongs, behind-belong, mark-kept, gone-kept}
@@ -33,21 +34,16 @@ use Rattle.theory.proofs.Kept.Lines.{head-belongs, behind-belong, mark-
 module _ {pl : Plan} (wired : Wired pl) (range : InRange (pl .head)) where
   -- the head of a queue goes, its flag rises, and with the head of a unit's queue its mark goes
   raised : (q : Queue) (x : Packet) (rest : List Packet) (s : State) → Exists pl q → s .queue q ≡ x ∷ rest → Kept pl s → Kept pl (raise q (withQueue q rest s))
-  raised q x rest s h e k = by q h e
+  raised q x rest s h e k = by (role q) refl
     where
-      goes : (q : Queue) → Exists pl q → s .queue q ≡ x ∷ rest → isUnit q ≡ false → Kept pl (withQueue q rest s)
-      goes q h e n = gone-kept k q x rest h e (no-mark pl s (k .marks) q h n)
+      goes : isUnit q ≡ false → Kept pl (withQueue q rest s)
+      goes n = gone-kept k q x rest h e (no-mark pl s (k .marks) q h n)
 
-      by : (q : Queue) → Exists pl q → s .queue q ≡ x ∷ rest → Kept pl (raise q (withQueue q rest s))
-      by (activeOut a) h e = goes (activeOut a) h e refl
-      by (passiveOut p) h e = goes (passiveOut p) h e refl
-      by (activeIn a) h e = flag-kept (goes (activeIn a) h e refl) (activeIn a) true h
-      by (passiveIn p) h e = flag-kept (goes (passiveIn p) h e refl) (passiveIn p) true h
-      by (U r i) h e = flag-kept (goes (U r i) h e refl) (U r i) true h
-      by (Q r) h e =
-          flag-kept (mark-kept k (Q r) false rest h (line-of pl (Q r) rest (behind-belong k (Q r) x rest h e)) (λ t. absurd (false≢true t))) (Q r) true h
-      by (F r o) h e = flag-kept (goes (F r o) h e refl) (F r o) true h
-      by (K r i o) h e = flag-kept (goes (K r i o) h e refl) (K r i o) true h
+      by : (m : Role) → role q ≡ m → Kept pl (raiseAs m q (withQueue q rest s))
+      by sending m = goes (rw m)
+      by receiving m = flag-kept (goes (rw m)) q true h
+      by (handling r) m = flag-kept (mark-kept k q false rest h (line-of pl q rest (behind-belong k q x rest h e)) (λ t. absurd (false≢true t))) q true h
+      by passing m = flag-kept (goes (rw m)) q true h
 
   -- a candidate's head enters the wire
   entered : (o : Output) (q : Queue) (s : State) → Drives pl o → Exists pl q → outputOf q ≡ some o → candidate pl s o q ≡ true → Kept pl s → Kept pl (sendHead pl o q (s .queue q) s)

@@ -8,23 +8,17 @@ use Rattle.packets.specs.declared.Packet.{Packet}
 use Rattle.packets.specs.declared.Wire.{Wire}
 use Rattle.packets.specs.declared.Wire.the-variants.{Empty, Full}
 use Rattle.plan.specs.Plan.{Plan}
-use Rattle.feeding.specs.Queue.{Queue, activeOut, activeIn, passiveIn, passiveOut, U, Q, F, K}
+use Rattle.feeding.specs.Queue.{Queue, activeOut, activeIn}
 use Rattle.feeding.specs.Feeds.{Output}
 use Rattle.machine.specs.Outputs.{nextBy, senders}
 use Rattle.machine.specs.State.{State, Choice, nobody, sender, withQueue, withWire, join}
 use Rattle.machine.specs.Read.{joinNext, arrive, deliver, lower, settle}
 use Rattle.machine.specs.Execute.{choose, unmarked, hasRoom, answer, atActive, undo}
 use Rattle.machine.specs.Write.{ofRank, raise, spend, sendHead, sendFrom, sendBy, send}
+use Rattle.theory.proofs.Places.Senders.{raise-leaves}
 
 raise-table : (q : Queue) (s : State) → raise q s .table ≡ s .table
-raise-table (activeOut x) s = refl
-raise-table (activeIn x) s = refl
-raise-table (passiveIn x) s = refl
-raise-table (passiveOut x) s = refl
-raise-table (U r i) s = refl
-raise-table (Q r) s = refl
-raise-table (F r o) s = refl
-raise-table (K r i o) s = refl
+raise-table = raise-leaves (λ s. s .table) (λ q b s. refl) (λ q b s. refl)
 
 spend-table : (y : Option Queue) (s : State) → spend y s .table ≡ s .table
 spend-table none s = refl

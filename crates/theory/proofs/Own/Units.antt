@@ -15,12 +15,12 @@ use Rattle.packets.specs.declared.Entry.{Entry}
 use Rattle.packets.specs.declared.Entry.the-variants.{Free, Booked}
 use Rattle.plan.specs.Plan.{Plan, R, S}
 use Rattle.feeding.specs.Queue.{Q}
-use Rattle.feeding.specs.Feeds.{inQueue, handledAt, Fits}
+use Rattle.feeding.specs.Feeds.{inQueue, handledAt, Fits, headPlace}
 use Rattle.wiring.specs.Wired.{Wired}
 use Rattle.machine.specs.State.{State, isFree}
 use Rattle.machine.specs.Execute.{cameIn, otherFree, mayBook, unit}
 use Rattle.machine.specs.Accepted.{Connection}
-use Rattle.machine.specs.Valid.{Belongs, headPlace}
+use Rattle.machine.specs.Valid.{Belongs}
 use Rattle.theory.proofs.Places.Closure.{unit-setup}
 use Rattle.theory.proofs.Core.{Core}
 use Rattle.theory.proofs.Places.CameIn.{stands-exit}

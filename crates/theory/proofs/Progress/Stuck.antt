@@ -4,19 +4,17 @@ use mathlib.Core.Path.{_≡_, refl, sym, ap, _∙_}
 use mathlib.Core.Logic.{_⊎_, inl, inr, _≢_}
 use mathlib.Core.Bool.{Bool, true, false, false≢true, true≢false}
 use mathlib.Core.List.{List, [], _∷_}
-use mathlib.Core.Option.{Option, none, some}
+use mathlib.Core.Option.{Option, some}
 use Prim.Native.Nat.{ℕ, _≤_, _<_}
 use native.Mathlib.Nat.{min-le-right}
 use native.Mathlib.Omega.{arith}
 use lib.ListN.{length}
 use borrow.Author.Tests.{eq-eqb}
 use Rattle.basis.specs.Among.{In}
-use Rattle.basis.specs.Choice.{pick}
 use Rattle.basis.specs.Walk.{on, end}
 use Rattle.packets.specs.declared.Kind.{Kind}
-use Rattle.packets.specs.declared.Kind.the-variants.{Setup, Tdown, Ack, Nack}
+use Rattle.packets.specs.declared.Kind.the-variants.{Ack, Nack}
 use Rattle.packets.specs.declared.Packet.{Packet}
-use Rattle.packets.specs.declared.Wire.the-variants.{Empty, Full}
 use Rattle.plan.specs.declared.Head.{Head}
 use Rattle.plan.specs.Head.{InRange}
 use Rattle.plan.specs.declared.Joint.{Joint}
@@ -26,7 +24,7 @@ use Rattle.plan.specs.Rules.{home}
 use Rattle.paths.specs.Walk.{onward}
 use Rattle.paths.specs.Served.{Served}
 use Rattle.feeding.specs.Queue.{Queue, activeOut, activeIn, passiveIn, passiveOut, U, Q, F, K, Exists, number, queues, queueAt}
-use Rattle.feeding.specs.Feeds.{Output, outputOf, Heading, ahead, back, headingOf, destination, enters, across, next, beyond, span, leavesFrom, Fits, Place, inQueue, handledAt, Feeds, FeedRing}
+use Rattle.feeding.specs.Feeds.{Heading, ahead, back, headingOf, destination, enters, across, next, span, leavesFrom, Fits, inQueue, Feeds, FeedRing, headPlace}
 use Rattle.wiring.specs.Wired.{Wired}
 use Rattle.wiring.proofs.Joints.{router-some, interface-some}
 use Rattle.journeys.proofs.Numbers.{queue-at, number-same, number-below}
@@ -35,14 +33,14 @@ use Rattle.journeys.specs.Visits.{Visits}
 use Rattle.journeys.proofs.Walks.{onward-on, onward-end}
 use Rattle.journeys.proofs.Fitting.{fits-visits}
 use Rattle.machine.specs.Capacity.{capacity}
-use Rattle.machine.specs.Outputs.{nextBy, senders}
 use Rattle.machine.specs.State.{State, startAllowance}
-use Rattle.machine.specs.Valid.{PacketOk, Belongs, headPlace, Lined, brings, bit, isFed, onWires, inAll, inWire, total, spends}
+use Rattle.machine.specs.Valid.{Belongs, Lined, bit, isFed, onWires, inAll, total, spends}
 use Rattle.machine.specs.Outputs.{outputs, outputAt}
 use Rattle.machine.specs.Progress.{isInQueue, PassiveRoom}
 use Rattle.machine.proofs.OutNumbers.{drives-at}
 use Rattle.theory.proofs.Ground.Sums.{sum-two, sum-nought}
 use Rattle.theory.proofs.Core.{Core, WiresEmpty, FlagsDown, account}
+use Rattle.theory.proofs.Places.Lines.{head-leaves, may-leave}
 use Rattle.theory.proofs.Places.Closure.{fits-next, active-answer}
 use Rattle.theory.proofs.Progress.Follow.{follow}
 
@@ -137,14 +135,7 @@ module _ {pl : Plan} (wired : Wired pl) (range : InRange (pl .head)) (free : Fee
 
   -- the head is where it leaves from
   head-place : (q : Queue) (x : Packet) (rest : List Packet) → Exists pl q → s .queue q ≡ x ∷ rest → headPlace (s .handled q) q ≡ leavesFrom q
-  head-place (activeOut a) x rest h e = refl
-  head-place (activeIn a) x rest h e = refl
-  head-place (passiveIn a) x rest h e = refl
-  head-place (passiveOut a) x rest h e = refl
-  head-place (U r i) x rest h e = refl
-  head-place (Q r) x rest h e = rw (jam .handled r x rest h e)
-  head-place (F r o) x rest h e = refl
-  head-place (K r i o) x rest h e = refl
+  head-place q x rest h e = head-leaves s q (may-leave s q (λ r u. rw u (jam .handled r x rest (rw u at h) (rw u at e))))
 
   head-belongs : (q : Queue) (x : Packet) (rest : List Packet) → Exists pl q → s .queue q ≡ x ∷ rest → Belongs pl (leavesFrom q) x
   head-belongs q x rest h e = rw (head-place q x rest h e) at ((rw e at (jam .core .places q h)) .0)

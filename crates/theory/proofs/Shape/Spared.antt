@@ -11,11 +11,12 @@ use Rattle.kinds.specs.declared.Credit.{Credit}
 use Rattle.packets.specs.declared.Packet.{Packet}
 use Rattle.packets.specs.Counters.{creditDown}
 use Rattle.plan.specs.Plan.{Plan}
-use Rattle.feeding.specs.Queue.{Queue, activeOut, activeIn, passiveIn, passiveOut, U, Q, F, K}
+use Rattle.feeding.specs.Queue.{Queue}
+use Rattle.feeding.specs.Role.{Role, role}
 use Rattle.feeding.specs.Feeds.{Output, outputOf}
 use Rattle.machine.specs.Outputs.{nextBy}
 use Rattle.machine.specs.State.{State, withQueue, withFlag, join}
-use Rattle.machine.specs.Execute.{mayLeave, candidate}
+use Rattle.machine.specs.Execute.{mayLeaveAs, mayLeave, candidate}
 use Rattle.machine.specs.Write.{raise, spend}
 use Rattle.theory.proofs.Core.{Sendable}
 use Rattle.theory.proofs.Places.Feeders.{sender-leaves}
@@ -44,14 +45,7 @@ unfolding candidate
 ready-candidate pl s o q r = rw (r .queue) (also-of (r .leaves) (rw (r .goes) (lt-ltb 0 (s .credit (r .next) .0) (r .room))))
 
 may-same : (s t : State) (q : Queue) → t .handled q ≡ s .handled q → mayLeave t q ≡ mayLeave s q
-may-same s t (activeOut x) e = refl
-may-same s t (activeIn x) e = refl
-may-same s t (passiveIn x) e = refl
-may-same s t (passiveOut x) e = refl
-may-same s t (U r i) e = refl
-may-same s t (Q r) e = e
-may-same s t (F r o) e = refl
-may-same s t (K r i o) e = refl
+may-same s t q e = ap (mayLeaveAs (role q)) e
 
 -- a candidate of a spared output stays one
 pub spared-ready : {pl : Plan} {s t : State} {o : Output} → Spares pl s t o → (q : Queue) → outputOf q ≡ some o → Ready pl s o q → Ready pl t o q

@@ -11,11 +11,11 @@ use Rattle.packets.specs.declared.Kind.the-variants.{Setup, Tdown}
 use Rattle.packets.specs.declared.Packet.{Packet}
 use Rattle.plan.specs.Plan.{Plan, R, A, P, S}
 use Rattle.feeding.specs.Queue.{Queue, activeOut, activeIn, passiveIn, passiveOut, Q, Exists}
-use Rattle.feeding.specs.Feeds.{inQueue, handledAt}
+use Rattle.feeding.specs.Feeds.{inQueue, handledAt, headPlace}
 use Rattle.machine.specs.State.{State, withQueue, withFlag, join}
 use Rattle.machine.specs.Execute.{declined, booked, freed, handledAs, unit, unmarked, marked, tdownOf, hasRoom, undo}
 use Rattle.machine.specs.Calls.{setupOf, launched, repliedAs, replied, removed}
-use Rattle.machine.specs.Valid.{headPlace, inAll}
+use Rattle.machine.specs.Valid.{inAll}
 use Rattle.theory.proofs.Core.{Core}
 use Rattle.theory.proofs.Weights.Total.{Weight, inLine, weighed, weighed-line, weighed-join}
 use Rattle.theory.proofs.Cases.{mayBookAt, unit-empty, unit-handled, unit-books, unit-declines, unit-ends, unit-frees, undo-tears}

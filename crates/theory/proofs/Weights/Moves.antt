@@ -13,15 +13,16 @@ use Rattle.packets.specs.declared.Phase.{Phase}
 use Rattle.packets.specs.declared.Wire.{Wire}
 use Rattle.packets.specs.declared.Wire.the-variants.{Empty, Full}
 use Rattle.plan.specs.Plan.{Plan}
-use Rattle.feeding.specs.Queue.{Queue, activeOut, activeIn, passiveIn, passiveOut, U, Q, F, K, Exists, queueAt, queues}
-use Rattle.feeding.specs.Feeds.{Output, Place, inQueue, leavesFrom}
+use Rattle.feeding.specs.Queue.{Queue, Exists, queueAt, queues}
+use Rattle.feeding.specs.Role.{Role, sending, receiving, handling, passing, role}
+use Rattle.feeding.specs.Feeds.{Output, Place, inQueue, leavesFrom, headPlace}
 use Rattle.wiring.specs.Wired.{Wired}
 use Rattle.machine.specs.Outputs.{nextBy, senders, outputs, outputAt}
 use Rattle.machine.specs.State.{State, sender, withPhase, withSlot, withQueue, withWire}
 use Rattle.machine.specs.Read.{deliver, lower, settle, doRead}
 use Rattle.machine.specs.Execute.{mayLeave, choose}
-use Rattle.machine.specs.Write.{ofRank, raise, spend, send, doWrite}
-use Rattle.machine.specs.Valid.{Belongs, headPlace, Lined, Drives, Carries, inAll}
+use Rattle.machine.specs.Write.{ofRank, raiseAs, raise, spend, send, doWrite}
+use Rattle.machine.specs.Valid.{Belongs, Lined, Drives, Carries, inAll}
 use Rattle.machine.proofs.Numbers.{sender-exists}
 use Rattle.machine.proofs.OutNumbers.{drives-at}
 use Rattle.theory.proofs.Core.{Core, Sendable}
@@ -85,20 +86,16 @@ module _ (pl : Plan) (w : Weight) where
   leave-weighed : (q : Queue) → Exists pl q → (xs : List Packet) (s : State)
       → weighed pl w (raise q (withQueue q xs s)) + inLine w q (s .handled q) (s .queue q) ≡ weighed pl w s + inAll (w (inQueue q)) xs
   unfolding weighed
-  leave-weighed q h xs s = by q h
+  leave-weighed q h xs s = by (role q) refl
     where
-      plain : (q : Queue) → Exists pl q → headPlace (s .handled q) q ≡ inQueue q → weighed pl w (withQueue q xs s) + inLine w q (s .handled q) (s .queue q) ≡ weighed pl w s + inAll (w (inQueue q)) xs
-      plain q h e = weighed-queue pl w q h xs s ∙ ap (λ (n : ℕ). weighed pl w s + n) (line-in w q (s .handled q) xs e)
+      plain : headPlace (s .handled q) q ≡ inQueue q → weighed pl w (withQueue q xs s) + inLine w q (s .handled q) (s .queue q) ≡ weighed pl w s + inAll (w (inQueue q)) xs
+      plain e = weighed-queue pl w q h xs s ∙ ap (λ (n : ℕ). weighed pl w s + n) (line-in w q (s .handled q) xs e)
 
-      by : (q : Queue) → Exists pl q → weighed pl w (raise q (withQueue q xs s)) + inLine w q (s .handled q) (s .queue q) ≡ weighed pl w s + inAll (w (inQueue q)) xs
-      by (activeOut x) h = plain (activeOut x) h refl
-      by (activeIn x) h = plain (activeIn x) h refl
-      by (passiveIn x) h = plain (passiveIn x) h refl
-      by (passiveOut x) h = plain (passiveOut x) h refl
-      by (U r i) h = plain (U r i) h refl
-      by (Q r) h = weighed-line pl w (Q r) h false xs s ∙ ap (λ (n : ℕ). weighed pl w s + n) (line-fresh w (Q r) xs)
-      by (F r o) h = plain (F r o) h refl
-      by (K r i o) h = plain (K r i o) h refl
+      by : (k : Role) → role q ≡ k → weighed pl w (raiseAs k q (withQueue q xs s)) + inLine w q (s .handled q) (s .queue q) ≡ weighed pl w s + inAll (w (inQueue q)) xs
+      by sending e = plain (rw e)
+      by receiving e = plain (rw e)
+      by (handling r) e = weighed-line pl w q h false xs s ∙ ap (λ (n : ℕ). weighed pl w s + n) (line-fresh w q xs)
+      by passing e = plain (rw e)
 
   -- A head that is sent weighs as in its next queue from then on.
   pub sent-weighed : (s : State) (o : Output) (q y : Queue) (x : Packet) (rest : List Packet) → Drives pl o → Exists pl q → s .wire o ≡ Empty

@@ -13,12 +13,12 @@ use Rattle.packets.specs.declared.Wire.{Wire}
 use Rattle.packets.specs.declared.Wire.the-variants.{Empty, Full}
 use Rattle.plan.specs.Plan.{Plan}
 use Rattle.feeding.specs.Queue.{Queue, Exists, number, queues, queueAt}
-use Rattle.feeding.specs.Feeds.{Output, Place, inQueue}
+use Rattle.feeding.specs.Feeds.{Output, Place, inQueue, headPlace}
 use Rattle.journeys.proofs.Numbers.{queue-at, number-below}
 use Rattle.machine.specs.Store.{put, sameQueue, same-queue, queue-same, sameOutput, same-output, output-same, put-here, put-away}
 use Rattle.machine.specs.Outputs.{nextBy, outputs, outputAt, outputNumber}
 use Rattle.machine.specs.State.{State, start, withQueue, withWire, withHandled, join}
-use Rattle.machine.specs.Valid.{headPlace, Drives, sum, inAll, inWire, total}
+use Rattle.machine.specs.Valid.{Drives, sum, inAll, inWire, total}
 use Rattle.machine.proofs.Numbers.{at-number}
 use Rattle.machine.proofs.OutNumbers.{output-at, output-below, drives-at, at-output}
 use Rattle.theory.proofs.Ground.Sums.{sum-same, sum-but, sum-nought}

@@ -32,12 +32,12 @@ pub record Refuses (s : State) (o : Outcome) : Type 0 where
 
 -- accepted: what the call gives, and for the three of a round the phase that it wants
 abbrev pub Accepts : Plan → Call → State → Outcome → Type 0
-Accepts pl read s o = (s .phase ≡ Read) × (o ≡ gives Done (doRead pl s))
-Accepts pl execute s o = (s .phase ≡ Execute) × (o ≡ gives Done (doExecute pl s))
-Accepts pl write s o = (s .phase ≡ Write) × (o ≡ gives Done (doWrite pl s))
+Accepts pl read s o = (s .clock .phase ≡ Read) × (o ≡ gives Done (doRead pl s))
+Accepts pl execute s o = (s .clock .phase ≡ Execute) × (o ≡ gives Done (doExecute pl s))
+Accepts pl write s o = (s .clock .phase ≡ Write) × (o ≡ gives Done (doWrite pl s))
 Accepts pl (launch a p t) s o = o ≡ gives Done (launched a p t s)
-Accepts pl (reply p c) s o = o ≡ gives Done (replied p (replyKind c) (s .queue (passiveIn p)) s)
-Accepts pl (consume a) s o = (x : Packet) × (rest : List Packet) × (s .queue (activeIn a) ≡ x ∷ rest) × (o ≡ gives (Taken x) (removed a rest s))
+Accepts pl (reply p c) s o = o ≡ gives Done (replied p (replyKind c) (s .lines .queue (passiveIn p)) s)
+Accepts pl (consume a) s o = (x : Packet) × (rest : List Packet) × (s .lines .queue (activeIn a) ≡ x ∷ rest) × (o ≡ gives (Taken x) (removed a rest s))
 Accepts pl (entry r o t) s x = x ≡ gives (Holds (s .table r o t)) s
 
 refuse-case : (F : Outcome → Type 0) (t : Bool) (w : Refusal) (s : State) (rest : Outcome) → eqb (refusalNumber w) 7 ≡ false → (t ≡ false → Refuses s rest ⊎ F rest)
@@ -45,7 +45,7 @@ refuse-case : (F : Outcome → Type 0) (t : Bool) (w : Refusal) (s : State) (res
 refuse-case F true w s rest n f = inl (record { why = w; not-7 = n; same = refl })
 refuse-case F false w s rest n f = f refl
 
-consumed-case : (pl : Plan) (a : ℕ) (s : State) (xs : List Packet) → s .queue (activeIn a) ≡ xs → Refuses s (refuse (isEmpty xs) QueueEmpty s (refuse (headUnmarked xs) Unmarked s (consumed a xs s)))
+consumed-case : (pl : Plan) (a : ℕ) (s : State) (xs : List Packet) → s .lines .queue (activeIn a) ≡ xs → Refuses s (refuse (isEmpty xs) QueueEmpty s (refuse (headUnmarked xs) Unmarked s (consumed a xs s)))
     ⊎ Accepts pl (consume a) s (refuse (isEmpty xs) QueueEmpty s (refuse (headUnmarked xs) Unmarked s (consumed a xs s)))
 consumed-case pl a s [] e = inl (record { why = QueueEmpty; not-7 = refl; same = refl })
 consumed-case pl a s (x ∷ xs) e = refuse-case (Accepts pl (consume a) s) (unmarked x) Unmarked s (gives (Taken x) (removed a xs s)) refl (λ k. inr (x, xs, e, refl))
@@ -53,25 +53,25 @@ consumed-case pl a s (x ∷ xs) e = refuse-case (Accepts pl (consume a) s) (unma
 -- every call is refused or accepted so
 pub rule-cases : (pl : Plan) (c : Call) (s : State) → Refuses s (call pl c s) ⊎ Accepts pl c s (call pl c s)
 unfolding readCall executeCall writeCall launchCall replyCall consumeCall entryCall
-rule-cases pl read s = refuse-case (Accepts pl read s) (not (isPhase (s .phase) Read)) WrongPhase s _ refl (λ e. inr (phase-of (s .phase) Read e, refl))
-rule-cases pl execute s = refuse-case (Accepts pl execute s) (not (isPhase (s .phase) Execute)) WrongPhase s _ refl (λ e. inr (phase-of (s .phase) Execute e, refl))
-rule-cases pl write s = refuse-case (Accepts pl write s) (not (isPhase (s .phase) Write)) WrongPhase s _ refl (λ e. inr (phase-of (s .phase) Write e, refl))
+rule-cases pl read s = refuse-case (Accepts pl read s) (not (isPhase (s .clock .phase) Read)) WrongPhase s _ refl (λ e. inr (phase-of (s .clock .phase) Read e, refl))
+rule-cases pl execute s = refuse-case (Accepts pl execute s) (not (isPhase (s .clock .phase) Execute)) WrongPhase s _ refl (λ e. inr (phase-of (s .clock .phase) Execute e, refl))
+rule-cases pl write s = refuse-case (Accepts pl write s) (not (isPhase (s .clock .phase) Write)) WrongPhase s _ refl (λ e. inr (phase-of (s .clock .phase) Write e, refl))
 rule-cases pl (launch a p t) s =
-    refuse-case (Accepts pl (launch a p t) s) (not (isPhase (s .phase) Read)) WrongPhase s _ refl
+    refuse-case (Accepts pl (launch a p t) s) (not (isPhase (s .clock .phase) Read)) WrongPhase s _ refl
     (λ e. refuse-case (Accepts pl (launch a p t) s) (not (ltb a (A pl) && ltb p (P pl) && ltb t (S pl))) BadNumber s _ refl
     (λ f. refuse-case (Accepts pl (launch a p t) s) (not (served pl a p)) NotServed s _ refl
-    (λ g. refuse-case (Accepts pl (launch a p t) s) (eqb (s .allowance a) 0) NoAllowance s _ refl
+    (λ g. refuse-case (Accepts pl (launch a p t) s) (eqb (s .flow .allowance a) 0) NoAllowance s _ refl
     (λ h. refuse-case (Accepts pl (launch a p t) s) (not (hasRoom pl (activeOut a) s)) QueueFull s _ refl (λ i. inr refl)))))
 rule-cases pl (reply p c) s =
-    refuse-case (Accepts pl (reply p c) s) (not (isPhase (s .phase) Write)) WrongPhase s _ refl
+    refuse-case (Accepts pl (reply p c) s) (not (isPhase (s .clock .phase) Write)) WrongPhase s _ refl
     (λ e. refuse-case (Accepts pl (reply p c) s) (not (ltb p (P pl) && leb c 1)) BadNumber s _ refl
-    (λ f. refuse-case (Accepts pl (reply p c) s) (s .flag (passiveIn p)) FlagUp s _ refl
-    (λ g. refuse-case (Accepts pl (reply p c) s) (isEmpty (s .queue (passiveIn p))) QueueEmpty s _ refl
+    (λ f. refuse-case (Accepts pl (reply p c) s) (s .flow .flag (passiveIn p)) FlagUp s _ refl
+    (λ g. refuse-case (Accepts pl (reply p c) s) (isEmpty (s .lines .queue (passiveIn p))) QueueEmpty s _ refl
     (λ h. refuse-case (Accepts pl (reply p c) s) (not (hasRoom pl (passiveOut p) s)) QueueFull s _ refl (λ i. inr refl)))))
 rule-cases pl (consume a) s =
-    refuse-case (Accepts pl (consume a) s) (not (isPhase (s .phase) Write)) WrongPhase s _ refl
+    refuse-case (Accepts pl (consume a) s) (not (isPhase (s .clock .phase) Write)) WrongPhase s _ refl
     (λ e. refuse-case (Accepts pl (consume a) s) (not (ltb a (A pl))) BadNumber s _ refl
-    (λ f. refuse-case (Accepts pl (consume a) s) (s .flag (activeIn a)) FlagUp s _ refl (λ g. consumed-case pl a s (s .queue (activeIn a)) refl)))
+    (λ f. refuse-case (Accepts pl (consume a) s) (s .flow .flag (activeIn a)) FlagUp s _ refl (λ g. consumed-case pl a s (s .lines .queue (activeIn a)) refl)))
 rule-cases pl (entry r o t) s = refuse-case (Accepts pl (entry r o t) s) (not (ltb r (R pl) && ltb o 4 && ltb t (S pl))) BadNumber s _ refl (λ e. inr refl)
 
 -- ---- what the cases tell of every call

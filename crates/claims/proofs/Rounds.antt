@@ -67,48 +67,48 @@ pub record Turns (x : Phase) (reads executes writes : ℕ) (y : Phase) : Type 0 
   pub execute-turn : executes + executeBehind x ≡ writes + executeBehind y
 
 abbrev pub Turn : Call → Phase → Outcome → Type 0
-Turn c x o = Turns x (readsCall c (o .answer)) (executesCall c (o .answer)) (endsRound c (o .answer)) (o .state .phase)
+Turn c x o = Turns x (readsCall c (o .answer)) (executesCall c (o .answer)) (endsRound c (o .answer)) (o .state .clock .phase)
 
 -- where nothing is counted the phase is kept
 still : (x y : Phase) → y ≡ x → Turns x 0 0 0 y
 still x y e = rw e (record { read-turn = refl; execute-turn = refl })
 
-refused-turn : (c : Call) (w : Refusal) (s : State) → Turn c (s .phase) (gives (Refused w) s)
-refused-turn read w s = still (s .phase) (s .phase) refl
-refused-turn execute w s = still (s .phase) (s .phase) refl
-refused-turn write w s = still (s .phase) (s .phase) refl
-refused-turn (launch a p t) w s = still (s .phase) (s .phase) refl
-refused-turn (reply p c) w s = still (s .phase) (s .phase) refl
-refused-turn (consume a) w s = still (s .phase) (s .phase) refl
-refused-turn (entry r o t) w s = still (s .phase) (s .phase) refl
+refused-turn : (c : Call) (w : Refusal) (s : State) → Turn c (s .clock .phase) (gives (Refused w) s)
+refused-turn read w s = still (s .clock .phase) (s .clock .phase) refl
+refused-turn execute w s = still (s .clock .phase) (s .clock .phase) refl
+refused-turn write w s = still (s .clock .phase) (s .clock .phase) refl
+refused-turn (launch a p t) w s = still (s .clock .phase) (s .clock .phase) refl
+refused-turn (reply p c) w s = still (s .clock .phase) (s .clock .phase) refl
+refused-turn (consume a) w s = still (s .clock .phase) (s .clock .phase) refl
+refused-turn (entry r o t) w s = still (s .clock .phase) (s .clock .phase) refl
 
-replied-phase : (p c : ℕ) (xs : List Packet) (s : State) → replied p (replyKind c) xs s .phase ≡ s .phase
+replied-phase : (p c : ℕ) (xs : List Packet) (s : State) → replied p (replyKind c) xs s .clock .phase ≡ s .clock .phase
 unfolding join
 replied-phase p c [] s = refl
 replied-phase p c (x ∷ xs) s = refl
 
-accepted-turn : (pl : Plan) (c : Call) (s : State) (o : Outcome) → Accepts pl c s o → Turn c (s .phase) o
+accepted-turn : (pl : Plan) (c : Call) (s : State) (o : Outcome) → Accepts pl c s o → Turn c (s .clock .phase) o
 unfolding doRead doExecute doWrite launched join removed
 accepted-turn pl read s o (e, x) = rw (x, e) (record { read-turn = refl; execute-turn = refl })
 accepted-turn pl execute s o (e, x) = rw (x, e) (record { read-turn = refl; execute-turn = refl })
 accepted-turn pl write s o (e, x) = rw (x, e) (record { read-turn = refl; execute-turn = refl })
-accepted-turn pl (launch a p t) s o x = still (s .phase) (o .state .phase) (ap (λ (y : Outcome). y .state .phase) x)
-accepted-turn pl (reply p c) s o x = still (s .phase) (o .state .phase) (ap (λ (y : Outcome). y .state .phase) x ∙ replied-phase p c (s .queue (passiveIn p)) s)
-accepted-turn pl (consume a) s o (y, rest, q, x) = still (s .phase) (o .state .phase) (ap (λ (y : Outcome). y .state .phase) x)
-accepted-turn pl (entry r i t) s o x = still (s .phase) (o .state .phase) (ap (λ (y : Outcome). y .state .phase) x)
+accepted-turn pl (launch a p t) s o x = still (s .clock .phase) (o .state .clock .phase) (ap (λ (y : Outcome). y .state .clock .phase) x)
+accepted-turn pl (reply p c) s o x = still (s .clock .phase) (o .state .clock .phase) (ap (λ (y : Outcome). y .state .clock .phase) x ∙ replied-phase p c (s .lines .queue (passiveIn p)) s)
+accepted-turn pl (consume a) s o (y, rest, q, x) = still (s .clock .phase) (o .state .clock .phase) (ap (λ (y : Outcome). y .state .clock .phase) x)
+accepted-turn pl (entry r i t) s o x = still (s .clock .phase) (o .state .clock .phase) (ap (λ (y : Outcome). y .state .clock .phase) x)
 
 -- every call turns the phase by what it counts, and not otherwise
-pub call-turn : (pl : Plan) (c : Call) (s : State) → Turn c (s .phase) (call pl c s)
+pub call-turn : (pl : Plan) (c : Call) (s : State) → Turn c (s .clock .phase) (call pl c s)
 call-turn pl c s = by (rule-cases pl c s)
   where
-    by : Refuses s (call pl c s) ⊎ Accepts pl c s (call pl c s) → Turn c (s .phase) (call pl c s)
+    by : Refuses s (call pl c s) ⊎ Accepts pl c s (call pl c s) → Turn c (s .clock .phase) (call pl c s)
     by (inl r) = rw (r .same) (refused-turn c (r .why) s)
     by (inr a) = accepted-turn pl c s (call pl c s) a
 
 -- ---- a list of calls
 -- from any state: what is counted is as many rounds, but for the part of a round behind the first phase and behind the last
-pub list-turn : (pl : Plan) (cs : List Call) (s : State) → Turns (s .phase) (readsOf pl cs s) (executesOf pl cs s) (rounds pl cs s) (ruledAfter pl cs s .phase)
-list-turn pl [] s = still (s .phase) (s .phase) refl
+pub list-turn : (pl : Plan) (cs : List Call) (s : State) → Turns (s .clock .phase) (readsOf pl cs s) (executesOf pl cs s) (rounds pl cs s) (ruledAfter pl cs s .clock .phase)
+list-turn pl [] s = still (s .clock .phase) (s .clock .phase) refl
 list-turn pl (c ∷ cs) s =
     let a = call-turn pl c s in
     let b = list-turn pl cs (call pl c s .state) in
@@ -121,21 +121,21 @@ behind-few Execute = (omega arith, omega arith)
 behind-few Write = (omega arith, omega arith)
 
 -- a list from READ has no part of a round behind it
-from-read : (pl : Plan) (cs : List Call) (s : State) → s .phase ≡ Read → Turns Read (readsOf pl cs s) (executesOf pl cs s) (rounds pl cs s) (ruledAfter pl cs s .phase)
-from-read pl cs s e = subst (λ (x : Phase). Turns x (readsOf pl cs s) (executesOf pl cs s) (rounds pl cs s) (ruledAfter pl cs s .phase)) e (list-turn pl cs s)
+from-read : (pl : Plan) (cs : List Call) (s : State) → s .clock .phase ≡ Read → Turns Read (readsOf pl cs s) (executesOf pl cs s) (rounds pl cs s) (ruledAfter pl cs s .clock .phase)
+from-read pl cs s e = subst (λ (x : Phase). Turns x (readsOf pl cs s) (executesOf pl cs s) (rounds pl cs s) (ruledAfter pl cs s .clock .phase)) e (list-turn pl cs s)
 
 -- from READ there are never fewer Executes than Writes, nor fewer Reads than Executes, and at most one Read more than Writes
-pub rounds-between : (pl : Plan) (cs : List Call) (s : State) → s .phase ≡ Read
+pub rounds-between : (pl : Plan) (cs : List Call) (s : State) → s .clock .phase ≡ Read
     → (rounds pl cs s ≤ executesOf pl cs s) × (executesOf pl cs s ≤ readsOf pl cs s) × (readsOf pl cs s ≤ rounds pl cs s + 1)
 rounds-between pl cs s e =
-    let t = from-read pl cs s e in let r = t .read-turn in let x = t .execute-turn in let f = behind-few (ruledAfter pl cs s .phase) in let f0 = f .0 in let f1 = f .1 in
+    let t = from-read pl cs s e in let r = t .read-turn in let x = t .execute-turn in let f = behind-few (ruledAfter pl cs s .clock .phase) in let f0 = f .0 in let f1 = f .1 in
     (omega arith, omega arith, omega arith)
 
 -- from READ to READ there are as many Reads, Executes and Writes: whole rounds
-pub rounds-whole : (pl : Plan) (cs : List Call) (s : State) → s .phase ≡ Read → ruledAfter pl cs s .phase ≡ Read
+pub rounds-whole : (pl : Plan) (cs : List Call) (s : State) → s .clock .phase ≡ Read → ruledAfter pl cs s .clock .phase ≡ Read
     → (readsOf pl cs s ≡ rounds pl cs s) × (executesOf pl cs s ≡ rounds pl cs s)
 rounds-whole pl cs s e f =
     let t = from-read pl cs s e in let r = t .read-turn in let x = t .execute-turn in
-    let b : readBehind (ruledAfter pl cs s .phase) ≡ 0 = rw f in
-    let d : executeBehind (ruledAfter pl cs s .phase) ≡ 0 = rw f in
+    let b : readBehind (ruledAfter pl cs s .clock .phase) ≡ 0 = rw f in
+    let d : executeBehind (ruledAfter pl cs s .clock .phase) ≡ 0 = rw f in
     (omega arith, omega arith)

@@ -51,13 +51,13 @@ isEmpty (x ∷ xs) = false
 
 -- '**Read, Execute, Write**: 8 another phase'
 unfoldable pub readCall : Plan → State → Outcome
-readCall pl s = refuse (not (isPhase (s .phase) Read)) WrongPhase s (gives Done (doRead pl s))
+readCall pl s = refuse (not (isPhase (s .clock .phase) Read)) WrongPhase s (gives Done (doRead pl s))
 
 unfoldable pub executeCall : Plan → State → Outcome
-executeCall pl s = refuse (not (isPhase (s .phase) Execute)) WrongPhase s (gives Done (doExecute pl s))
+executeCall pl s = refuse (not (isPhase (s .clock .phase) Execute)) WrongPhase s (gives Done (doExecute pl s))
 
 unfoldable pub writeCall : Plan → State → Outcome
-writeCall pl s = refuse (not (isPhase (s .phase) Write)) WrongPhase s (gives Done (doWrite pl s))
+writeCall pl s = refuse (not (isPhase (s .clock .phase) Write)) WrongPhase s (gives Done (doWrite pl s))
 
 -- '**Launch** (active, passive, slot) .. a SETUP, hub 0, joins and the allowance falls by one'
 abbrev pub setupOf : ℕ → ℕ → ℕ → Packet
@@ -65,14 +65,14 @@ setupOf a p t = record { kind = Setup; active = a; passive = p; slot = record { 
 
 -- an allowance of 0 has been refused
 unfoldable pub launched : ℕ → ℕ → ℕ → State → State
-launched a p t s = withAllowance a (s .allowance a - 1) (join (activeOut a) (setupOf a p t) s)
+launched a p t s = withAllowance a (s .flow .allowance a - 1) (join (activeOut a) (setupOf a p t) s)
 
 unfoldable pub launchCall : Plan → ℕ → ℕ → ℕ → State → Outcome
 launchCall pl a p t s =
-    refuse (not (isPhase (s .phase) Read)) WrongPhase s
+    refuse (not (isPhase (s .clock .phase) Read)) WrongPhase s
     (refuse (not (ltb a (A pl) && ltb p (P pl) && ltb t (S pl))) BadNumber s
     (refuse (not (served pl a p)) NotServed s
-    (refuse (eqb (s .allowance a) 0) NoAllowance s
+    (refuse (eqb (s .flow .allowance a) 0) NoAllowance s
     (refuse (not (hasRoom pl (activeOut a) s)) QueueFull s
     (gives Done (launched a p t s))))))
 
@@ -92,17 +92,17 @@ replied p k (x ∷ rest) s =
 
 unfoldable pub replyCall : Plan → ℕ → ℕ → State → Outcome
 replyCall pl p c s =
-    refuse (not (isPhase (s .phase) Write)) WrongPhase s
+    refuse (not (isPhase (s .clock .phase) Write)) WrongPhase s
     (refuse (not (ltb p (P pl) && leb c 1)) BadNumber s
-    (refuse (s .flag (passiveIn p)) FlagUp s
-    (refuse (isEmpty (s .queue (passiveIn p))) QueueEmpty s
+    (refuse (s .flow .flag (passiveIn p)) FlagUp s
+    (refuse (isEmpty (s .lines .queue (passiveIn p))) QueueEmpty s
     (refuse (not (hasRoom pl (passiveOut p) s)) QueueFull s
-    (gives Done (replied p (replyKind c) (s .queue (passiveIn p)) s))))))
+    (gives Done (replied p (replyKind c) (s .lines .queue (passiveIn p)) s))))))
 
 -- '**Consume** (active) .. the packet is returned and removed, the flag rises, the allowance grows by one': the head,
 -- and its removal
 unfoldable pub removed : ℕ → List Packet → State → State
-removed a rest s = withAllowance a (s .allowance a + 1) (withFlag (activeIn a) true (withQueue (activeIn a) rest s))
+removed a rest s = withAllowance a (s .flow .allowance a + 1) (withFlag (activeIn a) true (withQueue (activeIn a) rest s))
 
 abbrev pub headUnmarked : List Packet → Bool
 headUnmarked [] = false
@@ -115,12 +115,12 @@ consumed a (x ∷ rest) s = gives (Taken x) (removed a rest s)
 
 unfoldable pub consumeCall : Plan → ℕ → State → Outcome
 consumeCall pl a s =
-    refuse (not (isPhase (s .phase) Write)) WrongPhase s
+    refuse (not (isPhase (s .clock .phase) Write)) WrongPhase s
     (refuse (not (ltb a (A pl))) BadNumber s
-    (refuse (s .flag (activeIn a)) FlagUp s
-    (refuse (isEmpty (s .queue (activeIn a))) QueueEmpty s
-    (refuse (headUnmarked (s .queue (activeIn a))) Unmarked s
-    (consumed a (s .queue (activeIn a)) s)))))
+    (refuse (s .flow .flag (activeIn a)) FlagUp s
+    (refuse (isEmpty (s .lines .queue (activeIn a))) QueueEmpty s
+    (refuse (headUnmarked (s .lines .queue (activeIn a))) Unmarked s
+    (consumed a (s .lines .queue (activeIn a)) s)))))
 
 -- '**Entry** (router, side, slot): 9. Else the entry'
 unfoldable pub entryCall : Plan → ℕ → ℕ → ℕ → State → Outcome

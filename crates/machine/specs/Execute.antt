@@ -104,13 +104,13 @@ atUnit pl r (x ∷ rest) true s = s
 atUnit pl r (x ∷ rest) false s = handle pl r (routeTo pl (passive (x .passive)) r) (x .kind) x rest s
 
 unfoldable pub unit : Plan → ℕ → State → State
-unit pl r s = atUnit pl r (s .queue (Q r)) (s .handled (Q r)) s
+unit pl r s = atUnit pl r (s .lines .queue (Q r)) (s .lines .handled (Q r)) s
 
 -- ---- (2) 'Each output picks a sender'
 -- 'its next queue has credit'
 abbrev pub hasCredit : State → Option Queue → Bool
 hasCredit s none = false
-hasCredit s (some q) = ltb 0 (s .credit q .0)
+hasCredit s (some q) = ltb 0 (s .flow .credit q .0)
 
 -- 'in Q a handled one'
 abbrev pub mayLeaveAs : Role → Bool → Bool
@@ -120,7 +120,7 @@ mayLeaveAs (handling r) done = done
 mayLeaveAs passing done = true
 
 abbrev pub mayLeave : State → Queue → Bool
-mayLeave s q = mayLeaveAs (role q) (s .handled q)
+mayLeave s q = mayLeaveAs (role q) (s .lines .handled q)
 
 -- 'A candidate has a head (in Q a handled one) and its next queue has credit'
 abbrev pub headReady : Plan → State → Output → Bool → List Packet → Bool
@@ -128,13 +128,13 @@ headReady pl s o leaves [] = false
 headReady pl s o leaves (x ∷ rest) = also leaves (hasCredit s (nextBy pl o x))
 
 unfoldable pub candidate : Plan → State → Output → Queue → Bool
-candidate pl s o q = headReady pl s o (mayLeave s q) (s .queue q)
+candidate pl s o q = headReady pl s o (mayLeave s q) (s .lines .queue q)
 
 -- 'a router side picks nobody when its entry for the current slot is booked'
 abbrev pub isOpen : State → Output → Bool
 isOpen s (ofActive a) = true
 isOpen s (ofPassive p) = true
-isOpen s (ofSide r o) = isFree (s .table r o (s .slot .0))
+isOpen s (ofSide r o) = isFree (s .table r o (s .clock .slot .0))
 isOpen s (toUnit r) = true
 isOpen s (fromUnit r) = true
 
@@ -169,7 +169,7 @@ tdownOf n x =
     record { kind = Tdown; active = x .active; passive = x .passive; slot = startSlot (x .slot) (x .hub) n; hub = x .hub }
 
 abbrev pub hasRoom : Plan → Queue → State → Bool
-hasRoom pl q s = ltb (length (s .queue q)) (capacity (pl .head) q)
+hasRoom pl q s = ltb (length (s .lines .queue q)) (capacity (pl .head) q)
 
 abbrev pub torn : Plan → ℕ → Packet → List Packet → State → State
 torn pl a x rest s = join (activeOut a) (tdownOf (S pl) x) (withQueue (activeIn a) (marked x ∷ rest) s)
@@ -183,7 +183,7 @@ atActive pl a [] s = s
 atActive pl a (x ∷ rest) s = answer pl a x rest (unmarked x && hasRoom pl (activeOut a) s) s
 
 unfoldable pub undo : Plan → ℕ → State → State
-undo pl a s = atActive pl a (s .queue (activeIn a)) s
+undo pl a s = atActive pl a (s .lines .queue (activeIn a)) s
 
 -- ---- the three steps
 unfoldable pub doExecute : Plan → State → State

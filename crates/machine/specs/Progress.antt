@@ -23,7 +23,7 @@ use Rattle.machine.specs.Calls.{Call, read, execute, write, launch, repl
 
 -- 'no queue holds more than its capacity'
 abbrev pub Within : Plan → State → Type 0
-Within pl s = (q : Queue) → Exists pl q → length (s .queue q) ≤ capacity (pl .head) q
+Within pl s = (q : Queue) → Exists pl q → length (s .lines .queue q) ≤ capacity (pl .head) q
 
 -- 'A wire enters each joined side and each interface from its neighbour; one leads from router to unit, one back':
 -- an output has one, but for a side that is not joined
@@ -36,8 +36,8 @@ HasWire pl (fromUnit r) = r < R pl
 
 -- 'every queue and wire is empty'
 pub record Quiet (pl : Plan) (s : State) : Type 0 where
-  pub queues : (q : Queue) → Exists pl q → s .queue q ≡ []
-  pub wires : (o : Output) → HasWire pl o → s .wire o ≡ Empty
+  pub queues : (q : Queue) → Exists pl q → s .lines .queue q ≡ []
+  pub wires : (o : Output) → HasWire pl o → s .links .wire o ≡ Empty
 
 -- 'an interface's in-queue'
 abbrev pub isInQueueAs : Role → Bool
@@ -52,24 +52,24 @@ isInQueue q = isInQueueAs (role q)
 -- 'a packet is in a wire, or in a queue other than an interface's in-queue'
 abbrev pub UnderWay : Plan → State → Type 0
 UnderWay pl s =
-    ((o : Output) × (x : Packet) × Drives pl o × (s .wire o ≡ Full x))
-    ⊎ ((q : Queue) × (x : Packet) × (rest : List Packet) × Exists pl q × (isInQueue q ≡ false) × (s .queue q ≡ x ∷ rest))
+    ((o : Output) × (x : Packet) × Drives pl o × (s .links .wire o ≡ Full x))
+    ⊎ ((q : Queue) × (x : Packet) × (rest : List Packet) × Exists pl q × (isInQueue q ≡ false) × (s .lines .queue q ≡ x ∷ rest))
 
 -- 'no passive in-queue is full'
 abbrev pub PassiveRoom : Plan → State → Type 0
-PassiveRoom pl s = (p : ℕ) → p < P pl → length (s .queue (passiveIn p)) < capacity (pl .head) (passiveIn p)
+PassiveRoom pl s = (p : ℕ) → p < P pl → length (s .lines .queue (passiveIn p)) < capacity (pl .head) (passiveIn p)
 
 -- 'at the start of a round': 'any state in READ', with the condition of demand 3's last part
 pub record Waits (pl : Plan) (s : State) : Type 0 where
-  pub phase : s .phase ≡ Read
+  pub phase : s .clock .phase ≡ Read
   pub packet : UnderWay pl s
   pub room : PassiveRoom pl s
 
 -- 'that call takes it out of the queue or wire it was in': told by the states before and after it
 abbrev pub Moved : Plan → State → State → Type 0
 Moved pl s t =
-    ((o : Output) × (x : Packet) × Drives pl o × (s .wire o ≡ Full x) × (t .wire o ≡ Empty))
-    ⊎ ((q : Queue) × Exists pl q × (length (t .queue q) < length (s .queue q)))
+    ((o : Output) × (x : Packet) × Drives pl o × (s .links .wire o ≡ Full x) × (t .links .wire o ≡ Empty))
+    ⊎ ((q : Queue) × Exists pl q × (length (t .lines .queue q) < length (s .lines .queue q)))
 
 -- 'by a Read, an Execute or a Write'
 abbrev pub isTimed : Call → Bool

@@ -36,7 +36,7 @@ raise q s = raiseAs (role q) q s
 -- 'the next queue's credit falls by one'; a candidate has a next queue
 abbrev pub spend : Option Queue → State → State
 spend none s = s
-spend (some q) s = withCredit q (creditDown (s .credit q)) s
+spend (some q) s = withCredit q (creditDown (s .flow .credit q)) s
 
 -- what is picked has a head: in WRITE a choice is of a candidate
 unfoldable pub sendHead : Plan → Output → Queue → List Packet → State → State
@@ -46,15 +46,15 @@ sendHead pl o q (x ∷ rest) s = withWire o (Full x) (spend (nextBy pl o x) (rai
 -- and its rank is that of one of the output's senders
 abbrev pub sendFrom : Plan → Output → Option Queue → State → State
 sendFrom pl o none s = s
-sendFrom pl o (some q) s = sendHead pl o q (s .queue q) s
+sendFrom pl o (some q) s = sendHead pl o q (s .lines .queue q) s
 
 unfoldable pub sendBy : Plan → Output → Choice → State → State
 sendBy pl o nobody s = s
 sendBy pl o (sender k) s = withChoice o nobody (sendFrom pl o (ofRank (senders o) k) s)
 
 unfoldable pub send : Plan → Output → State → State
-send pl o s = sendBy pl o (s .choice o) s
+send pl o s = sendBy pl o (s .links .choice o) s
 
 unfoldable pub doWrite : Plan → State → State
 doWrite pl s =
-    withPhase Read (withSlot (slotNext (s .slot) (S pl)) (upTo (λ n. send pl (outputAt pl n)) (outputs pl) s))
+    withPhase Read (withSlot (slotNext (s .clock .slot) (S pl)) (upTo (λ n. send pl (outputAt pl n)) (outputs pl) s))

@@ -26,7 +26,7 @@ use Rattle.feeding.specs.Feeds.{Output}
 use Rattle.wiring.proofs.Heads.{and-both}
 use Rattle.wiring.specs.Wired.{Wired}
 use Rattle.journeys.proofs.Walks.{served-of}
-use Rattle.machine.specs.State.{State, sender, start, withPhase, withSlot}
+use Rattle.machine.specs.State.{State, sender, blank, start, withPhase, withSlot}
 use Rattle.machine.specs.Read.{deliver, settle, doRead}
 use Rattle.machine.specs.Execute.{unit, choose, undo, doExecute, hasRoom, unmarked}
 use Rattle.machine.specs.Write.{send, doWrite}
@@ -96,7 +96,7 @@ module _ {pl : Plan} (wired : Wired pl) (range : InRange (pl .head)) where
   pub settle-core : (q : Queue) (s : State) → Exists pl q → Core pl s → Core pl (settle q s)
   settle-core q s h c = core-by (settle-kept wired range q s h (kept-of pl s c)) (settle-paid q s h c) (settle-allowances c q)
 
-  pub unit-core : (r : ℕ) (s : State) → r < R pl → s .flag (Q r) ≡ false → Core pl s → Core pl (unit pl r s)
+  pub unit-core : (r : ℕ) (s : State) → r < R pl → s .flow .flag (Q r) ≡ false → Core pl s → Core pl (unit pl r s)
   unit-core r s h f c = core-by (unit-kept wired range r s h (kept-of pl s c)) (unit-paid s c r f) (unit-allowances c r h)
 
   pub choose-core : (o : Output) (s : State) → Core pl s → Core pl (choose pl o s)
@@ -105,14 +105,14 @@ module _ {pl : Plan} (wired : Wired pl) (range : InRange (pl .head)) where
   pub undo-core : (a : ℕ) (s : State) → a < A pl → Core pl s → Core pl (undo pl a s)
   undo-core a s h c = core-by (undo-kept wired range a s h (kept-of pl s c)) (undo-paid s c a) (undo-allowances c a h)
 
-  pub send-core : (o : Output) (s : State) → Drives pl o → s .wire o ≡ Empty → ((k : ℕ) → s .choice o ≡ sender k → Sendable pl s o k) → Core pl s → Core pl (send pl o s)
+  pub send-core : (o : Output) (s : State) → Drives pl o → s .links .wire o ≡ Empty → ((k : ℕ) → s .links .choice o ≡ sender k → Sendable pl s o k) → Core pl s → Core pl (send pl o s)
   send-core o s d w r c = core-by (send-kept wired range o s d r (kept-of pl s c)) (send-paid wired o s d c w r) (send-allowances c wired o d r w)
 
   -- the end of a round: the next slot, and READ
-  pub turn-core : (x : State) (s : State) → Core pl x → Core pl s → Core pl (withPhase Read (withSlot (slotNext (x .slot) (S pl)) s))
+  pub turn-core : (x : State) (s : State) → Core pl x → Core pl s → Core pl (withPhase Read (withSlot (slotNext (x .clock .slot) (S pl)) s))
   turn-core x s b c =
-      let k = slot-kept (kept-of pl s c) (slotNext (x .slot) (S pl)) (turn-kept wired range x (kept-of pl x b) .slot) in
-      phase-core Read (withSlot (slotNext (x .slot) (S pl)) s) (core-by k (slot-paid (slotNext (x .slot) (S pl)) c) (slot-allowances c (slotNext (x .slot) (S pl))))
+      let k = slot-kept (kept-of pl s c) (slotNext (x .clock .slot) (S pl)) (turn-kept wired range x (kept-of pl x b) .slot) in
+      phase-core Read (withSlot (slotNext (x .clock .slot) (S pl)) s) (core-by k (slot-paid (slotNext (x .clock .slot) (S pl)) c) (slot-allowances c (slotNext (x .clock .slot) (S pl))))
 
   -- ---- and so by each phase
   pub read-core : (s : State) → Core pl s → Core pl (doRead pl s)
@@ -136,37 +136,37 @@ module _ {pl : Plan} (wired : Wired pl) (range : InRange (pl .head)) where
   read-inv : (s : State) → Inv pl s → Keeps (readCall pl s)
   unfolding readCall
   read-inv s i =
-      by-test Keeps (not (isPhase (s .phase) Read)) _ s (gives _ (doRead pl s)) i
-      (λ e. record { core = read-core s (i .core); shape = read-shape pl s (read-has s (phase-of (s .phase) Read e) (i .shape)) })
+      by-test Keeps (not (isPhase (s .clock .phase) Read)) _ s (gives _ (doRead pl s)) i
+      (λ e. record { core = read-core s (i .core); shape = read-shape pl s (read-has s (phase-of (s .clock .phase) Read e) (i .shape)) })
 
   execute-inv : (s : State) → Inv pl s → Keeps (executeCall pl s)
   unfolding executeCall
   execute-inv s i =
-      by-test Keeps (not (isPhase (s .phase) Execute)) _ s (gives _ (doExecute pl s)) i
-      (λ e. let h = execute-has s (phase-of (s .phase) Execute e) (i .shape) in record { core = execute-core s (i .core) (h .2); shape = execute-shape pl s (h .1) (h .2) })
+      by-test Keeps (not (isPhase (s .clock .phase) Execute)) _ s (gives _ (doExecute pl s)) i
+      (λ e. let h = execute-has s (phase-of (s .clock .phase) Execute e) (i .shape) in record { core = execute-core s (i .core) (h .2); shape = execute-shape pl s (h .1) (h .2) })
 
   write-inv : (s : State) → Inv pl s → Keeps (writeCall pl s)
   unfolding writeCall
   write-inv s i =
-      by-test Keeps (not (isPhase (s .phase) Write)) _ s (gives _ (doWrite pl s)) i
-      (λ e. let h = write-has s (phase-of (s .phase) Write e) (i .shape) in record { core = write-core s (i .core) (h .0) (h .1); shape = write-shape pl s })
+      by-test Keeps (not (isPhase (s .clock .phase) Write)) _ s (gives _ (doWrite pl s)) i
+      (λ e. let h = write-has s (phase-of (s .clock .phase) Write e) (i .shape) in record { core = write-core s (i .core) (h .0) (h .1); shape = write-shape pl s })
 
   launch-inv : (a p t : ℕ) (s : State) → Inv pl s → Keeps (launchCall pl a p t s)
   unfolding launchCall
   launch-inv a p t s i =
-      by-test Keeps (not (isPhase (s .phase) Read)) _ s _ i
+      by-test Keeps (not (isPhase (s .clock .phase) Read)) _ s _ i
       (λ e. by-test Keeps (not (ltb a (A pl) && ltb p (P pl) && ltb t (S pl))) _ s _ i
       (λ f. by-test Keeps (not (served pl a p)) _ s _ i
-      (λ g. by-test Keeps (eqb (s .allowance a) 0) _ s _ i
+      (λ g. by-test Keeps (eqb (s .flow .allowance a) 0) _ s _ i
       (λ h. by-test Keeps (not (hasRoom pl (activeOut a) s)) _ s (gives _ (launched a p t s)) i
-      (λ r. accepted (phase-of (s .phase) Read e) (and-both (not-false _ f)) (not-false _ g) h (not-false _ r))))))
+      (λ r. accepted (phase-of (s .clock .phase) Read e) (and-both (not-false _ f)) (not-false _ g) h (not-false _ r))))))
     where
-      accepted : s .phase ≡ Read → ((ltb a (A pl) && ltb p (P pl)) ≡ true) × (ltb t (S pl) ≡ true) → served pl a p ≡ true → eqb (s .allowance a) 0 ≡ false → hasRoom pl (activeOut a) s ≡ true → Inv pl (launched a p t s)
+      accepted : s .clock .phase ≡ Read → ((ltb a (A pl) && ltb p (P pl)) ≡ true) × (ltb t (S pl) ≡ true) → served pl a p ≡ true → eqb (s .flow .allowance a) 0 ≡ false → hasRoom pl (activeOut a) s ≡ true → Inv pl (launched a p t s)
       accepted e (n, ht) g h r =
           let m = and-both n in
           let ha : a < A pl = ltb-true a (A pl) (m .0) in
           let hp : p < P pl = ltb-true p (P pl) (m .1) in
-          let some : 1 ≤ s .allowance a = let ne = eqb-false (s .allowance a) 0 h in omega arith in
+          let some : 1 ≤ s .flow .allowance a = let ne = eqb-false (s .flow .allowance a) 0 h in omega arith in
           record {
             core = core-by (launched-kept wired range a p t s ha hp (ltb-true t (S pl) ht) (served-of wired a p ha g) (kept-of pl s (i .core))) (launched-paid s (i .core) a p t r) (launched-allowances (i .core) a p t ha some);
             shape = launched-shape s a p t e (i .shape);
@@ -182,15 +182,15 @@ module _ {pl : Plan} (wired : Wired pl) (range : InRange (pl .head)) where
   reply-inv : (p c : ℕ) (s : State) → Inv pl s → Keeps (replyCall pl p c s)
   unfolding replyCall
   reply-inv p c s i =
-      by-test Keeps (not (isPhase (s .phase) Write)) _ s _ i
+      by-test Keeps (not (isPhase (s .clock .phase) Write)) _ s _ i
       (λ e. by-test Keeps (not (ltb p (P pl) && leb c 1)) _ s _ i
-      (λ f. by-test Keeps (s .flag (passiveIn p)) _ s _ i
-      (λ g. by-test Keeps (isEmpty (s .queue (passiveIn p))) _ s _ i
-      (λ h. by-test Keeps (not (hasRoom pl (passiveOut p) s)) _ s (gives _ (replied p (replyKind c) (s .queue (passiveIn p)) s)) i
-      (λ r. accepted (phase-of (s .phase) Write e) (and-both (not-false _ f)) g (s .queue (passiveIn p)) refl h (not-false _ r))))))
+      (λ f. by-test Keeps (s .flow .flag (passiveIn p)) _ s _ i
+      (λ g. by-test Keeps (isEmpty (s .lines .queue (passiveIn p))) _ s _ i
+      (λ h. by-test Keeps (not (hasRoom pl (passiveOut p) s)) _ s (gives _ (replied p (replyKind c) (s .lines .queue (passiveIn p)) s)) i
+      (λ r. accepted (phase-of (s .clock .phase) Write e) (and-both (not-false _ f)) g (s .lines .queue (passiveIn p)) refl h (not-false _ r))))))
     where
-      accepted : s .phase ≡ Write → (ltb p (P pl) ≡ true) × (leb c 1 ≡ true) → s .flag (passiveIn p) ≡ false → (l : List Packet) → s .queue (passiveIn p) ≡ l → isEmpty (s .queue (passiveIn p)) ≡ false
-          → hasRoom pl (passiveOut p) s ≡ true → Inv pl (replied p (replyKind c) (s .queue (passiveIn p)) s)
+      accepted : s .clock .phase ≡ Write → (ltb p (P pl) ≡ true) × (leb c 1 ≡ true) → s .flow .flag (passiveIn p) ≡ false → (l : List Packet) → s .lines .queue (passiveIn p) ≡ l → isEmpty (s .lines .queue (passiveIn p)) ≡ false
+          → hasRoom pl (passiveOut p) s ≡ true → Inv pl (replied p (replyKind c) (s .lines .queue (passiveIn p)) s)
       accepted e n g [] q h r = absurd (true≢false (rw q at h))
       accepted e n g (x ∷ rest) q h r =
           let hp : p < P pl = ltb-true p (P pl) (n .0) in
@@ -203,19 +203,19 @@ module _ {pl : Plan} (wired : Wired pl) (range : InRange (pl .head)) where
   consume-inv : (a : ℕ) (s : State) → Inv pl s → Keeps (consumeCall pl a s)
   unfolding consumeCall
   consume-inv a s i =
-      by-test Keeps (not (isPhase (s .phase) Write)) _ s _ i
+      by-test Keeps (not (isPhase (s .clock .phase) Write)) _ s _ i
       (λ e. by-test Keeps (not (ltb a (A pl))) _ s _ i
-      (λ f. by-test Keeps (s .flag (activeIn a)) _ s _ i
-      (λ g. accepted (phase-of (s .phase) Write e) (ltb-true a (A pl) (not-false _ f)) g (s .queue (activeIn a)) refl)))
+      (λ f. by-test Keeps (s .flow .flag (activeIn a)) _ s _ i
+      (λ g. accepted (phase-of (s .clock .phase) Write e) (ltb-true a (A pl) (not-false _ f)) g (s .lines .queue (activeIn a)) refl)))
     where
-      taken : s .phase ≡ Write → a < A pl → s .flag (activeIn a) ≡ false → (x : Packet) (rest : List Packet) → s .queue (activeIn a) ≡ x ∷ rest → Inv pl (removed a rest s)
+      taken : s .clock .phase ≡ Write → a < A pl → s .flow .flag (activeIn a) ≡ false → (x : Packet) (rest : List Packet) → s .lines .queue (activeIn a) ≡ x ∷ rest → Inv pl (removed a rest s)
       taken e h g x rest q =
           record {
             core = core-by (removed-kept wired range a x rest s h q (kept-of pl s (i .core))) (removed-paid s (i .core) a x rest q g) (removed-allowances (i .core) wired a h x rest q);
             shape = removed-shape s a rest e (i .shape);
           }
 
-      accepted : s .phase ≡ Write → a < A pl → s .flag (activeIn a) ≡ false → (l : List Packet) → s .queue (activeIn a) ≡ l → Keeps (refuse (isEmpty l) QueueEmpty s (refuse (headUnmarked l) Unmarked s (consumed a l s)))
+      accepted : s .clock .phase ≡ Write → a < A pl → s .flow .flag (activeIn a) ≡ false → (l : List Packet) → s .lines .queue (activeIn a) ≡ l → Keeps (refuse (isEmpty l) QueueEmpty s (refuse (headUnmarked l) Unmarked s (consumed a l s)))
       accepted e h g [] q = i
       accepted e h g (x ∷ rest) q = by-test Keeps (unmarked x) _ s (gives _ (removed a rest s)) i (λ u. taken e h g x rest q)
 
@@ -233,7 +233,7 @@ module _ {pl : Plan} (wired : Wired pl) (range : InRange (pl .head)) where
   call-inv (entry r o t) s i = entry-inv r o t s i
 
   pub start-inv : Inv pl (start pl)
-  unfolding start
+  unfolding start blank
   start-inv = record { core = start-core; shape = in-read refl (λ o d. refl) }
 
   -- no state reached from Start, and none reached from a valid state, is refused 7

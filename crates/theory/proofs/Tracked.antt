@@ -76,7 +76,7 @@ module _ {pl : Plan} (wired : Wired pl) (range : InRange (pl .head)) where
     phase-mid : (x : Phase) (s : State) → M s → M (withPhase x s)
     phase-mid x s m = record { core = phase-core wired range x s (m .core); owned = phase-owned s (m .owned) x; counted = λ c. phase-counted pl c s (m .counted c) x }
 
-    unit-mid : (r : ℕ) (s : State) → r < R pl → s .flag (Q r) ≡ false → M s → M (unit pl r s)
+    unit-mid : (r : ℕ) (s : State) → r < R pl → s .flow .flag (Q r) ≡ false → M s → M (unit pl r s)
     unit-mid r s h f m =
         record { core = unit-core wired range r s h f (m .core); owned = unit-owned wired s (m .core) (m .owned) r h; counted = λ c. unit-counted pl c wired s (m .core) (m .counted c) r h }
 
@@ -87,7 +87,7 @@ module _ {pl : Plan} (wired : Wired pl) (range : InRange (pl .head)) where
     undo-mid a s h m =
         record { core = undo-core wired range a s h (m .core); owned = undo-owned wired s (m .core) (m .owned) a h; counted = λ c. undo-counted pl c wired s (m .core) (m .counted c) a h }
 
-    send-mid : (o : Output) (s : State) → Drives pl o → s .wire o ≡ Empty → ((k : ℕ) → s .choice o ≡ sender k → Sendable pl s o k) → M s → M (send pl o s)
+    send-mid : (o : Output) (s : State) → Drives pl o → s .links .wire o ≡ Empty → ((k : ℕ) → s .links .choice o ≡ sender k → Sendable pl s o k) → M s → M (send pl o s)
     send-mid o s d w r m =
         record {
           core = send-core wired range o s d w r (m .core);
@@ -95,13 +95,13 @@ module _ {pl : Plan} (wired : Wired pl) (range : InRange (pl .head)) where
           counted = λ c. send-counted pl c wired s (m .core) (m .counted c) o d r w;
         }
 
-    turn-mid : (x s : State) → Core pl x → M s → M (withPhase Read (withSlot (slotNext (x .slot) (S pl)) s))
+    turn-mid : (x s : State) → Core pl x → M s → M (withPhase Read (withSlot (slotNext (x .clock .slot) (S pl)) s))
     turn-mid x s b m =
-        let t : State = withSlot (slotNext (x .slot) (S pl)) s in
+        let t : State = withSlot (slotNext (x .clock .slot) (S pl)) s in
         record {
           core = turn-core wired range x s b (m .core);
-          owned = phase-owned (withSlot (slotNext (x .slot) (S pl)) s) (slot-owned s (m .owned) (slotNext (x .slot) (S pl))) Read;
-          counted = λ c. phase-counted pl c (withSlot (slotNext (x .slot) (S pl)) s) (slot-counted pl c s (m .counted c) (slotNext (x .slot) (S pl))) Read;
+          owned = phase-owned (withSlot (slotNext (x .clock .slot) (S pl)) s) (slot-owned s (m .owned) (slotNext (x .clock .slot) (S pl))) Read;
+          counted = λ c. phase-counted pl c (withSlot (slotNext (x .clock .slot) (S pl)) s) (slot-counted pl c s (m .counted c) (slotNext (x .clock .slot) (S pl))) Read;
         }
 
     read-mid : (s : State) → M s → M (doRead pl s)
@@ -145,27 +145,27 @@ module _ {pl : Plan} (wired : Wired pl) (range : InRange (pl .head)) where
 
       read-told : Told read (readCall pl s)
       unfolding readCall
-      read-told = by-test wired range (Told read) (not (isPhase (s .phase) Read)) _ s _ (refused read _) (λ e. let m = read-mid s mid in as-before read (gives Done (doRead pl s)) refl (m .owned) (m .counted))
+      read-told = by-test wired range (Told read) (not (isPhase (s .clock .phase) Read)) _ s _ (refused read _) (λ e. let m = read-mid s mid in as-before read (gives Done (doRead pl s)) refl (m .owned) (m .counted))
 
       execute-told : Told execute (executeCall pl s)
       unfolding executeCall
       execute-told =
-          by-test wired range (Told execute) (not (isPhase (s .phase) Execute)) _ s _ (refused execute _)
-          (λ e. let m = execute-mid s (execute-has s (phase-of (s .phase) Execute e) (k .inv .shape) .2) mid in as-before execute (gives Done (doExecute pl s)) refl (m .owned) (m .counted))
+          by-test wired range (Told execute) (not (isPhase (s .clock .phase) Execute)) _ s _ (refused execute _)
+          (λ e. let m = execute-mid s (execute-has s (phase-of (s .clock .phase) Execute e) (k .inv .shape) .2) mid in as-before execute (gives Done (doExecute pl s)) refl (m .owned) (m .counted))
 
       write-told : Told write (writeCall pl s)
       unfolding writeCall
       write-told =
-          by-test wired range (Told write) (not (isPhase (s .phase) Write)) _ s _ (refused write _)
-          (λ e. let h = write-has s (phase-of (s .phase) Write e) (k .inv .shape) in let m = write-mid s (h .0) (h .1) mid in as-before write (gives Done (doWrite pl s)) refl (m .owned) (m .counted))
+          by-test wired range (Told write) (not (isPhase (s .clock .phase) Write)) _ s _ (refused write _)
+          (λ e. let h = write-has s (phase-of (s .clock .phase) Write e) (k .inv .shape) in let m = write-mid s (h .0) (h .1) mid in as-before write (gives Done (doWrite pl s)) refl (m .owned) (m .counted))
 
       launch-told : (a p t : ℕ) → Told (launch a p t) (launchCall pl a p t s)
       unfolding launchCall
       launch-told a p t =
-          by-test wired range (Told (launch a p t)) (not (isPhase (s .phase) Read)) _ s _ (refused (launch a p t) _)
+          by-test wired range (Told (launch a p t)) (not (isPhase (s .clock .phase) Read)) _ s _ (refused (launch a p t) _)
           (λ e. by-test wired range (Told (launch a p t)) (not (ltb a (A pl) && ltb p (P pl) && ltb t (S pl))) _ s _ (refused (launch a p t) _)
           (λ f. by-test wired range (Told (launch a p t)) (not (served pl a p)) _ s _ (refused (launch a p t) _)
-          (λ g. by-test wired range (Told (launch a p t)) (eqb (s .allowance a) 0) _ s _ (refused (launch a p t) _)
+          (λ g. by-test wired range (Told (launch a p t)) (eqb (s .flow .allowance a) 0) _ s _ (refused (launch a p t) _)
           (λ h. by-test wired range (Told (launch a p t)) (not (hasRoom pl (activeOut a) s)) _ s _ (refused (launch a p t) _)
           (λ r. accepted (and-both (not-false _ f)))))))
         where
@@ -178,28 +178,28 @@ module _ {pl : Plan} (wired : Wired pl) (range : InRange (pl .head)) where
       reply-told : (p c : ℕ) → Told (reply p c) (replyCall pl p c s)
       unfolding replyCall
       reply-told p c =
-          by-test wired range (Told (reply p c)) (not (isPhase (s .phase) Write)) _ s _ (refused (reply p c) _)
+          by-test wired range (Told (reply p c)) (not (isPhase (s .clock .phase) Write)) _ s _ (refused (reply p c) _)
           (λ e. by-test wired range (Told (reply p c)) (not (ltb p (P pl) && leb c 1)) _ s _ (refused (reply p c) _)
-          (λ f. by-test wired range (Told (reply p c)) (s .flag (passiveIn p)) _ s _ (refused (reply p c) _)
-          (λ g. by-test wired range (Told (reply p c)) (isEmpty (s .queue (passiveIn p))) _ s _ (refused (reply p c) _)
+          (λ f. by-test wired range (Told (reply p c)) (s .flow .flag (passiveIn p)) _ s _ (refused (reply p c) _)
+          (λ g. by-test wired range (Told (reply p c)) (isEmpty (s .lines .queue (passiveIn p))) _ s _ (refused (reply p c) _)
           (λ h. by-test wired range (Told (reply p c)) (not (hasRoom pl (passiveOut p) s)) _ s _ (refused (reply p c) _)
           (λ r. accepted (and-both (not-false _ f)))))))
         where
-          accepted : (ltb p (P pl) ≡ true) × (leb c 1 ≡ true) → Told (reply p c) (gives Done (replied p (replyKind c) (s .queue (passiveIn p)) s))
+          accepted : (ltb p (P pl) ≡ true) × (leb c 1 ≡ true) → Told (reply p c) (gives Done (replied p (replyKind c) (s .lines .queue (passiveIn p)) s))
           accepted (x, y) =
               let hp : p < P pl = ltb-true p (P pl) x in
-              as-before (reply p c) (gives Done (replied p (replyKind c) (s .queue (passiveIn p)) s)) refl (replied-owned wired s (k .inv .core) (k .owned) p (replyKind c) hp (reply-kind wired range c))
+              as-before (reply p c) (gives Done (replied p (replyKind c) (s .lines .queue (passiveIn p)) s)) refl (replied-owned wired s (k .inv .core) (k .owned) p (replyKind c) hp (reply-kind wired range c))
               (λ d. replied-counted pl d wired s (k .inv .core) (k .counted d) p (replyKind c) hp (reply-kind wired range c))
 
       consume-told : (a : ℕ) → Told (consume a) (consumeCall pl a s)
       unfolding consumeCall
       consume-told a =
-          by-test wired range (Told (consume a)) (not (isPhase (s .phase) Write)) _ s _ (refused (consume a) _)
+          by-test wired range (Told (consume a)) (not (isPhase (s .clock .phase) Write)) _ s _ (refused (consume a) _)
           (λ e. by-test wired range (Told (consume a)) (not (ltb a (A pl))) _ s _ (refused (consume a) _)
-          (λ f. by-test wired range (Told (consume a)) (s .flag (activeIn a)) _ s _ (refused (consume a) _)
-          (λ g. accepted (ltb-true a (A pl) (not-false _ f)) (s .queue (activeIn a)) refl)))
+          (λ f. by-test wired range (Told (consume a)) (s .flow .flag (activeIn a)) _ s _ (refused (consume a) _)
+          (λ g. accepted (ltb-true a (A pl) (not-false _ f)) (s .lines .queue (activeIn a)) refl)))
         where
-          accepted : a < A pl → (l : List Packet) → s .queue (activeIn a) ≡ l → Told (consume a) (refuse (isEmpty l) QueueEmpty s (refuse (headUnmarked l) Unmarked s (consumed a l s)))
+          accepted : a < A pl → (l : List Packet) → s .lines .queue (activeIn a) ≡ l → Told (consume a) (refuse (isEmpty l) QueueEmpty s (refuse (headUnmarked l) Unmarked s (consumed a l s)))
           accepted h [] q = refused (consume a) _
           accepted h (x ∷ rest) q =
               by-test wired range (Told (consume a)) (unmarked x) _ s (gives (Taken x) (removed a rest s)) (refused (consume a) _)

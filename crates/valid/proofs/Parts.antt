@@ -78,16 +78,16 @@ module _ (pl : Plan) (s : State) (o : Output) where
   may-decides (some q) = like (so (candidate pl s o q)) (λ e. (q, refl, e)) (λ f. rw (some-same (f .1)) (f .2))
 
   pub choice-decides : (c : Choice)
-      → Decides (choiceTest pl s o c) ((k : ℕ) → c ≡ sender k → (s .phase ≡ Write) × ((q : Queue) × (ofRank (senders o) k ≡ some q) × (candidate pl s o q ≡ true)))
+      → Decides (choiceTest pl s o c) ((k : ℕ) → c ≡ sender k → (s .clock .phase ≡ Write) × ((q : Queue) × (ofRank (senders o) k ≡ some q) × (candidate pl s o q ≡ true)))
   choice-decides nobody = always (λ k e. absurd (nobody-not e))
   choice-decides (sender j) =
-      like (both (is-phase (s .phase) Write) (λ w. may-decides (ofRank (senders o) j))) (λ f k e. rw (← sender-same e) f) (λ f. f j refl)
+      like (both (is-phase (s .clock .phase) Write) (λ w. may-decides (ofRank (senders o) j))) (λ f k e. rw (← sender-same e) f) (λ f. f j refl)
 
-  down-decides : (t : Option Queue) → Decides (downTest s t) ((q : Queue) → t ≡ some q → s .flag q ≡ false)
+  down-decides : (t : Option Queue) → Decides (downTest s t) ((q : Queue) → t ≡ some q → s .flow .flag q ≡ false)
   down-decides none = always (λ q e. absurd (some-not-none e))
-  down-decides (some q) = like (not-so (s .flag q)) (λ e y h. rw (← some-same h) e) (λ f. f q refl)
+  down-decides (some q) = like (not-so (s .flow .flag q)) (λ e y h. rw (← some-same h) e) (λ f. f q refl)
 
-  pub picked-decides : (c : Choice) → Decides (pickedTest s o c) ((k : ℕ) (q : Queue) → c ≡ sender k → ofRank (senders o) k ≡ some q → s .flag q ≡ false)
+  pub picked-decides : (c : Choice) → Decides (pickedTest s o c) ((k : ℕ) (q : Queue) → c ≡ sender k → ofRank (senders o) k ≡ some q → s .flow .flag q ≡ false)
   picked-decides nobody = always (λ k q e h. absurd (nobody-not e))
   picked-decides (sender j) = like (down-decides (ofRank (senders o) j)) (λ f k q e h. f q (rw (sender-same e) h)) (λ f q h. f j q refl h)
 

@@ -22,7 +22,7 @@ use Rattle.theory.proofs.Kept.Parts.{Kept, flag-kept, allowance-kept}
 use Rattle.theory.proofs.Kept.Lines.{head-belongs, join-kept, gone-kept}
 
 -- the head of an in-queue is taken, and its flag rises
-pub taken-kept : (pl : Plan) (q : Queue) (x : Packet) (rest : List Packet) (s : State) → Exists pl q → isUnit q ≡ false → s .queue q ≡ x ∷ rest → Kept pl s → Kept pl (withFlag q true (withQueue q rest s))
+pub taken-kept : (pl : Plan) (q : Queue) (x : Packet) (rest : List Packet) (s : State) → Exists pl q → isUnit q ≡ false → s .lines .queue q ≡ x ∷ rest → Kept pl s → Kept pl (withFlag q true (withQueue q rest s))
 taken-kept pl q x rest s h n e k = flag-kept (gone-kept k q x rest h e (no-mark pl s (k .marks) q h n)) q true h
 
 module _ {pl : Plan} (wired : Wired pl) (range : InRange (pl .head)) where
@@ -30,19 +30,19 @@ module _ {pl : Plan} (wired : Wired pl) (range : InRange (pl .head)) where
   pub launched-kept : (a p t : ℕ) (s : State) → a < A pl → p < P pl → t < S pl → Served pl a p → Kept pl s → Kept pl (launched a p t s)
   unfolding launched
   launched-kept a p t s ha hp ht served k =
-      allowance-kept (join-kept k (activeOut a) (setupOf a p t) ha (setup-belongs wired range a p t ha hp ht served)) a (s .allowance a - 1) ha
+      allowance-kept (join-kept k (activeOut a) (setupOf a p t) ha (setup-belongs wired range a p t ha hp ht served)) a (s .flow .allowance a - 1) ha
 
   -- Reply: the head of a passive's in-queue becomes an answer in its out-queue
-  pub replied-kept : (p : ℕ) (kind : Kind) (s : State) → p < P pl → (kind ≡ Ack) ⊎ (kind ≡ Nack) → Kept pl s → Kept pl (replied p kind (s .queue (passiveIn p)) s)
-  replied-kept p kind s hp answer k = by (s .queue (passiveIn p)) refl
+  pub replied-kept : (p : ℕ) (kind : Kind) (s : State) → p < P pl → (kind ≡ Ack) ⊎ (kind ≡ Nack) → Kept pl s → Kept pl (replied p kind (s .lines .queue (passiveIn p)) s)
+  replied-kept p kind s hp answer k = by (s .lines .queue (passiveIn p)) refl
     where
-      by : (l : List Packet) → s .queue (passiveIn p) ≡ l → Kept pl (replied p kind l s)
+      by : (l : List Packet) → s .lines .queue (passiveIn p) ≡ l → Kept pl (replied p kind l s)
       by [] e = k
       by (x ∷ rest) e =
           join-kept (taken-kept pl (passiveIn p) x rest s hp refl e k) (passiveOut p) (repliedAs kind x) hp
           (replied-belongs wired range x (inQueue (passiveIn p)) (head-belongs k (passiveIn p) x rest hp e) p kind refl answer)
 
   -- Consume: the head of an active's in-queue goes
-  pub removed-kept : (a : ℕ) (x : Packet) (rest : List Packet) (s : State) → a < A pl → s .queue (activeIn a) ≡ x ∷ rest → Kept pl s → Kept pl (removed a rest s)
+  pub removed-kept : (a : ℕ) (x : Packet) (rest : List Packet) (s : State) → a < A pl → s .lines .queue (activeIn a) ≡ x ∷ rest → Kept pl s → Kept pl (removed a rest s)
   unfolding removed
-  removed-kept a x rest s ha e k = allowance-kept (taken-kept pl (activeIn a) x rest s ha refl e k) a (s .allowance a + 1) ha
+  removed-kept a x rest s ha e k = allowance-kept (taken-kept pl (activeIn a) x rest s ha refl e k) a (s .flow .allowance a + 1) ha

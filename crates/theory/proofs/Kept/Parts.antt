@@ -21,7 +21,7 @@ use Rattle.plan.specs.Plan.{Plan, R, A, S}
 use Rattle.feeding.specs.Queue.{Queue, Exists, Q}
 use Rattle.feeding.specs.Feeds.{Output}
 use Rattle.machine.specs.Store.{put, sameQueue, same-queue, queue-same, sameOutput, same-output, output-same}
-use Rattle.machine.specs.State.{State, Choice, start, withPhase, withSlot, withWire, withCredit, withFlag, withChoice, withEntry, withAllowance}
+use Rattle.machine.specs.State.{State, Choice, blank, start, withPhase, withSlot, withWire, withCredit, withFlag, withChoice, withEntry, withAllowance, withLines}
 use Rattle.machine.specs.Valid.{Drives, Carries, Bounded, Lined}
 use Rattle.machine.proofs.Apart.{full-not, booked-not}
 use Rattle.theory.proofs.Ground.Puts.{put-cases, put-outside, number-one, entry-cases}
@@ -44,7 +44,7 @@ kept-of pl s c =
 
 -- Start has them
 pub start-kept : (pl : Plan) → InRange (pl .head) → Kept pl (start pl)
-unfolding start
+unfolding start blank
 start-kept pl range =
     record {
       slot = omega (arith, range .slots);
@@ -66,22 +66,22 @@ start-kept pl range =
     }
 
 -- ---- what is kept, by the part of the state that it speaks of
--- a store that is as at Start outside the plan
+-- a store that is blank outside the plan
 abbrev Outside : {X B : Type 0} → (X → Type 0) → (X → B) → (X → B) → Type 0
 Outside {X} E m n = (x : X) → (E x → ⊥) → m x ≡ n x
 
 abbrev TableKept : Plan → State → Type 0
-TableKept pl s = EntriesIn pl s × FreeEntry pl s × ((r o t : ℕ) → ((r < R pl) × (o < 4) × (t < S pl) → ⊥) → s .table r o t ≡ start pl .table r o t)
+TableKept pl s = EntriesIn pl s × FreeEntry pl s × ((r o t : ℕ) → ((r < R pl) × (o < 4) × (t < S pl) → ⊥) → s .table r o t ≡ blank pl .table r o t)
 
 abbrev LinesKept : Plan → State → Type 0
-LinesKept pl s = Places pl s × Marks pl s × Outside (Exists pl) (s .queue) (start pl .queue) × Outside (Exists pl) (s .handled) (start pl .handled)
+LinesKept pl s = Places pl s × Marks pl s × Outside (Exists pl) (s .lines .queue) (blank pl .lines .queue) × Outside (Exists pl) (s .lines .handled) (blank pl .lines .handled)
 
 abbrev WiresKept : Plan → State → Type 0
-WiresKept pl s = Wires pl s × Outside (Drives pl) (s .wire) (start pl .wire)
+WiresKept pl s = Wires pl s × Outside (Drives pl) (s .links .wire) (blank pl .links .wire)
 
 -- a state is kept as its parts are: slot, table, lines, wires, credits, flags, choices and allowances
-by-parts : (pl : Plan) (s : State) → SlotIn pl s → TableKept pl s → LinesKept pl s → WiresKept pl s → Outside (Exists pl) (s .credit) (start pl .credit)
-    → Outside (Exists pl) (s .flag) (start pl .flag) → Outside (Drives pl) (s .choice) (start pl .choice) → Outside (λ a. a < A pl) (s .allowance) (start pl .allowance) → Kept pl s
+by-parts : (pl : Plan) (s : State) → SlotIn pl s → TableKept pl s → LinesKept pl s → WiresKept pl s → Outside (Exists pl) (s .flow .credit) (blank pl .flow .credit)
+    → Outside (Exists pl) (s .flow .flag) (blank pl .flow .flag) → Outside (Drives pl) (s .links .choice) (blank pl .links .choice) → Outside (λ a. a < A pl) (s .flow .allowance) (blank pl .flow .allowance) → Kept pl s
 by-parts pl s slot table lines wires credit flag choice allowance =
     record {
       slot = slot;
@@ -118,42 +118,42 @@ module _ {pl : Plan} {s : State} (k : Kept pl s) where
   -- the lines, and the marks of their heads
   pub lines-kept : (queue : Queue → List Packet) (handled : Queue → Bool)
       → ((q : Queue) → Exists pl q → Lined pl q (handled q) (queue q)) → ((q : Queue) → Exists pl q → handled q ≡ true → (r : ℕ) × (q ≡ Q r) × (queue q ≢ []))
-      → ((q : Queue) → (Exists pl q → ⊥) → queue q ≡ start pl .queue q) → ((q : Queue) → (Exists pl q → ⊥) → handled q ≡ start pl .handled q)
-      → Kept pl (record { phase = s .phase; slot = s .slot; queue = queue; wire = s .wire; credit = s .credit; flag = s .flag; handled = handled; choice = s .choice; table = s .table; allowance = s .allowance })
+      → ((q : Queue) → (Exists pl q → ⊥) → queue q ≡ blank pl .lines .queue q) → ((q : Queue) → (Exists pl q → ⊥) → handled q ≡ blank pl .lines .handled q)
+      → Kept pl (withLines (record { queue = queue; handled = handled }) s)
   lines-kept queue handled places marks lines heads = by-parts pl _ (k .slot) table-of (places, marks, lines, heads) wires-of (b .credit) (b .flag) (b .choice) (b .allowance)
 
   -- a wire of the plan, what it carries being on its way
   pub wire-kept : (o : Output) (x : Wire) → Drives pl o → ((y : Packet) → x ≡ Full y → Carries pl o y) → Kept pl (withWire o x s)
   wire-kept o x h c =
       by-parts pl (withWire o x s) (k .slot) table-of lines-of (
-        put-cases sameOutput output-same same-output (λ (u : Output) (v : Wire). Drives pl u → (y : Packet) → v ≡ Full y → Carries pl u y) (s .wire) o x (λ d. c) (λ u ne. k .wires u),
-        put-outside sameOutput output-same same-output (Drives pl) (s .wire) (start pl .wire) o x h (b .wire),
+        put-cases sameOutput output-same same-output (λ (u : Output) (v : Wire). Drives pl u → (y : Packet) → v ≡ Full y → Carries pl u y) (s .links .wire) o x (λ d. c) (λ u ne. k .wires u),
+        put-outside sameOutput output-same same-output (Drives pl) (s .links .wire) (blank pl .links .wire) o x h (b .wire),
       )
       (b .credit) (b .flag) (b .choice) (b .allowance)
 
   -- a credit of a queue of the plan
   pub credit-kept : (q : Queue) (x : Credit) → Exists pl q → Kept pl (withCredit q x s)
   credit-kept q x h =
-      by-parts pl (withCredit q x s) (k .slot) table-of lines-of wires-of (put-outside sameQueue queue-same same-queue (Exists pl) (s .credit) (start pl .credit) q x h (b .credit))
+      by-parts pl (withCredit q x s) (k .slot) table-of lines-of wires-of (put-outside sameQueue queue-same same-queue (Exists pl) (s .flow .credit) (blank pl .flow .credit) q x h (b .credit))
       (b .flag) (b .choice) (b .allowance)
 
   -- its flag
   pub flag-kept : (q : Queue) (x : Bool) → Exists pl q → Kept pl (withFlag q x s)
   flag-kept q x h =
-      by-parts pl (withFlag q x s) (k .slot) table-of lines-of wires-of (b .credit) (put-outside sameQueue queue-same same-queue (Exists pl) (s .flag) (start pl .flag) q x h (b .flag))
+      by-parts pl (withFlag q x s) (k .slot) table-of lines-of wires-of (b .credit) (put-outside sameQueue queue-same same-queue (Exists pl) (s .flow .flag) (blank pl .flow .flag) q x h (b .flag))
       (b .choice) (b .allowance)
 
-  -- a choice of an output, as at Start if the output is not the plan's
-  pub choice-kept : (o : Output) (x : Choice) → ((Drives pl o → ⊥) → x ≡ start pl .choice o) → Kept pl (withChoice o x s)
+  -- a choice of an output, blank if the output is not the plan's
+  pub choice-kept : (o : Output) (x : Choice) → ((Drives pl o → ⊥) → x ≡ blank pl .links .choice o) → Kept pl (withChoice o x s)
   choice-kept o x h =
       by-parts pl (withChoice o x s) (k .slot) table-of lines-of wires-of (b .credit) (b .flag)
-      (put-cases sameOutput output-same same-output (λ (u : Output) (v : Choice). (Drives pl u → ⊥) → v ≡ start pl .choice u) (s .choice) o x h (λ u ne. b .choice u)) (b .allowance)
+      (put-cases sameOutput output-same same-output (λ (u : Output) (v : Choice). (Drives pl u → ⊥) → v ≡ blank pl .links .choice u) (s .links .choice) o x h (λ u ne. b .choice u)) (b .allowance)
 
   -- an allowance of an active of the plan
   pub allowance-kept : (a x : ℕ) → a < A pl → Kept pl (withAllowance a x s)
   allowance-kept a x h =
       by-parts pl (withAllowance a x s) (k .slot) table-of lines-of wires-of (b .credit) (b .flag) (b .choice)
-      (put-outside eqb number-one eqb-true (λ (c : ℕ). c < A pl) (s .allowance) (start pl .allowance) a x h (b .allowance))
+      (put-outside eqb number-one eqb-true (λ (c : ℕ). c < A pl) (s .flow .allowance) (blank pl .flow .allowance) a x h (b .allowance))
 
   -- an entry of the plan, booked if at all with one of the four sides, where its side keeps a free entry u
   pub entry-kept : (r o t : ℕ) (x : Entry) → r < R pl → o < 4 → t < S pl → ((i : ℕ) → x ≡ Booked i → i < 4) → (u : ℕ) → u < S pl → put eqb (s .table r o) t x u ≡ Free → Kept pl (withEntry r o t x s)
@@ -164,6 +164,6 @@ module _ {pl : Plan} {s : State} (k : Kept pl s) where
             (put-cases eqb number-one eqb-true (λ (o′ : ℕ) (v : ℕ → Entry). r < R pl → o′ < 4 → (t : ℕ) × (t < S pl) × (v t ≡ Free)) (s .table r) o (put eqb (s .table r o) t x)
             (λ a c. (u, hu, free)) (λ o′ ne. k .free-entry r o′))
             (λ r′ ne o′. k .free-entry r′ o′),
-        entry-cases (λ (r′ o′ t′ : ℕ) (v : Entry). ((r′ < R pl) × (o′ < 4) × (t′ < S pl) → ⊥) → v ≡ start pl .table r′ o′ t′) (s .table) r o t x (λ out. absurd (out (hr, ho, ht))) (b .table),
+        entry-cases (λ (r′ o′ t′ : ℕ) (v : Entry). ((r′ < R pl) × (o′ < 4) × (t′ < S pl) → ⊥) → v ≡ blank pl .table r′ o′ t′) (s .table) r o t x (λ out. absurd (out (hr, ho, ht))) (b .table),
       )
       lines-of wires-of (b .credit) (b .flag) (b .choice) (b .allowance)

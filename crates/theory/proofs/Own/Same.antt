@@ -28,7 +28,7 @@ module _ (pl : Plan) (s : State) where
   -- A delivery leaves the table.
   pub deliver-table : (o : Output) → deliver pl o s .table ≡ s .table
   unfolding deliver arrive join
-  deliver-table o = by (s .wire o)
+  deliver-table o = by (s .links .wire o)
     where
       to : (x : Packet) (y : Option Queue) → joinNext y x (withWire o Empty s) .table ≡ s .table
       to x none = refl
@@ -41,7 +41,7 @@ module _ (pl : Plan) (s : State) where
   -- So does the settling of a flag.
   pub settle-table : (q : Queue) → settle q s .table ≡ s .table
   unfolding settle lower
-  settle-table q = by (s .flag q)
+  settle-table q = by (s .flow .flag q)
     where
       by : (b : Bool) → lower q b s .table ≡ s .table
       by true = refl
@@ -55,7 +55,7 @@ module _ (pl : Plan) (s : State) where
   -- So does a sending.
   pub send-table : (o : Output) → send pl o s .table ≡ s .table
   unfolding send sendBy sendHead
-  send-table o = by (s .choice o)
+  send-table o = by (s .links .choice o)
     where
       head : (q : Queue) (l : List Packet) → sendHead pl o q l s .table ≡ s .table
       head q [] = refl
@@ -63,7 +63,7 @@ module _ (pl : Plan) (s : State) where
 
       from : (y : Option Queue) → sendFrom pl o y s .table ≡ s .table
       from none = refl
-      from (some q) = head q (s .queue q)
+      from (some q) = head q (s .lines .queue q)
 
       by : (c : Choice) → sendBy pl o c s .table ≡ s .table
       by nobody = refl
@@ -72,7 +72,7 @@ module _ (pl : Plan) (s : State) where
   -- So does an active's tear-down.
   pub undo-table : (a : ℕ) → undo pl a s .table ≡ s .table
   unfolding undo atActive answer join
-  undo-table a = by (s .queue (activeIn a))
+  undo-table a = by (s .lines .queue (activeIn a))
     where
       to : (x : Packet) (rest : List Packet) (b : Bool) → answer pl a x rest b s .table ≡ s .table
       to x rest true = refl

@@ -44,24 +44,24 @@ use Rattle.theory.proofs.Own.Owning.{claim-same, same-claim, bit-true, 
 
 -- ---- an empty network
 -- A side that is not joined has no wire: what would stand for it is empty, since nothing goes on from there.
-pub unjoined-empty : (pl : Plan) (s : State) → Core pl s → (r o : ℕ) → r < R pl → o < 4 → pl .joint r o ≡ Nothing → s .wire (ofSide r o) ≡ Empty
-unjoined-empty pl s c r o hr ho e = by (s .wire (ofSide r o)) refl
+pub unjoined-empty : (pl : Plan) (s : State) → Core pl s → (r o : ℕ) → r < R pl → o < 4 → pl .joint r o ≡ Nothing → s .links .wire (ofSide r o) ≡ Empty
+unjoined-empty pl s c r o hr ho e = by (s .links .wire (ofSide r o)) refl
   where
-    by : (w : Wire) → s .wire (ofSide r o) ≡ w → w ≡ Empty
+    by : (w : Wire) → s .links .wire (ofSide r o) ≡ w → w ≡ Empty
     by Empty q = refl
     by (Full x) q =
         let g = c .wires (ofSide r o) (hr, ho) x q in
         absurd (some-not-none (sym (ap (across pl (headingOf (x .kind)) (x .active) (x .passive)) e) ∙ g .next))
 
 -- So where every wire that there is is empty, every output's is.
-pub quiet-wires : (pl : Plan) (s : State) → Core pl s → Quiet pl s → (o : Output) → Drives pl o → s .wire o ≡ Empty
+pub quiet-wires : (pl : Plan) (s : State) → Core pl s → Quiet pl s → (o : Output) → Drives pl o → s .links .wire o ≡ Empty
 quiet-wires pl s c q (ofActive a) d = q .wires (ofActive a) d
 quiet-wires pl s c q (ofPassive p) d = q .wires (ofPassive p) d
 quiet-wires pl s c q (toUnit r) d = q .wires (toUnit r) d
 quiet-wires pl s c q (fromUnit r) d = q .wires (fromUnit r) d
 quiet-wires pl s c q (ofSide r o) (hr, ho) = by (pl .joint r o) refl
   where
-    by : (j : Joint) → pl .joint r o ≡ j → s .wire (ofSide r o) ≡ Empty
+    by : (j : Joint) → pl .joint r o ≡ j → s .links .wire (ofSide r o) ≡ Empty
     by Nothing e = unjoined-empty pl s c r o hr ho e
     by (Router n t) e = q .wires (ofSide r o) (hr, ho, λ z. router-some (sym e ∙ z))
     by (Active n) e = q .wires (ofSide r o) (hr, ho, λ z. interface-some (active n) (sym e ∙ z))
@@ -71,9 +71,9 @@ quiet-wires pl s c q (ofSide r o) (hr, ho) = by (pl .joint r o) refl
 pub quiet-weighed : (pl : Plan) (w : Weight) (s : State) → Core pl s → Quiet pl s → weighed pl w s ≡ 0
 unfolding weighed inLines inWires inLine onWire
 quiet-weighed pl w s c q =
-    let lines = sum-nought (queues pl) (λ n. inLine w (queueAt pl n) (s .handled (queueAt pl n)) (s .queue (queueAt pl n)))
-    (λ n l. ap (inLine w (queueAt pl n) (s .handled (queueAt pl n))) (q .queues (queueAt pl n) (exists-at pl n l))) in
-    let wires = sum-nought (outputs pl) (λ n. onWire pl w (outputAt pl n) (s .wire (outputAt pl n)))
+    let lines = sum-nought (queues pl) (λ n. inLine w (queueAt pl n) (s .lines .handled (queueAt pl n)) (s .lines .queue (queueAt pl n)))
+    (λ n l. ap (inLine w (queueAt pl n) (s .lines .handled (queueAt pl n))) (q .queues (queueAt pl n) (exists-at pl n l))) in
+    let wires = sum-nought (outputs pl) (λ n. onWire pl w (outputAt pl n) (s .links .wire (outputAt pl n)))
     (λ n l. ap (onWire pl w (outputAt pl n)) (quiet-wires pl s c q (outputAt pl n) (drives-at pl n l))) in
     omega arith
 

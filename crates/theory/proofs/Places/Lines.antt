@@ -27,12 +27,12 @@ use Rattle.theory.proofs.Places.CameIn.{stands-inside}
 
 -- ---- marks
 -- only a unit's queue has a mark
-pub no-mark : (pl : Plan) (s : State) → Marks pl s → (q : Queue) → Exists pl q → isUnit q ≡ false → s .handled q ≡ false
-no-mark pl s m q h f = refuted (s .handled q) (λ t. let g = m q h t in false≢true (sym f ∙ ap isUnit (g .1)))
+pub no-mark : (pl : Plan) (s : State) → Marks pl s → (q : Queue) → Exists pl q → isUnit q ≡ false → s .lines .handled q ≡ false
+no-mark pl s m q h f = refuted (s .lines .handled q) (λ t. let g = m q h t in false≢true (sym f ∙ ap isUnit (g .1)))
 
 -- an empty queue has none
-pub empty-mark : (pl : Plan) (s : State) → Marks pl s → (q : Queue) → Exists pl q → s .queue q ≡ [] → s .handled q ≡ false
-empty-mark pl s m q h e = refuted (s .handled q) (λ t. m q h t .2 e)
+pub empty-mark : (pl : Plan) (s : State) → Marks pl s → (q : Queue) → Exists pl q → s .lines .queue q ≡ [] → s .lines .handled q ≡ false
+empty-mark pl s m q h e = refuted (s .lines .handled q) (λ t. m q h t .2 e)
 
 -- the place of an unhandled head is its queue
 pub head-unhandled : (q : Queue) → headPlace false q ≡ inQueue q
@@ -45,20 +45,20 @@ head-unhandled q = by (role q)
     by passing = refl
 
 -- the place of a head that may leave is the one that it leaves from
-pub head-leaves : (s : State) (q : Queue) → mayLeave s q ≡ true → headPlace (s .handled q) q ≡ leavesFrom q
+pub head-leaves : (s : State) (q : Queue) → mayLeave s q ≡ true → headPlace (s .lines .handled q) q ≡ leavesFrom q
 head-leaves s q t = by (role q) t
   where
-    by : (k : Role) → mayLeaveAs k (s .handled q) ≡ true → headPlaceAs k (s .handled q) q ≡ headPlaceAs k true q
+    by : (k : Role) → mayLeaveAs k (s .lines .handled q) ≡ true → headPlaceAs k (s .lines .handled q) q ≡ headPlaceAs k true q
     by sending t = refl
     by receiving t = refl
     by (handling r) t = rw t
     by passing t = refl
 
 -- a head may leave if it is at no unit, or handled there
-pub may-leave : (s : State) (q : Queue) → ((r : ℕ) → q ≡ Q r → s .handled q ≡ true) → mayLeave s q ≡ true
+pub may-leave : (s : State) (q : Queue) → ((r : ℕ) → q ≡ Q r → s .lines .handled q ≡ true) → mayLeave s q ≡ true
 may-leave s q f = at (unit-or q)
   where
-    by : (k : Role) → isUnitAs k ≡ false → mayLeaveAs k (s .handled q) ≡ true
+    by : (k : Role) → isUnitAs k ≡ false → mayLeaveAs k (s .lines .handled q) ≡ true
     by sending n = refl
     by receiving n = refl
     by (handling r) n = absurd (false≢true (sym n))

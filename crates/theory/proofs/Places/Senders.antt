@@ -33,57 +33,57 @@ raise-leaves f flags marks q s = by (role q)
     by passing = flags q true s
 
 -- queues, credits, choices, wires and allowances stay
-pub raise-queue : (q : Queue) (s : State) → raise q s .queue ≡ s .queue
-raise-queue = raise-leaves (λ s. s .queue) (λ q b s. refl) (λ q b s. refl)
+pub raise-queue : (q : Queue) (s : State) → raise q s .lines .queue ≡ s .lines .queue
+raise-queue = raise-leaves (λ s. s .lines .queue) (λ q b s. refl) (λ q b s. refl)
 
-pub raise-credit : (q : Queue) (s : State) → raise q s .credit ≡ s .credit
-raise-credit = raise-leaves (λ s. s .credit) (λ q b s. refl) (λ q b s. refl)
+pub raise-credit : (q : Queue) (s : State) → raise q s .flow .credit ≡ s .flow .credit
+raise-credit = raise-leaves (λ s. s .flow .credit) (λ q b s. refl) (λ q b s. refl)
 
-pub raise-choice : (q : Queue) (s : State) → raise q s .choice ≡ s .choice
-raise-choice = raise-leaves (λ s. s .choice) (λ q b s. refl) (λ q b s. refl)
+pub raise-choice : (q : Queue) (s : State) → raise q s .links .choice ≡ s .links .choice
+raise-choice = raise-leaves (λ s. s .links .choice) (λ q b s. refl) (λ q b s. refl)
 
-pub raise-wire : (q : Queue) (s : State) → raise q s .wire ≡ s .wire
-raise-wire = raise-leaves (λ s. s .wire) (λ q b s. refl) (λ q b s. refl)
+pub raise-wire : (q : Queue) (s : State) → raise q s .links .wire ≡ s .links .wire
+raise-wire = raise-leaves (λ s. s .links .wire) (λ q b s. refl) (λ q b s. refl)
 
-pub raise-allowance : (q : Queue) (s : State) → raise q s .allowance ≡ s .allowance
-raise-allowance = raise-leaves (λ s. s .allowance) (λ q b s. refl) (λ q b s. refl)
+pub raise-allowance : (q : Queue) (s : State) → raise q s .flow .allowance ≡ s .flow .allowance
+raise-allowance = raise-leaves (λ s. s .flow .allowance) (λ q b s. refl) (λ q b s. refl)
 
 -- another queue's mark stays
-pub raise-handled : (q : Queue) (s : State) (p : Queue) → p ≢ q → raise q s .handled p ≡ s .handled p
+pub raise-handled : (q : Queue) (s : State) (p : Queue) → p ≢ q → raise q s .lines .handled p ≡ s .lines .handled p
 raise-handled q s p ne = by (role q)
   where
-    by : (k : Role) → raiseAs k q s .handled p ≡ s .handled p
+    by : (k : Role) → raiseAs k q s .lines .handled p ≡ s .lines .handled p
     by sending = refl
     by receiving = refl
-    by (handling r) = queue-away (s .handled) q false p ne
+    by (handling r) = queue-away (s .lines .handled) q false p ne
     by passing = refl
 
 -- a fed queue's flag rises, an out-queue's does not
-pub raise-flag : (q : Queue) (s : State) → isFed q ≡ true → raise q s .flag ≡ put sameQueue (s .flag) q true
+pub raise-flag : (q : Queue) (s : State) → isFed q ≡ true → raise q s .flow .flag ≡ put sameQueue (s .flow .flag) q true
 raise-flag q s f = by (role q) f
   where
-    by : (k : Role) → isFedAs k ≡ true → raiseAs k q s .flag ≡ put sameQueue (s .flag) q true
+    by : (k : Role) → isFedAs k ≡ true → raiseAs k q s .flow .flag ≡ put sameQueue (s .flow .flag) q true
     by sending f = absurd (not-both f refl)
     by receiving f = refl
     by (handling r) f = refl
     by passing f = refl
 
 -- an out-queue's flag stays
-pub raise-none : (q : Queue) (s : State) → isFed q ≡ false → raise q s .flag ≡ s .flag
+pub raise-none : (q : Queue) (s : State) → isFed q ≡ false → raise q s .flow .flag ≡ s .flow .flag
 raise-none q s f = by (role q) f
   where
-    by : (k : Role) → isFedAs k ≡ false → raiseAs k q s .flag ≡ s .flag
+    by : (k : Role) → isFedAs k ≡ false → raiseAs k q s .flow .flag ≡ s .flow .flag
     by sending f = refl
     by receiving f = absurd (not-both refl f)
     by (handling r) f = absurd (not-both refl f)
     by passing f = absurd (not-both refl f)
 
 -- another queue's flag stays
-pub raise-other : (q : Queue) (s : State) (p : Queue) → p ≢ q → raise q s .flag p ≡ s .flag p
+pub raise-other : (q : Queue) (s : State) (p : Queue) → p ≢ q → raise q s .flow .flag p ≡ s .flow .flag p
 raise-other q s p ne = by (test (isFed q))
   where
-    by : (isFed q ≡ true) ⊎ (isFed q ≡ false) → raise q s .flag p ≡ s .flag p
-    by (inl f) = ap (λ (m : Queue → Bool). m p) (raise-flag q s f) ∙ queue-away (s .flag) q true p ne
+    by : (isFed q ≡ true) ⊎ (isFed q ≡ false) → raise q s .flow .flag p ≡ s .flow .flag p
+    by (inl f) = ap (λ (m : Queue → Bool). m p) (raise-flag q s f) ∙ queue-away (s .flow .flag) q true p ne
     by (inr f) = ap (λ (m : Queue → Bool). m p) (raise-none q s f)
 
 -- ---- senders
@@ -91,22 +91,22 @@ raise-other q s p ne = by (test (isFed q))
 pub record Ready (pl : Plan) (s : State) (o : Output) (q : Queue) : Type 0 where
   pub head : Packet
   pub rest : List Packet
-  pub queue : s .queue q ≡ head ∷ rest
+  pub queue : s .lines .queue q ≡ head ∷ rest
   pub leaves : mayLeave s q ≡ true
   pub next : Queue
   pub goes : nextBy pl o head ≡ some next
-  pub room : 0 < s .credit next .0
+  pub room : 0 < s .flow .credit next .0
 
 -- a candidate is ready
 pub candidate-ready : (pl : Plan) (s : State) (o : Output) (q : Queue) → candidate pl s o q ≡ true → Ready pl s o q
 unfolding candidate
-candidate-ready pl s o q t = by (s .queue q) refl t
+candidate-ready pl s o q t = by (s .lines .queue q) refl t
   where
-    credit : (x : Packet) (n : Option Queue) → nextBy pl o x ≡ n → hasCredit s n ≡ true → (y : Queue) × (nextBy pl o x ≡ some y) × (0 < s .credit y .0)
+    credit : (x : Packet) (n : Option Queue) → nextBy pl o x ≡ n → hasCredit s n ≡ true → (y : Queue) × (nextBy pl o x ≡ some y) × (0 < s .flow .credit y .0)
     credit x none e h = absurd (not-both h refl)
-    credit x (some y) e h = (y, e, ltb-true 0 (s .credit y .0) h)
+    credit x (some y) e h = (y, e, ltb-true 0 (s .flow .credit y .0) h)
 
-    by : (xs : List Packet) → s .queue q ≡ xs → headReady pl s o (mayLeave s q) xs ≡ true → Ready pl s o q
+    by : (xs : List Packet) → s .lines .queue q ≡ xs → headReady pl s o (mayLeave s q) xs ≡ true → Ready pl s o q
     by [] e h = absurd (not-both h refl)
     by (x ∷ rest) e h =
         let both = also-true {a = mayLeave s q} {b = hasCredit s (nextBy pl o x)} h in

@@ -54,36 +54,36 @@ out-of-phase Write Write w s rest e = absurd (e refl)
 
 -- ---- the three timed calls, in their phase and outside it
 module _ (pl : Plan) (s : State) where
-  pub read-now : s .phase ≡ Read → call pl read s ≡ gives Done (doRead pl s)
+  pub read-now : s .clock .phase ≡ Read → call pl read s ≡ gives Done (doRead pl s)
   unfolding readCall
-  read-now e = in-phase (s .phase) Read WrongPhase s (gives Done (doRead pl s)) e
+  read-now e = in-phase (s .clock .phase) Read WrongPhase s (gives Done (doRead pl s)) e
 
-  pub execute-now : s .phase ≡ Execute → call pl execute s ≡ gives Done (doExecute pl s)
+  pub execute-now : s .clock .phase ≡ Execute → call pl execute s ≡ gives Done (doExecute pl s)
   unfolding executeCall
-  execute-now e = in-phase (s .phase) Execute WrongPhase s (gives Done (doExecute pl s)) e
+  execute-now e = in-phase (s .clock .phase) Execute WrongPhase s (gives Done (doExecute pl s)) e
 
-  pub write-now : s .phase ≡ Write → call pl write s ≡ gives Done (doWrite pl s)
+  pub write-now : s .clock .phase ≡ Write → call pl write s ≡ gives Done (doWrite pl s)
   unfolding writeCall
-  write-now e = in-phase (s .phase) Write WrongPhase s (gives Done (doWrite pl s)) e
+  write-now e = in-phase (s .clock .phase) Write WrongPhase s (gives Done (doWrite pl s)) e
 
-  pub read-not : s .phase ≢ Read → call pl read s ≡ gives (Refused WrongPhase) s
+  pub read-not : s .clock .phase ≢ Read → call pl read s ≡ gives (Refused WrongPhase) s
   unfolding readCall
-  read-not e = out-of-phase (s .phase) Read WrongPhase s (gives Done (doRead pl s)) e
+  read-not e = out-of-phase (s .clock .phase) Read WrongPhase s (gives Done (doRead pl s)) e
 
-  pub execute-not : s .phase ≢ Execute → call pl execute s ≡ gives (Refused WrongPhase) s
+  pub execute-not : s .clock .phase ≢ Execute → call pl execute s ≡ gives (Refused WrongPhase) s
   unfolding executeCall
-  execute-not e = out-of-phase (s .phase) Execute WrongPhase s (gives Done (doExecute pl s)) e
+  execute-not e = out-of-phase (s .clock .phase) Execute WrongPhase s (gives Done (doExecute pl s)) e
 
-  pub write-not : s .phase ≢ Write → call pl write s ≡ gives (Refused WrongPhase) s
+  pub write-not : s .clock .phase ≢ Write → call pl write s ≡ gives (Refused WrongPhase) s
   unfolding writeCall
-  write-not e = out-of-phase (s .phase) Write WrongPhase s (gives Done (doWrite pl s)) e
+  write-not e = out-of-phase (s .clock .phase) Write WrongPhase s (gives Done (doWrite pl s)) e
 
 -- ---- the other calls
 pub record Undisturbed (pl : Plan) (p s t : State) : Type 0 where
   pub same : Same pl p t
-  pub slot : t .slot ≡ s .slot
-  pub phase : t .phase ≡ s .phase
-  pub choice : t .choice ≡ s .choice
+  pub slot : t .clock .slot ≡ s .clock .slot
+  pub phase : t .clock .phase ≡ s .clock .phase
+  pub choice : t .links .choice ≡ s .links .choice
 
 module _ (pl : Plan) (p s : State) (k : Same pl p s) where
   abbrev Fine : Outcome → Type 0
@@ -95,21 +95,21 @@ module _ (pl : Plan) (p s : State) (k : Same pl p s) where
   launches : (a q t : ℕ) → Fine (launchCall pl a q t s)
   unfolding launchCall launched join
   launches a q t =
-      by-refusal Fine (not (isPhase (s .phase) Read)) _ s _ still
+      by-refusal Fine (not (isPhase (s .clock .phase) Read)) _ s _ still
       (by-refusal Fine (not (ltb a (A pl) && ltb q (P pl) && ltb t (S pl))) _ s _ still
       (by-refusal Fine (not (served pl a q)) _ s _ still
-      (by-refusal Fine (eqb (s .allowance a) 0) _ s _ still
+      (by-refusal Fine (eqb (s .flow .allowance a) 0) _ s _ still
       (by-refusal Fine (not (hasRoom pl (activeOut a) s)) _ s _ still
       (record { same = launch-same pl p s a q t k; slot = refl; phase = refl; choice = refl })))))
 
   replies : (q c : ℕ) → Fine (replyCall pl q c s)
   unfolding replyCall join
   replies q c =
-      by-refusal Fine (not (isPhase (s .phase) Write)) _ s _ still
+      by-refusal Fine (not (isPhase (s .clock .phase) Write)) _ s _ still
       (by-refusal Fine (not (ltb q (P pl) && leb c 1)) _ s _ still
-      (by-refusal Fine (s .flag (passiveIn q)) _ s _ still
-      (by-refusal Fine (isEmpty (s .queue (passiveIn q))) _ s _ still
-      (by-refusal Fine (not (hasRoom pl (passiveOut q) s)) _ s _ still (answered (s .queue (passiveIn q)))))))
+      (by-refusal Fine (s .flow .flag (passiveIn q)) _ s _ still
+      (by-refusal Fine (isEmpty (s .lines .queue (passiveIn q))) _ s _ still
+      (by-refusal Fine (not (hasRoom pl (passiveOut q) s)) _ s _ still (answered (s .lines .queue (passiveIn q)))))))
     where
       answered : (l : List Packet) → Undisturbed pl p s (replied q (replyKind c) l s)
       answered [] = still
@@ -118,9 +118,9 @@ module _ (pl : Plan) (p s : State) (k : Same pl p s) where
   consumes : (a : ℕ) → Fine (consumeCall pl a s)
   unfolding consumeCall removed
   consumes a =
-      by-refusal Fine (not (isPhase (s .phase) Write)) _ s _ still
+      by-refusal Fine (not (isPhase (s .clock .phase) Write)) _ s _ still
       (by-refusal Fine (not (ltb a (A pl))) _ s _ still
-      (by-refusal Fine (s .flag (activeIn a)) _ s _ still (taken (s .queue (activeIn a)))))
+      (by-refusal Fine (s .flow .flag (activeIn a)) _ s _ still (taken (s .lines .queue (activeIn a)))))
     where
       taken : (l : List Packet) → Fine (refuse (isEmpty l) QueueEmpty s (refuse (headUnmarked l) Unmarked s (consumed a l s)))
       taken [] = still
@@ -143,11 +143,11 @@ module _ (pl : Plan) (p s : State) (k : Same pl p s) where
   entry-undisturbed r o t = entries r o t
 
 -- in EXECUTE all but Execute leave the state
-module _ (pl : Plan) (s : State) (e : s .phase ≡ Execute) where
-  not-read : s .phase ≢ Read
+module _ (pl : Plan) (s : State) (e : s .clock .phase ≡ Execute) where
+  not-read : s .clock .phase ≢ Read
   not-read g = let z : _≡_ {A = ℕ} 0 1 = cc in omega arith
 
-  not-write : s .phase ≢ Write
+  not-write : s .clock .phase ≢ Write
   not-write g = let z : _≡_ {A = ℕ} 0 1 = cc in omega arith
 
   pub only-execute : (c : Call) → c ≢ execute → (call pl c s .state ≡ s) × (endsRound c (call pl c s .answer) ≡ 0)
@@ -155,7 +155,7 @@ module _ (pl : Plan) (s : State) (e : s .phase ≡ Execute) where
   only-execute read ne = (ap (λ (r : Outcome). r .state) (read-not pl s not-read), refl)
   only-execute execute ne = absurd (ne refl)
   only-execute write ne = let w = write-not pl s not-write in (ap (λ (r : Outcome). r .state) w, ap (λ (r : Outcome). endsRound write (r .answer)) w)
-  only-execute (launch a q t) ne = (ap (λ (r : Outcome). r .state) (out-of-phase (s .phase) Read WrongPhase s _ not-read), refl)
-  only-execute (reply q c) ne = (ap (λ (r : Outcome). r .state) (out-of-phase (s .phase) Write WrongPhase s _ not-write), refl)
-  only-execute (consume a) ne = (ap (λ (r : Outcome). r .state) (out-of-phase (s .phase) Write WrongPhase s _ not-write), refl)
+  only-execute (launch a q t) ne = (ap (λ (r : Outcome). r .state) (out-of-phase (s .clock .phase) Read WrongPhase s _ not-read), refl)
+  only-execute (reply q c) ne = (ap (λ (r : Outcome). r .state) (out-of-phase (s .clock .phase) Write WrongPhase s _ not-write), refl)
+  only-execute (consume a) ne = (ap (λ (r : Outcome). r .state) (out-of-phase (s .clock .phase) Write WrongPhase s _ not-write), refl)
   only-execute (entry r o t) ne = (by-refusal (λ (x : Outcome). x .state ≡ s) (not (ltb r (R pl) && ltb o 4 && ltb t (S pl))) _ s _ refl refl, refl)

@@ -14,7 +14,7 @@ use Rattle.feeding.specs.Queue.{Queue}
 use Rattle.feeding.specs.Feeds.{Output, ofActive, ofPassive, ofSide, toUnit, fromUnit}
 use Rattle.journeys.proofs.Places.{some-same, some-not-none}
 use Rattle.machine.specs.Outputs.{nextBy, senders}
-use Rattle.machine.specs.State.{State, Choice, nobody, sender}
+use Rattle.machine.specs.State.{State, Choice, nobody, sender, withLinks}
 use Rattle.machine.specs.Execute.{hasCredit, mayLeave, headReady, candidate, isOpen, firstOf, picked}
 use Rattle.machine.specs.Write.{ofRank}
 use Rattle.machine.proofs.Apart.{nobody-not, sender-same}
@@ -74,8 +74,7 @@ picked-none pl s o e = by (test (isOpen s o))
 -- ---- the pick does not look at choices
 -- s with other choices
 abbrev pub chosen : State → (Output → Choice) → State
-chosen s f =
-    record { phase = s .phase; slot = s .slot; queue = s .queue; wire = s .wire; credit = s .credit; flag = s .flag; handled = s .handled; choice = f; table = s .table; allowance = s .allowance }
+chosen s f = withLinks (record { wire = s .links .wire; choice = f }) s
 
 credit-alike : (s : State) (f : Output → Choice) (y : Option Queue) → hasCredit (chosen s f) y ≡ hasCredit s y
 credit-alike s f none = refl
@@ -87,7 +86,7 @@ ready-alike pl s f o b (x ∷ l) = ap (also b) (credit-alike s f (nextBy pl o x)
 
 candidate-alike : (pl : Plan) (s : State) (f : Output → Choice) (o : Output) (q : Queue) → candidate pl (chosen s f) o q ≡ candidate pl s o q
 unfolding candidate
-candidate-alike pl s f o q = ready-alike pl s f o (mayLeave (chosen s f) q) (s .queue q)
+candidate-alike pl s f o q = ready-alike pl s f o (mayLeave (chosen s f) q) (s .lines .queue q)
 
 open-alike : (s : State) (f : Output → Choice) (o : Output) → isOpen (chosen s f) o ≡ isOpen s o
 open-alike s f (ofActive a) = refl

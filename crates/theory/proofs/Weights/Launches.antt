@@ -117,7 +117,7 @@ module _ (pl : Plan) (d : Connection) where
       choose-counted o = same s (choose pl o s) k (choose-weighed pl (anywhere (bears pl d)) o s)
 
       -- So does a Consume: an ACK's connection is accepted, and another packet bears none.
-      pub removed-counted : (a : ℕ) (x : Packet) (rest : List Packet) → a < A pl → s .queue (activeIn a) ≡ x ∷ rest → Counted pl d (acceptKind pl (x .kind) x acc) n (removed a rest s)
+      pub removed-counted : (a : ℕ) (x : Packet) (rest : List Packet) → a < A pl → s .lines .queue (activeIn a) ≡ x ∷ rest → Counted pl d (acceptKind pl (x .kind) x acc) n (removed a rest s)
       unfolding borne
       removed-counted a x rest h e = by (x .kind) refl
         where
@@ -137,7 +137,7 @@ module _ (pl : Plan) (d : Connection) where
       deliver-counted o h = same s (deliver pl o s) k (deliver-weighed pl (anywhere (bears pl d)) wired c o h)
 
       -- So does a sending.
-      pub send-counted : (o : Output) → Drives pl o → ((m : ℕ) → s .choice o ≡ sender m → Sendable pl s o m) → s .wire o ≡ Empty → Counted pl d acc n (send pl o s)
+      pub send-counted : (o : Output) → Drives pl o → ((m : ℕ) → s .links .choice o ≡ sender m → Sendable pl s o m) → s .links .wire o ≡ Empty → Counted pl d acc n (send pl o s)
       unfolding borne
       send-counted o h ready z = same s (send pl o s) k (send-weighed pl (anywhere (bears pl d)) wired c o h (λ u m q y x g e f b. refl) ready z)
 
@@ -182,11 +182,11 @@ module _ (pl : Plan) (d : Connection) where
           record { count = let w = launched-weighed pl (anywhere (bears pl d)) c a p t h in let b = launched-bears a p t l in let m = k .count in omega arith }
 
       -- A Reply keeps the count.
-      pub replied-counted : (p : ℕ) (kind : Kind) → p < P pl → (kind ≡ Ack) ⊎ (kind ≡ Nack) → Counted pl d acc n (replied p kind (s .queue (passiveIn p)) s)
+      pub replied-counted : (p : ℕ) (kind : Kind) → p < P pl → (kind ≡ Ack) ⊎ (kind ≡ Nack) → Counted pl d acc n (replied p kind (s .lines .queue (passiveIn p)) s)
       unfolding borne
-      replied-counted p kind h q = by (s .queue (passiveIn p)) refl
+      replied-counted p kind h q = by (s .lines .queue (passiveIn p)) refl
         where
-          by : (l : List Packet) → s .queue (passiveIn p) ≡ l → Counted pl d acc n (replied p kind l s)
+          by : (l : List Packet) → s .lines .queue (passiveIn p) ≡ l → Counted pl d acc n (replied p kind l s)
           by [] e = k
           by (x ∷ rest) e =
               let b = head-belongs c (passiveIn p) h x rest e in

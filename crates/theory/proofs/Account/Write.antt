@@ -20,13 +20,13 @@ use Rattle.wiring.specs.Wired.{Wired}
 use Rattle.machine.specs.Capacity.{capacity}
 use Rattle.machine.specs.Store.{sameQueue}
 use Rattle.machine.specs.Outputs.{nextBy, senders}
-use Rattle.machine.specs.State.{State, Choice, nobody, sender, withQueue, withWire, withCredit, withFlag, withChoice}
+use Rattle.machine.specs.State.{State, Links, Choice, nobody, sender, withQueue, withWire, withCredit, withFlag, withChoice}
 use Rattle.machine.specs.Write.{ofRank, raise, spend, sendHead, sendFrom, sendBy, send}
 use Rattle.machine.specs.Valid.{Drives, bit, goesTo, brings, onWires, isFed}
 use Rattle.machine.proofs.Numbers.{sender-exists}
 use Rattle.theory.proofs.Ground.Cells.{queue-away, same-turn, cell-sum, fed-apart, outputs-put}
 use Rattle.theory.proofs.Core.{account, Core, Sendable}
-use Rattle.theory.proofs.Places.Senders.{raise-queue, raise-credit, raise-wire, raise-flag, raise-none, Ready, candidate-ready}
+use Rattle.theory.proofs.Places.Senders.{raise-queue, raise-credit, raise-links, raise-flag, raise-none, Ready, candidate-ready}
 use Rattle.theory.proofs.Account.Paid.{Paid, Kept, Spared, paid-by, paid-of, paid-alike, next-fed, left-paid, out-paid}
 
 module _ {pl : Plan} (wired : Wired pl) where
@@ -39,12 +39,12 @@ module _ {pl : Plan} (wired : Wired pl) where
 
       by : (isFed q ≡ true) ⊎ (isFed q ≡ false) → Paid pl (raise q (withQueue q rest s))
       by (inl f) =
-          paid-alike (withFlag q true (withQueue q rest s)) (raise q (withQueue q rest s)) (raise-queue q u) (raise-credit q u) (raise-flag q u f) (raise-wire q u)
+          paid-alike (withFlag q true (withQueue q rest s)) (raise q (withQueue q rest s)) (raise-queue q u) (raise-credit q u) (raise-flag q u f) (ap (λ (l : Links). l .wire) (raise-links q u))
           (left-paid s c q x rest f e down)
       by (inr f) =
           let l : length (s .lines .queue q) ≤ capacity (pl .head) q = c .out-capacities q h f in
           let n : length (s .lines .queue q) ≡ suc (length rest) = ap length e in
-          paid-alike (withQueue q rest s) (raise q (withQueue q rest s)) (raise-queue q u) (raise-credit q u) (raise-none q u f) (raise-wire q u)
+          paid-alike (withQueue q rest s) (raise q (withQueue q rest s)) (raise-queue q u) (raise-credit q u) (raise-none q u f) (ap (λ (l : Links). l .wire) (raise-links q u))
           (out-paid s c q rest f (omega arith))
 
   enters-paid : (o : Output) (x : Packet) (n : Queue) (s : State) → Drives pl o → Paid pl s → s .links .wire o ≡ Empty → nextBy pl o x ≡ some n → 0 < s .flow .credit n .0
@@ -69,7 +69,7 @@ module _ {pl : Plan} (wired : Wired pl) where
       subst (λ (xs : List Packet). Paid pl (sendHead pl o q xs s)) (sym (r .queue))
       (subst (λ (y : Option Queue). Paid pl (withWire o (Full (r .head)) (spend y (raise q (withQueue q (r .rest) s))))) (sym (r .goes))
       (enters-paid o (r .head) (r .next) (raise q (withQueue q (r .rest) s)) d (leaves-paid q (r .head) (r .rest) s h c (r .queue) down)
-      (ap (λ (m : Output → Wire). m o) (raise-wire q (withQueue q (r .rest) s)) ∙ w) (r .goes) (rw (raise-credit q (withQueue q (r .rest) s)) (r .room))))
+      (ap (λ (l : Links). l .wire o) (raise-links q (withQueue q (r .rest) s)) ∙ w) (r .goes) (rw (raise-credit q (withQueue q (r .rest) s)) (r .room))))
 
   -- an output sends what it picked
   pub send-paid : (o : Output) (s : State) → Drives pl o → Core pl s → s .links .wire o ≡ Empty → ((k : ℕ) → s .links .choice o ≡ sender k → Sendable pl s o k) → Paid pl (send pl o s)

@@ -32,18 +32,15 @@ raise-leaves f flags marks q s = by (role q)
     by (handling r) = flags q true (withHandled q false s) ∙ marks q false s
     by passing = flags q true s
 
--- queues, credits, choices, wires and allowances stay
+-- queues, credits, wires, choices and allowances stay
 pub raise-queue : (q : Queue) (s : State) → raise q s .lines .queue ≡ s .lines .queue
 raise-queue = raise-leaves (λ s. s .lines .queue) (λ q b s. refl) (λ q b s. refl)
 
 pub raise-credit : (q : Queue) (s : State) → raise q s .flow .credit ≡ s .flow .credit
 raise-credit = raise-leaves (λ s. s .flow .credit) (λ q b s. refl) (λ q b s. refl)
 
-pub raise-choice : (q : Queue) (s : State) → raise q s .links .choice ≡ s .links .choice
-raise-choice = raise-leaves (λ s. s .links .choice) (λ q b s. refl) (λ q b s. refl)
-
-pub raise-wire : (q : Queue) (s : State) → raise q s .links .wire ≡ s .links .wire
-raise-wire = raise-leaves (λ s. s .links .wire) (λ q b s. refl) (λ q b s. refl)
+pub raise-links : (q : Queue) (s : State) → raise q s .links ≡ s .links
+raise-links = raise-leaves (λ s. s .links) (λ q b s. refl) (λ q b s. refl)
 
 pub raise-allowance : (q : Queue) (s : State) → raise q s .flow .allowance ≡ s .flow .allowance
 raise-allowance = raise-leaves (λ s. s .flow .allowance) (λ q b s. refl) (λ q b s. refl)

@@ -1,28 +1,27 @@
 -- What is picked moves: after WRITE the queue of a picked head has lost it. A tear-down that ends has left its Q after EXECUTE.
 use mathlib.Core.Path.{_≡_, refl, sym, ap, _∙_}
 use mathlib.Core.Logic.{_⊎_, inl, inr, _≢_}
-use mathlib.Core.Bool.{Bool, true, false, not, _&&_, true≢false, false≢true}
-use mathlib.Core.List.{List, [], _∷_, _++_}
+use mathlib.Core.Bool.{Bool, true, false, true≢false}
+use mathlib.Core.List.{List, [], _∷_}
 use mathlib.Core.Option.{Option, none, some}
-use Prim.Native.Nat.{ℕ, zero, suc, _+_, _≤_, _<_}
+use Prim.Native.Nat.{ℕ, suc, _<_}
 use native.Mathlib.Omega.{arith}
 use Rattle.basis.specs.Choice.{pick, test}
 use Rattle.basis.specs.Bounded.{below-suc}
-use Rattle.basis.specs.Fold.{upTo, up-keeps, up-keeps-at}
+use Rattle.basis.specs.Fold.{upTo, up-keeps-at}
 use Rattle.packets.specs.declared.Packet.{Packet}
-use Rattle.packets.specs.declared.Wire.the-variants.{Full}
 use Rattle.plan.specs.Plan.{Plan}
 use Rattle.feeding.specs.Queue.{Queue}
 use Rattle.feeding.specs.Feeds.{Output}
 use Rattle.journeys.proofs.Places.{some-same, some-not-none}
 use Rattle.machine.specs.Store.{put, sameQueue, queue-same, sameOutput, same-output, output-same}
 use Rattle.machine.specs.Outputs.{nextBy, senders, outputs, outputAt}
-use Rattle.machine.specs.State.{State, Choice, nobody, sender, withQueue, withChoice}
-use Rattle.machine.specs.Write.{ofRank, raise, spend, sendHead, sendFrom, sendBy, send, doWrite}
+use Rattle.machine.specs.State.{State, Links, Choice, nobody, sender, withQueue}
+use Rattle.machine.specs.Write.{ofRank, raise, spend, sendHead, sendBy, send, doWrite}
 use Rattle.machine.proofs.Apart.{nobody-not, sender-same}
 use Rattle.theory.proofs.Ground.Cells.{queue-away, output-away}
 use Rattle.theory.proofs.Places.Feeders.{one-output}
-use Rattle.theory.proofs.Places.Senders.{raise-queue, raise-choice}
+use Rattle.theory.proofs.Places.Senders.{raise-queue, raise-links}
 
 spend-queue : (y : Option Queue) (s : State) → (spend y s .lines .queue ≡ s .lines .queue) × (spend y s .links .choice ≡ s .links .choice)
 spend-queue none s = (refl, refl)
@@ -49,7 +48,7 @@ sent pl o s = by (s .links .choice o) refl
         (λ m u x rest d f g. nil-cons (sym e ∙ ap (s .lines .queue) (some-same (sym r ∙ ap (ofRank (senders o)) (sender-same (sym c ∙ d)) ∙ f)) ∙ g))
     head k q c r (x ∷ rest) e =
         let b = spend-queue (nextBy pl o x) (raise q (withQueue q rest s)) in
-        goes k q x rest c r e (rw (c, sendBy, r, e, sendHead) (b .0 ∙ raise-queue q (withQueue q rest s))) (rw (c, sendBy, r, e, sendHead) (ap (λ (f : Output → Choice). put sameOutput f o nobody) (b .1 ∙ raise-choice q (withQueue q rest s))))
+        goes k q x rest c r e (rw (c, sendBy, r, e, sendHead) (b .0 ∙ raise-queue q (withQueue q rest s))) (rw (c, sendBy, r, e, sendHead) (ap (λ (f : Output → Choice). put sameOutput f o nobody) (b .1 ∙ ap (λ (l : Links). l .choice) (raise-links q (withQueue q rest s)))))
 
     rank : (k : ℕ) → s .links .choice o ≡ sender k → (y : Option Queue) → ofRank (senders o) k ≡ y → Sent pl o s
     rank k c none r = idle (rw (c, sendBy, r)) (rw (c, sendBy, r)) (λ m u x rest d f g. some-not-none (sym r ∙ ap (ofRank (senders o)) (sender-same (sym c ∙ d)) ∙ f))

@@ -18,14 +18,14 @@ use Rattle.feeding.specs.Feeds.{Output, headingOf, outputOf}
 use Rattle.wiring.specs.Wired.{Wired}
 use Rattle.journeys.proofs.Places.{some-same}
 use Rattle.machine.specs.Outputs.{nextBy, senders, outputs, outputAt, outputNumber}
-use Rattle.machine.specs.State.{State, Choice, nobody, sender, withQueue, withWire, withChoice}
+use Rattle.machine.specs.State.{State, Links, Choice, nobody, sender, withQueue, withWire, withChoice}
 use Rattle.machine.specs.Write.{ofRank, raise, spend, sendHead, sendFrom, sendBy, send, doWrite}
 use Rattle.machine.specs.Valid.{Drives}
 use Rattle.machine.proofs.OutNumbers.{output-at, output-below, drives-at, at-apart}
 use Rattle.theory.proofs.Ground.Cells.{output-here, output-away}
 use Rattle.theory.proofs.Core.{WiresEmpty, NoChoices, Sendable, ChoicesSendable, Shape, in-read}
 use Rattle.theory.proofs.Places.Feeders.{one-feeder, sender-leaves}
-use Rattle.theory.proofs.Places.Senders.{raise-wire, raise-choice}
+use Rattle.theory.proofs.Places.Senders.{raise-links}
 use Rattle.theory.proofs.Shape.Spared.{Spares, spared-sendable, spares-alike, spares-then, turn-spares, raise-spares, spend-spares}
 
 -- what a head's sending makes of a state
@@ -51,13 +51,9 @@ send-by pl s P o same cleared sent = by (s .links .choice o) refl
     by nobody e = same e
     by (sender k) e = from k e (ofRank (senders o) k) refl
 
-spend-wire : (y : Option Queue) (s : State) → spend y s .links .wire ≡ s .links .wire
-spend-wire none s = refl
-spend-wire (some q) s = refl
-
-spend-choice : (y : Option Queue) (s : State) → spend y s .links .choice ≡ s .links .choice
-spend-choice none s = refl
-spend-choice (some q) s = refl
+spend-links : (y : Option Queue) (s : State) → spend y s .links ≡ s .links
+spend-links none s = refl
+spend-links (some q) s = refl
 
 module _ (pl : Plan) where
   -- ---- another output's wire and choice stay
@@ -66,10 +62,10 @@ module _ (pl : Plan) where
   send-wire o u s ne =
       send-by pl s (λ (t : State). t .links .wire u ≡ s .links .wire u) o (λ e. refl) refl
       (λ k q x rest e r h. output-away (spend (nextBy pl o x) (raise q (withQueue q rest s)) .links .wire) o (Full x) u ne
-      ∙ ap (λ (m : Output → Wire). m u) (spend-wire (nextBy pl o x) (raise q (withQueue q rest s)) ∙ raise-wire q (withQueue q rest s)))
+      ∙ ap (λ (l : Links). l .wire u) (spend-links (nextBy pl o x) (raise q (withQueue q rest s)) ∙ raise-links q (withQueue q rest s)))
 
   sent-choice : (o u : Output) (q : Queue) (x : Packet) (rest : List Packet) (s : State) → sentFrom pl o q x rest s .links .choice u ≡ s .links .choice u
-  sent-choice o u q x rest s = ap (λ (m : Output → Choice). m u) (spend-choice (nextBy pl o x) (raise q (withQueue q rest s)) ∙ raise-choice q (withQueue q rest s))
+  sent-choice o u q x rest s = ap (λ (l : Links). l .choice u) (spend-links (nextBy pl o x) (raise q (withQueue q rest s)) ∙ raise-links q (withQueue q rest s))
 
   -- another output's choice stays
   pub send-choice : (o u : Output) (s : State) → u ≢ o → send pl o s .links .choice u ≡ s .links .choice u

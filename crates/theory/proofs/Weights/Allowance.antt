@@ -22,7 +22,7 @@ use Rattle.feeding.specs.Feeds.{Output}
 use Rattle.wiring.specs.Wired.{Wired}
 use Rattle.machine.specs.Store.{put, sameOutput}
 use Rattle.machine.specs.Outputs.{nextBy}
-use Rattle.machine.specs.State.{State, sender, blank, start, withPhase, withSlot, withQueue, join}
+use Rattle.machine.specs.State.{State, Links, sender, blank, start, withPhase, withSlot, withQueue, join}
 use Rattle.machine.specs.Read.{deliver, lower, settle}
 use Rattle.machine.specs.Execute.{declined, unit, tdownOf, choose, undo}
 use Rattle.machine.specs.Write.{send}
@@ -31,7 +31,7 @@ use Rattle.machine.specs.Valid.{Drives, Carries, spendsKind, spends}
 use Rattle.machine.proofs.Apart.{full-not}
 use Rattle.theory.proofs.Core.{Core, Sendable, Allowances}
 use Rattle.theory.proofs.Places.Closure.{passive-setup, active-answer}
-use Rattle.theory.proofs.Places.Senders.{raise-wire, raise-allowance}
+use Rattle.theory.proofs.Places.Senders.{raise-links, raise-allowance}
 use Rattle.theory.proofs.Cases.{deliver-none, deliver-one, UnitDoes, rests, books, declines, ends, frees, unit-does, unit-books, unit-declines, unit-ends, unit-frees, ActiveDoes, waits, tears, undo-does, undo-tears, SendDoes, none-sent, sent, send-does, send-one}
 use Rattle.theory.proofs.Weights.Total.{anywhere, weighed, Bound, weighed-total, core-bound, weighed-plain, start-weighed, bound-put}
 use Rattle.theory.proofs.Weights.Moves.{head-belongs, phase-weighed, slot-weighed, settle-weighed, choose-weighed, deliver-weighed, send-weighed}
@@ -147,7 +147,7 @@ module _ {pl : Plan} {s : State} (c : Core pl s) where
       by (sent k q e r g) =
           let is = send-one pl o s k q e r g in
           allowances-from (send pl o s)
-          (bound-put pl s (send pl o s) o (Full (g .packet)) (core-bound pl s c) onto (ap (λ (t : State). t .links .wire) is ∙ ap (λ (m : Output → Wire). put sameOutput m o (Full (g .packet))) (raise-wire q (withQueue q (g .rest) s))))
+          (bound-put pl s (send pl o s) o (Full (g .packet)) (core-bound pl s c) onto (ap (λ (t : State). t .links .wire) is ∙ ap (λ (l : Links). put sameOutput (l .wire) o (Full (g .packet))) (raise-links q (withQueue q (g .rest) s))))
           (λ a h.
           ap₂ (λ (m n : ℕ). m + n)
           (ap (λ (t : State). t .flow .allowance a) is ∙ ap (λ (m : ℕ → ℕ). m a) (raise-allowance q (withQueue q (g .rest) s)))

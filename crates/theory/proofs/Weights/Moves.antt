@@ -18,7 +18,7 @@ use Rattle.feeding.specs.Role.{Role, sending, receiving, handling, passing, rol
 use Rattle.feeding.specs.Feeds.{Output, Place, inQueue, leavesFrom, headPlace}
 use Rattle.wiring.specs.Wired.{Wired}
 use Rattle.machine.specs.Outputs.{nextBy, senders, outputs, outputAt}
-use Rattle.machine.specs.State.{State, sender, withPhase, withSlot, withQueue, withWire}
+use Rattle.machine.specs.State.{State, Links, sender, withPhase, withSlot, withQueue, withWire}
 use Rattle.machine.specs.Read.{deliver, lower, settle, doRead}
 use Rattle.machine.specs.Execute.{mayLeave, choose}
 use Rattle.machine.specs.Write.{ofRank, raiseAs, raise, spend, send, doWrite}
@@ -27,7 +27,7 @@ use Rattle.machine.proofs.Numbers.{sender-exists}
 use Rattle.machine.proofs.OutNumbers.{drives-at}
 use Rattle.theory.proofs.Core.{Core, Sendable}
 use Rattle.theory.proofs.Places.Lines.{head-leaves, belongs-exists}
-use Rattle.theory.proofs.Places.Senders.{raise-wire}
+use Rattle.theory.proofs.Places.Senders.{raise-links}
 use Rattle.theory.proofs.Cases.{deliver-none, deliver-one, afterSent, send-one, SendDoes, none-sent, sent, send-does}
 use Rattle.theory.proofs.Weights.Total.{Weight, inLine, onWire, weighed, line-in, line-fresh, weighed-queue, weighed-line, weighed-wire, weighed-join}
 
@@ -103,7 +103,7 @@ module _ (pl : Plan) (w : Weight) where
   unfolding weighed inLine onWire
   sent-weighed s o q y x rest d h z e m n =
       let u : State = spend (some y) (raise q (withQueue q rest s)) in
-      let clear : onWire pl w o (raise q (withQueue q rest s) .links .wire o) ≡ 0 = ap (λ (v : Output → Wire). onWire pl w o (v o)) (raise-wire q (withQueue q rest s)) ∙ ap (onWire pl w o) z in
+      let clear : onWire pl w o (raise q (withQueue q rest s) .links .wire o) ≡ 0 = ap (λ (l : Links). onWire pl w o (l .wire o)) (raise-links q (withQueue q rest s)) ∙ ap (onWire pl w o) z in
       let onto : onWire pl w o (Full x) ≡ w (inQueue y) x = rw n in
       let wire = weighed-wire pl w o d (Full x) u in
       let old : inLine w q (s .lines .handled q) (s .lines .queue q) ≡ w (leavesFrom q) x + inAll (w (inQueue q)) rest =

@@ -107,7 +107,7 @@ module _ (p : List ℕ) (h : Head) (loads : loadOf p ≡ Accepted h) (ruled : Ru
               (progress-in during (after before) rest (reached before) (subst (Waits (planOf p)) (reads before) w)
               (subst (λ (b : List ℕ). S (planOf p) ≤ roundsIn p during b) (runs before) l));
           agrees = λ before more e.
-              record { queues = ap (λ (s : State). s .queue) (reads before); wires = ap (λ (s : State). s .wire) (reads before); table = ap (λ (s : State). s .table) (reads before) };
+              record { queues = ap (λ (s : State). s .lines .queue) (reads before); wires = ap (λ (s : State). s .links .wire) (reads before); table = ap (λ (s : State). s .table) (reads before) };
           answers = λ before more c e. answer-after before c (start (planOf p)) rest (ruled .starts);
           launches = λ before more e d.
               rw (

@@ -42,39 +42,39 @@ pub record Turns (x : Phase) (reads executes writes : ℕ) (y : Phase) : Type 0 
   pub execute-turn : executes + executeBehind x ≡ writes + executeBehind y
 
 abbrev pub Turn : Call → Phase → Outcome → Type 0
-Turn c x o = Turns x (turnsCall Read c (o .answer)) (turnsCall Execute c (o .answer)) (turnsCall Write c (o .answer)) (o .state .phase)
+Turn c x o = Turns x (turnsCall Read c (o .answer)) (turnsCall Execute c (o .answer)) (turnsCall Write c (o .answer)) (o .state .clock .phase)
 
 -- where nothing is counted the phase is kept
 still : (x y : Phase) → y ≡ x → Turns x 0 0 0 y
 still x y e = rw e (record { read-turn = refl; execute-turn = refl })
 
 module _ (pl : Plan) (s : State) where
-  phase-turn : (x : Phase) → s .phase ≡ x → Turn (turn x) (s .phase) (gives Done (stepOf pl x s))
+  phase-turn : (x : Phase) → s .clock .phase ≡ x → Turn (turn x) (s .clock .phase) (gives Done (stepOf pl x s))
   unfolding doRead doExecute doWrite
   phase-turn Read e = rw e (record { read-turn = refl; execute-turn = refl })
   phase-turn Execute e = rw e (record { read-turn = refl; execute-turn = refl })
   phase-turn Write e = rw e (record { read-turn = refl; execute-turn = refl })
 
-  visit-phase : (v : Visit) (o : Outcome) → Visits pl s v o → o .state .phase ≡ s .phase
+  visit-phase : (v : Visit) (o : Outcome) → Visits pl s v o → o .state .clock .phase ≡ s .clock .phase
   unfolding launched join removed
   visit-phase v o (launches a p t m) = refl
   visit-phase v o (replies p c x rest m) = refl
   visit-phase v o (consumes a x rest m) = refl
   visit-phase v o (looks r q t m) = refl
 
-  does-turn : (c : Call) (o : Outcome) → Does pl s c o → Turn c (s .phase) o
-  does-turn c o (refuses d w n) = rw (refused-turns Read d w, refused-turns Execute d w, refused-turns Write d w) (still (s .phase) (s .phase) refl)
+  does-turn : (c : Call) (o : Outcome) → Does pl s c o → Turn c (s .clock .phase) o
+  does-turn c o (refuses d w n) = rw (refused-turns Read d w, refused-turns Execute d w, refused-turns Write d w) (still (s .clock .phase) (s .clock .phase) refl)
   does-turn c o (turns x e) = phase-turn x e
-  does-turn c o (visits v r d) = still (s .phase) (r .state .phase) (visit-phase v r d)
+  does-turn c o (visits v r d) = still (s .clock .phase) (r .state .clock .phase) (visit-phase v r d)
 
   -- every call turns the phase by what it counts, and not otherwise
-  pub call-turn : (c : Call) → Turn c (s .phase) (call pl c s)
+  pub call-turn : (c : Call) → Turn c (s .clock .phase) (call pl c s)
   call-turn c = does-turn c (call pl c s) (call-does pl s c)
 
 -- ---- a list of calls
 -- from any state: what is counted is as many rounds, but for the part of a round behind the first phase and behind the last
-pub list-turn : (pl : Plan) (cs : List Call) (s : State) → Turns (s .phase) (turnsIn pl Read cs s) (turnsIn pl Execute cs s) (rounds pl cs s) (ruledAfter pl cs s .phase)
-list-turn pl [] s = still (s .phase) (s .phase) refl
+pub list-turn : (pl : Plan) (cs : List Call) (s : State) → Turns (s .clock .phase) (turnsIn pl Read cs s) (turnsIn pl Execute cs s) (rounds pl cs s) (ruledAfter pl cs s .clock .phase)
+list-turn pl [] s = still (s .clock .phase) (s .clock .phase) refl
 list-turn pl (c ∷ cs) s =
     let a = call-turn pl s c in
     let b = list-turn pl cs (call pl c s .state) in
@@ -87,21 +87,21 @@ behind-few Execute = (omega arith, omega arith)
 behind-few Write = (omega arith, omega arith)
 
 -- a list from READ has no part of a round behind it
-from-read : (pl : Plan) (cs : List Call) (s : State) → s .phase ≡ Read → Turns Read (turnsIn pl Read cs s) (turnsIn pl Execute cs s) (rounds pl cs s) (ruledAfter pl cs s .phase)
-from-read pl cs s e = subst (λ (x : Phase). Turns x (turnsIn pl Read cs s) (turnsIn pl Execute cs s) (rounds pl cs s) (ruledAfter pl cs s .phase)) e (list-turn pl cs s)
+from-read : (pl : Plan) (cs : List Call) (s : State) → s .clock .phase ≡ Read → Turns Read (turnsIn pl Read cs s) (turnsIn pl Execute cs s) (rounds pl cs s) (ruledAfter pl cs s .clock .phase)
+from-read pl cs s e = subst (λ (x : Phase). Turns x (turnsIn pl Read cs s) (turnsIn pl Execute cs s) (rounds pl cs s) (ruledAfter pl cs s .clock .phase)) e (list-turn pl cs s)
 
 -- from READ there are never fewer Executes than Writes, nor fewer Reads than Executes, and at most one Read more than Writes
-pub rounds-between : (pl : Plan) (cs : List Call) (s : State) → s .phase ≡ Read
+pub rounds-between : (pl : Plan) (cs : List Call) (s : State) → s .clock .phase ≡ Read
     → (rounds pl cs s ≤ turnsIn pl Execute cs s) × (turnsIn pl Execute cs s ≤ turnsIn pl Read cs s) × (turnsIn pl Read cs s ≤ rounds pl cs s + 1)
 rounds-between pl cs s e =
-    let t = from-read pl cs s e in let r = t .read-turn in let x = t .execute-turn in let f = behind-few (ruledAfter pl cs s .phase) in let f0 = f .0 in let f1 = f .1 in
+    let t = from-read pl cs s e in let r = t .read-turn in let x = t .execute-turn in let f = behind-few (ruledAfter pl cs s .clock .phase) in let f0 = f .0 in let f1 = f .1 in
     (omega arith, omega arith, omega arith)
 
 -- from READ to READ there are as many Reads, Executes and Writes: whole rounds
-pub rounds-whole : (pl : Plan) (cs : List Call) (s : State) → s .phase ≡ Read → ruledAfter pl cs s .phase ≡ Read
+pub rounds-whole : (pl : Plan) (cs : List Call) (s : State) → s .clock .phase ≡ Read → ruledAfter pl cs s .clock .phase ≡ Read
     → (turnsIn pl Read cs s ≡ rounds pl cs s) × (turnsIn pl Execute cs s ≡ rounds pl cs s)
 rounds-whole pl cs s e f =
     let t = from-read pl cs s e in let r = t .read-turn in let x = t .execute-turn in
-    let b : readBehind (ruledAfter pl cs s .phase) ≡ 0 = rw f in
-    let d : executeBehind (ruledAfter pl cs s .phase) ≡ 0 = rw f in
+    let b : readBehind (ruledAfter pl cs s .clock .phase) ≡ 0 = rw f in
+    let d : executeBehind (ruledAfter pl cs s .clock .phase) ≡ 0 = rw f in
     (omega arith, omega arith)

@@ -93,33 +93,33 @@ none-queued : (l : List Packet) → Decides (isEmpty l) (l ≡ [])
 none-queued [] = record { holds = λ e. refl; passes = λ e. refl }
 none-queued (x ∷ l) = record { holds = λ e. absurd (false≢true e); passes = λ e. ap isEmpty e }
 
-full : (pl : Plan) (q : Queue) (s : State) → Decides (not (ltb (length (s .queue q)) (capacity (pl .head) q))) (QueueIsFull pl q s)
-full pl q s = not-less (length (s .queue q)) (capacity (pl .head) q)
+full : (pl : Plan) (q : Queue) (s : State) → Decides (not (ltb (length (s .lines .queue q)) (capacity (pl .head) q))) (QueueIsFull pl q s)
+full pl q s = not-less (length (s .lines .queue q)) (capacity (pl .head) q)
 
-head-unmarked : (q : Queue) (s : State) → Decides (headUnmarked (s .queue q)) (UnmarkedHead q s)
-head-unmarked q s = record { holds = λ e. of (s .queue q) refl e; passes = by }
+head-unmarked : (q : Queue) (s : State) → Decides (headUnmarked (s .lines .queue q)) (UnmarkedHead q s)
+head-unmarked q s = record { holds = λ e. of (s .lines .queue q) refl e; passes = by }
   where
-    of : (l : List Packet) → s .queue q ≡ l → headUnmarked l ≡ true → UnmarkedHead q s
+    of : (l : List Packet) → s .lines .queue q ≡ l → headUnmarked l ≡ true → UnmarkedHead q s
     of [] e t = absurd (false≢true t)
     of (x ∷ l) e t =
         let k = unmarked-kind (x .kind) (x .hub .0) t in
         let some : 1 ≤ x .hub .0 = k .1 in
         record { head = x; rest = l; line = e; kind = k .0; hub = λ z. omega arith }
 
-    by : UnmarkedHead q s → headUnmarked (s .queue q) ≡ true
+    by : UnmarkedHead q s → headUnmarked (s .lines .queue q) ≡ true
     by h = rw (h .line, h .kind, failed (same (h .head .hub .0) 0) (h .hub))
 
 module _ (pl : Plan) (wired : Wired pl) (s : State) where
   -- they tell of the calls' conditions
   pub calls-tell : (c : Call) → Tell (guards pl c s) (conditions pl c s)
-  calls-tell (turn x) = (refl, other-phase (s .phase) x, λ n. record {})
+  calls-tell (turn x) = (refl, other-phase (s .clock .phase) x, λ n. record {})
   calls-tell (visit (ofLaunch a p t)) = (
     refl,
-    other-phase (s .phase) Read,
+    other-phase (s .clock .phase) Read,
     λ n. (refl, not-three a p t (A pl) (P pl) (S pl), λ k. (
       refl,
       no (record { holds = served-of wired a p (below k); passes = serves-of wired a p (below k) }),
-      λ m. (refl, same (s .allowance a) 0, λ u. (refl, full pl (activeOut a) s, λ v. record {})),
+      λ m. (refl, same (s .flow .allowance a) 0, λ u. (refl, full pl (activeOut a) s, λ v. record {})),
     )),
   )
     where
@@ -130,20 +130,20 @@ module _ (pl : Plan) (wired : Wired pl) (s : State) where
           sure-less n = not-false _ (failed (not-less a (A pl)) n)
   calls-tell (visit (ofReply p c)) = (
     refl,
-    other-phase (s .phase) Write,
+    other-phase (s .clock .phase) Write,
     λ n. (refl, not-each (ltb p (P pl)) (leb c 1) (not-less p (P pl)) (no-choice c), λ k. (
       refl,
-      so (s .flag (passiveIn p)),
-      λ m. (refl, none-queued (s .queue (passiveIn p)), λ u. (refl, full pl (passiveOut p) s, λ v. record {})),
+      so (s .flow .flag (passiveIn p)),
+      λ m. (refl, none-queued (s .lines .queue (passiveIn p)), λ u. (refl, full pl (passiveOut p) s, λ v. record {})),
     )),
   )
   calls-tell (visit (ofConsume a)) = (
     refl,
-    other-phase (s .phase) Write,
+    other-phase (s .clock .phase) Write,
     λ n. (refl, not-less a (A pl), λ k. (
       refl,
-      so (s .flag (activeIn a)),
-      λ m. (refl, none-queued (s .queue (activeIn a)), λ u. (refl, head-unmarked (activeIn a) s, λ v. record {})),
+      so (s .flow .flag (activeIn a)),
+      λ m. (refl, none-queued (s .lines .queue (activeIn a)), λ u. (refl, head-unmarked (activeIn a) s, λ v. record {})),
     )),
   )
   calls-tell (visit (ofEntry r o t)) = (refl, not-three r o t (R pl) 4 (S pl), λ n. record {})

@@ -60,8 +60,8 @@ pub record MovesIn (p : List ℕ) (cs : List Call) (b : List ℕ) : Type 0 where
 
 -- the same queues, wires and table
 pub record Agrees (s t : State) : Type 0 where
-  pub queues : s .queue ≡ t .queue
-  pub wires : s .wire ≡ t .wire
+  pub queues : s .lines .queue ≡ t .lines .queue
+  pub wires : s .links .wire ≡ t .links .wire
   pub table : s .table ≡ t .table
 
 -- ---- the claim

@@ -3,9 +3,11 @@
 -- where a packet may be, and where it goes next.
 use mathlib.Core.Path.{_≡_}
 use mathlib.Core.Logic.{_⊎_}
+use mathlib.Core.Bool.{Bool, true}
 use mathlib.Core.Option.{Option, none, some}
 use Prim.Native.Nat.{ℕ, suc, _+_, _≤_, _<_}
-use Rattle.basis.specs.Walk.{Spot, on, end, lost}
+use Rattle.basis.specs.Choice.{pick}
+use Rattle.basis.specs.Walk.{on}
 use Rattle.packets.specs.declared.Kind.{Kind}
 use Rattle.packets.specs.declared.Kind.the-variants.{Setup, Tdown, Ack, Nack}
 use Rattle.basis.specs.Ring.{Ring}
@@ -16,6 +18,7 @@ use Rattle.plan.specs.Rules.{home}
 use Rattle.paths.specs.Walk.{onward, walked, walkSize}
 use Rattle.paths.specs.Served.{Served}
 use Rattle.feeding.specs.Queue.{Queue, activeOut, activeIn, passiveIn, passiveOut, U, Q, F, K}
+use Rattle.feeding.specs.Role.{Role, sending, receiving, handling, passing, role}
 
 -- 'SETUP and TDOWN go to the passive, ACK and NACK to the active'
 pub data Heading : Type 0 where
@@ -139,16 +142,19 @@ Fits pl Tdown a p hub x = (n : ℕ) × Ahead pl a p x n × (1 ≤ hub) × (n + h
 Fits pl Ack a p hub x = Back pl a p x hub × (hub ≡ span pl a p)
 Fits pl Nack a p hub x = Back pl a p x hub
 
+-- the place of a queue's head: at a unit it may have been handled
+abbrev pub headPlaceAs : Role → Bool → Queue → Place
+headPlaceAs sending done q = inQueue q
+headPlaceAs receiving done q = inQueue q
+headPlaceAs (handling r) done q = pick done (handledAt r) (inQueue q)
+headPlaceAs passing done q = inQueue q
+
+abbrev pub headPlace : Bool → Queue → Place
+headPlace done q = headPlaceAs (role q) done q
+
 -- the place of a packet that leaves a queue: a unit sends on what it has handled
 abbrev pub leavesFrom : Queue → Place
-leavesFrom (activeOut x) = inQueue (activeOut x)
-leavesFrom (activeIn x) = inQueue (activeIn x)
-leavesFrom (passiveIn x) = inQueue (passiveIn x)
-leavesFrom (passiveOut x) = inQueue (passiveOut x)
-leavesFrom (U r i) = inQueue (U r i)
-leavesFrom (Q r) = handledAt r
-leavesFrom (F r o) = inQueue (F r o)
-leavesFrom (K r i o) = inQueue (K r i o)
+leavesFrom q = headPlace true q
 
 -- ---- feeding, and the ring that a loadable plan has not
 pub record Feeds (pl : Plan) (x y : Queue) : Type 0 where

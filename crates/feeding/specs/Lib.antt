@@ -1,4 +1,5 @@
 pub mod Queue
+pub mod Role
 pub mod Feeds
 pub mod Edges
 pub mod Numbered

@@ -20,7 +20,7 @@ use Rattle.plan.specs.Plan.{Plan, R, A, S}
 use Rattle.feeding.specs.Queue.{Queue, Exists, queues, queueAt}
 use Rattle.feeding.specs.Feeds.{Output, ofActive, ofPassive, ofSide, toUnit, fromUnit}
 use Rattle.machine.specs.Outputs.{senders, outputs, outputAt}
-use Rattle.machine.specs.State.{State, Choice, nobody, sender, start}
+use Rattle.machine.specs.State.{State, Choice, nobody, sender, blank, start}
 use Rattle.machine.specs.Write.{ofRank}
 use Rattle.machine.specs.Valid.{PacketOk, Lined, Drives, isFed, Valid, Bounded}
 use Rattle.machine.proofs.Numbers.{exists-at}
@@ -29,7 +29,7 @@ use Rattle.layout.specs.Rows.{span}
 use Rattle.layout.proofs.Numbering.{entry-named}
 use Rattle.layout.specs.Offsets.{places, entries, routerEntries, slotRoom}
 use Rattle.layout.specs.Codes.{phase-small, kind-small, flag-small, choiceCode}
-use Rattle.layout.specs.Places.{packetBytes, blank, placeBytes}
+use Rattle.layout.specs.Places.{packetBytes, noPacket, placeBytes}
 use Rattle.layout.specs.Encode.{queueBytes, wireBytes, outputBytes, allowanceBytes, entryBytes, queuePart, outputPart, allowancePart, tablePart, encode}
 use Rattle.layout.specs.Decode.{capacity-most}
 
@@ -55,8 +55,8 @@ unfolding span
 bytes-span i zero g h = record {}
 bytes-span i (suc n) g h = bytes-append (g i) (span (suc i) n g) (h i (omega arith) (omega arith)) (bytes-span (suc i) n g (λ j a b. h j (omega arith) (omega arith)))
 
-blank-small : Bytes blank
-blank-small = (omega arith, (omega arith, (omega arith, (omega arith, (omega arith, record {})))))
+no-packet-small : Bytes noPacket
+no-packet-small = (omega arith, (omega arith, (omega arith, (omega arith, (omega arith, record {})))))
 
 -- the rank of a sender is below four
 rank-below : (qs : List Queue) (k : ℕ) (q : Queue) → ofRank qs k ≡ some q → k < length qs
@@ -82,7 +82,7 @@ module _ (pl : Plan) (s : State) (range : InRange (pl .head)) (v : Valid pl s) (
   places-small : (c : ℕ) (xs : List Packet) → ((x : Packet) → In x xs → PacketOk pl x) → Bytes (placeBytes c xs)
   unfolding placeBytes
   places-small zero xs h = record {}
-  places-small (suc c) [] h = bytes-append blank (placeBytes c []) blank-small (places-small c [] h)
+  places-small (suc c) [] h = bytes-append noPacket (placeBytes c []) no-packet-small (places-small c [] h)
   places-small (suc c) (x ∷ xs) h = bytes-append (packetBytes x) (placeBytes c xs) (packet-small x (h x (inl refl))) (places-small c xs (λ y i. h y (inr i)))
 
   lined-ok : (q : Queue) (done : Bool) (xs : List Packet) → Lined pl q done xs → (x : Packet) → In x xs → PacketOk pl x
@@ -91,37 +91,37 @@ module _ (pl : Plan) (s : State) (range : InRange (pl .head)) (v : Valid pl s) (
   lined-ok q done (y ∷ xs) (h, k) x (inr i) = k x i .ranges
 
   -- ---- rows
-  credit-small : (q : Queue) → Exists pl q → s .credit q .0 ≤ 7
+  credit-small : (q : Queue) → Exists pl q → s .flow .credit q .0 ≤ 7
   credit-small q h = by (test (isFed q))
     where
-      by : (isFed q ≡ true) ⊎ (isFed q ≡ false) → s .credit q .0 ≤ 7
+      by : (isFed q ≡ true) ⊎ (isFed q ≡ false) → s .flow .credit q .0 ≤ 7
       by (inl t) = let c = v .credits q h t in let m = capacity-most (pl .head) q range in omega arith
       by (inr t) = let c = v .out-credits q h t in let m = capacity-most (pl .head) q range in omega arith
 
   queue-small : (q : Queue) → Exists pl q → Bytes (queueBytes s q)
   unfolding queueBytes
   queue-small q h =
-      let c = credit-small q h in let f = flag-small (s .flag q) in let g = flag-small (s .handled q) in let n = v .capacities q h in let m = capacity-most (pl .head) q range in
-      (omega arith, (omega arith, (omega arith, (omega arith, places-small places (s .queue q) (lined-ok q (s .handled q) (s .queue q) (v .places q h))))))
+      let c = credit-small q h in let f = flag-small (s .flow .flag q) in let g = flag-small (s .lines .handled q) in let n = v .capacities q h in let m = capacity-most (pl .head) q range in
+      (omega arith, (omega arith, (omega arith, (omega arith, places-small places (s .lines .queue q) (lined-ok q (s .lines .handled q) (s .lines .queue q) (v .places q h))))))
 
-  wire-small : (o : Output) → Drives pl o → (w : Wire) → s .wire o ≡ w → Bytes (wireBytes w)
-  wire-small o h Empty e = (omega arith, blank-small)
+  wire-small : (o : Output) → Drives pl o → (w : Wire) → s .links .wire o ≡ w → Bytes (wireBytes w)
+  wire-small o h Empty e = (omega arith, no-packet-small)
   wire-small o h (Full x) e = (omega arith, packet-small x (v .wires o h x e .belongs .ranges))
 
-  choice-small : (o : Output) → Drives pl o → (c : Choice) → s .choice o ≡ c → choiceCode c < 256
+  choice-small : (o : Output) → Drives pl o → (c : Choice) → s .links .choice o ≡ c → choiceCode c < 256
   choice-small o h nobody e = omega arith
   choice-small o h (sender k) e = let c = v .choices o k h e .1 in let l = rank-below (senders o) k (c .0) (c .1) in let m = senders-few o in omega arith
 
   output-small : (o : Output) → Drives pl o → Bytes (outputBytes s o)
   unfolding outputBytes
   output-small o h =
-      bytes-append (wireBytes (s .wire o)) (choiceCode (s .choice o) ∷ []) (wire-small o h (s .wire o) refl) (choice-small o h (s .choice o) refl, record {})
+      bytes-append (wireBytes (s .links .wire o)) (choiceCode (s .links .choice o) ∷ []) (wire-small o h (s .links .wire o) refl) (choice-small o h (s .links .choice o) refl, record {})
 
   allowance-small : (a : ℕ) → a < A pl → Bytes (allowanceBytes s a)
   allowance-small a h = let e = v .allowances a h in let m = range .aout .1 in (omega arith, record {})
 
   entry-small : (r o t : ℕ) → r < R pl → o < 4 → Bytes (entryBytes (s .table r o t))
-  unfolding start
+  unfolding start blank
   entry-small r o t hr ho = by (s .table r o t) refl (lt-or-ge t (S pl))
     where
       by : (x : Entry) → s .table r o t ≡ x → (t < S pl) ⊎ (S pl ≤ t) → Bytes (entryBytes x)
@@ -136,7 +136,7 @@ module _ (pl : Plan) (s : State) (range : InRange (pl .head)) (v : Valid pl s) (
   pub bytes-small : Bytes (encode pl s [])
   unfolding encode
   bytes-small =
-      let p = phase-small (s .phase) in let t = v .slot in let m = range .slots .1 in (
+      let p = phase-small (s .clock .phase) in let t = v .slot in let m = range .slots .1 in (
         omega arith,
         (
           omega arith,

@@ -1,4 +1,4 @@
--- The state of a state's bytes is that state: each row is read where it stands, and outside the plan's places both are as Start left them.
+-- The state of a state's bytes is that state: each row is read where it stands, and outside the plan's places both are blank.
 use mathlib.Core.Path.{_≡_, refl, sym, ap, ap₂, _∙_, fun-ext}
 use mathlib.Core.Bool.{Bool, true, false}
 use mathlib.Core.List.{List, [], _∷_}
@@ -15,7 +15,7 @@ use Rattle.plan.specs.Head.{InRange}
 use Rattle.plan.specs.Plan.{Plan, A}
 use Rattle.feeding.specs.Queue.{Queue, Exists}
 use Rattle.feeding.specs.Feeds.{Output}
-use Rattle.machine.specs.State.{State, start}
+use Rattle.machine.specs.State.{State, blank}
 use Rattle.machine.specs.Valid.{Bounded, Drives}
 use Rattle.layout.specs.Rows.{Stands, stands-left, stands-right, stands-get, stands-byte}
 use Rattle.layout.specs.Named.{existsTest, test-exists, exists-test, drivesTest, test-drives, drives-test, entryTest, test-entry, entry-test}
@@ -29,24 +29,24 @@ use Rattle.layout.specs.Decode.{creditAt, flagAt, handledAt, lengthAt, q
 -- ---- one row is read where it stands
 module _ (s : State) (b : List ℕ) (i : ℕ) where
   -- a queue's credit, flag, handled mark and packets
-  pub credit-read : (q : Queue) → Stands i (queueBytes s q) b → creditAt i b ≡ s .credit q
+  pub credit-read : (q : Queue) → Stands i (queueBytes s q) b → creditAt i b ≡ s .flow .credit q
   unfolding queueBytes
   credit-read q t = ap (λ (n : ℕ). record { 0 = n }) (stands-get i (queueBytes s q) b t creditByte (omega arith))
 
-  pub flag-read : (q : Queue) → Stands i (queueBytes s q) b → flagAt i b ≡ s .flag q
+  pub flag-read : (q : Queue) → Stands i (queueBytes s q) b → flagAt i b ≡ s .flow .flag q
   unfolding queueBytes
-  flag-read q t = ap flagOf (stands-get i (queueBytes s q) b t flagByte (omega arith)) ∙ flag-code (s .flag q)
+  flag-read q t = ap flagOf (stands-get i (queueBytes s q) b t flagByte (omega arith)) ∙ flag-code (s .flow .flag q)
 
-  pub handled-read : (q : Queue) → Stands i (queueBytes s q) b → handledAt i b ≡ s .handled q
+  pub handled-read : (q : Queue) → Stands i (queueBytes s q) b → handledAt i b ≡ s .lines .handled q
   unfolding queueBytes
-  handled-read q t = ap flagOf (stands-get i (queueBytes s q) b t handledByte (omega arith)) ∙ flag-code (s .handled q)
+  handled-read q t = ap flagOf (stands-get i (queueBytes s q) b t handledByte (omega arith)) ∙ flag-code (s .lines .handled q)
 
-  pub queue-read : (q : Queue) → length (s .queue q) ≤ places → Stands i (queueBytes s q) b → queueIn i b ≡ s .queue q
+  pub queue-read : (q : Queue) → length (s .lines .queue q) ≤ places → Stands i (queueBytes s q) b → queueIn i b ≡ s .lines .queue q
   unfolding queueBytes
   queue-read q h t =
-      let n : lengthAt i b ≡ length (s .queue q) = stands-get i (queueBytes s q) b t lengthByte (omega arith) in
-      let front : List ℕ = s .credit q .0 ∷ flagCode (s .flag q) ∷ flagCode (s .handled q) ∷ length (s .queue q) ∷ [] in
-      rw n (packets-read places (i + firstPlace) (s .queue q) b h (stands-right i (i + firstPlace) front (placeBytes places (s .queue q)) b refl t))
+      let n : lengthAt i b ≡ length (s .lines .queue q) = stands-get i (queueBytes s q) b t lengthByte (omega arith) in
+      let front : List ℕ = s .flow .credit q .0 ∷ flagCode (s .flow .flag q) ∷ flagCode (s .lines .handled q) ∷ length (s .lines .queue q) ∷ [] in
+      rw n (packets-read places (i + firstPlace) (s .lines .queue q) b h (stands-right i (i + firstPlace) front (placeBytes places (s .lines .queue q)) b refl t))
 
   -- a wire; an output's wire and choice
   pub wire-read : (w : Wire) → Stands i (wireBytes w) b → wireAt i b ≡ w
@@ -55,16 +55,16 @@ module _ (s : State) (b : List ℕ) (i : ℕ) where
       ap₂ (λ n y. wireOf (flagOf n) y) (stands-get i (wireBytes (Full x)) b t wireByte (omega arith))
       (packet-read (i + wirePacket) x b (stands-right i (i + wirePacket) (1 ∷ []) (packetBytes x) b refl t))
 
-  pub output-wire-read : (o : Output) → Stands i (outputBytes s o) b → wireAt i b ≡ s .wire o
+  pub output-wire-read : (o : Output) → Stands i (outputBytes s o) b → wireAt i b ≡ s .links .wire o
   unfolding outputBytes
-  output-wire-read o t = wire-read (s .wire o) (stands-left i (wireBytes (s .wire o)) (choiceCode (s .choice o) ∷ []) b t)
+  output-wire-read o t = wire-read (s .links .wire o) (stands-left i (wireBytes (s .links .wire o)) (choiceCode (s .links .choice o) ∷ []) b t)
 
-  pub choice-read : (o : Output) → Stands i (outputBytes s o) b → choiceAt i b ≡ s .choice o
+  pub choice-read : (o : Output) → Stands i (outputBytes s o) b → choiceAt i b ≡ s .links .choice o
   unfolding outputBytes
   choice-read o t =
-      let e : i + choiceByte ≡ i + length (wireBytes (s .wire o)) = rw (length-wire (s .wire o)) in
-      let k : Stands (i + choiceByte) (choiceCode (s .choice o) ∷ []) b = stands-right i (i + choiceByte) (wireBytes (s .wire o)) (choiceCode (s .choice o) ∷ []) b e t in
-      ap choiceOf (stands-byte (i + choiceByte) (choiceCode (s .choice o) ∷ []) b k (omega arith)) ∙ choice-code (s .choice o)
+      let e : i + choiceByte ≡ i + length (wireBytes (s .links .wire o)) = rw (length-wire (s .links .wire o)) in
+      let k : Stands (i + choiceByte) (choiceCode (s .links .choice o) ∷ []) b = stands-right i (i + choiceByte) (wireBytes (s .links .wire o)) (choiceCode (s .links .choice o) ∷ []) b e t in
+      ap choiceOf (stands-byte (i + choiceByte) (choiceCode (s .links .choice o) ∷ []) b k (omega arith)) ∙ choice-code (s .links .choice o)
 
   -- an entry
   pub entry-read : (x : Entry) → Stands i (entryBytes x) b → entryAt i b ≡ x
@@ -93,15 +93,15 @@ module _ (pl : Plan) (s : State) (rest : List ℕ) (range : InRange (pl .head)) 
   same-entry : (r o t : ℕ) → decode pl (encode pl s rest) .table r o t ≡ s .table r o t
   unfolding decode
   same-entry r o t =
-      kept (entryTest pl r o t) _ (start pl .table r o t) (s .table r o t)
+      kept (entryTest pl r o t) _ (blank pl .table r o t) (s .table r o t)
       (λ e. let h = test-entry pl r o t e in let l = range .slots .1 in
       entry-read s (encode pl s rest) (entryRow pl r o t) (s .table r o t) (entry-stands pl s rest r o t (h .0) (h .1) (omega arith)))
       (λ e. out .table r o t (unless (entryTest pl r o t) e (entry-test pl r o t)))
 
-  same-allowance : (a : ℕ) → decode pl (encode pl s rest) .allowance a ≡ s .allowance a
+  same-allowance : (a : ℕ) → decode pl (encode pl s rest) .flow .allowance a ≡ s .flow .allowance a
   unfolding decode
   same-allowance a =
-      kept (ltb a (A pl)) _ (start pl .allowance a) (s .allowance a)
+      kept (ltb a (A pl)) _ (blank pl .flow .allowance a) (s .flow .allowance a)
       (λ e. stands-byte (allowanceRow pl a) (allowanceBytes s a) (encode pl s rest) (allowance-stands pl s rest a (ltb-true a (A pl) e)) (omega arith))
       (λ e. out .allowance a (unless (ltb a (A pl)) e (lt-ltb a (A pl))))
 
@@ -110,16 +110,22 @@ module _ (pl : Plan) (s : State) (rest : List ℕ) (range : InRange (pl .head)) 
   unfolding decode encode
   decode-encode =
       let b : List ℕ = encode pl s rest in
-      let qs : decode pl b .queue ≡ s .queue =
-      fun-ext (λ q. kept (existsTest pl q) _ (start pl .queue q) (s .queue q)
+      let qs : decode pl b .lines .queue ≡ s .lines .queue =
+      fun-ext (λ q. kept (existsTest pl q) _ (blank pl .lines .queue q) (s .lines .queue q)
       (λ e. let h = test-exists pl q e in queue-read s b (queueRow pl q) q (small .few q h) (queue-stands pl s rest q h))
       (λ e. out .queue q (unless (existsTest pl q) e (exists-test pl q)))) in
-      let ws : decode pl b .wire ≡ s .wire = fun-ext (λ o. of-output o _ _ (s .wire o) (output-wire-read s b (outputRow pl o) o) (out .wire o)) in
-      let cs : decode pl b .credit ≡ s .credit = fun-ext (λ q. of-queue q _ _ (s .credit q) (credit-read s b (queueRow pl q) q) (out .credit q)) in
-      let fs : decode pl b .flag ≡ s .flag = fun-ext (λ q. of-queue q _ _ (s .flag q) (flag-read s b (queueRow pl q) q) (out .flag q)) in
-      let hs : decode pl b .handled ≡ s .handled = fun-ext (λ q. of-queue q _ _ (s .handled q) (handled-read s b (queueRow pl q) q) (out .handled q)) in
-      let ps : decode pl b .choice ≡ s .choice = fun-ext (λ o. of-output o _ _ (s .choice o) (choice-read s b (outputRow pl o) o) (out .choice o)) in
+      let ws : decode pl b .links .wire ≡ s .links .wire = fun-ext (λ o. of-output o _ _ (s .links .wire o) (output-wire-read s b (outputRow pl o) o) (out .wire o)) in
+      let cs : decode pl b .flow .credit ≡ s .flow .credit = fun-ext (λ q. of-queue q _ _ (s .flow .credit q) (credit-read s b (queueRow pl q) q) (out .credit q)) in
+      let fs : decode pl b .flow .flag ≡ s .flow .flag = fun-ext (λ q. of-queue q _ _ (s .flow .flag q) (flag-read s b (queueRow pl q) q) (out .flag q)) in
+      let hs : decode pl b .lines .handled ≡ s .lines .handled = fun-ext (λ q. of-queue q _ _ (s .lines .handled q) (handled-read s b (queueRow pl q) q) (out .handled q)) in
+      let ps : decode pl b .links .choice ≡ s .links .choice = fun-ext (λ o. of-output o _ _ (s .links .choice o) (choice-read s b (outputRow pl o) o) (out .choice o)) in
       let ts : decode pl b .table ≡ s .table = fun-ext (λ r. fun-ext (λ o. fun-ext (λ t. same-entry r o t))) in
-      let al : decode pl b .allowance ≡ s .allowance = fun-ext (λ a. same-allowance a) in
-      let ph : decode pl b .phase ≡ s .phase = phase-code (s .phase) in
-      λ i. record { phase = ph i; slot = s .slot; queue = qs i; wire = ws i; credit = cs i; flag = fs i; handled = hs i; choice = ps i; table = ts i; allowance = al i }
+      let al : decode pl b .flow .allowance ≡ s .flow .allowance = fun-ext (λ a. same-allowance a) in
+      let ph : decode pl b .clock .phase ≡ s .clock .phase = phase-code (s .clock .phase) in
+      λ i. record {
+        clock = record { phase = ph i; slot = s .clock .slot };
+        lines = record { queue = qs i; handled = hs i };
+        flow = record { credit = cs i; flag = fs i; allowance = al i };
+        links = record { wire = ws i; choice = ps i };
+        table = ts i;
+      }

@@ -1,5 +1,4 @@
--- The state of bytes, whatever they are: each part read at its offset where the plan has it, and as Start leaves it
--- elsewhere.
+-- The state of bytes, whatever they are: each part read at its offset where the plan has it, and blank elsewhere.
 -- So it is bounded, and small: its queues fit in their places, as those of every valid state do.
 use mathlib.Core.Path.{_≡_}
 use mathlib.Core.Bool.{Bool, true, false}
@@ -20,7 +19,7 @@ use Rattle.plan.specs.Head.{InRange}
 use Rattle.plan.specs.Plan.{Plan, A}
 use Rattle.feeding.specs.Queue.{Queue, activeOut, activeIn, passiveIn, passiveOut, U, Q, F, K, Exists}
 use Rattle.machine.specs.Capacity.{capacity}
-use Rattle.machine.specs.State.{State, Choice, start}
+use Rattle.machine.specs.State.{State, Choice, blank}
 use Rattle.machine.specs.Valid.{Valid, Bounded}
 use Rattle.layout.specs.Named.{existsTest, test-exists, exists-test, drivesTest, test-drives, entryTest, test-entry}
 use Rattle.layout.specs.Offsets.{phaseByte, slotByte, places, creditByte, flagByte, handledByte, lengthByte, firstPlace, wireByte, wirePacket, choiceByte, queueRow, outputRow, allowanceRow, entryRow}
@@ -60,19 +59,24 @@ entryAt i b = entryOf (getD b i 0)
 unfoldable pub decode : Plan → List ℕ → State
 decode pl b =
     record {
-      phase = phaseOf (getD b phaseByte 0);
-      slot = record { 0 = getD b slotByte 0 };
-      queue = λ q. pick (existsTest pl q) (queueIn (queueRow pl q) b) (start pl .queue q);
-      wire = λ o. pick (drivesTest pl o) (wireAt (outputRow pl o) b) (start pl .wire o);
-      credit = λ q. pick (existsTest pl q) (creditAt (queueRow pl q) b) (start pl .credit q);
-      flag = λ q. pick (existsTest pl q) (flagAt (queueRow pl q) b) (start pl .flag q);
-      handled = λ q. pick (existsTest pl q) (handledAt (queueRow pl q) b) (start pl .handled q);
-      choice = λ o. pick (drivesTest pl o) (choiceAt (outputRow pl o) b) (start pl .choice o);
-      table = λ r o t. pick (entryTest pl r o t) (entryAt (entryRow pl r o t) b) (start pl .table r o t);
-      allowance = λ a. pick (ltb a (A pl)) (getD b (allowanceRow pl a) 0) (start pl .allowance a);
+      clock = record { phase = phaseOf (getD b phaseByte 0); slot = record { 0 = getD b slotByte 0 } };
+      lines = record {
+        queue = λ q. pick (existsTest pl q) (queueIn (queueRow pl q) b) (blank pl .lines .queue q);
+        handled = λ q. pick (existsTest pl q) (handledAt (queueRow pl q) b) (blank pl .lines .handled q);
+      };
+      flow = record {
+        credit = λ q. pick (existsTest pl q) (creditAt (queueRow pl q) b) (blank pl .flow .credit q);
+        flag = λ q. pick (existsTest pl q) (flagAt (queueRow pl q) b) (blank pl .flow .flag q);
+        allowance = λ a. pick (ltb a (A pl)) (getD b (allowanceRow pl a) 0) (blank pl .flow .allowance a);
+      };
+      links = record {
+        wire = λ o. pick (drivesTest pl o) (wireAt (outputRow pl o) b) (blank pl .links .wire o);
+        choice = λ o. pick (drivesTest pl o) (choiceAt (outputRow pl o) b) (blank pl .links .choice o);
+      };
+      table = λ r o t. pick (entryTest pl r o t) (entryAt (entryRow pl r o t) b) (blank pl .table r o t);
     }
 
--- ---- outside the plan's places, what is read is as Start left it
+-- ---- outside the plan's places, what is read is blank
 left : {X : Type 0} (t : Bool) (x d : X) → (t ≡ true → ⊥) → pick t x d ≡ d
 left t x d h = rw (refuted t h)
 
@@ -93,7 +97,7 @@ decode-bounded pl b =
 -- ---- queues that fit in their places
 -- what a state needs so that its bytes tell it: no queue has more packets than places
 pub record Small (pl : Plan) (s : State) : Type 0 where
-  pub few : (q : Queue) → Exists pl q → length (s .queue q) ≤ places
+  pub few : (q : Queue) → Exists pl q → length (s .lines .queue q) ≤ places
 
 -- 'eight capacities of 3 bits, 1 to 7'
 pub capacity-most : (h : Head) (q : Queue) → InRange h → capacity h q ≤ places

@@ -16,25 +16,25 @@ use Rattle.machine.specs.State.{State}
 use Rattle.layout.specs.Rows.{span, span-length}
 use Rattle.layout.specs.Offsets.{places, queueWidth, outputWidth, choiceByte, entryWidth, routerEntries, slotRoom, entries, size}
 use Rattle.layout.specs.Codes.{phaseCode, flagCode, choiceCode, entryCode}
-use Rattle.layout.specs.Places.{packetBytes, blank, placeBytes, length-places}
+use Rattle.layout.specs.Places.{packetBytes, noPacket, placeBytes, length-places}
 
 -- ---- one row
 -- credit, flag, handled mark, length, places
 unfoldable pub queueBytes : State → Queue → List ℕ
 queueBytes s q =
-    s .credit q .0 ∷ flagCode (s .flag q) ∷ flagCode (s .handled q) ∷ length (s .queue q) ∷ placeBytes places
-    (s .queue q)
+    s .flow .credit q .0 ∷ flagCode (s .flow .flag q) ∷ flagCode (s .lines .handled q) ∷ length (s .lines .queue q) ∷ placeBytes places
+    (s .lines .queue q)
 
 -- a full wire's packet, zero bytes where it is empty
 abbrev pub wireBytes : Wire → List ℕ
-wireBytes Empty = 0 ∷ blank
+wireBytes Empty = 0 ∷ noPacket
 wireBytes (Full x) = 1 ∷ packetBytes x
 
 unfoldable pub outputBytes : State → Output → List ℕ
-outputBytes s o = wireBytes (s .wire o) ++ (choiceCode (s .choice o) ∷ [])
+outputBytes s o = wireBytes (s .links .wire o) ++ (choiceCode (s .links .choice o) ∷ [])
 
 abbrev pub allowanceBytes : State → ℕ → List ℕ
-allowanceBytes s a = s .allowance a ∷ []
+allowanceBytes s a = s .flow .allowance a ∷ []
 
 abbrev pub entryBytes : Entry → List ℕ
 entryBytes x = entryCode x ∷ 0 ∷ []
@@ -45,7 +45,7 @@ entryOfNumber s n = s .table (n / routerEntries) (n % routerEntries / slotRoom) 
 
 -- ---- the parts
 abbrev pub header : State → List ℕ
-header s = phaseCode (s .phase) ∷ s .slot .0 ∷ []
+header s = phaseCode (s .clock .phase) ∷ s .clock .slot .0 ∷ []
 
 abbrev pub queuePart : Plan → State → List ℕ
 queuePart pl s = span 0 (queues pl) (λ n. queueBytes s (queueAt pl n))
@@ -66,7 +66,7 @@ encode pl s rest = header s ++ (queuePart pl s ++ (outputPart pl s ++ (allowance
 -- ---- every row has its width
 pub length-queue : (s : State) (q : Queue) → length (queueBytes s q) ≡ queueWidth
 unfolding queueBytes
-length-queue s q = omega (arith, length-places places (s .queue q))
+length-queue s q = omega (arith, length-places places (s .lines .queue q))
 
 -- a wire's bytes end where the choice stands
 pub length-wire : (x : Wire) → length (wireBytes x) ≡ choiceByte
@@ -75,7 +75,7 @@ length-wire (Full x) = refl
 
 pub length-output : (s : State) (o : Output) → length (outputBytes s o) ≡ outputWidth
 unfolding outputBytes
-length-output s o = rw (length-append (wireBytes (s .wire o)), length-wire (s .wire o))
+length-output s o = rw (length-append (wireBytes (s .links .wire o)), length-wire (s .links .wire o))
 
 module _ (pl : Plan) (s : State) where
   -- and every part as many rows as it has

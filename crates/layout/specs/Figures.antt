@@ -11,7 +11,7 @@ use Rattle.plan.specs.Plan.{Plan, jointIn, planOf}
 use Rattle.feeding.specs.Queue.{Queue, activeOut, activeIn, passiveIn, passiveOut, U, Q, F, K, number, queues, queueAt}
 use Rattle.feeding.specs.Feeds.{Output, ofActive, ofPassive, ofSide, toUnit, fromUnit}
 use Rattle.machine.specs.Outputs.{outputAt, outputNumber}
-use Rattle.machine.specs.State.{start}
+use Rattle.machine.specs.State.{blank, start}
 use Rattle.layout.specs.Rows.{span, front}
 use Rattle.layout.specs.Offsets.{outputsAt, allowancesAt, tableAt, size, queueRow, outputRow, allowanceRow, entryRow}
 use Rattle.layout.specs.Places.{placeBytes, packetAt, packetsAt}
@@ -62,11 +62,11 @@ t-entries = (refl, refl, refl, refl, refl)
 
 -- ---- Start's bytes
 unfoldable pub startT : List ℕ
-unfolding planT span queues queueAt outputAt start placeBytes queueBytes outputBytes encode
+unfolding planT span queues queueAt outputAt start blank placeBytes queueBytes outputBytes encode
 startT = encode planT (start planT) []
 
 unfoldable pub isState : List ℕ → Bool
-unfolding planT span front size queues queueAt number queueRow outputAt outputNumber outputRow allowanceRow entryRow start placeBytes packetAt packetsAt queueBytes outputBytes encode decode sameBytes canonical
+unfolding planT span front size queues queueAt number queueRow outputAt outputNumber outputRow allowanceRow entryRow start blank placeBytes packetAt packetsAt queueBytes outputBytes encode decode sameBytes canonical
 isState b = canonical planT b
 
 -- the offsets of the bytes that are not 0, from i on

@@ -15,13 +15,13 @@ abbrev pub packetBytes : Packet → List ℕ
 packetBytes x = kindCode (x .kind) ∷ x .active ∷ x .passive ∷ x .slot .0 ∷ x .hub .0 ∷ []
 
 -- a place without a packet
-abbrev pub blank : List ℕ
-blank = 0 ∷ 0 ∷ 0 ∷ 0 ∷ 0 ∷ []
+abbrev pub noPacket : List ℕ
+noPacket = 0 ∷ 0 ∷ 0 ∷ 0 ∷ 0 ∷ []
 
 -- c places
 unfoldable pub placeBytes : ℕ → List Packet → List ℕ
 placeBytes zero xs = []
-placeBytes (suc c) [] = blank ++ placeBytes c []
+placeBytes (suc c) [] = noPacket ++ placeBytes c []
 placeBytes (suc c) (x ∷ xs) = packetBytes x ++ placeBytes c xs
 
 -- five bytes a place, whatever the packets

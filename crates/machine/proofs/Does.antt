@@ -62,16 +62,16 @@ module _ (pl : Plan) (s : State) where
       let x = and-both (not-false _ f) in
       let y = and-both (x .0) in
       record {
-        phase = phase-of (s .phase) Read e;
+        phase = phase-of (s .clock .phase) Read e;
         active = ltb-true a (A pl) (y .0);
         passive = ltb-true p (P pl) (y .1);
         slot = ltb-true t (S pl) (x .1);
         serves = not-false _ g;
-        allowance = let ne = eqb-false (s .allowance a) 0 h in omega arith;
+        allowance = let ne = eqb-false (s .flow .allowance a) 0 h in omega arith;
         room = not-false _ r;
       }
 
-  replies-to : (p c : ℕ) (l : List Packet) → s .queue (passiveIn p) ≡ l → Passed (replyGuards pl p c s)
+  replies-to : (p c : ℕ) (l : List Packet) → s .lines .queue (passiveIn p) ≡ l → Passed (replyGuards pl p c s)
       → Visits pl s (ofReply p c) (accepted pl (visit (ofReply p c)) s)
   replies-to p c [] q (e, (f, (g, (h, (r, n))))) = absurd (true≢false (sym (ap isEmpty q) ∙ h))
   replies-to p c (x ∷ rest) q (e, (f, (g, (h, (r, n))))) =
@@ -79,7 +79,7 @@ module _ (pl : Plan) (s : State) where
       rw q
       (replies p c x rest
       (record {
-        phase = phase-of (s .phase) Write e;
+        phase = phase-of (s .clock .phase) Write e;
         passive = ltb-true p (P pl) (y .0);
         choice = leb-true c 1 (y .1);
         down = g;
@@ -87,14 +87,14 @@ module _ (pl : Plan) (s : State) where
         room = not-false _ r;
       }))
 
-  consumes-from : (a : ℕ) (l : List Packet) → s .queue (activeIn a) ≡ l → Passed (consumeGuards pl a s)
-      → Visits pl s (ofConsume a) (consumed a (s .queue (activeIn a)) s)
+  consumes-from : (a : ℕ) (l : List Packet) → s .lines .queue (activeIn a) ≡ l → Passed (consumeGuards pl a s)
+      → Visits pl s (ofConsume a) (consumed a (s .lines .queue (activeIn a)) s)
   consumes-from a [] q (e, (f, (g, (h, (u, n))))) = absurd (true≢false (sym (ap isEmpty q) ∙ h))
   consumes-from a (x ∷ rest) q (e, (f, (g, (h, (u, n))))) =
       rw q
       (consumes a x rest
       (record {
-        phase = phase-of (s .phase) Write e;
+        phase = phase-of (s .clock .phase) Write e;
         active = ltb-true a (A pl) (not-false _ f);
         down = g;
         line = q;
@@ -110,12 +110,12 @@ module _ (pl : Plan) (s : State) where
   -- ---- every call
   accepted-visits : (v : Visit) → Passed (guards pl (visit v) s) → Visits pl s v (accepted pl (visit v) s)
   accepted-visits (ofLaunch a p t) g = launches a p t (may-launch a p t g)
-  accepted-visits (ofReply p c) g = replies-to p c (s .queue (passiveIn p)) refl g
-  accepted-visits (ofConsume a) g = consumes-from a (s .queue (activeIn a)) refl g
+  accepted-visits (ofReply p c) g = replies-to p c (s .lines .queue (passiveIn p)) refl g
+  accepted-visits (ofConsume a) g = consumes-from a (s .lines .queue (activeIn a)) refl g
   accepted-visits (ofEntry r o t) g = looks r o t (looks-at r o t g)
 
   accepted-does : (c : Call) → Passed (guards pl c s) → Does pl s c (accepted pl c s)
-  accepted-does (turn x) (e, n) = turns x (phase-of (s .phase) x e)
+  accepted-does (turn x) (e, n) = turns x (phase-of (s .clock .phase) x e)
   accepted-does (visit v) g = visits v (accepted pl (visit v) s) (accepted-visits v g)
 
   never-7 : (c : Call) → no7 (guards pl c s) ≡ true

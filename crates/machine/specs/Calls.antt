@@ -84,10 +84,10 @@ isPhase Write Write = true
 -- out-queue full'
 abbrev pub launchGuards : Plan → ℕ → ℕ → ℕ → State → List Guard
 launchGuards pl a p t s =
-    guard WrongPhase (not (isPhase (s .phase) Read))
+    guard WrongPhase (not (isPhase (s .clock .phase) Read))
     ∷ guard BadNumber (not (ltb a (A pl) && ltb p (P pl) && ltb t (S pl)))
     ∷ guard NotServed (not (served pl a p))
-    ∷ guard NoAllowance (eqb (s .allowance a) 0)
+    ∷ guard NoAllowance (eqb (s .flow .allowance a) 0)
     ∷ guard QueueFull (not (hasRoom pl (activeOut a) s))
     ∷ []
 
@@ -95,21 +95,21 @@ launchGuards pl a p t s =
 -- in-queue empty; 12 out-queue full'
 abbrev pub replyGuards : Plan → ℕ → ℕ → State → List Guard
 replyGuards pl p c s =
-    guard WrongPhase (not (isPhase (s .phase) Write))
+    guard WrongPhase (not (isPhase (s .clock .phase) Write))
     ∷ guard BadNumber (not (ltb p (P pl) && leb c 1))
-    ∷ guard FlagUp (s .flag (passiveIn p))
-    ∷ guard QueueEmpty (isEmpty (s .queue (passiveIn p)))
+    ∷ guard FlagUp (s .flow .flag (passiveIn p))
+    ∷ guard QueueEmpty (isEmpty (s .lines .queue (passiveIn p)))
     ∷ guard QueueFull (not (hasRoom pl (passiveOut p) s))
     ∷ []
 
 -- '**Consume** (active): 8 not WRITE; 9; 14; 13; 15 head is an unmarked NACK'
 abbrev pub consumeGuards : Plan → ℕ → State → List Guard
 consumeGuards pl a s =
-    guard WrongPhase (not (isPhase (s .phase) Write))
+    guard WrongPhase (not (isPhase (s .clock .phase) Write))
     ∷ guard BadNumber (not (ltb a (A pl)))
-    ∷ guard FlagUp (s .flag (activeIn a))
-    ∷ guard QueueEmpty (isEmpty (s .queue (activeIn a)))
-    ∷ guard Unmarked (headUnmarked (s .queue (activeIn a)))
+    ∷ guard FlagUp (s .flow .flag (activeIn a))
+    ∷ guard QueueEmpty (isEmpty (s .lines .queue (activeIn a)))
+    ∷ guard Unmarked (headUnmarked (s .lines .queue (activeIn a)))
     ∷ []
 
 -- '**Entry** (router, side, slot): 9'
@@ -118,7 +118,7 @@ entryGuards pl r o t = guard BadNumber (not (ltb r (R pl) && ltb o 4 && ltb t (S
 
 -- '**Read, Execute, Write**: 8 another phase'
 abbrev pub guards : Plan → Call → State → List Guard
-guards pl (turn x) s = guard WrongPhase (not (isPhase (s .phase) x)) ∷ []
+guards pl (turn x) s = guard WrongPhase (not (isPhase (s .clock .phase) x)) ∷ []
 guards pl (visit (ofLaunch a p t)) s = launchGuards pl a p t s
 guards pl (visit (ofReply p c)) s = replyGuards pl p c s
 guards pl (visit (ofConsume a)) s = consumeGuards pl a s
@@ -138,8 +138,8 @@ consumed a (x ∷ rest) s = gives (Taken x) (removed a rest s)
 abbrev pub accepted : Plan → Call → State → Outcome
 accepted pl (turn x) s = gives Done (stepOf pl x s)
 accepted pl (visit (ofLaunch a p t)) s = gives Done (launched a p t s)
-accepted pl (visit (ofReply p c)) s = gives Done (replied p (replyKind c) (s .queue (passiveIn p)) s)
-accepted pl (visit (ofConsume a)) s = consumed a (s .queue (activeIn a)) s
+accepted pl (visit (ofReply p c)) s = gives Done (replied p (replyKind c) (s .lines .queue (passiveIn p)) s)
+accepted pl (visit (ofConsume a)) s = consumed a (s .lines .queue (activeIn a)) s
 accepted pl (visit (ofEntry r o t)) s = gives (Holds (s .table r o t)) s
 
 -- ---- a call

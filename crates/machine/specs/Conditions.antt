@@ -20,43 +20,43 @@ use Rattle.machine.specs.Calls.{ofLaunch, ofReply, ofConsume, ofEntry, C
 
 -- 'out-queue full'
 abbrev pub QueueIsFull : Plan → Queue → State → Type 0
-QueueIsFull pl q s = capacity (pl .head) q ≤ length (s .queue q)
+QueueIsFull pl q s = capacity (pl .head) q ≤ length (s .lines .queue q)
 
 -- 'head is an unmarked NACK': 'A NACK with hub 0 is marked'
 pub record UnmarkedHead (q : Queue) (s : State) : Type 0 where
   pub head : Packet
   pub rest : List Packet
-  pub line : s .queue q ≡ head ∷ rest
+  pub line : s .lines .queue q ≡ head ∷ rest
   pub kind : head .kind ≡ Nack
   pub hub : head .hub .0 ≢ 0
 
 abbrev pub conditions : Plan → Call → State → List Condition
 -- '**Read, Execute, Write**: 8 another phase'
-conditions pl (turn x) s = condition WrongPhase (s .phase ≢ x) ∷ []
+conditions pl (turn x) s = condition WrongPhase (s .clock .phase ≢ x) ∷ []
 -- '**Launch** (active, passive, slot): 8 not READ; 9 a number out of range; 10 pair not served; 11 allowance 0; 12
 -- out-queue full'
 conditions pl (visit (ofLaunch a p t)) s =
-    condition WrongPhase (s .phase ≢ Read)
+    condition WrongPhase (s .clock .phase ≢ Read)
     ∷ condition BadNumber ((A pl ≤ a) ⊎ (P pl ≤ p) ⊎ (S pl ≤ t))
     ∷ condition NotServed (Served pl a p → ⊥)
-    ∷ condition NoAllowance (s .allowance a ≡ 0)
+    ∷ condition NoAllowance (s .flow .allowance a ≡ 0)
     ∷ condition QueueFull (QueueIsFull pl (activeOut a) s)
     ∷ []
 -- '**Reply** (passive, 1 accept or 0 decline): 8 not WRITE; 9 number or choice out of range; 14 in-queue flag up; 13
 -- in-queue empty; 12 out-queue full'
 conditions pl (visit (ofReply p c)) s =
-    condition WrongPhase (s .phase ≢ Write)
+    condition WrongPhase (s .clock .phase ≢ Write)
     ∷ condition BadNumber ((P pl ≤ p) ⊎ ((c ≢ 0) × (c ≢ 1)))
-    ∷ condition FlagUp (s .flag (passiveIn p) ≡ true)
-    ∷ condition QueueEmpty (s .queue (passiveIn p) ≡ [])
+    ∷ condition FlagUp (s .flow .flag (passiveIn p) ≡ true)
+    ∷ condition QueueEmpty (s .lines .queue (passiveIn p) ≡ [])
     ∷ condition QueueFull (QueueIsFull pl (passiveOut p) s)
     ∷ []
 -- '**Consume** (active): 8 not WRITE; 9; 14; 13; 15 head is an unmarked NACK'
 conditions pl (visit (ofConsume a)) s =
-    condition WrongPhase (s .phase ≢ Write)
+    condition WrongPhase (s .clock .phase ≢ Write)
     ∷ condition BadNumber (A pl ≤ a)
-    ∷ condition FlagUp (s .flag (activeIn a) ≡ true)
-    ∷ condition QueueEmpty (s .queue (activeIn a) ≡ [])
+    ∷ condition FlagUp (s .flow .flag (activeIn a) ≡ true)
+    ∷ condition QueueEmpty (s .lines .queue (activeIn a) ≡ [])
     ∷ condition Unmarked (UnmarkedHead (activeIn a) s)
     ∷ []
 -- '**Entry** (router, side, slot): 9'

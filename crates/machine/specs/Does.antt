@@ -22,27 +22,27 @@ use Rattle.machine.specs.Calls.{Visit, ofLaunch, ofReply, ofConsume, ofE
 
 -- ---- what an accepted visit found
 pub record MayLaunch (pl : Plan) (s : State) (a p t : ℕ) : Type 0 where
-  pub phase : s .phase ≡ Read
+  pub phase : s .clock .phase ≡ Read
   pub active : a < A pl
   pub passive : p < P pl
   pub slot : t < S pl
   pub serves : served pl a p ≡ true
-  pub allowance : 1 ≤ s .allowance a
+  pub allowance : 1 ≤ s .flow .allowance a
   pub room : hasRoom pl (activeOut a) s ≡ true
 
 pub record MayReply (pl : Plan) (s : State) (p c : ℕ) (x : Packet) (rest : List Packet) : Type 0 where
-  pub phase : s .phase ≡ Write
+  pub phase : s .clock .phase ≡ Write
   pub passive : p < P pl
   pub choice : c ≤ 1
-  pub down : s .flag (passiveIn p) ≡ false
-  pub line : s .queue (passiveIn p) ≡ x ∷ rest
+  pub down : s .flow .flag (passiveIn p) ≡ false
+  pub line : s .lines .queue (passiveIn p) ≡ x ∷ rest
   pub room : hasRoom pl (passiveOut p) s ≡ true
 
 pub record MayConsume (pl : Plan) (s : State) (a : ℕ) (x : Packet) (rest : List Packet) : Type 0 where
-  pub phase : s .phase ≡ Write
+  pub phase : s .clock .phase ≡ Write
   pub active : a < A pl
-  pub down : s .flag (activeIn a) ≡ false
-  pub line : s .queue (activeIn a) ≡ x ∷ rest
+  pub down : s .flow .flag (activeIn a) ≡ false
+  pub line : s .lines .queue (activeIn a) ≡ x ∷ rest
   pub marked : unmarked x ≡ false
 
 pub record MayLook (pl : Plan) (r o t : ℕ) : Type 0 where
@@ -62,5 +62,5 @@ pub data Visits (pl : Plan) (s : State) : Visit → Outcome → Type 0 where
 -- ---- a call: refused (7 is asked before it), a phase turned, a visit
 pub data Does (pl : Plan) (s : State) : Call → Outcome → Type 0 where
   refuses : (c : Call) (w : Refusal) → w ≢ NotState → Does pl s c (gives (Refused w) s)
-  turns : (x : Phase) → s .phase ≡ x → Does pl s (turn x) (gives Done (stepOf pl x s))
+  turns : (x : Phase) → s .clock .phase ≡ x → Does pl s (turn x) (gives Done (stepOf pl x s))
   visits : (v : Visit) (o : Outcome) → Visits pl s v o → Does pl s (visit v) o

@@ -9,7 +9,6 @@ use lib.ListN.{length}
 use Rattle.basis.specs.Choice.{pick, also}
 use Rattle.basis.specs.Bounded.{anyBelow}
 use Rattle.basis.specs.Fold.{upTo}
-use Rattle.basis.specs.Walk.{Spot, on, end, lost}
 use Rattle.packets.specs.declared.Kind.{Kind}
 use Rattle.packets.specs.declared.Kind.the-variants.{Setup, Tdown, Ack, Nack}
 use Rattle.packets.specs.declared.Packet.{Packet}
@@ -17,13 +16,14 @@ use Rattle.packets.specs.declared.Phase.the-variants.{Write}
 use Rattle.packets.specs.declared.Entry.{Entry}
 use Rattle.packets.specs.declared.Entry.the-variants.{Free, Booked}
 use Rattle.packets.specs.Counters.{slotNext, startSlot, hubUp, hubDown}
-use Rattle.plan.specs.Plan.{Plan, Port, active, passive, R, A, S, noSide, routeTo}
+use Rattle.plan.specs.Plan.{Plan, active, passive, R, A, S, noSide, routeTo}
 use Rattle.plan.specs.Rules.{home}
 use Rattle.paths.specs.declared.Index.{Index}
 use Rattle.paths.specs.declared.Index.the-variants.{At, Off}
 use Rattle.paths.specs.Walk.{walked}
 use Rattle.paths.specs.Steps.{indexOn, sideAt}
-use Rattle.feeding.specs.Queue.{Queue, activeOut, activeIn, passiveIn, passiveOut, U, Q, F, K}
+use Rattle.feeding.specs.Queue.{Queue, activeOut, activeIn, Q}
+use Rattle.feeding.specs.Role.{Role, sending, receiving, handling, passing, role}
 use Rattle.feeding.specs.Feeds.{Output, ofActive, ofPassive, ofSide, toUnit, fromUnit}
 use Rattle.machine.specs.Capacity.{capacity}
 use Rattle.machine.specs.Outputs.{nextBy, senders, outputs, outputAt}
@@ -104,24 +104,23 @@ atUnit pl r (x ∷ rest) true s = s
 atUnit pl r (x ∷ rest) false s = handle pl r (routeTo pl (passive (x .passive)) r) (x .kind) x rest s
 
 unfoldable pub unit : Plan → ℕ → State → State
-unit pl r s = atUnit pl r (s .queue (Q r)) (s .handled (Q r)) s
+unit pl r s = atUnit pl r (s .lines .queue (Q r)) (s .lines .handled (Q r)) s
 
 -- ---- (2) 'Each output picks a sender'
 -- 'its next queue has credit'
 abbrev pub hasCredit : State → Option Queue → Bool
 hasCredit s none = false
-hasCredit s (some q) = ltb 0 (s .credit q .0)
+hasCredit s (some q) = ltb 0 (s .flow .credit q .0)
 
 -- 'in Q a handled one'
+abbrev pub mayLeaveAs : Role → Bool → Bool
+mayLeaveAs sending done = true
+mayLeaveAs receiving done = true
+mayLeaveAs (handling r) done = done
+mayLeaveAs passing done = true
+
 abbrev pub mayLeave : State → Queue → Bool
-mayLeave s (activeOut x) = true
-mayLeave s (activeIn x) = true
-mayLeave s (passiveIn x) = true
-mayLeave s (passiveOut x) = true
-mayLeave s (U r i) = true
-mayLeave s (Q r) = s .handled (Q r)
-mayLeave s (F r o) = true
-mayLeave s (K r i o) = true
+mayLeave s q = mayLeaveAs (role q) (s .lines .handled q)
 
 -- 'A candidate has a head (in Q a handled one) and its next queue has credit'
 abbrev pub headReady : Plan → State → Output → Bool → List Packet → Bool
@@ -129,13 +128,13 @@ headReady pl s o leaves [] = false
 headReady pl s o leaves (x ∷ rest) = also leaves (hasCredit s (nextBy pl o x))
 
 unfoldable pub candidate : Plan → State → Output → Queue → Bool
-candidate pl s o q = headReady pl s o (mayLeave s q) (s .queue q)
+candidate pl s o q = headReady pl s o (mayLeave s q) (s .lines .queue q)
 
 -- 'a router side picks nobody when its entry for the current slot is booked'
 abbrev pub isOpen : State → Output → Bool
 isOpen s (ofActive a) = true
 isOpen s (ofPassive p) = true
-isOpen s (ofSide r o) = isFree (s .table r o (s .slot .0))
+isOpen s (ofSide r o) = isFree (s .table r o (s .clock .slot .0))
 isOpen s (toUnit r) = true
 isOpen s (fromUnit r) = true
 
@@ -170,7 +169,7 @@ tdownOf n x =
     record { kind = Tdown; active = x .active; passive = x .passive; slot = startSlot (x .slot) (x .hub) n; hub = x .hub }
 
 abbrev pub hasRoom : Plan → Queue → State → Bool
-hasRoom pl q s = ltb (length (s .queue q)) (capacity (pl .head) q)
+hasRoom pl q s = ltb (length (s .lines .queue q)) (capacity (pl .head) q)
 
 abbrev pub torn : Plan → ℕ → Packet → List Packet → State → State
 torn pl a x rest s = join (activeOut a) (tdownOf (S pl) x) (withQueue (activeIn a) (marked x ∷ rest) s)
@@ -184,7 +183,7 @@ atActive pl a [] s = s
 atActive pl a (x ∷ rest) s = answer pl a x rest (unmarked x && hasRoom pl (activeOut a) s) s
 
 unfoldable pub undo : Plan → ℕ → State → State
-undo pl a s = atActive pl a (s .queue (activeIn a)) s
+undo pl a s = atActive pl a (s .lines .queue (activeIn a)) s
 
 -- ---- the three steps
 unfoldable pub doExecute : Plan → State → State

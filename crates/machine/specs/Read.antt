@@ -29,14 +29,14 @@ arrive pl o Empty s = s
 arrive pl o (Full x) s = joinNext (nextBy pl o x) x (withWire o Empty s)
 
 unfoldable pub deliver : Plan → Output → State → State
-deliver pl o s = arrive pl o (s .wire o) s
+deliver pl o s = arrive pl o (s .links .wire o) s
 
 unfoldable pub lower : Queue → Bool → State → State
 lower q false s = s
-lower q true s = withFlag q false (withCredit q (creditUp (s .credit q)) s)
+lower q true s = withFlag q false (withCredit q (creditUp (s .flow .credit q)) s)
 
 unfoldable pub settle : Queue → State → State
-settle q s = lower q (s .flag q) s
+settle q s = lower q (s .flow .flag q) s
 
 unfoldable pub doRead : Plan → State → State
 doRead pl s =

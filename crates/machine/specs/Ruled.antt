@@ -61,7 +61,7 @@ pub record Moves (pl : Plan) (cs : List Call) (s : State) : Type 0 where
   pub timed : isTimed at ≡ true
   pub moved : Moved pl (ruledAfter pl before s) (call pl at (ruledAfter pl before s) .state)
 
--- a valid state that is as Start left it outside the plan's places
+-- a valid state that is blank outside the plan's places
 pub record Good (pl : Plan) (s : State) : Type 0 where
   pub valid : Valid pl s
   pub bounded : Bounded pl s

@@ -1,4 +1,4 @@
--- The state of a network, its Start, and one change for each of its parts.
+-- The state of a network, its Start, and one change for each of its parts. A new part touches its group alone.
 use mathlib.Core.Path.{_≡_}
 use mathlib.Core.Bool.{Bool, true, false}
 use mathlib.Core.List.{List, [], _∷_, _++_}
@@ -24,197 +24,118 @@ pub data Choice : Type 0 where
   nobody : Choice
   sender : ℕ → Choice
 
-pub record State : Type 0 where
+-- ---- the state, by what changes together
+-- the phase, and the current slot
+pub record Clock : Type 0 where
   pub phase : Phase
   pub slot : Slot
+
+-- a queue's packets, and in Q whether the head has been handled
+pub record Lines : Type 0 where
   pub queue : Queue → List Packet
-  pub wire : Output → Wire
+  pub handled : Queue → Bool
+
+-- what may still be sent: a queue's credit and flag, an active's allowance
+pub record Flow : Type 0 where
   pub credit : Queue → Credit
   pub flag : Queue → Bool
-  -- Q's head has been handled
-  pub handled : Queue → Bool
+  pub allowance : ℕ → ℕ
+
+-- an output's wire, and whom it picked
+pub record Links : Type 0 where
+  pub wire : Output → Wire
   pub choice : Output → Choice
+
+pub record State : Type 0 where
+  pub clock : Clock
+  pub lines : Lines
+  pub flow : Flow
+  pub links : Links
   -- by router, side and slot
   pub table : ℕ → ℕ → ℕ → Entry
-  -- by active
-  pub allowance : ℕ → ℕ
 
 -- 'each active's allowance = the smaller of its two capacities'
 abbrev pub startAllowance : Plan → ℕ
 startAllowance pl = min (pl .head .aout .0) (pl .head .ain .0)
 
--- 'READ, queues, wires and table empty, flags down, no choices, credit of each queue fed by a wire = its capacity'
-unfoldable pub start : Plan → State
-start pl =
+-- nothing anywhere: 'READ, queues, wires and table empty, flags down, no choices, credit of each queue fed by a wire =
+-- its capacity'
+unfoldable pub blank : Plan → State
+blank pl =
     record {
-      phase = Read;
-      slot = record { 0 = 0 };
-      queue = λ q. [];
-      wire = λ o. Empty;
-      credit = λ q. record { 0 = capacity (pl .head) q };
-      flag = λ q. false;
-      handled = λ q. false;
-      choice = λ o. nobody;
+      clock = record { phase = Read; slot = record { 0 = 0 } };
+      lines = record { queue = λ q. []; handled = λ q. false };
+      flow = record {
+        credit = λ q. record { 0 = capacity (pl .head) q };
+        flag = λ q. false;
+        allowance = λ a. startAllowance pl;
+      };
+      links = record { wire = λ o. Empty; choice = λ o. nobody };
       table = λ r o t. Free;
-      allowance = λ a. startAllowance pl;
     }
+
+-- '*Start*'
+unfoldable pub start : Plan → State
+start pl = blank pl
+
+-- ---- one group changed
+abbrev pub withClock : Clock → State → State
+withClock x s = record { clock = x; lines = s .lines; flow = s .flow; links = s .links; table = s .table }
+
+abbrev pub withLines : Lines → State → State
+withLines x s = record { clock = s .clock; lines = x; flow = s .flow; links = s .links; table = s .table }
+
+abbrev pub withFlow : Flow → State → State
+withFlow x s = record { clock = s .clock; lines = s .lines; flow = x; links = s .links; table = s .table }
+
+abbrev pub withLinks : Links → State → State
+withLinks x s = record { clock = s .clock; lines = s .lines; flow = s .flow; links = x; table = s .table }
+
+abbrev pub withTable : (ℕ → ℕ → ℕ → Entry) → State → State
+withTable x s = record { clock = s .clock; lines = s .lines; flow = s .flow; links = s .links; table = x }
 
 -- ---- one part changed
 abbrev pub withPhase : Phase → State → State
-withPhase x s =
-    record {
-      phase = x;
-      slot = s .slot;
-      queue = s .queue;
-      wire = s .wire;
-      credit = s .credit;
-      flag = s .flag;
-      handled = s .handled;
-      choice = s .choice;
-      table = s .table;
-      allowance = s .allowance;
-    }
+withPhase x s = withClock (record { phase = x; slot = s .clock .slot }) s
 
 abbrev pub withSlot : Slot → State → State
-withSlot x s =
-    record {
-      phase = s .phase;
-      slot = x;
-      queue = s .queue;
-      wire = s .wire;
-      credit = s .credit;
-      flag = s .flag;
-      handled = s .handled;
-      choice = s .choice;
-      table = s .table;
-      allowance = s .allowance;
-    }
+withSlot x s = withClock (record { phase = s .clock .phase; slot = x }) s
 
 abbrev pub withQueue : Queue → List Packet → State → State
-withQueue q x s =
-    record {
-      phase = s .phase;
-      slot = s .slot;
-      queue = put sameQueue (s .queue) q x;
-      wire = s .wire;
-      credit = s .credit;
-      flag = s .flag;
-      handled = s .handled;
-      choice = s .choice;
-      table = s .table;
-      allowance = s .allowance;
-    }
+withQueue q x s = withLines (record { queue = put sameQueue (s .lines .queue) q x; handled = s .lines .handled }) s
 
-abbrev pub withWire : Output → Wire → State → State
-withWire o x s =
-    record {
-      phase = s .phase;
-      slot = s .slot;
-      queue = s .queue;
-      wire = put sameOutput (s .wire) o x;
-      credit = s .credit;
-      flag = s .flag;
-      handled = s .handled;
-      choice = s .choice;
-      table = s .table;
-      allowance = s .allowance;
-    }
+abbrev pub withHandled : Queue → Bool → State → State
+withHandled q x s = withLines (record { queue = s .lines .queue; handled = put sameQueue (s .lines .handled) q x }) s
 
 abbrev pub withCredit : Queue → Credit → State → State
 withCredit q x s =
-    record {
-      phase = s .phase;
-      slot = s .slot;
-      queue = s .queue;
-      wire = s .wire;
-      credit = put sameQueue (s .credit) q x;
-      flag = s .flag;
-      handled = s .handled;
-      choice = s .choice;
-      table = s .table;
-      allowance = s .allowance;
-    }
+    let f = s .flow in
+    withFlow (record { credit = put sameQueue (f .credit) q x; flag = f .flag; allowance = f .allowance }) s
 
 abbrev pub withFlag : Queue → Bool → State → State
 withFlag q x s =
-    record {
-      phase = s .phase;
-      slot = s .slot;
-      queue = s .queue;
-      wire = s .wire;
-      credit = s .credit;
-      flag = put sameQueue (s .flag) q x;
-      handled = s .handled;
-      choice = s .choice;
-      table = s .table;
-      allowance = s .allowance;
-    }
-
-abbrev pub withHandled : Queue → Bool → State → State
-withHandled q x s =
-    record {
-      phase = s .phase;
-      slot = s .slot;
-      queue = s .queue;
-      wire = s .wire;
-      credit = s .credit;
-      flag = s .flag;
-      handled = put sameQueue (s .handled) q x;
-      choice = s .choice;
-      table = s .table;
-      allowance = s .allowance;
-    }
-
-abbrev pub withChoice : Output → Choice → State → State
-withChoice o x s =
-    record {
-      phase = s .phase;
-      slot = s .slot;
-      queue = s .queue;
-      wire = s .wire;
-      credit = s .credit;
-      flag = s .flag;
-      handled = s .handled;
-      choice = put sameOutput (s .choice) o x;
-      table = s .table;
-      allowance = s .allowance;
-    }
-
--- the one change of the table
-abbrev pub withEntry : ℕ → ℕ → ℕ → Entry → State → State
-withEntry r o t x s =
-    record {
-      phase = s .phase;
-      slot = s .slot;
-      queue = s .queue;
-      wire = s .wire;
-      credit = s .credit;
-      flag = s .flag;
-      handled = s .handled;
-      choice = s .choice;
-      table = put eqb (s .table) r (put eqb (s .table r) o (put eqb (s .table r o) t x));
-      allowance = s .allowance;
-    }
+    let f = s .flow in
+    withFlow (record { credit = f .credit; flag = put sameQueue (f .flag) q x; allowance = f .allowance }) s
 
 abbrev pub withAllowance : ℕ → ℕ → State → State
 withAllowance a x s =
-    record {
-      phase = s .phase;
-      slot = s .slot;
-      queue = s .queue;
-      wire = s .wire;
-      credit = s .credit;
-      flag = s .flag;
-      handled = s .handled;
-      choice = s .choice;
-      table = s .table;
-      allowance = put eqb (s .allowance) a x;
-    }
+    let f = s .flow in
+    withFlow (record { credit = f .credit; flag = f .flag; allowance = put eqb (f .allowance) a x }) s
+
+abbrev pub withWire : Output → Wire → State → State
+withWire o x s = withLinks (record { wire = put sameOutput (s .links .wire) o x; choice = s .links .choice }) s
+
+abbrev pub withChoice : Output → Choice → State → State
+withChoice o x s = withLinks (record { wire = s .links .wire; choice = put sameOutput (s .links .choice) o x }) s
+
+-- the one change of the table
+abbrev pub withEntry : ℕ → ℕ → ℕ → Entry → State → State
+withEntry r o t x s = withTable (put eqb (s .table) r (put eqb (s .table r) o (put eqb (s .table r o) t x))) s
 
 -- ---- queues, first in first out
 -- a packet joins a queue
 unfoldable pub join : Queue → Packet → State → State
-join q x s = withQueue q (s .queue q ++ (x ∷ [])) s
+join q x s = withQueue q (s .lines .queue q ++ (x ∷ [])) s
 
 abbrev pub isFree : Entry → Bool
 isFree Free = true

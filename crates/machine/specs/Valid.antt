@@ -19,12 +19,13 @@ use Rattle.packets.specs.declared.Phase.the-variants.{Read, Execute, Write}
 use Rattle.packets.specs.declared.Entry.the-variants.{Free, Booked}
 use Rattle.plan.specs.Plan.{Plan, R, A, P, S}
 use Rattle.paths.specs.Served.{Served}
-use Rattle.feeding.specs.Queue.{Queue, activeOut, activeIn, passiveIn, passiveOut, U, Q, F, K, Exists, queues, queueAt}
-use Rattle.feeding.specs.Feeds.{Output, ofActive, ofPassive, ofSide, toUnit, fromUnit, Place, inQueue, handledAt, Fits}
+use Rattle.feeding.specs.Queue.{Queue, Q, Exists, queues, queueAt}
+use Rattle.feeding.specs.Role.{Role, sending, receiving, handling, passing, role}
+use Rattle.feeding.specs.Feeds.{Output, ofActive, ofPassive, ofSide, toUnit, fromUnit, Place, inQueue, Fits, headPlace}
 use Rattle.machine.specs.Capacity.{capacity}
 use Rattle.machine.specs.Store.{sameQueue}
 use Rattle.machine.specs.Outputs.{nextBy, senders, outputs, outputAt}
-use Rattle.machine.specs.State.{State, Choice, nobody, sender, start, startAllowance}
+use Rattle.machine.specs.State.{State, Choice, sender, blank, startAllowance}
 use Rattle.machine.specs.Execute.{candidate}
 use Rattle.machine.specs.Write.{ofRank}
 
@@ -41,17 +42,6 @@ pub record Belongs (pl : Plan) (at : Place) (x : Packet) : Type 0 where
   pub ranges : PacketOk pl x
   pub serves : Served pl (x .active) (x .passive)
   pub fits : Fits pl (x .kind) (x .active) (x .passive) (x .hub .0) at
-
--- the place of a queue's head: at a unit it may have been handled
-abbrev pub headPlace : Bool → Queue → Place
-headPlace done (activeOut x) = inQueue (activeOut x)
-headPlace done (activeIn x) = inQueue (activeIn x)
-headPlace done (passiveIn x) = inQueue (passiveIn x)
-headPlace done (passiveOut x) = inQueue (passiveOut x)
-headPlace done (U r i) = inQueue (U r i)
-headPlace done (Q r) = pick done (handledAt r) (inQueue (Q r))
-headPlace done (F r o) = inQueue (F r o)
-headPlace done (K r i o) = inQueue (K r i o)
 
 -- the head where it may be, and all behind it in the queue itself
 abbrev pub Lined : Plan → Queue → Bool → List Packet → Type 0
@@ -93,7 +83,7 @@ brings pl q o (Full x) = goesTo q (nextBy pl o x)
 
 -- 'wire': the packets on wires that are bound for a queue
 unfoldable pub onWires : Plan → Queue → State → ℕ
-onWires pl q s = sum (outputs pl) (λ n. brings pl q (outputAt pl n) (s .wire (outputAt pl n)))
+onWires pl q s = sum (outputs pl) (λ n. brings pl q (outputAt pl n) (s .links .wire (outputAt pl n)))
 
 -- weights of packets, over a queue, a wire, and all places
 abbrev pub inAll : (Packet → ℕ) → List Packet → ℕ
@@ -106,8 +96,8 @@ inWire w (Full x) = w x
 
 unfoldable pub total : Plan → (Packet → ℕ) → State → ℕ
 total pl w s =
-    sum (queues pl) (λ n. inAll w (s .queue (queueAt pl n))) + sum (outputs pl)
-    (λ n. inWire w (s .wire (outputAt pl n)))
+    sum (queues pl) (λ n. inAll w (s .lines .queue (queueAt pl n))) + sum (outputs pl)
+    (λ n. inWire w (s .links .wire (outputAt pl n)))
 
 -- 'its SETUPs, ACKs and NACKs'
 abbrev pub spendsKind : Kind → ℕ
@@ -120,56 +110,55 @@ abbrev pub spends : ℕ → Packet → ℕ
 spends a x = pick (eqb (x .active) a) (spendsKind (x .kind)) 0
 
 -- a queue fed by a wire: all but the out-queues
+abbrev pub isFedAs : Role → Bool
+isFedAs sending = false
+isFedAs receiving = true
+isFedAs (handling r) = true
+isFedAs passing = true
+
 abbrev pub isFed : Queue → Bool
-isFed (activeOut x) = false
-isFed (passiveOut x) = false
-isFed (activeIn x) = true
-isFed (passiveIn x) = true
-isFed (U r i) = true
-isFed (Q r) = true
-isFed (F r o) = true
-isFed (K r i o) = true
+isFed q = isFedAs (role q)
 
 -- ---- a state
 pub record Valid (pl : Plan) (s : State) : Type 0 where
   -- 'phase, slot .. out of range'
-  pub slot : s .slot .0 < S pl
+  pub slot : s .clock .slot .0 < S pl
   -- 'entry out of range'
   pub entries : (r o t i : ℕ) → r < R pl → o < 4 → t < S pl → s .table r o t ≡ Booked i → i < 4
   -- 'a queue over capacity'
-  pub capacities : (q : Queue) → Exists pl q → length (s .queue q) ≤ capacity (pl .head) q
+  pub capacities : (q : Queue) → Exists pl q → length (s .lines .queue q) ≤ capacity (pl .head) q
   -- 'a packet where no journey of its pair puts it, or with a hub that doesn't fit that place'; 'an answer in Q that
   -- is not its handled head'
-  pub places : (q : Queue) → Exists pl q → Lined pl q (s .handled q) (s .queue q)
-  pub wires : (o : Output) → Drives pl o → (x : Packet) → s .wire o ≡ Full x → Carries pl o x
+  pub places : (q : Queue) → Exists pl q → Lined pl q (s .lines .handled q) (s .lines .queue q)
+  pub wires : (o : Output) → Drives pl o → (x : Packet) → s .links .wire o ≡ Full x → Carries pl o x
   -- 'a wire full outside READ'
-  pub wires-empty : s .phase ≢ Read → (o : Output) → Drives pl o → s .wire o ≡ Empty
+  pub wires-empty : s .clock .phase ≢ Read → (o : Output) → Drives pl o → s .links .wire o ≡ Empty
   -- 'a choice outside WRITE or of no candidate'
-  pub choices : (o : Output) (k : ℕ) → Drives pl o → s .choice o ≡ sender k
-      → (s .phase ≡ Write) × ((q : Queue) × (ofRank (senders o) k ≡ some q) × (candidate pl s o q ≡ true))
+  pub choices : (o : Output) (k : ℕ) → Drives pl o → s .links .choice o ≡ sender k
+      → (s .clock .phase ≡ Write) × ((q : Queue) × (ofRank (senders o) k ≡ some q) × (candidate pl s o q ≡ true))
   -- 'a flag up in EXECUTE or on a queue whose head is picked'; an out-queue has none
-  pub flags-down : s .phase ≡ Execute → (q : Queue) → Exists pl q → s .flag q ≡ false
-  pub picked-down : (o : Output) (k : ℕ) (q : Queue) → Drives pl o → s .choice o ≡ sender k
-      → ofRank (senders o) k ≡ some q → s .flag q ≡ false
-  pub out-flags : (q : Queue) → Exists pl q → isFed q ≡ false → s .flag q ≡ false
+  pub flags-down : s .clock .phase ≡ Execute → (q : Queue) → Exists pl q → s .flow .flag q ≡ false
+  pub picked-down : (o : Output) (k : ℕ) (q : Queue) → Drives pl o → s .links .choice o ≡ sender k
+      → ofRank (senders o) k ≡ some q → s .flow .flag q ≡ false
+  pub out-flags : (q : Queue) → Exists pl q → isFed q ≡ false → s .flow .flag q ≡ false
   -- 'a handled mark on an empty Q'; no other queue has marks
-  pub marks : (q : Queue) → Exists pl q → s .handled q ≡ true → (r : ℕ) × (q ≡ Q r) × (s .queue q ≢ [])
+  pub marks : (q : Queue) → Exists pl q → s .lines .handled q ≡ true → (r : ℕ) × (q ≡ Q r) × (s .lines .queue q ≢ [])
   -- 'a side with no free entry'
   pub free-entry : (r o : ℕ) → r < R pl → o < 4 → (t : ℕ) × (t < S pl) × (s .table r o t ≡ Free)
   -- 'credit + queued + wire + raised flag ≠ capacity of a queue fed by a wire'; an out-queue's credit is not used
   pub credits : (q : Queue) → Exists pl q → isFed q ≡ true
-      → s .credit q .0 + length (s .queue q) + onWires pl q s + bit (s .flag q) ≡ capacity (pl .head) q
-  pub out-credits : (q : Queue) → Exists pl q → isFed q ≡ false → s .credit q .0 ≡ capacity (pl .head) q
+      → s .flow .credit q .0 + length (s .lines .queue q) + onWires pl q s + bit (s .flow .flag q) ≡ capacity (pl .head) q
+  pub out-credits : (q : Queue) → Exists pl q → isFed q ≡ false → s .flow .credit q .0 ≡ capacity (pl .head) q
   -- 'an active's allowance + its SETUPs, ACKs and NACKs ≠ its start allowance'
-  pub allowances : (a : ℕ) → a < A pl → s .allowance a + total pl (spends a) s ≡ startAllowance pl
+  pub allowances : (a : ℕ) → a < A pl → s .flow .allowance a + total pl (spends a) s ≡ startAllowance pl
 
--- what lies outside the plan's places is as Start left it
+-- what lies outside the plan's places is blank
 pub record Bounded (pl : Plan) (s : State) : Type 0 where
-  pub queue : (q : Queue) → (Exists pl q → ⊥) → s .queue q ≡ start pl .queue q
-  pub credit : (q : Queue) → (Exists pl q → ⊥) → s .credit q ≡ start pl .credit q
-  pub flag : (q : Queue) → (Exists pl q → ⊥) → s .flag q ≡ start pl .flag q
-  pub handled : (q : Queue) → (Exists pl q → ⊥) → s .handled q ≡ start pl .handled q
-  pub wire : (o : Output) → (Drives pl o → ⊥) → s .wire o ≡ start pl .wire o
-  pub choice : (o : Output) → (Drives pl o → ⊥) → s .choice o ≡ start pl .choice o
-  pub table : (r o t : ℕ) → ((r < R pl) × (o < 4) × (t < S pl) → ⊥) → s .table r o t ≡ start pl .table r o t
-  pub allowance : (a : ℕ) → (a < A pl → ⊥) → s .allowance a ≡ start pl .allowance a
+  pub queue : (q : Queue) → (Exists pl q → ⊥) → s .lines .queue q ≡ blank pl .lines .queue q
+  pub credit : (q : Queue) → (Exists pl q → ⊥) → s .flow .credit q ≡ blank pl .flow .credit q
+  pub flag : (q : Queue) → (Exists pl q → ⊥) → s .flow .flag q ≡ blank pl .flow .flag q
+  pub handled : (q : Queue) → (Exists pl q → ⊥) → s .lines .handled q ≡ blank pl .lines .handled q
+  pub wire : (o : Output) → (Drives pl o → ⊥) → s .links .wire o ≡ blank pl .links .wire o
+  pub choice : (o : Output) → (Drives pl o → ⊥) → s .links .choice o ≡ blank pl .links .choice o
+  pub table : (r o t : ℕ) → ((r < R pl) × (o < 4) × (t < S pl) → ⊥) → s .table r o t ≡ blank pl .table r o t
+  pub allowance : (a : ℕ) → (a < A pl → ⊥) → s .flow .allowance a ≡ blank pl .flow .allowance a

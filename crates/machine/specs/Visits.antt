@@ -17,7 +17,7 @@ setupOf a p t = record { kind = Setup; active = a; passive = p; slot = record { 
 
 -- an allowance of 0 has been refused
 unfoldable pub launched : ℕ → ℕ → ℕ → State → State
-launched a p t s = withAllowance a (s .allowance a - 1) (join (activeOut a) (setupOf a p t) s)
+launched a p t s = withAllowance a (s .flow .allowance a - 1) (join (activeOut a) (setupOf a p t) s)
 
 -- ---- 'the head becomes ACK or NACK, slot and hub kept, in the out-queue; the flag rises'
 -- '1 accept or 0 decline'
@@ -35,7 +35,7 @@ replied p k (x ∷ rest) s =
 
 -- ---- 'the packet is returned and removed, the flag rises, the allowance grows by one': its removal
 unfoldable pub removed : ℕ → List Packet → State → State
-removed a rest s = withAllowance a (s .allowance a + 1) (withFlag (activeIn a) true (withQueue (activeIn a) rest s))
+removed a rest s = withAllowance a (s .flow .allowance a + 1) (withFlag (activeIn a) true (withQueue (activeIn a) rest s))
 
 -- ---- the head of a queue
 abbrev pub isEmpty : List Packet → Bool

@@ -11,7 +11,8 @@ use Rattle.packets.specs.declared.Wire.the-variants.{Full}
 use Rattle.packets.specs.declared.Phase.the-variants.{Read}
 use Rattle.packets.specs.Counters.{slotNext, creditDown}
 use Rattle.plan.specs.Plan.{Plan, S}
-use Rattle.feeding.specs.Queue.{Queue, activeOut, activeIn, passiveIn, passiveOut, U, Q, F, K}
+use Rattle.feeding.specs.Queue.{Queue}
+use Rattle.feeding.specs.Role.{Role, sending, receiving, handling, passing, role}
 use Rattle.feeding.specs.Feeds.{Output}
 use Rattle.machine.specs.Outputs.{nextBy, senders, outputs, outputAt}
 use Rattle.machine.specs.State.{State, Choice, nobody, sender, withPhase, withSlot, withQueue, withWire, withCredit, withFlag, withHandled, withChoice}
@@ -23,20 +24,19 @@ ofRank (q ∷ qs) zero = some q
 ofRank (q ∷ qs) (suc k) = ofRank qs k
 
 -- 'none for out-queues'
+abbrev pub raiseAs : Role → Queue → State → State
+raiseAs sending q s = s
+raiseAs receiving q s = withFlag q true s
+raiseAs (handling r) q s = withFlag q true (withHandled q false s)
+raiseAs passing q s = withFlag q true s
+
 abbrev pub raise : Queue → State → State
-raise (activeOut x) s = s
-raise (passiveOut x) s = s
-raise (activeIn x) s = withFlag (activeIn x) true s
-raise (passiveIn x) s = withFlag (passiveIn x) true s
-raise (U r i) s = withFlag (U r i) true s
-raise (Q r) s = withFlag (Q r) true (withHandled (Q r) false s)
-raise (F r o) s = withFlag (F r o) true s
-raise (K r i o) s = withFlag (K r i o) true s
+raise q s = raiseAs (role q) q s
 
 -- 'the next queue's credit falls by one'; a candidate has a next queue
 abbrev pub spend : Option Queue → State → State
 spend none s = s
-spend (some q) s = withCredit q (creditDown (s .credit q)) s
+spend (some q) s = withCredit q (creditDown (s .flow .credit q)) s
 
 -- what is picked has a head: in WRITE a choice is of a candidate
 unfoldable pub sendHead : Plan → Output → Queue → List Packet → State → State
@@ -46,15 +46,15 @@ sendHead pl o q (x ∷ rest) s = withWire o (Full x) (spend (nextBy pl o x) (rai
 -- and its rank is that of one of the output's senders
 abbrev pub sendFrom : Plan → Output → Option Queue → State → State
 sendFrom pl o none s = s
-sendFrom pl o (some q) s = sendHead pl o q (s .queue q) s
+sendFrom pl o (some q) s = sendHead pl o q (s .lines .queue q) s
 
 unfoldable pub sendBy : Plan → Output → Choice → State → State
 sendBy pl o nobody s = s
 sendBy pl o (sender k) s = withChoice o nobody (sendFrom pl o (ofRank (senders o) k) s)
 
 unfoldable pub send : Plan → Output → State → State
-send pl o s = sendBy pl o (s .choice o) s
+send pl o s = sendBy pl o (s .links .choice o) s
 
 unfoldable pub doWrite : Plan → State → State
 doWrite pl s =
-    withPhase Read (withSlot (slotNext (s .slot) (S pl)) (upTo (λ n. send pl (outputAt pl n)) (outputs pl) s))
+    withPhase Read (withSlot (slotNext (s .clock .slot) (S pl)) (upTo (λ n. send pl (outputAt pl n)) (outputs pl) s))

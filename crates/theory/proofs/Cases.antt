@@ -28,12 +28,12 @@ use Rattle.theory.proofs.Core.{Sendable}
 -- ---- a wire
 module _ (pl : Plan) (o : Output) (s : State) where
   -- An empty wire delivers nothing.
-  pub deliver-none : s .wire o ≡ Empty → deliver pl o s ≡ s
+  pub deliver-none : s .links .wire o ≡ Empty → deliver pl o s ≡ s
   unfolding deliver arrive
   deliver-none e = ap (λ (v : Wire). arrive pl o v s) e
 
   -- A full wire's packet joins its next queue, and the wire empties.
-  pub deliver-one : (x : Packet) (y : Queue) → s .wire o ≡ Full x → nextBy pl o x ≡ some y → deliver pl o s ≡ arrived y x (withWire o Empty s)
+  pub deliver-one : (x : Packet) (y : Queue) → s .links .wire o ≡ Full x → nextBy pl o x ≡ some y → deliver pl o s ≡ arrived y x (withWire o Empty s)
   unfolding deliver arrive
   deliver-one x y e n = ap (λ (v : Wire). arrive pl o v s) e ∙ ap (λ (q : Option Queue). joinNext q x (withWire o Empty s)) n
 
@@ -60,54 +60,54 @@ afterEnded pl r x rest s = withFlag (Q r) true (withQueue (Q r) rest (withEntry 
 
 module _ (pl : Plan) (r : ℕ) (s : State) where
   -- A unit without a packet does nothing.
-  pub unit-empty : s .queue (Q r) ≡ [] → unit pl r s ≡ s
+  pub unit-empty : s .lines .queue (Q r) ≡ [] → unit pl r s ≡ s
   unfolding unit atUnit
-  unit-empty e = ap (λ (l : List Packet). atUnit pl r l (s .handled (Q r)) s) e
+  unit-empty e = ap (λ (l : List Packet). atUnit pl r l (s .lines .handled (Q r)) s) e
 
-  module _ (x : Packet) (rest : List Packet) (e : s .queue (Q r) ≡ x ∷ rest) where
+  module _ (x : Packet) (rest : List Packet) (e : s .lines .queue (Q r) ≡ x ∷ rest) where
     -- A handled head is left alone.
-    pub unit-handled : s .handled (Q r) ≡ true → unit pl r s ≡ s
+    pub unit-handled : s .lines .handled (Q r) ≡ true → unit pl r s ≡ s
     unfolding unit atUnit
     unit-handled t = ap₂ (λ (l : List Packet) (b : Bool). atUnit pl r l b s) e t
 
-    by-kind : (k : Kind) → s .handled (Q r) ≡ false → x .kind ≡ k → unit pl r s ≡ handle pl r (exitAt pl r x) k x rest s
+    by-kind : (k : Kind) → s .lines .handled (Q r) ≡ false → x .kind ≡ k → unit pl r s ≡ handle pl r (exitAt pl r x) k x rest s
     unfolding unit atUnit
     by-kind k f q = ap₂ (λ (l : List Packet) (b : Bool). atUnit pl r l b s) e f ∙ ap (λ (c : Kind). handle pl r (exitAt pl r x) c x rest s) q
 
     -- A set-up whose entry may be booked books it.
-    pub unit-books : s .handled (Q r) ≡ false → x .kind ≡ Setup → mayBookAt pl r s x ≡ true → unit pl r s ≡ afterBooked pl r x rest s
+    pub unit-books : s .lines .handled (Q r) ≡ false → x .kind ≡ Setup → mayBookAt pl r s x ≡ true → unit pl r s ≡ afterBooked pl r x rest s
     unfolding handle setUp
     unit-books f q t = by-kind Setup f q ∙ ap (λ (b : Bool). setUp pl r (exitAt pl r x) x rest b s) t
 
     -- Another set-up is declined.
-    pub unit-declines : s .handled (Q r) ≡ false → x .kind ≡ Setup → mayBookAt pl r s x ≡ false → unit pl r s ≡ handledAs r (declined x) rest s
+    pub unit-declines : s .lines .handled (Q r) ≡ false → x .kind ≡ Setup → mayBookAt pl r s x ≡ false → unit pl r s ≡ handledAs r (declined x) rest s
     unfolding handle setUp
     unit-declines f q t = by-kind Setup f q ∙ ap (λ (b : Bool). setUp pl r (exitAt pl r x) x rest b s) t
 
     -- A tear-down with hub 1 frees its entry and ends.
-    pub unit-ends : s .handled (Q r) ≡ false → x .kind ≡ Tdown → eqb (x .hub .0) 1 ≡ true → unit pl r s ≡ afterEnded pl r x rest s
+    pub unit-ends : s .lines .handled (Q r) ≡ false → x .kind ≡ Tdown → eqb (x .hub .0) 1 ≡ true → unit pl r s ≡ afterEnded pl r x rest s
     unfolding handle tearDown tearOne
     unit-ends f q t = by-kind Tdown f q ∙ ap (λ (b : Bool). tearOne pl r x rest b (withEntry r (exitAt pl r x) (x .slot .0) Free s)) t
 
     -- Another tear-down frees its entry.
-    pub unit-frees : s .handled (Q r) ≡ false → x .kind ≡ Tdown → eqb (x .hub .0) 1 ≡ false → unit pl r s ≡ afterFreed pl r x rest s
+    pub unit-frees : s .lines .handled (Q r) ≡ false → x .kind ≡ Tdown → eqb (x .hub .0) 1 ≡ false → unit pl r s ≡ afterFreed pl r x rest s
     unfolding handle tearDown tearOne
     unit-frees f q t = by-kind Tdown f q ∙ ap (λ (b : Bool). tearOne pl r x rest b (withEntry r (exitAt pl r x) (x .slot .0) Free s)) t
 
   -- a unit's turn: nothing, or one of four things done to its unhandled head
   pub data UnitDoes : Type 0 where
     rests : unit pl r s ≡ s → UnitDoes
-    books : (x : Packet) (rest : List Packet) → s .queue (Q r) ≡ x ∷ rest → s .handled (Q r) ≡ false → x .kind ≡ Setup → mayBookAt pl r s x ≡ true → UnitDoes
-    declines : (x : Packet) (rest : List Packet) → s .queue (Q r) ≡ x ∷ rest → s .handled (Q r) ≡ false → x .kind ≡ Setup → mayBookAt pl r s x ≡ false → UnitDoes
-    ends : (x : Packet) (rest : List Packet) → s .queue (Q r) ≡ x ∷ rest → s .handled (Q r) ≡ false → x .kind ≡ Tdown → eqb (x .hub .0) 1 ≡ true → UnitDoes
-    frees : (x : Packet) (rest : List Packet) → s .queue (Q r) ≡ x ∷ rest → s .handled (Q r) ≡ false → x .kind ≡ Tdown → eqb (x .hub .0) 1 ≡ false → UnitDoes
+    books : (x : Packet) (rest : List Packet) → s .lines .queue (Q r) ≡ x ∷ rest → s .lines .handled (Q r) ≡ false → x .kind ≡ Setup → mayBookAt pl r s x ≡ true → UnitDoes
+    declines : (x : Packet) (rest : List Packet) → s .lines .queue (Q r) ≡ x ∷ rest → s .lines .handled (Q r) ≡ false → x .kind ≡ Setup → mayBookAt pl r s x ≡ false → UnitDoes
+    ends : (x : Packet) (rest : List Packet) → s .lines .queue (Q r) ≡ x ∷ rest → s .lines .handled (Q r) ≡ false → x .kind ≡ Tdown → eqb (x .hub .0) 1 ≡ true → UnitDoes
+    frees : (x : Packet) (rest : List Packet) → s .lines .queue (Q r) ≡ x ∷ rest → s .lines .handled (Q r) ≡ false → x .kind ≡ Tdown → eqb (x .hub .0) 1 ≡ false → UnitDoes
 
   -- Every turn of a unit is one of these.
   pub unit-does : UnitDoes
   unfolding handle
-  unit-does = by (s .queue (Q r)) refl (test (s .handled (Q r)))
+  unit-does = by (s .lines .queue (Q r)) refl (test (s .lines .handled (Q r)))
     where
-      of-kind : (x : Packet) (rest : List Packet) → s .queue (Q r) ≡ x ∷ rest → s .handled (Q r) ≡ false → (k : Kind) → x .kind ≡ k → (b : Bool) → mayBookAt pl r s x ≡ b → (c : Bool) → eqb (x .hub .0) 1 ≡ c → UnitDoes
+      of-kind : (x : Packet) (rest : List Packet) → s .lines .queue (Q r) ≡ x ∷ rest → s .lines .handled (Q r) ≡ false → (k : Kind) → x .kind ≡ k → (b : Bool) → mayBookAt pl r s x ≡ b → (c : Bool) → eqb (x .hub .0) 1 ≡ c → UnitDoes
       of-kind x rest e f Setup q true t c u = books x rest e f q t
       of-kind x rest e f Setup q false t c u = declines x rest e f q t
       of-kind x rest e f Tdown q b t true u = ends x rest e f q u
@@ -115,7 +115,7 @@ module _ (pl : Plan) (r : ℕ) (s : State) where
       of-kind x rest e f Ack q b t c u = rests (by-kind x rest e Ack f q)
       of-kind x rest e f Nack q b t c u = rests (by-kind x rest e Nack f q)
 
-      by : (l : List Packet) → s .queue (Q r) ≡ l → (s .handled (Q r) ≡ true) ⊎ (s .handled (Q r) ≡ false) → UnitDoes
+      by : (l : List Packet) → s .lines .queue (Q r) ≡ l → (s .lines .handled (Q r) ≡ true) ⊎ (s .lines .handled (Q r) ≡ false) → UnitDoes
       by [] e c = rests (unit-empty e)
       by (x ∷ rest) e (inl t) = rests (unit-handled x rest e t)
       by (x ∷ rest) e (inr f) = of-kind x rest e f (x .kind) refl (mayBookAt pl r s x) refl (eqb (x .hub .0) 1) refl
@@ -133,7 +133,7 @@ unmarked-nack x u = unmarked-kind (x .kind) (x .hub .0) u .0
 
 module _ (pl : Plan) (a : ℕ) (s : State) where
   -- An unmarked NACK is torn down where the out-queue has room.
-  pub undo-tears : (x : Packet) (rest : List Packet) → s .queue (activeIn a) ≡ x ∷ rest → unmarked x ≡ true → hasRoom pl (activeOut a) s ≡ true
+  pub undo-tears : (x : Packet) (rest : List Packet) → s .lines .queue (activeIn a) ≡ x ∷ rest → unmarked x ≡ true → hasRoom pl (activeOut a) s ≡ true
       → undo pl a s ≡ torn pl a x rest s
   unfolding undo atActive answer
   undo-tears x rest e u h = ap (λ (l : List Packet). atActive pl a l s) e ∙ ap₂ (λ (b c : Bool). answer pl a x rest (b && c) s) u h
@@ -141,19 +141,19 @@ module _ (pl : Plan) (a : ℕ) (s : State) where
   -- an active's turn
   pub data ActiveDoes : Type 0 where
     waits : undo pl a s ≡ s → ActiveDoes
-    tears : (x : Packet) (rest : List Packet) → s .queue (activeIn a) ≡ x ∷ rest → unmarked x ≡ true → hasRoom pl (activeOut a) s ≡ true → ActiveDoes
+    tears : (x : Packet) (rest : List Packet) → s .lines .queue (activeIn a) ≡ x ∷ rest → unmarked x ≡ true → hasRoom pl (activeOut a) s ≡ true → ActiveDoes
 
   -- An active does nothing, or tears down what was declined.
   pub undo-does : ActiveDoes
   unfolding undo atActive answer
-  undo-does = by (s .queue (activeIn a)) refl
+  undo-does = by (s .lines .queue (activeIn a)) refl
     where
-      at : (x : Packet) (rest : List Packet) → s .queue (activeIn a) ≡ x ∷ rest → (b : Bool) → unmarked x ≡ b → (c : Bool) → hasRoom pl (activeOut a) s ≡ c → ActiveDoes
+      at : (x : Packet) (rest : List Packet) → s .lines .queue (activeIn a) ≡ x ∷ rest → (b : Bool) → unmarked x ≡ b → (c : Bool) → hasRoom pl (activeOut a) s ≡ c → ActiveDoes
       at x rest e true u true h = tears x rest e u h
       at x rest e true u false h = waits (ap (λ (l : List Packet). atActive pl a l s) e ∙ ap₂ (λ (b c : Bool). answer pl a x rest (b && c) s) u h)
       at x rest e false u c h = waits (ap (λ (l : List Packet). atActive pl a l s) e ∙ ap (λ (b : Bool). answer pl a x rest (b && hasRoom pl (activeOut a) s) s) u)
 
-      by : (l : List Packet) → s .queue (activeIn a) ≡ l → ActiveDoes
+      by : (l : List Packet) → s .lines .queue (activeIn a) ≡ l → ActiveDoes
       by [] e = waits (ap (λ (l : List Packet). atActive pl a l s) e)
       by (x ∷ rest) e = at x rest e (unmarked x) refl (hasRoom pl (activeOut a) s) refl
 
@@ -163,22 +163,22 @@ module _ (pl : Plan) (o : Output) (s : State) where
   pub record Heads (q : Queue) : Type 0 where
     pub packet : Packet
     pub rest : List Packet
-    pub line : s .queue q ≡ packet ∷ rest
+    pub line : s .lines .queue q ≡ packet ∷ rest
     pub leaves : mayLeave s q ≡ true
     pub onto : Queue
     pub next : nextBy pl o packet ≡ some onto
-    pub credit : ltb 0 (s .credit onto .0) ≡ true
+    pub credit : ltb 0 (s .flow .credit onto .0) ≡ true
 
   -- A candidate has them.
   pub candidate-heads : (q : Queue) → candidate pl s o q ≡ true → Heads q
   unfolding candidate
-  candidate-heads q c = by (s .queue q) refl c
+  candidate-heads q c = by (s .lines .queue q) refl c
     where
-      to : (x : Packet) (rest : List Packet) → s .queue q ≡ x ∷ rest → mayLeave s q ≡ true → (y : Option Queue) → nextBy pl o x ≡ y → hasCredit s y ≡ true → Heads q
+      to : (x : Packet) (rest : List Packet) → s .lines .queue q ≡ x ∷ rest → mayLeave s q ≡ true → (y : Option Queue) → nextBy pl o x ≡ y → hasCredit s y ≡ true → Heads q
       to x rest e m none n h = absurd (false≢true h)
       to x rest e m (some y) n h = record { packet = x; rest = rest; line = e; leaves = m; onto = y; next = n; credit = h }
 
-      by : (l : List Packet) → s .queue q ≡ l → headReady pl s o (mayLeave s q) l ≡ true → Heads q
+      by : (l : List Packet) → s .lines .queue q ≡ l → headReady pl s o (mayLeave s q) l ≡ true → Heads q
       by [] e h = absurd (false≢true h)
       by (x ∷ rest) e h = let b = also-true {a = mayLeave s q} {b = hasCredit s (nextBy pl o x)} h in to x rest e (b .0) (nextBy pl o x) refl (b .1)
 
@@ -187,12 +187,12 @@ module _ (pl : Plan) (o : Output) (s : State) where
   afterSent q y x rest = withChoice o nobody (withWire o (Full x) (spend (some y) (raise q (withQueue q rest s))))
 
   -- Nobody was picked: nothing is sent.
-  pub send-nobody : s .choice o ≡ nobody → send pl o s ≡ s
+  pub send-nobody : s .links .choice o ≡ nobody → send pl o s ≡ s
   unfolding send sendBy
   send-nobody e = ap (λ (c : Choice). sendBy pl o c s) e
 
   -- A picked candidate's head enters the wire.
-  pub send-one : (k : ℕ) (q : Queue) → s .choice o ≡ sender k → ofRank (senders o) k ≡ some q → (h : Heads q) → send pl o s ≡ afterSent q (h .onto) (h .packet) (h .rest)
+  pub send-one : (k : ℕ) (q : Queue) → s .links .choice o ≡ sender k → ofRank (senders o) k ≡ some q → (h : Heads q) → send pl o s ≡ afterSent q (h .onto) (h .packet) (h .rest)
   unfolding send sendBy sendHead
   send-one k q e r h =
       ap (λ (c : Choice). sendBy pl o c s) e
@@ -203,12 +203,12 @@ module _ (pl : Plan) (o : Output) (s : State) where
   -- an output's turn in WRITE
   pub data SendDoes : Type 0 where
     none-sent : send pl o s ≡ s → SendDoes
-    sent : (k : ℕ) (q : Queue) → s .choice o ≡ sender k → ofRank (senders o) k ≡ some q → Heads q → SendDoes
+    sent : (k : ℕ) (q : Queue) → s .links .choice o ≡ sender k → ofRank (senders o) k ≡ some q → Heads q → SendDoes
 
   -- An output whose choice can be sent sends nothing, or a candidate's head.
-  pub send-does : ((k : ℕ) → s .choice o ≡ sender k → Sendable pl s o k) → SendDoes
-  send-does ready = by (s .choice o) refl
+  pub send-does : ((k : ℕ) → s .links .choice o ≡ sender k → Sendable pl s o k) → SendDoes
+  send-does ready = by (s .links .choice o) refl
     where
-      by : (c : Choice) → s .choice o ≡ c → SendDoes
+      by : (c : Choice) → s .links .choice o ≡ c → SendDoes
       by nobody e = none-sent (send-nobody e)
       by (sender k) e = let d = ready k e in sent k (d .queue) e (d .rank) (candidate-heads (d .queue) (d .ready))

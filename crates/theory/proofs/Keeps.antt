@@ -26,7 +26,7 @@ use Rattle.feeding.specs.Feeds.{Output}
 use Rattle.wiring.proofs.Heads.{and-both}
 use Rattle.wiring.specs.Wired.{Wired}
 use Rattle.journeys.proofs.Walks.{served-of}
-use Rattle.machine.specs.State.{State, sender, start, withPhase, withSlot}
+use Rattle.machine.specs.State.{State, sender, blank, start, withPhase, withSlot}
 use Rattle.machine.specs.Read.{deliver, settle, doRead}
 use Rattle.machine.specs.Execute.{unit, choose, undo, doExecute, hasRoom, unmarked}
 use Rattle.machine.specs.Write.{send, doWrite}
@@ -98,7 +98,7 @@ module _ {pl : Plan} (wired : Wired pl) (range : InRange (pl .head)) where
   pub settle-core : (q : Queue) (s : State) → Exists pl q → Core pl s → Core pl (settle q s)
   settle-core q s h c = core-by (settle-kept wired range q s h (kept-of pl s c)) (settle-paid q s h c) (settle-allowances c q)
 
-  pub unit-core : (r : ℕ) (s : State) → r < R pl → s .flag (Q r) ≡ false → Core pl s → Core pl (unit pl r s)
+  pub unit-core : (r : ℕ) (s : State) → r < R pl → s .flow .flag (Q r) ≡ false → Core pl s → Core pl (unit pl r s)
   unit-core r s h f c = core-by (unit-kept wired range r s h (kept-of pl s c)) (unit-paid s c r f) (unit-allowances c r h)
 
   pub choose-core : (o : Output) (s : State) → Core pl s → Core pl (choose pl o s)
@@ -107,14 +107,14 @@ module _ {pl : Plan} (wired : Wired pl) (range : InRange (pl .head)) where
   pub undo-core : (a : ℕ) (s : State) → a < A pl → Core pl s → Core pl (undo pl a s)
   undo-core a s h c = core-by (undo-kept wired range a s h (kept-of pl s c)) (undo-paid s c a) (undo-allowances c a h)
 
-  pub send-core : (o : Output) (s : State) → Drives pl o → s .wire o ≡ Empty → ((k : ℕ) → s .choice o ≡ sender k → Sendable pl s o k) → Core pl s → Core pl (send pl o s)
+  pub send-core : (o : Output) (s : State) → Drives pl o → s .links .wire o ≡ Empty → ((k : ℕ) → s .links .choice o ≡ sender k → Sendable pl s o k) → Core pl s → Core pl (send pl o s)
   send-core o s d w r c = core-by (send-kept wired range o s d r (kept-of pl s c)) (send-paid wired o s d c w r) (send-allowances c wired o d r w)
 
   -- the end of a round: the next slot, and READ
-  pub turn-core : (x : State) (s : State) → Core pl x → Core pl s → Core pl (withPhase Read (withSlot (slotNext (x .slot) (S pl)) s))
+  pub turn-core : (x : State) (s : State) → Core pl x → Core pl s → Core pl (withPhase Read (withSlot (slotNext (x .clock .slot) (S pl)) s))
   turn-core x s b c =
-      let k = slot-kept (kept-of pl s c) (slotNext (x .slot) (S pl)) (turn-kept wired range x (kept-of pl x b) .slot) in
-      phase-core Read (withSlot (slotNext (x .slot) (S pl)) s) (core-by k (slot-paid (slotNext (x .slot) (S pl)) c) (slot-allowances c (slotNext (x .slot) (S pl))))
+      let k = slot-kept (kept-of pl s c) (slotNext (x .clock .slot) (S pl)) (turn-kept wired range x (kept-of pl x b) .slot) in
+      phase-core Read (withSlot (slotNext (x .clock .slot) (S pl)) s) (core-by k (slot-paid (slotNext (x .clock .slot) (S pl)) c) (slot-allowances c (slotNext (x .clock .slot) (S pl))))
 
   -- ---- and so by each phase
   pub read-core : (s : State) → Core pl s → Core pl (doRead pl s)
@@ -134,7 +134,7 @@ module _ {pl : Plan} (wired : Wired pl) (range : InRange (pl .head)) where
       by true = inl refl
       by false = inr refl
 
-  turn-inv : (x : Phase) (s : State) → s .phase ≡ x → Inv pl s → Inv pl (stepOf pl x s)
+  turn-inv : (x : Phase) (s : State) → s .clock .phase ≡ x → Inv pl s → Inv pl (stepOf pl x s)
   turn-inv Read s e i = record { core = read-core s (i .core); shape = read-shape pl s (read-has s e (i .shape)) }
   turn-inv Execute s e i =
       let h = execute-has s e (i .shape) in
@@ -178,7 +178,7 @@ module _ {pl : Plan} (wired : Wired pl) (range : InRange (pl .head)) where
   call-inv c s i = does-inv c (call pl c s) s (call-does pl s c) i
 
   pub start-inv : Inv pl (start pl)
-  unfolding start
+  unfolding start blank
   start-inv = record { core = start-core; shape = in-read refl (λ o d. refl) }
 
   -- no state reached from Start, and none reached from a valid state, is refused 7

@@ -78,7 +78,7 @@ module _ {pl : Plan} (wired : Wired pl) (range : InRange (pl .head)) where
     phase-mid : (x : Phase) (s : State) → M s → M (withPhase x s)
     phase-mid x s m = record { core = phase-core wired range x s (m .core); owned = phase-owned s (m .owned) x; counted = λ c. phase-counted pl c s (m .counted c) x }
 
-    unit-mid : (r : ℕ) (s : State) → r < R pl → s .flag (Q r) ≡ false → M s → M (unit pl r s)
+    unit-mid : (r : ℕ) (s : State) → r < R pl → s .flow .flag (Q r) ≡ false → M s → M (unit pl r s)
     unit-mid r s h f m =
         record { core = unit-core wired range r s h f (m .core); owned = unit-owned wired s (m .core) (m .owned) r h; counted = λ c. unit-counted pl c wired s (m .core) (m .counted c) r h }
 
@@ -89,7 +89,7 @@ module _ {pl : Plan} (wired : Wired pl) (range : InRange (pl .head)) where
     undo-mid a s h m =
         record { core = undo-core wired range a s h (m .core); owned = undo-owned wired s (m .core) (m .owned) a h; counted = λ c. undo-counted pl c wired s (m .core) (m .counted c) a h }
 
-    send-mid : (o : Output) (s : State) → Drives pl o → s .wire o ≡ Empty → ((k : ℕ) → s .choice o ≡ sender k → Sendable pl s o k) → M s → M (send pl o s)
+    send-mid : (o : Output) (s : State) → Drives pl o → s .links .wire o ≡ Empty → ((k : ℕ) → s .links .choice o ≡ sender k → Sendable pl s o k) → M s → M (send pl o s)
     send-mid o s d w r m =
         record {
           core = send-core wired range o s d w r (m .core);
@@ -97,13 +97,13 @@ module _ {pl : Plan} (wired : Wired pl) (range : InRange (pl .head)) where
           counted = λ c. send-counted pl c wired s (m .core) (m .counted c) o d r w;
         }
 
-    turn-mid : (x s : State) → Core pl x → M s → M (withPhase Read (withSlot (slotNext (x .slot) (S pl)) s))
+    turn-mid : (x s : State) → Core pl x → M s → M (withPhase Read (withSlot (slotNext (x .clock .slot) (S pl)) s))
     turn-mid x s b m =
-        let t : State = withSlot (slotNext (x .slot) (S pl)) s in
+        let t : State = withSlot (slotNext (x .clock .slot) (S pl)) s in
         record {
           core = turn-core wired range x s b (m .core);
-          owned = phase-owned (withSlot (slotNext (x .slot) (S pl)) s) (slot-owned s (m .owned) (slotNext (x .slot) (S pl))) Read;
-          counted = λ c. phase-counted pl c (withSlot (slotNext (x .slot) (S pl)) s) (slot-counted pl c s (m .counted c) (slotNext (x .slot) (S pl))) Read;
+          owned = phase-owned (withSlot (slotNext (x .clock .slot) (S pl)) s) (slot-owned s (m .owned) (slotNext (x .clock .slot) (S pl))) Read;
+          counted = λ c. phase-counted pl c (withSlot (slotNext (x .clock .slot) (S pl)) s) (slot-counted pl c s (m .counted c) (slotNext (x .clock .slot) (S pl))) Read;
         }
 
     read-mid : (s : State) → M s → M (doRead pl s)
@@ -140,7 +140,7 @@ module _ {pl : Plan} (wired : Wired pl) (range : InRange (pl .head)) where
       none-accepted (visit (ofConsume a)) w = refl
       none-accepted (visit (ofEntry r o t)) w = refl
 
-      turn-mid-at : (x : Phase) → s .phase ≡ x → M (stepOf pl x s)
+      turn-mid-at : (x : Phase) → s .clock .phase ≡ x → M (stepOf pl x s)
       turn-mid-at Read e = read-mid s mid
       turn-mid-at Execute e = execute-mid s (execute-has s e (k .inv .shape) .2) mid
       turn-mid-at Write e = let h = write-has s e (k .inv .shape) in write-mid s (h .0) (h .1) mid

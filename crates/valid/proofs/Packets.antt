@@ -10,9 +10,9 @@ use Rattle.packets.specs.declared.Wire.the-variants.{Empty, Full}
 use Rattle.plan.specs.Plan.{Plan, A, P, S}
 use Rattle.paths.specs.Served.{Served, served}
 use Rattle.feeding.specs.Queue.{Queue}
-use Rattle.feeding.specs.Feeds.{Output, Place, inQueue}
+use Rattle.feeding.specs.Feeds.{Output, Place, inQueue, headPlace}
 use Rattle.machine.specs.Outputs.{nextBy}
-use Rattle.machine.specs.Valid.{PacketOk, Belongs, headPlace, Lined, Carries}
+use Rattle.machine.specs.Valid.{PacketOk, Belongs, Lined, Carries}
 use Rattle.wiring.specs.Wired.{Wired}
 use Rattle.journeys.proofs.Walks.{served-of, serves-of}
 use Rattle.journeys.proofs.Places.{some-not-none, some-same}

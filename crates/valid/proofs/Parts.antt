@@ -1,6 +1,6 @@
 -- The tests of phases, wires, choices, marks and entries decide what Valid says of one place; and loops over numbers decide what it says of every place.
-use mathlib.Core.Path.{_≡_, refl, subst}
-use mathlib.Core.Logic.{_≢_}
+use mathlib.Core.Path.{_≡_, refl, ap, subst}
+use mathlib.Core.Logic.{_⊎_, inl, inr, _≢_}
 use mathlib.Core.Bool.{Bool, true, false, not, _||_}
 use mathlib.Core.List.{List, [], _∷_}
 use mathlib.Core.Option.{Option, none, some}
@@ -15,7 +15,8 @@ use Rattle.packets.specs.declared.Phase.the-variants.{Read, Execute, Write}
 use Rattle.packets.specs.declared.Entry.{Entry}
 use Rattle.packets.specs.declared.Entry.the-variants.{Free, Booked}
 use Rattle.plan.specs.Plan.{Plan}
-use Rattle.feeding.specs.Queue.{Queue, activeOut, activeIn, passiveIn, passiveOut, U, Q, F, K, Exists, number, queues, queueAt}
+use Rattle.feeding.specs.Queue.{Queue, Q, Exists, number, queues, queueAt}
+use Rattle.feeding.specs.Role.{Role, isUnit, unit-or}
 use Rattle.feeding.specs.Feeds.{Output}
 use Rattle.machine.specs.Outputs.{senders, outputs, outputAt, outputNumber}
 use Rattle.machine.specs.State.{State, Choice, nobody, sender, isFree, isFull}
@@ -30,7 +31,7 @@ use Rattle.machine.proofs.Apart.{nobody-not, sender-same}
 use Rattle.machine.proofs.Numbers.{exists-at}
 use Rattle.machine.proofs.OutNumbers.{output-at, output-below, drives-at}
 use Rattle.valid.proofs.Decides.{Decides, like, never, always, so, not-so, less, both, given, unless, all-below}
-use Rattle.valid.specs.Test.{everyQueue, everyOutput, mayTest, choiceTest, downTest, pickedTest, isUnit, entryTest}
+use Rattle.valid.specs.Test.{everyQueue, everyOutput, mayTest, choiceTest, downTest, pickedTest, entryTest}
 
 -- ---- every queue and every output of the plan, by number
 module _ (pl : Plan) where
@@ -78,29 +79,26 @@ module _ (pl : Plan) (s : State) (o : Output) where
   may-decides (some q) = like (so (candidate pl s o q)) (λ e. (q, refl, e)) (λ f. rw (some-same (f .1)) (f .2))
 
   pub choice-decides : (c : Choice)
-      → Decides (choiceTest pl s o c) ((k : ℕ) → c ≡ sender k → (s .phase ≡ Write) × ((q : Queue) × (ofRank (senders o) k ≡ some q) × (candidate pl s o q ≡ true)))
+      → Decides (choiceTest pl s o c) ((k : ℕ) → c ≡ sender k → (s .clock .phase ≡ Write) × ((q : Queue) × (ofRank (senders o) k ≡ some q) × (candidate pl s o q ≡ true)))
   choice-decides nobody = always (λ k e. absurd (nobody-not e))
   choice-decides (sender j) =
-      like (both (is-phase (s .phase) Write) (λ w. may-decides (ofRank (senders o) j))) (λ f k e. rw (← sender-same e) f) (λ f. f j refl)
+      like (both (is-phase (s .clock .phase) Write) (λ w. may-decides (ofRank (senders o) j))) (λ f k e. rw (← sender-same e) f) (λ f. f j refl)
 
-  down-decides : (t : Option Queue) → Decides (downTest s t) ((q : Queue) → t ≡ some q → s .flag q ≡ false)
+  down-decides : (t : Option Queue) → Decides (downTest s t) ((q : Queue) → t ≡ some q → s .flow .flag q ≡ false)
   down-decides none = always (λ q e. absurd (some-not-none e))
-  down-decides (some q) = like (not-so (s .flag q)) (λ e y h. rw (← some-same h) e) (λ f. f q refl)
+  down-decides (some q) = like (not-so (s .flow .flag q)) (λ e y h. rw (← some-same h) e) (λ f. f q refl)
 
-  pub picked-decides : (c : Choice) → Decides (pickedTest s o c) ((k : ℕ) (q : Queue) → c ≡ sender k → ofRank (senders o) k ≡ some q → s .flag q ≡ false)
+  pub picked-decides : (c : Choice) → Decides (pickedTest s o c) ((k : ℕ) (q : Queue) → c ≡ sender k → ofRank (senders o) k ≡ some q → s .flow .flag q ≡ false)
   picked-decides nobody = always (λ k q e h. absurd (nobody-not e))
   picked-decides (sender j) = like (down-decides (ofRank (senders o) j)) (λ f k q e h. f q (rw (sender-same e) h)) (λ f q h. f j q refl h)
 
 -- ---- one mark
 is-unit : (q : Queue) → Decides (isUnit q) ((r : ℕ) × (q ≡ Q r))
-is-unit (activeOut x) = never (λ f. let e = f .1 in let z : _≡_ {A = ℕ} 0 1 = cc in omega arith)
-is-unit (activeIn x) = never (λ f. let e = f .1 in let z : _≡_ {A = ℕ} 0 1 = cc in omega arith)
-is-unit (passiveIn x) = never (λ f. let e = f .1 in let z : _≡_ {A = ℕ} 0 1 = cc in omega arith)
-is-unit (passiveOut x) = never (λ f. let e = f .1 in let z : _≡_ {A = ℕ} 0 1 = cc in omega arith)
-is-unit (U r i) = never (λ f. let e = f .1 in let z : _≡_ {A = ℕ} 0 1 = cc in omega arith)
-is-unit (Q r) = always (r, refl)
-is-unit (F r o) = never (λ f. let e = f .1 in let z : _≡_ {A = ℕ} 0 1 = cc in omega arith)
-is-unit (K r i o) = never (λ f. let e = f .1 in let z : _≡_ {A = ℕ} 0 1 = cc in omega arith)
+is-unit q = by (unit-or q)
+  where
+    by : ((r : ℕ) × (q ≡ Q r)) ⊎ (isUnit q ≡ false) → Decides (isUnit q) ((r : ℕ) × (q ≡ Q r))
+    by (inl (r, e)) = rw e (always (r, refl))
+    by (inr n) = rw n (never (λ f. not-both (ap isUnit (f .1)) n))
 
 filled : (xs : List Packet) → Decides (not (isEmpty xs)) (xs ≢ [])
 filled [] = never (λ f. f refl)

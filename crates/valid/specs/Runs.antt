@@ -25,7 +25,7 @@ use Rattle.paths.specs.Steps.{indexIn, indexOn}
 use Rattle.feeding.specs.Queue.{activeOut, U, Q, queues, queueAt}
 use Rattle.feeding.specs.Feeds.{ofActive}
 use Rattle.machine.specs.Outputs.{outputAt}
-use Rattle.machine.specs.State.{State, sender, start, withPhase, withSlot, withQueue, withWire, withCredit, withFlag, withHandled, withChoice, withEntry, withAllowance, join}
+use Rattle.machine.specs.State.{State, sender, blank, start, withPhase, withSlot, withQueue, withWire, withCredit, withFlag, withHandled, withChoice, withEntry, withAllowance, join}
 use Rattle.machine.specs.Read.{arrive, deliver, lower, settle, doRead}
 use Rattle.machine.specs.Execute.{cameIn, otherFree, mayBook, setUp, tearOne, tearDown, handle, atUnit, unit, candidate, firstOf, picked, choose, answer, atActive, undo, doExecute}
 use Rattle.machine.specs.Write.{sendHead, sendBy, send, doWrite}
@@ -55,7 +55,7 @@ allValid pl (c ∷ cs) s = also (validTest pl s) (also (accepted (call pl c s .a
 
 -- from Start on plan T
 unfoldable pub valid : List Call → Bool
-unfolding anyBelow allBelow upTo spot onCount bitAt fieldOf capacityAt headOf jointIn planOf portsOf home onward arrives walkSize backsArrive servedFrom indexIn indexOn queues queueAt outputAt launched removed call arrive deliver lower settle doRead start join cameIn otherFree mayBook setUp tearOne tearDown handle atUnit unit candidate firstOf picked choose answer atActive undo doExecute sendHead sendBy send doWrite sum onWires total meetsTest aheadTest returnsTest backTest fitsTest packetTest belongsTest slotTest entriesTest capacitiesTest placesTest wiresTest wiresEmptyTest choicesTest flagsDownTest pickedDownTest outFlagsTest marksTest freeEntryTest creditsTest outCreditsTest allowancesTest validTest allValid
+unfolding anyBelow allBelow upTo spot onCount bitAt fieldOf capacityAt headOf jointIn planOf portsOf home onward arrives walkSize backsArrive servedFrom indexIn indexOn queues queueAt outputAt launched removed call arrive deliver lower settle doRead start blank join cameIn otherFree mayBook setUp tearOne tearDown handle atUnit unit candidate firstOf picked choose answer atActive undo doExecute sendHead sendBy send doWrite sum onWires total meetsTest aheadTest returnsTest backTest fitsTest packetTest belongsTest slotTest entriesTest capacitiesTest placesTest wiresTest wiresEmptyTest choicesTest flagsDownTest pickedDownTest outFlagsTest marksTest freeEntryTest creditsTest outCreditsTest allowancesTest validTest allValid
 valid cs = allValid planT cs (start planT)
 
 -- 'Launch (0,0,0) in round 0: booked in round 2, waits at the passive from round 4; accepted there, consumed in round 7'

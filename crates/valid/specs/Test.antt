@@ -22,7 +22,8 @@ use Rattle.paths.specs.Walk.{onward, walked}
 use Rattle.paths.specs.Served.{served}
 use Rattle.paths.specs.Steps.{standsOn}
 use Rattle.feeding.specs.Queue.{Queue, activeOut, activeIn, passiveIn, passiveOut, U, Q, F, K, queues, queueAt}
-use Rattle.feeding.specs.Feeds.{Output, Place, inQueue, handledAt, span}
+use Rattle.feeding.specs.Role.{Role, isUnit}
+use Rattle.feeding.specs.Feeds.{Output, Place, inQueue, handledAt, span, headPlace}
 use Rattle.machine.specs.Capacity.{capacity}
 use Rattle.machine.specs.Outputs.{nextBy, senders, outputs, outputAt}
 use Rattle.machine.specs.State.{State, Choice, nobody, sender, startAllowance, isFree, isFull}
@@ -30,7 +31,7 @@ use Rattle.machine.specs.Execute.{candidate}
 use Rattle.machine.specs.Write.{ofRank}
 use Rattle.machine.specs.Visits.{isEmpty}
 use Rattle.machine.specs.Calls.{isPhase}
-use Rattle.machine.specs.Valid.{headPlace, bit, onWires, total, spends, isFed}
+use Rattle.machine.specs.Valid.{bit, onWires, total, spends, isFed}
 
 -- every one of a list passes
 abbrev pub allIn : {X : Type 0} → (X → Bool) → List X → Bool
@@ -138,27 +139,17 @@ mayTest pl s o (some q) = candidate pl s o q
 
 abbrev pub choiceTest : Plan → State → Output → Choice → Bool
 choiceTest pl s o nobody = true
-choiceTest pl s o (sender k) = also (isPhase (s .phase) Write) (mayTest pl s o (ofRank (senders o) k))
+choiceTest pl s o (sender k) = also (isPhase (s .clock .phase) Write) (mayTest pl s o (ofRank (senders o) k))
 
 abbrev pub downTest : State → Option Queue → Bool
 downTest s none = true
-downTest s (some q) = not (s .flag q)
+downTest s (some q) = not (s .flow .flag q)
 
 abbrev pub pickedTest : State → Output → Choice → Bool
 pickedTest s o nobody = true
 pickedTest s o (sender k) = downTest s (ofRank (senders o) k)
 
--- ---- marks and entries
-abbrev pub isUnit : Queue → Bool
-isUnit (activeOut x) = false
-isUnit (activeIn x) = false
-isUnit (passiveIn x) = false
-isUnit (passiveOut x) = false
-isUnit (U r i) = false
-isUnit (Q r) = true
-isUnit (F r o) = false
-isUnit (K r i o) = false
-
+-- ---- entries
 abbrev pub entryTest : Entry → Bool
 entryTest Free = true
 entryTest (Booked i) = ltb i 4
@@ -172,7 +163,7 @@ everyOutput pl f = allBelow (outputs pl) (λ n. f (outputAt pl n))
 
 -- 'phase, slot .. out of range'
 unfoldable pub slotTest : Plan → State → Bool
-slotTest pl s = ltb (s .slot .0) (S pl)
+slotTest pl s = ltb (s .clock .slot .0) (S pl)
 
 -- 'entry out of range'
 unfoldable pub entriesTest : Plan → State → Bool
@@ -180,37 +171,37 @@ entriesTest pl s = allBelow (R pl) (λ r. allBelow 4 (λ o. allBelow (S pl) (λ 
 
 -- 'a queue over capacity'
 unfoldable pub capacitiesTest : Plan → State → Bool
-capacitiesTest pl s = everyQueue pl (λ q. leb (length (s .queue q)) (capacity (pl .head) q))
+capacitiesTest pl s = everyQueue pl (λ q. leb (length (s .lines .queue q)) (capacity (pl .head) q))
 
 -- 'a packet where no journey of its pair puts it, or with a hub that doesn't fit that place'; 'an answer in Q that is
 -- not its handled head'
 unfoldable pub placesTest : Plan → State → Bool
-placesTest pl s = everyQueue pl (λ q. linedTest pl q (s .handled q) (s .queue q))
+placesTest pl s = everyQueue pl (λ q. linedTest pl q (s .lines .handled q) (s .lines .queue q))
 
 unfoldable pub wiresTest : Plan → State → Bool
-wiresTest pl s = everyOutput pl (λ o. wireTest pl o (s .wire o))
+wiresTest pl s = everyOutput pl (λ o. wireTest pl o (s .links .wire o))
 
 -- 'a wire full outside READ'
 unfoldable pub wiresEmptyTest : Plan → State → Bool
-wiresEmptyTest pl s = isPhase (s .phase) Read || everyOutput pl (λ o. not (isFull (s .wire o)))
+wiresEmptyTest pl s = isPhase (s .clock .phase) Read || everyOutput pl (λ o. not (isFull (s .links .wire o)))
 
 -- 'a choice outside WRITE or of no candidate'
 unfoldable pub choicesTest : Plan → State → Bool
-choicesTest pl s = everyOutput pl (λ o. choiceTest pl s o (s .choice o))
+choicesTest pl s = everyOutput pl (λ o. choiceTest pl s o (s .links .choice o))
 
 -- 'a flag up in EXECUTE or on a queue whose head is picked'; an out-queue has none
 unfoldable pub flagsDownTest : Plan → State → Bool
-flagsDownTest pl s = not (isPhase (s .phase) Execute) || everyQueue pl (λ q. not (s .flag q))
+flagsDownTest pl s = not (isPhase (s .clock .phase) Execute) || everyQueue pl (λ q. not (s .flow .flag q))
 
 unfoldable pub pickedDownTest : Plan → State → Bool
-pickedDownTest pl s = everyOutput pl (λ o. pickedTest s o (s .choice o))
+pickedDownTest pl s = everyOutput pl (λ o. pickedTest s o (s .links .choice o))
 
 unfoldable pub outFlagsTest : Plan → State → Bool
-outFlagsTest pl s = everyQueue pl (λ q. isFed q || not (s .flag q))
+outFlagsTest pl s = everyQueue pl (λ q. isFed q || not (s .flow .flag q))
 
 -- 'a handled mark on an empty Q'
 unfoldable pub marksTest : Plan → State → Bool
-marksTest pl s = everyQueue pl (λ q. not (s .handled q) || also (isUnit q) (not (isEmpty (s .queue q))))
+marksTest pl s = everyQueue pl (λ q. not (s .lines .handled q) || also (isUnit q) (not (isEmpty (s .lines .queue q))))
 
 -- 'a side with no free entry'
 unfoldable pub freeEntryTest : Plan → State → Bool
@@ -220,14 +211,14 @@ freeEntryTest pl s = allBelow (R pl) (λ r. allBelow 4 (λ o. anyBelow (S pl) (�
 unfoldable pub creditsTest : Plan → State → Bool
 creditsTest pl s =
     everyQueue pl
-    (λ q. not (isFed q) || eqb (s .credit q .0 + length (s .queue q) + onWires pl q s + bit (s .flag q)) (capacity (pl .head) q))
+    (λ q. not (isFed q) || eqb (s .flow .credit q .0 + length (s .lines .queue q) + onWires pl q s + bit (s .flow .flag q)) (capacity (pl .head) q))
 
 unfoldable pub outCreditsTest : Plan → State → Bool
-outCreditsTest pl s = everyQueue pl (λ q. isFed q || eqb (s .credit q .0) (capacity (pl .head) q))
+outCreditsTest pl s = everyQueue pl (λ q. isFed q || eqb (s .flow .credit q .0) (capacity (pl .head) q))
 
 -- 'an active's allowance + its SETUPs, ACKs and NACKs ≠ its start allowance'
 unfoldable pub allowancesTest : Plan → State → Bool
-allowancesTest pl s = allBelow (A pl) (λ a. eqb (s .allowance a + total pl (spends a) s) (startAllowance pl))
+allowancesTest pl s = allBelow (A pl) (λ a. eqb (s .flow .allowance a + total pl (spends a) s) (startAllowance pl))
 
 -- ---- a state
 unfoldable pub validTest : Plan → State → Bool

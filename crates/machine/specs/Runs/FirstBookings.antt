@@ -96,7 +96,7 @@ launchInRound1 =
 
 -- the current slot, then the entries of side 1
 abbrev pub slotAndSide1 : State → List ℕ
-slotAndSide1 s = s .slot .0 ∷ side1 s
+slotAndSide1 s = s .clock .slot .0 ∷ side1 s
 
 -- F[1] and the passive's in-queue: the set-up is in F[1]; it has reached the passive
 abbrev pub inF : List (List Packet)

@@ -34,7 +34,7 @@ allowanceSpent =
 
 -- the active's allowance: it is spent; it is back
 abbrev pub allowance0 : State → List ℕ
-allowance0 s = s .allowance 0 ∷ []
+allowance0 s = s .flow .allowance 0 ∷ []
 
 abbrev pub spent : List ℕ
 spent = 0 ∷ []

@@ -20,7 +20,7 @@ use Rattle.paths.specs.Served.{backsArrive, servedFrom}
 use Rattle.paths.specs.Steps.{indexIn, indexOn}
 use Rattle.feeding.specs.Queue.{Queue, queueAt, queues}
 use Rattle.machine.specs.Outputs.{outputAt}
-use Rattle.machine.specs.State.{State, start, join}
+use Rattle.machine.specs.State.{State, blank, start, join}
 use Rattle.machine.specs.Read.{arrive, deliver, lower, settle, doRead}
 use Rattle.machine.specs.Execute.{cameIn, otherFree, mayBook, setUp, tearOne, tearDown, handle, atUnit, unit, candidate, firstOf, picked, choose, answer, atActive, undo, doExecute}
 use Rattle.machine.specs.Write.{sendHead, sendBy, send, doWrite}
@@ -56,7 +56,7 @@ steady ns qs = after done ns qs ∷ after done ns qs ∷ after done ns qs ∷ []
 
 abbrev pub contents : State → List Queue → List (List Packet)
 contents s [] = []
-contents s (q ∷ qs) = s .queue q ∷ contents s qs
+contents s (q ∷ qs) = s .lines .queue q ∷ contents s qs
 
 -- ---- a run
 abbrev pub watching : Plan → (State → List ℕ) → List Queue → List Call → State → List After
@@ -68,5 +68,5 @@ watching pl look qs (c ∷ cs) s =
 
 -- a run from Start of the plan that the bytes give: what numbers and what queues are looked at, and the calls
 unfoldable pub watch : List ℕ → (State → List ℕ) → List Queue → List Call → List After
-unfolding anyBelow allBelow upTo spot bitAt fieldOf capacityAt headOf jointIn planOf portsOf home onward arrives backsArrive servedFrom indexIn indexOn queueAt queues outputAt start join arrive deliver lower settle doRead cameIn otherFree mayBook setUp tearOne tearDown handle atUnit unit candidate firstOf picked choose answer atActive undo doExecute sendHead sendBy send doWrite launched removed call
+unfolding anyBelow allBelow upTo spot bitAt fieldOf capacityAt headOf jointIn planOf portsOf home onward arrives backsArrive servedFrom indexIn indexOn queueAt queues outputAt start blank join arrive deliver lower settle doRead cameIn otherFree mayBook setUp tearOne tearDown handle atUnit unit candidate firstOf picked choose answer atActive undo doExecute sendHead sendBy send doWrite launched removed call
 watch b look qs cs = let pl : Plan = planOf b in watching pl look qs cs (start pl)

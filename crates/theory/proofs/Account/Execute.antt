@@ -21,14 +21,14 @@ use Rattle.theory.proofs.Account.Units.{unit-by, undo-by}
 
 module _ {pl : Plan} (s : State) (c : Core pl s) where
   -- ---- a unit: Q's head changes, or ends; the table may change
-  handled-paid : (r : ℕ) (x y : Packet) (rest : List Packet) → s .queue (Q r) ≡ x ∷ rest → Paid pl (handledAs r y rest s)
+  handled-paid : (r : ℕ) (x y : Packet) (rest : List Packet) → s .lines .queue (Q r) ≡ x ∷ rest → Paid pl (handledAs r y rest s)
   handled-paid r x y rest e = paid-alike (withQueue (Q r) (y ∷ rest) s) (handledAs r y rest s) refl refl refl refl (head-paid s (paid-of c) (Q r) x y rest refl e)
 
   entry-paid : (t : State) (r o k : ℕ) (e : Entry) → Paid pl t → Paid pl (withEntry r o k e t)
   entry-paid t r o k e p = paid-alike t (withEntry r o k e t) refl refl refl refl p
 
   -- a unit handles its head
-  pub unit-paid : (r : ℕ) → s .flag (Q r) ≡ false → Paid pl (unit pl r s)
+  pub unit-paid : (r : ℕ) → s .flow .flag (Q r) ≡ false → Paid pl (unit pl r s)
   unit-paid r down =
       unit-by pl s (Paid pl) r (paid-of c) (λ x y rest e m. handled-paid r x y rest e)
       (λ x y rest o t b e m. entry-paid (handledAs r y rest s) r o t b (handled-paid r x y rest e))
@@ -40,12 +40,12 @@ module _ {pl : Plan} (s : State) (c : Core pl s) where
   choose-paid o = paid-alike s (choose pl o s) refl refl refl refl (paid-of c)
 
   -- ---- an active tears down: the in-queue's head changes, and a packet joins the out-queue
-  answered-paid : (a : ℕ) (x y z : Packet) (rest : List Packet) → s .queue (activeIn a) ≡ x ∷ rest → hasRoom pl (activeOut a) s ≡ true
+  answered-paid : (a : ℕ) (x y z : Packet) (rest : List Packet) → s .lines .queue (activeIn a) ≡ x ∷ rest → hasRoom pl (activeOut a) s ≡ true
       → Paid pl (join (activeOut a) z (withQueue (activeIn a) (y ∷ rest) s))
   answered-paid a x y z rest e room =
-      let same : put sameQueue (s .queue) (activeIn a) (y ∷ rest) (activeOut a) ≡ s .queue (activeOut a) =
-      queue-away (s .queue) (activeIn a) (y ∷ rest) (activeOut a) (fed-apart (activeOut a) (activeIn a) refl refl) in
-      let l = ltb-true (length (s .queue (activeOut a))) (capacity (pl .head) (activeOut a)) room in
+      let same : put sameQueue (s .lines .queue) (activeIn a) (y ∷ rest) (activeOut a) ≡ s .lines .queue (activeOut a) =
+      queue-away (s .lines .queue) (activeIn a) (y ∷ rest) (activeOut a) (fed-apart (activeOut a) (activeIn a) refl refl) in
+      let l = ltb-true (length (s .lines .queue (activeOut a))) (capacity (pl .head) (activeOut a)) room in
       join-paid (withQueue (activeIn a) (y ∷ rest) s) (head-paid s (paid-of c) (activeIn a) x y rest refl e) (activeOut a) z refl (rw same l)
 
   -- an active undoes what was declined

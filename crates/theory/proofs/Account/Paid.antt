@@ -20,7 +20,7 @@ use Rattle.journeys.proofs.Places.{some-not-none}
 use Rattle.machine.specs.Capacity.{capacity}
 use Rattle.machine.specs.Store.{put, sameQueue}
 use Rattle.machine.specs.Outputs.{nextBy, outputs, outputAt}
-use Rattle.machine.specs.State.{State, start, withPhase, withSlot, withQueue, withFlag, join}
+use Rattle.machine.specs.State.{State, blank, start, withPhase, withSlot, withQueue, withFlag, join}
 use Rattle.machine.specs.Valid.{Drives, bit, brings, onWires, isFed}
 use Rattle.theory.proofs.Ground.Sums.{sum-nought}
 use Rattle.theory.proofs.Ground.Cells.{queue-here, queue-away, queue-or, cell-sum, fed-apart}
@@ -44,7 +44,7 @@ Kept pl s t = (q : Queue) → isFed q ≡ true → account pl q t ≡ account pl
 
 -- an out-queue's credit and flag stay over a step
 abbrev pub Spared : State → State → Type 0
-Spared s t = (q : Queue) → isFed q ≡ false → (t .credit q ≡ s .credit q) × (t .flag q ≡ s .flag q)
+Spared s t = (q : Queue) → isFed q ≡ false → (t .flow .credit q ≡ s .flow .credit q) × (t .flow .flag q ≡ s .flow .flag q)
 
 -- so the step keeps the four parts, if no out-queue is over capacity after it
 pub paid-by : {pl : Plan} (s t : State) → Paid pl s → Kept pl s t → Spared s t → OutCapacities pl t → Paid pl t
@@ -57,7 +57,7 @@ paid-by s t c k p r =
     }
 
 -- they look at queues, credits, flags and wires alone
-pub paid-alike : {pl : Plan} (s t : State) → t .queue ≡ s .queue → t .credit ≡ s .credit → t .flag ≡ s .flag → t .wire ≡ s .wire → Paid pl s → Paid pl t
+pub paid-alike : {pl : Plan} (s t : State) → t .lines .queue ≡ s .lines .queue → t .flow .credit ≡ s .flow .credit → t .flow .flag ≡ s .flow .flag → t .links .wire ≡ s .links .wire → Paid pl s → Paid pl t
 unfolding account onWires
 paid-alike s t q c f w p = paid-by s t p (λ x h. rw (q, c, f, w)) (λ x h. rw (c, f) (refl, refl)) (λ x h g. rw q (p .out-capacities x h g))
 
@@ -80,34 +80,34 @@ next-fed {pl} wired o x n d e = feeder-fed pl n o (fed-by wired (headingOf (x .k
 module _ {pl : Plan} (s : State) (c : Paid pl s) where
   -- an out-queue that is changed stays within its capacity
   pub out-put : (k : Queue) (xs : List Packet) → (isFed k ≡ false → length xs ≤ capacity (pl .head) k)
-      → (q : Queue) → Exists pl q → isFed q ≡ false → length (put sameQueue (s .queue) k xs q) ≤ capacity (pl .head) q
+      → (q : Queue) → Exists pl q → isFed q ≡ false → length (put sameQueue (s .lines .queue) k xs q) ≤ capacity (pl .head) q
   out-put k xs l q h f = by (queue-or q k)
     where
-      by : (q ≡ k) ⊎ (q ≢ k) → length (put sameQueue (s .queue) k xs q) ≤ capacity (pl .head) q
-      by (inl e) = rw (e, queue-here (s .queue) k xs) (l (rw e at f))
-      by (inr ne) = rw (queue-away (s .queue) k xs q ne) (c .out-capacities q h f)
+      by : (q ≡ k) ⊎ (q ≢ k) → length (put sameQueue (s .lines .queue) k xs q) ≤ capacity (pl .head) q
+      by (inl e) = rw (e, queue-here (s .lines .queue) k xs) (l (rw e at f))
+      by (inr ne) = rw (queue-away (s .lines .queue) k xs q ne) (c .out-capacities q h f)
 
   -- the head of a fed queue becomes another packet
-  pub head-paid : (k : Queue) (x y : Packet) (rest : List Packet) → isFed k ≡ true → s .queue k ≡ x ∷ rest → Paid pl (withQueue k (y ∷ rest) s)
+  pub head-paid : (k : Queue) (x y : Packet) (rest : List Packet) → isFed k ≡ true → s .lines .queue k ≡ x ∷ rest → Paid pl (withQueue k (y ∷ rest) s)
   unfolding account onWires
   head-paid k x y rest fed e = paid-by s (withQueue k (y ∷ rest) s) c kept (λ q f. (refl, refl)) (out-put k (y ∷ rest) (λ f. absurd (not-both fed f)))
     where
       kept : Kept pl s (withQueue k (y ∷ rest) s)
-      kept q f = let queue = cell-sum length (s .queue) k (y ∷ rest) 0 0 (rw e (omega arith)) q in omega arith
+      kept q f = let queue = cell-sum length (s .lines .queue) k (y ∷ rest) 0 0 (rw e (omega arith)) q in omega arith
 
   -- a fed queue's head leaves and its flag rises
-  pub left-paid : (k : Queue) (x : Packet) (rest : List Packet) → isFed k ≡ true → s .queue k ≡ x ∷ rest → s .flag k ≡ false → Paid pl (withFlag k true (withQueue k rest s))
+  pub left-paid : (k : Queue) (x : Packet) (rest : List Packet) → isFed k ≡ true → s .lines .queue k ≡ x ∷ rest → s .flow .flag k ≡ false → Paid pl (withFlag k true (withQueue k rest s))
   unfolding account onWires
   left-paid k x rest fed e down = paid-by s (withFlag k true (withQueue k rest s)) c kept spared (out-put k rest (λ f. absurd (not-both fed f)))
     where
       kept : Kept pl s (withFlag k true (withQueue k rest s))
       kept q f =
-          let queue = cell-sum length (s .queue) k rest 0 1 (rw e (omega arith)) q in
-          let flag = cell-sum bit (s .flag) k true 1 0 (rw down (omega arith)) q in
+          let queue = cell-sum length (s .lines .queue) k rest 0 1 (rw e (omega arith)) q in
+          let flag = cell-sum bit (s .flow .flag) k true 1 0 (rw down (omega arith)) q in
           omega arith
 
       spared : Spared s (withFlag k true (withQueue k rest s))
-      spared q f = (refl, queue-away (s .flag) k true q (fed-apart q k f fed))
+      spared q f = (refl, queue-away (s .flow .flag) k true q (fed-apart q k f fed))
 
   -- an out-queue is changed within its capacity
   pub out-paid : (k : Queue) (xs : List Packet) → isFed k ≡ false → length xs ≤ capacity (pl .head) k → Paid pl (withQueue k xs s)
@@ -115,18 +115,18 @@ module _ {pl : Plan} (s : State) (c : Paid pl s) where
   out-paid k xs out l = paid-by s (withQueue k xs s) c kept (λ q f. (refl, refl)) (out-put k xs (λ f. l))
     where
       kept : Kept pl s (withQueue k xs s)
-      kept q f = let same = ap length (queue-away (s .queue) k xs q (λ e. fed-apart k q out f (sym e))) in omega arith
+      kept q f = let same = ap length (queue-away (s .lines .queue) k xs q (λ e. fed-apart k q out f (sym e))) in omega arith
 
   -- a packet joins an out-queue with room
-  pub join-paid : (k : Queue) (x : Packet) → isFed k ≡ false → length (s .queue k) < capacity (pl .head) k → Paid pl (join k x s)
+  pub join-paid : (k : Queue) (x : Packet) → isFed k ≡ false → length (s .lines .queue k) < capacity (pl .head) k → Paid pl (join k x s)
   unfolding join
   join-paid k x out l =
-      let more : length (s .queue k ++ (x ∷ [])) ≡ length (s .queue k) + 1 = length-append (s .queue k) (x ∷ []) in
-      out-paid k (s .queue k ++ (x ∷ [])) out (omega arith)
+      let more : length (s .lines .queue k ++ (x ∷ [])) ≡ length (s .lines .queue k) + 1 = length-append (s .lines .queue k) (x ∷ []) in
+      out-paid k (s .lines .queue k ++ (x ∷ [])) out (omega arith)
 
 -- ---- Start
 pub start-paid : (pl : Plan) → Paid pl (start pl)
-unfolding start account onWires
+unfolding start blank account onWires
 start-paid pl =
     record {
       credits = λ q h f. let z = sum-nought (outputs pl) (λ n. brings pl q (outputAt pl n) Empty) (λ j l. refl) in omega arith;

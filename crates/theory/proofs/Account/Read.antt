@@ -26,27 +26,27 @@ use Rattle.theory.proofs.Ground.Cells.{queue-away, same-turn, cell-sum,
 use Rattle.theory.proofs.Account.Paid.{Paid, Kept, Spared, paid-by, paid-of, next-fed, out-put}
 
 module _ {pl : Plan} (wired : Wired pl) where
-  joined-paid : (o : Output) (x : Packet) (n : Queue) (s : State) → Drives pl o → Paid pl s → s .wire o ≡ Full x → nextBy pl o x ≡ some n
+  joined-paid : (o : Output) (x : Packet) (n : Queue) (s : State) → Drives pl o → Paid pl s → s .links .wire o ≡ Full x → nextBy pl o x ≡ some n
       → Paid pl (arrived n x (withWire o Empty s))
   unfolding join account onWires
-  joined-paid o x n s d c e g = paid-by s (arrived n x (withWire o Empty s)) c kept (λ q f. (refl, refl)) (out-put s c n (s .queue n ++ (x ∷ [])) (λ f. absurd (not-both fed f)))
+  joined-paid o x n s d c e g = paid-by s (arrived n x (withWire o Empty s)) c kept (λ q f. (refl, refl)) (out-put s c n (s .lines .queue n ++ (x ∷ [])) (λ f. absurd (not-both fed f)))
     where
       fed : isFed n ≡ true
       fed = next-fed wired o x n d g
 
       kept : Kept pl s (arrived n x (withWire o Empty s))
       kept q f =
-          let wire = outputs-put pl (brings pl q) (s .wire) o Empty d in
-          let was : brings pl q o (s .wire o) ≡ bit (sameQueue q n) = ap (brings pl q o) e ∙ ap (goesTo q) g ∙ ap bit (same-turn n q) in
-          let queue = cell-sum length (s .queue) n (s .queue n ++ (x ∷ [])) 1 0 (rw length-append (omega arith)) q in
+          let wire = outputs-put pl (brings pl q) (s .links .wire) o Empty d in
+          let was : brings pl q o (s .links .wire o) ≡ bit (sameQueue q n) = ap (brings pl q o) e ∙ ap (goesTo q) g ∙ ap bit (same-turn n q) in
+          let queue = cell-sum length (s .lines .queue) n (s .lines .queue n ++ (x ∷ [])) 1 0 (rw length-append (omega arith)) q in
           omega arith
 
   -- a wire's packet joins its queue
   pub deliver-paid : (o : Output) (s : State) → Drives pl o → Core pl s → Paid pl (deliver pl o s)
   unfolding deliver arrive
-  deliver-paid o s d c = by (s .wire o) refl
+  deliver-paid o s d c = by (s .links .wire o) refl
     where
-      by : (w : Wire) → s .wire o ≡ w → Paid pl (arrive pl o w s)
+      by : (w : Wire) → s .links .wire o ≡ w → Paid pl (arrive pl o w s)
       by Empty e = paid-of c
       by (Full x) e =
           let g = c .wires o d x e in
@@ -55,23 +55,23 @@ module _ {pl : Plan} (wired : Wired pl) where
 -- a raised flag is a credit
 pub settle-paid : {pl : Plan} (p : Queue) (s : State) → Exists pl p → Core pl s → Paid pl (settle p s)
 unfolding settle lower account onWires
-settle-paid {pl} p s h c = by (s .flag p) refl
+settle-paid {pl} p s h c = by (s .flow .flag p) refl
   where
-    fed : s .flag p ≡ true → (isFed p ≡ true) ⊎ (isFed p ≡ false) → isFed p ≡ true
+    fed : s .flow .flag p ≡ true → (isFed p ≡ true) ⊎ (isFed p ≡ false) → isFed p ≡ true
     fed e (inl f) = f
     fed e (inr f) = absurd (not-both e (c .out-flags p h f))
 
-    by : (b : Bool) → s .flag p ≡ b → Paid pl (lower p b s)
+    by : (b : Bool) → s .flow .flag p ≡ b → Paid pl (lower p b s)
     by false e = paid-of c
     by true e = paid-by s (lower p true s) (paid-of c) kept spared (c .out-capacities)
       where
         kept : Kept pl s (lower p true s)
         kept q f =
-            let credit = cell-sum (λ (x : Credit). x .0) (s .credit) p (creditUp (s .credit p)) 1 0 (omega arith) q in
-            let flag = cell-sum bit (s .flag) p false 0 1 (rw e (omega arith)) q in
+            let credit = cell-sum (λ (x : Credit). x .0) (s .flow .credit) p (creditUp (s .flow .credit p)) 1 0 (omega arith) q in
+            let flag = cell-sum bit (s .flow .flag) p false 0 1 (rw e (omega arith)) q in
             omega arith
 
         spared : Spared s (lower p true s)
         spared q f =
             let ne = fed-apart q p f (fed e (test (isFed p))) in
-            (queue-away (s .credit) p (creditUp (s .credit p)) q ne, queue-away (s .flag) p false q ne)
+            (queue-away (s .flow .credit) p (creditUp (s .flow .credit p)) q ne, queue-away (s .flow .flag) p false q ne)

@@ -20,18 +20,18 @@ use Rattle.wiring.specs.Wired.{Wired}
 use Rattle.machine.specs.Capacity.{capacity}
 use Rattle.machine.specs.Store.{sameQueue}
 use Rattle.machine.specs.Outputs.{nextBy, senders}
-use Rattle.machine.specs.State.{State, Choice, nobody, sender, withQueue, withWire, withCredit, withFlag, withChoice}
+use Rattle.machine.specs.State.{State, Links, Choice, nobody, sender, withQueue, withWire, withCredit, withFlag, withChoice}
 use Rattle.machine.specs.Write.{ofRank, raise, spend, sendHead, sendFrom, sendBy, send}
 use Rattle.machine.specs.Valid.{Drives, bit, goesTo, brings, onWires, isFed}
 use Rattle.machine.proofs.Numbers.{sender-exists}
 use Rattle.theory.proofs.Ground.Cells.{queue-away, same-turn, cell-sum, fed-apart, outputs-put}
 use Rattle.theory.proofs.Core.{account, Core, Sendable}
-use Rattle.theory.proofs.Places.Senders.{raise-queue, raise-credit, raise-wire, raise-flag, raise-none, Ready, candidate-ready}
+use Rattle.theory.proofs.Places.Senders.{raise-queue, raise-credit, raise-links, raise-flag, raise-none, Ready, candidate-ready}
 use Rattle.theory.proofs.Account.Paid.{Paid, Kept, Spared, paid-by, paid-of, paid-alike, next-fed, left-paid, out-paid}
 
 module _ {pl : Plan} (wired : Wired pl) where
   -- ---- the two halves of a sending: out of the queue, and on to the wire
-  leaves-paid : (q : Queue) (x : Packet) (rest : List Packet) (s : State) → Exists pl q → Paid pl s → s .queue q ≡ x ∷ rest → s .flag q ≡ false → Paid pl (raise q (withQueue q rest s))
+  leaves-paid : (q : Queue) (x : Packet) (rest : List Packet) (s : State) → Exists pl q → Paid pl s → s .lines .queue q ≡ x ∷ rest → s .flow .flag q ≡ false → Paid pl (raise q (withQueue q rest s))
   leaves-paid q x rest s h c e down = by (test (isFed q))
     where
       u : State
@@ -39,44 +39,44 @@ module _ {pl : Plan} (wired : Wired pl) where
 
       by : (isFed q ≡ true) ⊎ (isFed q ≡ false) → Paid pl (raise q (withQueue q rest s))
       by (inl f) =
-          paid-alike (withFlag q true (withQueue q rest s)) (raise q (withQueue q rest s)) (raise-queue q u) (raise-credit q u) (raise-flag q u f) (raise-wire q u)
+          paid-alike (withFlag q true (withQueue q rest s)) (raise q (withQueue q rest s)) (raise-queue q u) (raise-credit q u) (raise-flag q u f) (ap (λ (l : Links). l .wire) (raise-links q u))
           (left-paid s c q x rest f e down)
       by (inr f) =
-          let l : length (s .queue q) ≤ capacity (pl .head) q = c .out-capacities q h f in
-          let n : length (s .queue q) ≡ suc (length rest) = ap length e in
-          paid-alike (withQueue q rest s) (raise q (withQueue q rest s)) (raise-queue q u) (raise-credit q u) (raise-none q u f) (raise-wire q u)
+          let l : length (s .lines .queue q) ≤ capacity (pl .head) q = c .out-capacities q h f in
+          let n : length (s .lines .queue q) ≡ suc (length rest) = ap length e in
+          paid-alike (withQueue q rest s) (raise q (withQueue q rest s)) (raise-queue q u) (raise-credit q u) (raise-none q u f) (ap (λ (l : Links). l .wire) (raise-links q u))
           (out-paid s c q rest f (omega arith))
 
-  enters-paid : (o : Output) (x : Packet) (n : Queue) (s : State) → Drives pl o → Paid pl s → s .wire o ≡ Empty → nextBy pl o x ≡ some n → 0 < s .credit n .0
-      → Paid pl (withWire o (Full x) (withCredit n (creditDown (s .credit n)) s))
+  enters-paid : (o : Output) (x : Packet) (n : Queue) (s : State) → Drives pl o → Paid pl s → s .links .wire o ≡ Empty → nextBy pl o x ≡ some n → 0 < s .flow .credit n .0
+      → Paid pl (withWire o (Full x) (withCredit n (creditDown (s .flow .credit n)) s))
   unfolding account onWires
-  enters-paid o x n s d c e g room = paid-by s (withWire o (Full x) (withCredit n (creditDown (s .credit n)) s)) c kept spared (c .out-capacities)
+  enters-paid o x n s d c e g room = paid-by s (withWire o (Full x) (withCredit n (creditDown (s .flow .credit n)) s)) c kept spared (c .out-capacities)
     where
-      kept : Kept pl s (withWire o (Full x) (withCredit n (creditDown (s .credit n)) s))
+      kept : Kept pl s (withWire o (Full x) (withCredit n (creditDown (s .flow .credit n)) s))
       kept q f =
-          let wire = outputs-put pl (brings pl q) (s .wire) o (Full x) d in
-          let was : brings pl q o (s .wire o) ≡ 0 = ap (brings pl q o) e in
+          let wire = outputs-put pl (brings pl q) (s .links .wire) o (Full x) d in
+          let was : brings pl q o (s .links .wire o) ≡ 0 = ap (brings pl q o) e in
           let now : goesTo q (nextBy pl o x) ≡ bit (sameQueue q n) = ap (goesTo q) g ∙ ap bit (same-turn n q) in
-          let credit = cell-sum (λ (k : Credit). k .0) (s .credit) n (creditDown (s .credit n)) 0 1 (omega arith) q in
+          let credit = cell-sum (λ (k : Credit). k .0) (s .flow .credit) n (creditDown (s .flow .credit n)) 0 1 (omega arith) q in
           omega arith
 
-      spared : Spared s (withWire o (Full x) (withCredit n (creditDown (s .credit n)) s))
-      spared q f = (queue-away (s .credit) n (creditDown (s .credit n)) q (fed-apart q n f (next-fed wired o x n d g)), refl)
+      spared : Spared s (withWire o (Full x) (withCredit n (creditDown (s .flow .credit n)) s))
+      spared q f = (queue-away (s .flow .credit) n (creditDown (s .flow .credit n)) q (fed-apart q n f (next-fed wired o x n d g)), refl)
 
-  sent-paid : (o : Output) (q : Queue) (s : State) → Drives pl o → Exists pl q → Paid pl s → s .wire o ≡ Empty → s .flag q ≡ false → Ready pl s o q → Paid pl (sendHead pl o q (s .queue q) s)
+  sent-paid : (o : Output) (q : Queue) (s : State) → Drives pl o → Exists pl q → Paid pl s → s .links .wire o ≡ Empty → s .flow .flag q ≡ false → Ready pl s o q → Paid pl (sendHead pl o q (s .lines .queue q) s)
   unfolding sendHead
   sent-paid o q s d h c w down r =
       subst (λ (xs : List Packet). Paid pl (sendHead pl o q xs s)) (sym (r .queue))
       (subst (λ (y : Option Queue). Paid pl (withWire o (Full (r .head)) (spend y (raise q (withQueue q (r .rest) s))))) (sym (r .goes))
       (enters-paid o (r .head) (r .next) (raise q (withQueue q (r .rest) s)) d (leaves-paid q (r .head) (r .rest) s h c (r .queue) down)
-      (ap (λ (m : Output → Wire). m o) (raise-wire q (withQueue q (r .rest) s)) ∙ w) (r .goes) (rw (raise-credit q (withQueue q (r .rest) s)) (r .room))))
+      (ap (λ (l : Links). l .wire o) (raise-links q (withQueue q (r .rest) s)) ∙ w) (r .goes) (rw (raise-credit q (withQueue q (r .rest) s)) (r .room))))
 
   -- an output sends what it picked
-  pub send-paid : (o : Output) (s : State) → Drives pl o → Core pl s → s .wire o ≡ Empty → ((k : ℕ) → s .choice o ≡ sender k → Sendable pl s o k) → Paid pl (send pl o s)
+  pub send-paid : (o : Output) (s : State) → Drives pl o → Core pl s → s .links .wire o ≡ Empty → ((k : ℕ) → s .links .choice o ≡ sender k → Sendable pl s o k) → Paid pl (send pl o s)
   unfolding send sendBy
-  send-paid o s d c w ok = by (s .choice o) refl
+  send-paid o s d c w ok = by (s .links .choice o) refl
     where
-      by : (x : Choice) → s .choice o ≡ x → Paid pl (sendBy pl o x s)
+      by : (x : Choice) → s .links .choice o ≡ x → Paid pl (sendBy pl o x s)
       by nobody e = paid-of c
       by (sender k) e =
           let g = ok k e in

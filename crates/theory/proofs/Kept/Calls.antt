@@ -12,16 +12,17 @@ use Rattle.plan.specs.Plan.{Plan, A, P, S}
 use Rattle.paths.specs.Served.{Served}
 use Rattle.feeding.specs.Queue.{Queue, activeOut, activeIn, passiveIn, passiveOut, Exists}
 use Rattle.feeding.specs.Feeds.{inQueue}
+use Rattle.feeding.specs.Role.{isUnit}
 use Rattle.wiring.specs.Wired.{Wired}
 use Rattle.machine.specs.State.{State, withQueue, withFlag}
 use Rattle.machine.specs.Visits.{setupOf, launched, repliedAs, replied, removed}
-use Rattle.theory.proofs.Places.Lines.{isUnit, no-mark}
+use Rattle.theory.proofs.Places.Lines.{no-mark}
 use Rattle.theory.proofs.Places.Makes.{setup-belongs, replied-belongs}
 use Rattle.theory.proofs.Kept.Parts.{Kept, flag-kept, allowance-kept}
 use Rattle.theory.proofs.Kept.Lines.{head-belongs, join-kept, gone-kept}
 
 -- the head of an in-queue is taken, and its flag rises
-pub taken-kept : (pl : Plan) (q : Queue) (x : Packet) (rest : List Packet) (s : State) → Exists pl q → isUnit q ≡ false → s .queue q ≡ x ∷ rest → Kept pl s → Kept pl (withFlag q true (withQueue q rest s))
+pub taken-kept : (pl : Plan) (q : Queue) (x : Packet) (rest : List Packet) (s : State) → Exists pl q → isUnit q ≡ false → s .lines .queue q ≡ x ∷ rest → Kept pl s → Kept pl (withFlag q true (withQueue q rest s))
 taken-kept pl q x rest s h n e k = flag-kept (gone-kept k q x rest h e (no-mark pl s (k .marks) q h n)) q true h
 
 module _ {pl : Plan} (wired : Wired pl) (range : InRange (pl .head)) where
@@ -29,16 +30,16 @@ module _ {pl : Plan} (wired : Wired pl) (range : InRange (pl .head)) where
   pub launched-kept : (a p t : ℕ) (s : State) → a < A pl → p < P pl → t < S pl → Served pl a p → Kept pl s → Kept pl (launched a p t s)
   unfolding launched
   launched-kept a p t s ha hp ht served k =
-      allowance-kept (join-kept k (activeOut a) (setupOf a p t) ha (setup-belongs wired range a p t ha hp ht served)) a (s .allowance a - 1) ha
+      allowance-kept (join-kept k (activeOut a) (setupOf a p t) ha (setup-belongs wired range a p t ha hp ht served)) a (s .flow .allowance a - 1) ha
 
   -- Reply: the head of a passive's in-queue becomes an answer in its out-queue
   pub replied-kept : (p : ℕ) (kind : Kind) (x : Packet) (rest : List Packet) (s : State) → p < P pl
-      → (kind ≡ Ack) ⊎ (kind ≡ Nack) → s .queue (passiveIn p) ≡ x ∷ rest → Kept pl s → Kept pl (replied p kind (x ∷ rest) s)
+      → (kind ≡ Ack) ⊎ (kind ≡ Nack) → s .lines .queue (passiveIn p) ≡ x ∷ rest → Kept pl s → Kept pl (replied p kind (x ∷ rest) s)
   replied-kept p kind x rest s hp answer e k =
       join-kept (taken-kept pl (passiveIn p) x rest s hp refl e k) (passiveOut p) (repliedAs kind x) hp
       (replied-belongs wired range x (inQueue (passiveIn p)) (head-belongs k (passiveIn p) x rest hp e) p kind refl answer)
 
   -- Consume: the head of an active's in-queue goes
-  pub removed-kept : (a : ℕ) (x : Packet) (rest : List Packet) (s : State) → a < A pl → s .queue (activeIn a) ≡ x ∷ rest → Kept pl s → Kept pl (removed a rest s)
+  pub removed-kept : (a : ℕ) (x : Packet) (rest : List Packet) (s : State) → a < A pl → s .lines .queue (activeIn a) ≡ x ∷ rest → Kept pl s → Kept pl (removed a rest s)
   unfolding removed
-  removed-kept a x rest s ha e k = allowance-kept (taken-kept pl (activeIn a) x rest s ha refl e k) a (s .allowance a + 1) ha
+  removed-kept a x rest s ha e k = allowance-kept (taken-kept pl (activeIn a) x rest s ha refl e k) a (s .flow .allowance a + 1) ha

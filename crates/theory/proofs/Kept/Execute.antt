@@ -22,7 +22,7 @@ use Rattle.feeding.specs.Feeds.{Output, inQueue, handledAt}
 use Rattle.wiring.specs.Wired.{Wired}
 use Rattle.machine.specs.Store.{put-here, put-away}
 use Rattle.machine.specs.Outputs.{senders}
-use Rattle.machine.specs.State.{State, Choice, sender, nobody, start, withEntry, isFree}
+use Rattle.machine.specs.State.{State, Choice, sender, nobody, blank, withEntry, isFree}
 use Rattle.machine.specs.Execute.{cameIn, declined, booked, freed, otherFree, mayBook, handledAs, setUp, tearOne, tearDown, handle, atUnit, unit, candidate, isOpen, firstOf, picked, choose, unmarked, marked, tdownOf, hasRoom, answer, atActive, undo}
 use Rattle.machine.specs.Write.{ofRank}
 use Rattle.machine.specs.Valid.{Belongs, Drives, Bounded}
@@ -53,7 +53,7 @@ other-free slots entries t m = by (any-true slots (λ u. not (eqb u t) && isFree
 
 -- an output that is not the plan's picks nobody: its senders are empty
 pub picks-nobody : (pl : Plan) (s : State) → Bounded pl s → (o : Output) → (Drives pl o → ⊥) → picked pl s o ≡ nobody
-unfolding candidate start
+unfolding candidate blank
 picks-nobody pl s b o out = by (picked pl s o) refl
   where
     idle : (j : ℕ) (q : Queue) → ofRank (senders o) j ≡ some q → candidate pl s o q ≡ false
@@ -65,7 +65,7 @@ picks-nobody pl s b o out = by (picked pl s o) refl
 
 module _ {pl : Plan} (wired : Wired pl) (range : InRange (pl .head)) where
   -- ---- a unit's unhandled head x
-  module _ (r : ℕ) (hr : r < R pl) (s : State) (k : Kept pl s) (x : Packet) (rest : List Packet) (e : s .queue (Q r) ≡ x ∷ rest) (f : s .handled (Q r) ≡ false) where
+  module _ (r : ℕ) (hr : r < R pl) (s : State) (k : Kept pl s) (x : Packet) (rest : List Packet) (e : s .lines .queue (Q r) ≡ x ∷ rest) (f : s .lines .handled (Q r) ≡ false) where
     abbrev side : ℕ
     side = routeTo pl (passive (x .passive)) r
 
@@ -114,24 +114,24 @@ module _ {pl : Plan} (wired : Wired pl) (range : InRange (pl .head)) where
   -- a unit handles its head
   pub unit-kept : (r : ℕ) (s : State) → r < R pl → Kept pl s → Kept pl (unit pl r s)
   unfolding unit atUnit
-  unit-kept r s hr k = by (s .queue (Q r)) refl (s .handled (Q r)) refl
+  unit-kept r s hr k = by (s .lines .queue (Q r)) refl (s .lines .handled (Q r)) refl
     where
-      by : (l : List Packet) → s .queue (Q r) ≡ l → (done : Bool) → s .handled (Q r) ≡ done → Kept pl (atUnit pl r l done s)
+      by : (l : List Packet) → s .lines .queue (Q r) ≡ l → (done : Bool) → s .lines .handled (Q r) ≡ done → Kept pl (atUnit pl r l done s)
       by [] e done f = k
       by (x ∷ rest) e true f = k
       by (x ∷ rest) e false f = handled r hr s k x rest e f (x .kind) refl
 
   -- an output picks a sender
   pub choose-kept : (o : Output) (s : State) → Kept pl s → Kept pl (choose pl o s)
-  unfolding choose start
+  unfolding choose blank
   choose-kept o s k = choice-kept k o (picked pl s o) (picks-nobody pl s (k .bounded) o)
 
   -- an active tears down what was declined
   pub undo-kept : (a : ℕ) (s : State) → a < A pl → Kept pl s → Kept pl (undo pl a s)
   unfolding undo atActive answer
-  undo-kept a s ha k = by (s .queue (activeIn a)) refl
+  undo-kept a s ha k = by (s .lines .queue (activeIn a)) refl
     where
-      answered : (x : Packet) (rest : List Packet) → s .queue (activeIn a) ≡ x ∷ rest → (t : Bool) → (unmarked x && hasRoom pl (activeOut a) s) ≡ t → Kept pl (answer pl a x rest t s)
+      answered : (x : Packet) (rest : List Packet) → s .lines .queue (activeIn a) ≡ x ∷ rest → (t : Bool) → (unmarked x && hasRoom pl (activeOut a) s) ≡ t → Kept pl (answer pl a x rest t s)
       answered x rest e true t =
           let nack = unmarked-kind (x .kind) (x .hub .0) (and-eq-true-iff (unmarked x) (hasRoom pl (activeOut a) s) .0 t .0) in
           let here : Belongs pl (inQueue (activeIn a)) x = head-belongs k (activeIn a) x rest ha e in
@@ -140,6 +140,6 @@ module _ {pl : Plan} (wired : Wired pl) (range : InRange (pl .head)) where
           (activeOut a) (tdownOf (S pl) x) ha (tdown-belongs wired range x (inQueue (activeIn a)) here a refl (nack .1))
       answered x rest e false t = k
 
-      by : (l : List Packet) → s .queue (activeIn a) ≡ l → Kept pl (atActive pl a l s)
+      by : (l : List Packet) → s .lines .queue (activeIn a) ≡ l → Kept pl (atActive pl a l s)
       by [] e = k
       by (x ∷ rest) e = answered x rest e (unmarked x && hasRoom pl (activeOut a) s) refl

@@ -23,7 +23,7 @@ module _ {pl : Plan} (wired : Wired pl) (range : InRange (pl .head)) where
   -- a wire's packet joins its queue
   pub deliver-kept : (o : Output) (s : State) → Drives pl o → Kept pl s → Kept pl (deliver pl o s)
   unfolding deliver arrive
-  deliver-kept o s d k = by (s .wire o) refl
+  deliver-kept o s d k = by (s .links .wire o) refl
     where
       -- the emptied wire carries nothing, and what it brought belongs in its next queue
       brought : (x : Packet) → Carries pl o x → Kept pl (joinNext (nextBy pl o x) x (withWire o Empty s))
@@ -31,15 +31,15 @@ module _ {pl : Plan} (wired : Wired pl) (range : InRange (pl .head)) where
           let emptied : Kept pl (withWire o Empty s) = wire-kept k o Empty d (λ y e. absurd (full-not e)) in
           rw (c .next) (join-kept emptied (c .queue) x (belongs-exists wired (c .queue) x (c .belongs)) (c .belongs))
 
-      by : (w : Wire) → s .wire o ≡ w → Kept pl (arrive pl o w s)
+      by : (w : Wire) → s .links .wire o ≡ w → Kept pl (arrive pl o w s)
       by Empty e = k
       by (Full x) e = brought x (k .wires o d x e)
 
   -- a raised flag becomes a credit
   pub settle-kept : (q : Queue) (s : State) → Exists pl q → Kept pl s → Kept pl (settle q s)
   unfolding settle lower
-  settle-kept q s h k = by (s .flag q)
+  settle-kept q s h k = by (s .flow .flag q)
     where
       by : (f : Bool) → Kept pl (lower q f s)
-      by true = flag-kept (credit-kept k q (creditUp (s .credit q)) h) q false h
+      by true = flag-kept (credit-kept k q (creditUp (s .flow .credit q)) h) q false h
       by false = k

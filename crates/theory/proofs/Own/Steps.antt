@@ -21,7 +21,7 @@ use Rattle.plan.specs.Plan.{Plan, R, A, P, S}
 use Rattle.feeding.specs.Queue.{Queue, activeOut, activeIn, passiveIn, passiveOut}
 use Rattle.feeding.specs.Feeds.{Output, inQueue}
 use Rattle.wiring.specs.Wired.{Wired}
-use Rattle.machine.specs.State.{State, sender, start, withPhase, withSlot, join}
+use Rattle.machine.specs.State.{State, sender, blank, start, withPhase, withSlot, join}
 use Rattle.machine.specs.Read.{deliver, settle}
 use Rattle.machine.specs.Execute.{choose, unmarked, undo}
 use Rattle.machine.specs.Write.{send}
@@ -52,7 +52,7 @@ owned-same {pl} {acc} s t k e w =
 
 -- Start is owned: nothing is booked, and there is no packet.
 pub start-owned : (pl : Plan) → Owned pl [] (start pl)
-unfolding start made
+unfolding start blank made
 start-owned pl =
     record {
       claims = λ r o t. none;
@@ -84,7 +84,7 @@ module _ {pl : Plan} (wired : Wired pl) {acc : List Connection} (s : State) (c :
   deliver-owned w d = owned-same s (deliver pl w s) k (deliver-table pl s w) (λ r o u v. deliver-weighed pl (owns pl r o u v) wired c w d)
 
   -- So does a sending.
-  pub send-owned : (w : Output) → Drives pl w → ((n : ℕ) → s .choice w ≡ sender n → Sendable pl s w n) → s .wire w ≡ Empty → Owned pl acc (send pl w s)
+  pub send-owned : (w : Output) → Drives pl w → ((n : ℕ) → s .links .choice w ≡ sender n → Sendable pl s w n) → s .links .wire w ≡ Empty → Owned pl acc (send pl w s)
   send-owned w d ready z = owned-same s (send pl w s) k (send-table pl s w) (λ r o u v. send-weighed pl (owns pl r o u v) wired c w d (owns-steady pl r o u v wired) ready z)
 
   -- So does an active that tears down: the tear-down owns what the NACK owned.
@@ -112,7 +112,7 @@ module _ {pl : Plan} (wired : Wired pl) {acc : List Connection} (s : State) (c :
 
   -- So does a Reply: slot and hub are kept.
   pub replied-owned : (p : ℕ) (kind : Kind) (x : Packet) (rest : List Packet) → p < P pl → (kind ≡ Ack) ⊎ (kind ≡ Nack)
-      → s .queue (passiveIn p) ≡ x ∷ rest → Owned pl acc (replied p kind (x ∷ rest) s)
+      → s .lines .queue (passiveIn p) ≡ x ∷ rest → Owned pl acc (replied p kind (x ∷ rest) s)
   unfolding join
   replied-owned p kind x rest h q e = owned-same s (replied p kind (x ∷ rest) s) k refl (λ r o u v. same r o u v)
     where
@@ -129,7 +129,7 @@ module _ {pl : Plan} (wired : Wired pl) {acc : List Connection} (s : State) (c :
           omega arith
 
   -- So does a Consume: what an ACK owned the accepted connection owns, and a marked NACK owned nothing.
-  pub removed-owned : (a : ℕ) (x : Packet) (rest : List Packet) → a < A pl → s .queue (activeIn a) ≡ x ∷ rest → unmarked x ≡ false → Owned pl (acceptKind pl (x .kind) x acc) (removed a rest s)
+  pub removed-owned : (a : ℕ) (x : Packet) (rest : List Packet) → a < A pl → s .lines .queue (activeIn a) ≡ x ∷ rest → unmarked x ≡ false → Owned pl (acceptKind pl (x .kind) x acc) (removed a rest s)
   unfolding removed made ownsMade
   removed-owned a x rest h e m = by (active-answer wired (x .active) (x .passive) (b .ranges .active) (b .ranges .passive) (b .serves) (x .kind) (x .hub .0) a (b .fits) .2)
     where

@@ -40,10 +40,10 @@ use Rattle.theory.proofs.Own.Owning.{claim-same, same-claim, bit-true, 
 
 -- ---- an empty network
 -- Where every wire that there is is empty, every output's is.
-pub quiet-wires : (pl : Plan) (s : State) → Core pl s → Quiet pl s → (o : Output) → Drives pl o → s .wire o ≡ Empty
-quiet-wires pl s c q o d = by (s .wire o) refl
+pub quiet-wires : (pl : Plan) (s : State) → Core pl s → Quiet pl s → (o : Output) → Drives pl o → s .links .wire o ≡ Empty
+quiet-wires pl s c q o d = by (s .links .wire o) refl
   where
-    by : (w : Wire) → s .wire o ≡ w → w ≡ Empty
+    by : (w : Wire) → s .links .wire o ≡ w → w ≡ Empty
     by Empty e = refl
     by (Full x) e = sym e ∙ q .wires o (full-wire pl s c o d x e)
 
@@ -51,9 +51,9 @@ quiet-wires pl s c q o d = by (s .wire o) refl
 pub quiet-weighed : (pl : Plan) (w : Weight) (s : State) → Core pl s → Quiet pl s → weighed pl w s ≡ 0
 unfolding weighed inLines inWires inLine onWire
 quiet-weighed pl w s c q =
-    let lines = sum-nought (queues pl) (λ n. inLine w (queueAt pl n) (s .handled (queueAt pl n)) (s .queue (queueAt pl n)))
-    (λ n l. ap (inLine w (queueAt pl n) (s .handled (queueAt pl n))) (q .queues (queueAt pl n) (exists-at pl n l))) in
-    let wires = sum-nought (outputs pl) (λ n. onWire pl w (outputAt pl n) (s .wire (outputAt pl n)))
+    let lines = sum-nought (queues pl) (λ n. inLine w (queueAt pl n) (s .lines .handled (queueAt pl n)) (s .lines .queue (queueAt pl n)))
+    (λ n l. ap (inLine w (queueAt pl n) (s .lines .handled (queueAt pl n))) (q .queues (queueAt pl n) (exists-at pl n l))) in
+    let wires = sum-nought (outputs pl) (λ n. onWire pl w (outputAt pl n) (s .links .wire (outputAt pl n)))
     (λ n l. ap (onWire pl w (outputAt pl n)) (quiet-wires pl s c q (outputAt pl n) (drives-at pl n l))) in
     omega arith
 

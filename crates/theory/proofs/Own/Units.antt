@@ -15,12 +15,12 @@ use Rattle.packets.specs.declared.Entry.{Entry}
 use Rattle.packets.specs.declared.Entry.the-variants.{Free, Booked}
 use Rattle.plan.specs.Plan.{Plan, R, S}
 use Rattle.feeding.specs.Queue.{Q}
-use Rattle.feeding.specs.Feeds.{inQueue, handledAt, Fits}
+use Rattle.feeding.specs.Feeds.{inQueue, handledAt, Fits, headPlace}
 use Rattle.wiring.specs.Wired.{Wired}
 use Rattle.machine.specs.State.{State, isFree}
 use Rattle.machine.specs.Execute.{cameIn, otherFree, mayBook, unit}
 use Rattle.machine.specs.Accepted.{Connection}
-use Rattle.machine.specs.Valid.{Belongs, headPlace}
+use Rattle.machine.specs.Valid.{Belongs}
 use Rattle.theory.proofs.Places.Closure.{unit-setup}
 use Rattle.theory.proofs.Core.{Core}
 use Rattle.theory.proofs.Places.CameIn.{stands-exit}
@@ -84,7 +84,7 @@ put-owned {pl} {acc} s t k i j n m e w = record { claims = put3 (k .claims) i j 
             rw q (omega arith)
 
 module _ {pl : Plan} (wired : Wired pl) {acc : List Connection} (s : State) (c : Core pl s) (k : Owned pl acc s) (i : ℕ) (h : i < R pl) where
-  module _ (x : Packet) (rest : List Packet) (e : s .queue (Q i) ≡ x ∷ rest) (f : s .handled (Q i) ≡ false) where
+  module _ (x : Packet) (rest : List Packet) (e : s .lines .queue (Q i) ≡ x ∷ rest) (f : s .lines .handled (Q i) ≡ false) where
     -- the entry of the unit's head, and its pair's claim on it
     abbrev exit : ℕ
     exit = exitAt pl i x

@@ -14,57 +14,59 @@ use Rattle.packets.specs.declared.Packet.{Packet}
 use Rattle.plan.specs.Plan.{Plan, R, A, P}
 use Rattle.paths.specs.Served.{Served}
 use Rattle.feeding.specs.Queue.{Queue, activeOut, activeIn, passiveIn, passiveOut, U, Q, F, K, Exists}
-use Rattle.feeding.specs.Feeds.{Output, headingOf, outputOf, inQueue, Ahead, Back, Fits, leavesFrom}
+use Rattle.feeding.specs.Role.{Role, sending, receiving, handling, passing, role, isUnitAs, isUnit, unit-or}
+use Rattle.feeding.specs.Feeds.{Output, headingOf, outputOf, inQueue, Ahead, Back, Fits, headPlaceAs, headPlace, leavesFrom}
 use Rattle.wiring.specs.Wired.{Wired}
 use Rattle.journeys.proofs.Places.{may-exist, some-same, some-not-none}
 use Rattle.journeys.proofs.Fitting.{fits-visits}
-use Rattle.machine.specs.Execute.{mayLeave}
+use Rattle.machine.specs.Execute.{mayLeaveAs, mayLeave}
 use Rattle.machine.specs.State.{State}
-use Rattle.machine.specs.Valid.{Belongs, headPlace, Lined, Drives}
+use Rattle.machine.specs.Valid.{Belongs, Lined, Drives}
 use Rattle.theory.proofs.Core.{Marks}
 use Rattle.theory.proofs.Places.CameIn.{stands-inside}
 
 -- ---- marks
--- is it the queue at a unit?
-abbrev pub isUnit : Queue → Bool
-isUnit (activeOut x) = false
-isUnit (activeIn x) = false
-isUnit (passiveIn x) = false
-isUnit (passiveOut x) = false
-isUnit (U r i) = false
-isUnit (Q r) = true
-isUnit (F r o) = false
-isUnit (K r i o) = false
-
 -- only a unit's queue has a mark
-pub no-mark : (pl : Plan) (s : State) → Marks pl s → (q : Queue) → Exists pl q → isUnit q ≡ false → s .handled q ≡ false
-no-mark pl s m q h f = refuted (s .handled q) (λ t. let g = m q h t in false≢true (sym f ∙ ap isUnit (g .1)))
+pub no-mark : (pl : Plan) (s : State) → Marks pl s → (q : Queue) → Exists pl q → isUnit q ≡ false → s .lines .handled q ≡ false
+no-mark pl s m q h f = refuted (s .lines .handled q) (λ t. let g = m q h t in false≢true (sym f ∙ ap isUnit (g .1)))
 
 -- an empty queue has none
-pub empty-mark : (pl : Plan) (s : State) → Marks pl s → (q : Queue) → Exists pl q → s .queue q ≡ [] → s .handled q ≡ false
-empty-mark pl s m q h e = refuted (s .handled q) (λ t. m q h t .2 e)
+pub empty-mark : (pl : Plan) (s : State) → Marks pl s → (q : Queue) → Exists pl q → s .lines .queue q ≡ [] → s .lines .handled q ≡ false
+empty-mark pl s m q h e = refuted (s .lines .handled q) (λ t. m q h t .2 e)
 
 -- the place of an unhandled head is its queue
 pub head-unhandled : (q : Queue) → headPlace false q ≡ inQueue q
-head-unhandled (activeOut x) = refl
-head-unhandled (activeIn x) = refl
-head-unhandled (passiveIn x) = refl
-head-unhandled (passiveOut x) = refl
-head-unhandled (U r i) = refl
-head-unhandled (Q r) = refl
-head-unhandled (F r o) = refl
-head-unhandled (K r i o) = refl
+head-unhandled q = by (role q)
+  where
+    by : (k : Role) → headPlaceAs k false q ≡ inQueue q
+    by sending = refl
+    by receiving = refl
+    by (handling r) = refl
+    by passing = refl
 
 -- the place of a head that may leave is the one that it leaves from
-pub head-leaves : (s : State) (q : Queue) → mayLeave s q ≡ true → headPlace (s .handled q) q ≡ leavesFrom q
-head-leaves s (activeOut x) t = refl
-head-leaves s (activeIn x) t = refl
-head-leaves s (passiveIn x) t = refl
-head-leaves s (passiveOut x) t = refl
-head-leaves s (U r i) t = refl
-head-leaves s (Q r) t = rw t
-head-leaves s (F r o) t = refl
-head-leaves s (K r i o) t = refl
+pub head-leaves : (s : State) (q : Queue) → mayLeave s q ≡ true → headPlace (s .lines .handled q) q ≡ leavesFrom q
+head-leaves s q t = by (role q) t
+  where
+    by : (k : Role) → mayLeaveAs k (s .lines .handled q) ≡ true → headPlaceAs k (s .lines .handled q) q ≡ headPlaceAs k true q
+    by sending t = refl
+    by receiving t = refl
+    by (handling r) t = rw t
+    by passing t = refl
+
+-- a head may leave if it is at no unit, or handled there
+pub may-leave : (s : State) (q : Queue) → ((r : ℕ) → q ≡ Q r → s .lines .handled q ≡ true) → mayLeave s q ≡ true
+may-leave s q f = at (unit-or q)
+  where
+    by : (k : Role) → isUnitAs k ≡ false → mayLeaveAs k (s .lines .handled q) ≡ true
+    by sending n = refl
+    by receiving n = refl
+    by (handling r) n = absurd (false≢true (sym n))
+    by passing n = refl
+
+    at : ((r : ℕ) × (q ≡ Q r)) ⊎ (isUnit q ≡ false) → mayLeave s q ≡ true
+    at (inl (r, e)) = rw e (rw e at (f r e))
+    at (inr n) = by (role q) n
 
 -- ---- lines
 -- packets that belong in a queue are a line with an unhandled head

@@ -9,84 +9,78 @@ use borrow.Author.Tests.{ltb-true}
 use Rattle.basis.specs.Choice.{also-true, not-both, test}
 use Rattle.packets.specs.declared.Packet.{Packet}
 use Rattle.plan.specs.Plan.{Plan}
-use Rattle.feeding.specs.Queue.{Queue, activeOut, activeIn, passiveIn, passiveOut, U, Q, F, K}
+use Rattle.feeding.specs.Queue.{Queue}
+use Rattle.feeding.specs.Role.{Role, sending, receiving, handling, passing, role}
 use Rattle.feeding.specs.Feeds.{Output}
 use Rattle.machine.specs.Store.{put, sameQueue}
 use Rattle.machine.specs.Outputs.{nextBy}
 use Rattle.machine.specs.State.{State, withFlag, withHandled}
 use Rattle.machine.specs.Execute.{hasCredit, mayLeave, headReady, candidate}
-use Rattle.machine.specs.Write.{raise}
-use Rattle.machine.specs.Valid.{isFed}
+use Rattle.machine.specs.Write.{raiseAs, raise}
+use Rattle.machine.specs.Valid.{isFedAs, isFed}
 use Rattle.theory.proofs.Ground.Cells.{queue-away}
 
 -- ---- what raising a flag leaves
 -- what neither a flag nor a mark changes stays as a flag is raised
-raise-leaves : {X : Type 0} (f : State → X) → ((q : Queue) (b : Bool) (s : State) → f (withFlag q b s) ≡ f s) → ((q : Queue) (b : Bool) (s : State) → f (withHandled q b s) ≡ f s)
-    → (q : Queue) (s : State) → f (raise q s) ≡ f s
-raise-leaves f flags marks (activeOut x) s = refl
-raise-leaves f flags marks (passiveOut x) s = refl
-raise-leaves f flags marks (activeIn x) s = flags (activeIn x) true s
-raise-leaves f flags marks (passiveIn x) s = flags (passiveIn x) true s
-raise-leaves f flags marks (U r i) s = flags (U r i) true s
-raise-leaves f flags marks (Q r) s = flags (Q r) true (withHandled (Q r) false s) ∙ marks (Q r) false s
-raise-leaves f flags marks (F r o) s = flags (F r o) true s
-raise-leaves f flags marks (K r i o) s = flags (K r i o) true s
+pub raise-leaves : {X : Type 0} (f : State → X) → ((q : Queue) (b : Bool) (s : State) → f (withFlag q b s) ≡ f s)
+    → ((q : Queue) (b : Bool) (s : State) → f (withHandled q b s) ≡ f s) → (q : Queue) (s : State) → f (raise q s) ≡ f s
+raise-leaves f flags marks q s = by (role q)
+  where
+    by : (k : Role) → f (raiseAs k q s) ≡ f s
+    by sending = refl
+    by receiving = flags q true s
+    by (handling r) = flags q true (withHandled q false s) ∙ marks q false s
+    by passing = flags q true s
 
--- queues, credits, choices, wires and allowances stay
-pub raise-queue : (q : Queue) (s : State) → raise q s .queue ≡ s .queue
-raise-queue = raise-leaves (λ s. s .queue) (λ q b s. refl) (λ q b s. refl)
+-- queues, credits, wires, choices and allowances stay
+pub raise-queue : (q : Queue) (s : State) → raise q s .lines .queue ≡ s .lines .queue
+raise-queue = raise-leaves (λ s. s .lines .queue) (λ q b s. refl) (λ q b s. refl)
 
-pub raise-credit : (q : Queue) (s : State) → raise q s .credit ≡ s .credit
-raise-credit = raise-leaves (λ s. s .credit) (λ q b s. refl) (λ q b s. refl)
+pub raise-credit : (q : Queue) (s : State) → raise q s .flow .credit ≡ s .flow .credit
+raise-credit = raise-leaves (λ s. s .flow .credit) (λ q b s. refl) (λ q b s. refl)
 
-pub raise-choice : (q : Queue) (s : State) → raise q s .choice ≡ s .choice
-raise-choice = raise-leaves (λ s. s .choice) (λ q b s. refl) (λ q b s. refl)
+pub raise-links : (q : Queue) (s : State) → raise q s .links ≡ s .links
+raise-links = raise-leaves (λ s. s .links) (λ q b s. refl) (λ q b s. refl)
 
-pub raise-wire : (q : Queue) (s : State) → raise q s .wire ≡ s .wire
-raise-wire = raise-leaves (λ s. s .wire) (λ q b s. refl) (λ q b s. refl)
-
-pub raise-allowance : (q : Queue) (s : State) → raise q s .allowance ≡ s .allowance
-raise-allowance = raise-leaves (λ s. s .allowance) (λ q b s. refl) (λ q b s. refl)
+pub raise-allowance : (q : Queue) (s : State) → raise q s .flow .allowance ≡ s .flow .allowance
+raise-allowance = raise-leaves (λ s. s .flow .allowance) (λ q b s. refl) (λ q b s. refl)
 
 -- another queue's mark stays
-pub raise-handled : (q : Queue) (s : State) (p : Queue) → p ≢ q → raise q s .handled p ≡ s .handled p
-raise-handled (activeOut x) s p ne = refl
-raise-handled (passiveOut x) s p ne = refl
-raise-handled (activeIn x) s p ne = refl
-raise-handled (passiveIn x) s p ne = refl
-raise-handled (U r i) s p ne = refl
-raise-handled (Q r) s p ne = queue-away (s .handled) (Q r) false p ne
-raise-handled (F r o) s p ne = refl
-raise-handled (K r i o) s p ne = refl
+pub raise-handled : (q : Queue) (s : State) (p : Queue) → p ≢ q → raise q s .lines .handled p ≡ s .lines .handled p
+raise-handled q s p ne = by (role q)
+  where
+    by : (k : Role) → raiseAs k q s .lines .handled p ≡ s .lines .handled p
+    by sending = refl
+    by receiving = refl
+    by (handling r) = queue-away (s .lines .handled) q false p ne
+    by passing = refl
 
 -- a fed queue's flag rises, an out-queue's does not
-pub raise-flag : (q : Queue) (s : State) → isFed q ≡ true → raise q s .flag ≡ put sameQueue (s .flag) q true
-raise-flag (activeOut x) s f = absurd (not-both f refl)
-raise-flag (passiveOut x) s f = absurd (not-both f refl)
-raise-flag (activeIn x) s f = refl
-raise-flag (passiveIn x) s f = refl
-raise-flag (U r i) s f = refl
-raise-flag (Q r) s f = refl
-raise-flag (F r o) s f = refl
-raise-flag (K r i o) s f = refl
+pub raise-flag : (q : Queue) (s : State) → isFed q ≡ true → raise q s .flow .flag ≡ put sameQueue (s .flow .flag) q true
+raise-flag q s f = by (role q) f
+  where
+    by : (k : Role) → isFedAs k ≡ true → raiseAs k q s .flow .flag ≡ put sameQueue (s .flow .flag) q true
+    by sending f = absurd (not-both f refl)
+    by receiving f = refl
+    by (handling r) f = refl
+    by passing f = refl
 
 -- an out-queue's flag stays
-pub raise-none : (q : Queue) (s : State) → isFed q ≡ false → raise q s .flag ≡ s .flag
-raise-none (activeOut x) s f = refl
-raise-none (passiveOut x) s f = refl
-raise-none (activeIn x) s f = absurd (not-both refl f)
-raise-none (passiveIn x) s f = absurd (not-both refl f)
-raise-none (U r i) s f = absurd (not-both refl f)
-raise-none (Q r) s f = absurd (not-both refl f)
-raise-none (F r o) s f = absurd (not-both refl f)
-raise-none (K r i o) s f = absurd (not-both refl f)
+pub raise-none : (q : Queue) (s : State) → isFed q ≡ false → raise q s .flow .flag ≡ s .flow .flag
+raise-none q s f = by (role q) f
+  where
+    by : (k : Role) → isFedAs k ≡ false → raiseAs k q s .flow .flag ≡ s .flow .flag
+    by sending f = refl
+    by receiving f = absurd (not-both refl f)
+    by (handling r) f = absurd (not-both refl f)
+    by passing f = absurd (not-both refl f)
 
 -- another queue's flag stays
-pub raise-other : (q : Queue) (s : State) (p : Queue) → p ≢ q → raise q s .flag p ≡ s .flag p
+pub raise-other : (q : Queue) (s : State) (p : Queue) → p ≢ q → raise q s .flow .flag p ≡ s .flow .flag p
 raise-other q s p ne = by (test (isFed q))
   where
-    by : (isFed q ≡ true) ⊎ (isFed q ≡ false) → raise q s .flag p ≡ s .flag p
-    by (inl f) = ap (λ (m : Queue → Bool). m p) (raise-flag q s f) ∙ queue-away (s .flag) q true p ne
+    by : (isFed q ≡ true) ⊎ (isFed q ≡ false) → raise q s .flow .flag p ≡ s .flow .flag p
+    by (inl f) = ap (λ (m : Queue → Bool). m p) (raise-flag q s f) ∙ queue-away (s .flow .flag) q true p ne
     by (inr f) = ap (λ (m : Queue → Bool). m p) (raise-none q s f)
 
 -- ---- senders
@@ -94,22 +88,22 @@ raise-other q s p ne = by (test (isFed q))
 pub record Ready (pl : Plan) (s : State) (o : Output) (q : Queue) : Type 0 where
   pub head : Packet
   pub rest : List Packet
-  pub queue : s .queue q ≡ head ∷ rest
+  pub queue : s .lines .queue q ≡ head ∷ rest
   pub leaves : mayLeave s q ≡ true
   pub next : Queue
   pub goes : nextBy pl o head ≡ some next
-  pub room : 0 < s .credit next .0
+  pub room : 0 < s .flow .credit next .0
 
 -- a candidate is ready
 pub candidate-ready : (pl : Plan) (s : State) (o : Output) (q : Queue) → candidate pl s o q ≡ true → Ready pl s o q
 unfolding candidate
-candidate-ready pl s o q t = by (s .queue q) refl t
+candidate-ready pl s o q t = by (s .lines .queue q) refl t
   where
-    credit : (x : Packet) (n : Option Queue) → nextBy pl o x ≡ n → hasCredit s n ≡ true → (y : Queue) × (nextBy pl o x ≡ some y) × (0 < s .credit y .0)
+    credit : (x : Packet) (n : Option Queue) → nextBy pl o x ≡ n → hasCredit s n ≡ true → (y : Queue) × (nextBy pl o x ≡ some y) × (0 < s .flow .credit y .0)
     credit x none e h = absurd (not-both h refl)
-    credit x (some y) e h = (y, e, ltb-true 0 (s .credit y .0) h)
+    credit x (some y) e h = (y, e, ltb-true 0 (s .flow .credit y .0) h)
 
-    by : (xs : List Packet) → s .queue q ≡ xs → headReady pl s o (mayLeave s q) xs ≡ true → Ready pl s o q
+    by : (xs : List Packet) → s .lines .queue q ≡ xs → headReady pl s o (mayLeave s q) xs ≡ true → Ready pl s o q
     by [] e h = absurd (not-both h refl)
     by (x ∷ rest) e h =
         let both = also-true {a = mayLeave s q} {b = hasCredit s (nextBy pl o x)} h in

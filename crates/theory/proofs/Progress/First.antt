@@ -31,29 +31,29 @@ use Rattle.theory.proofs.Progress.Still.{all-chosen}
 pub record Ends (s : State) (r : ℕ) : Type 0 where
   pub packet : Packet
   pub rest : List Packet
-  pub queue : s .queue (Q r) ≡ packet ∷ rest
-  pub fresh : s .handled (Q r) ≡ false
+  pub queue : s .lines .queue (Q r) ≡ packet ∷ rest
+  pub fresh : s .lines .handled (Q r) ≡ false
   pub kind : packet .kind ≡ Tdown
   pub last : eqb (packet .hub .0) 1 ≡ true
 
 -- what a unit's turn changes: its own queue and mark, the table, and the flag of a Q whose tear-down ended
 pub record Turned (pl : Plan) (r : ℕ) (s : State) : Type 0 where
-  pub queue : (q : Queue) → q ≢ Q r → unit pl r s .queue q ≡ s .queue q
-  pub handled : (q : Queue) → q ≢ Q r → unit pl r s .handled q ≡ s .handled q
-  pub wire : unit pl r s .wire ≡ s .wire
-  pub slot : unit pl r s .slot ≡ s .slot
-  pub credit : unit pl r s .credit ≡ s .credit
+  pub queue : (q : Queue) → q ≢ Q r → unit pl r s .lines .queue q ≡ s .lines .queue q
+  pub handled : (q : Queue) → q ≢ Q r → unit pl r s .lines .handled q ≡ s .lines .handled q
+  pub wire : unit pl r s .links .wire ≡ s .links .wire
+  pub slot : unit pl r s .clock .slot ≡ s .clock .slot
+  pub credit : unit pl r s .flow .credit ≡ s .flow .credit
 
 -- a turn that ends no packet: the head is handled, the queue keeps its length, no flag rises
 pub record Handled (pl : Plan) (r : ℕ) (s : State) : Type 0 where
-  pub done : (unit pl r s .queue (Q r) ≡ []) ⊎ (unit pl r s .handled (Q r) ≡ true)
-  pub long : length (unit pl r s .queue (Q r)) ≡ length (s .queue (Q r))
-  pub flag : unit pl r s .flag ≡ s .flag
+  pub done : (unit pl r s .lines .queue (Q r) ≡ []) ⊎ (unit pl r s .lines .handled (Q r) ≡ true)
+  pub long : length (unit pl r s .lines .queue (Q r)) ≡ length (s .lines .queue (Q r))
+  pub flag : unit pl r s .flow .flag ≡ s .flow .flag
 
 module _ (pl : Plan) (r : ℕ) (s : State) where
   -- a head put back as x, handled
-  as-turned : (t : State) → unit pl r s ≡ t → ((q : Queue) → q ≢ Q r → t .queue q ≡ s .queue q) → ((q : Queue) → q ≢ Q r → t .handled q ≡ s .handled q)
-      → t .wire ≡ s .wire → t .slot ≡ s .slot → t .credit ≡ s .credit → Turned pl r s
+  as-turned : (t : State) → unit pl r s ≡ t → ((q : Queue) → q ≢ Q r → t .lines .queue q ≡ s .lines .queue q) → ((q : Queue) → q ≢ Q r → t .lines .handled q ≡ s .lines .handled q)
+      → t .links .wire ≡ s .links .wire → t .clock .slot ≡ s .clock .slot → t .flow .credit ≡ s .flow .credit → Turned pl r s
   as-turned t e a b c d f =
       record { queue = λ q n. rw e (a q n); handled = λ q n. rw e (b q n); wire = rw e c; slot = rw e d; credit = rw e f }
 
@@ -63,29 +63,29 @@ module _ (pl : Plan) (r : ℕ) (s : State) where
       by : UnitDoes pl r s → Turned pl r s
       by (rests e) = as-turned s e (λ q n. refl) (λ q n. refl) refl refl refl
       by (books x l e f k t) =
-          as-turned (afterBooked pl r x l s) (unit-books pl r s x l e f k t) (λ q n. queue-away (s .queue) (Q r) (booked (S pl) x ∷ l) q n) (λ q n. queue-away (s .handled) (Q r) true q n) refl refl refl
+          as-turned (afterBooked pl r x l s) (unit-books pl r s x l e f k t) (λ q n. queue-away (s .lines .queue) (Q r) (booked (S pl) x ∷ l) q n) (λ q n. queue-away (s .lines .handled) (Q r) true q n) refl refl refl
       by (declines x l e f k t) =
-          as-turned _ (unit-declines pl r s x l e f k t) (λ q n. queue-away (s .queue) (Q r) (declined x ∷ l) q n) (λ q n. queue-away (s .handled) (Q r) true q n) refl refl refl
-      by (ends x l e f k t) = as-turned (afterEnded pl r x l s) (unit-ends pl r s x l e f k t) (λ q n. queue-away (s .queue) (Q r) l q n) (λ q n. refl) refl refl refl
+          as-turned _ (unit-declines pl r s x l e f k t) (λ q n. queue-away (s .lines .queue) (Q r) (declined x ∷ l) q n) (λ q n. queue-away (s .lines .handled) (Q r) true q n) refl refl refl
+      by (ends x l e f k t) = as-turned (afterEnded pl r x l s) (unit-ends pl r s x l e f k t) (λ q n. queue-away (s .lines .queue) (Q r) l q n) (λ q n. refl) refl refl refl
       by (frees x l e f k t) =
-          as-turned (afterFreed pl r x l s) (unit-frees pl r s x l e f k t) (λ q n. queue-away (s .queue) (Q r) (freed (S pl) x ∷ l) q n) (λ q n. queue-away (s .handled) (Q r) true q n) refl refl refl
+          as-turned (afterFreed pl r x l s) (unit-frees pl r s x l e f k t) (λ q n. queue-away (s .lines .queue) (Q r) (freed (S pl) x ∷ l) q n) (λ q n. queue-away (s .lines .handled) (Q r) true q n) refl refl refl
 
   -- a head replaced and marked
-  as-handled : (t : State) (x y : Packet) (l : List Packet) → unit pl r s ≡ t → s .queue (Q r) ≡ x ∷ l → t .queue ≡ put sameQueue (s .queue) (Q r) (y ∷ l)
-      → t .handled ≡ put sameQueue (s .handled) (Q r) true → t .flag ≡ s .flag → Handled pl r s
+  as-handled : (t : State) (x y : Packet) (l : List Packet) → unit pl r s ≡ t → s .lines .queue (Q r) ≡ x ∷ l → t .lines .queue ≡ put sameQueue (s .lines .queue) (Q r) (y ∷ l)
+      → t .lines .handled ≡ put sameQueue (s .lines .handled) (Q r) true → t .flow .flag ≡ s .flow .flag → Handled pl r s
   as-handled t x y l e q a b c =
       record {
-        done = inr (rw e (ap (λ (m : Queue → Bool). m (Q r)) b ∙ queue-here (s .handled) (Q r) true));
-        long = rw e (ap (λ (m : Queue → List Packet). length (m (Q r))) a ∙ ap length (queue-here (s .queue) (Q r) (y ∷ l)) ∙ sym (ap length q));
+        done = inr (rw e (ap (λ (m : Queue → Bool). m (Q r)) b ∙ queue-here (s .lines .handled) (Q r) true));
+        long = rw e (ap (λ (m : Queue → List Packet). length (m (Q r))) a ∙ ap length (queue-here (s .lines .queue) (Q r) (y ∷ l)) ∙ sym (ap length q));
         flag = rw e c;
       }
 
   -- an unhandled head is a set-up or a tear-down
-  pub turn : ((x : Packet) (l : List Packet) → s .queue (Q r) ≡ x ∷ l → s .handled (Q r) ≡ false → (x .kind ≡ Setup) ⊎ (x .kind ≡ Tdown)) → Ends s r ⊎ Handled pl r s
+  pub turn : ((x : Packet) (l : List Packet) → s .lines .queue (Q r) ≡ x ∷ l → s .lines .handled (Q r) ≡ false → (x .kind ≡ Setup) ⊎ (x .kind ≡ Tdown)) → Ends s r ⊎ Handled pl r s
   turn own = by (unit-does pl r s)
     where
       -- a unit that rests has nothing unhandled
-      at-rest : unit pl r s ≡ s → (l : List Packet) → s .queue (Q r) ≡ l → (s .handled (Q r) ≡ true) ⊎ (s .handled (Q r) ≡ false) → Handled pl r s
+      at-rest : unit pl r s ≡ s → (l : List Packet) → s .lines .queue (Q r) ≡ l → (s .lines .handled (Q r) ≡ true) ⊎ (s .lines .handled (Q r) ≡ false) → Handled pl r s
       at-rest e [] q h = record { done = inl (rw e q); long = rw e; flag = rw e }
       at-rest e (x ∷ l) q (inl h) = record { done = inr (rw e h); long = rw e; flag = rw e }
       at-rest e (x ∷ l) q (inr h) = kinds (own x l q h)
@@ -100,30 +100,30 @@ module _ (pl : Plan) (r : ℕ) (s : State) where
             where
               frees-it : (eqb (x .hub .0) 1 ≡ true) ⊎ (eqb (x .hub .0) 1 ≡ false) → Handled pl r s
               frees-it (inl t) =
-                  let g : s .queue (Q r) ≡ l = sym (ap (λ (u : State). u .queue (Q r)) e) ∙ ap (λ (u : State). u .queue (Q r)) (unit-ends pl r s x l q h k t) ∙ queue-here (s .queue) (Q r) l in
+                  let g : s .lines .queue (Q r) ≡ l = sym (ap (λ (u : State). u .lines .queue (Q r)) e) ∙ ap (λ (u : State). u .lines .queue (Q r)) (unit-ends pl r s x l q h k t) ∙ queue-here (s .lines .queue) (Q r) l in
                   let n : length (x ∷ l) ≡ length l = ap length (sym q ∙ g) in
                   absurd (omega arith)
               frees-it (inr t) = as-handled (afterFreed pl r x l s) x (freed (S pl) x) l (unit-frees pl r s x l q h k t) q refl refl refl
 
       by : UnitDoes pl r s → Ends s r ⊎ Handled pl r s
-      by (rests e) = inr (at-rest e (s .queue (Q r)) refl (test (s .handled (Q r))))
+      by (rests e) = inr (at-rest e (s .lines .queue (Q r)) refl (test (s .lines .handled (Q r))))
       by (books x l e f k t) = inr (as-handled (afterBooked pl r x l s) x (booked (S pl) x) l (unit-books pl r s x l e f k t) e refl refl refl)
       by (declines x l e f k t) = inr (as-handled _ x (declined x) l (unit-declines pl r s x l e f k t) e refl refl refl)
       by (ends x l e f k t) = inl (record { packet = x; rest = l; queue = e; fresh = f; kind = k; last = t })
       by (frees x l e f k t) = inr (as-handled (afterFreed pl r x l s) x (freed (S pl) x) l (unit-frees pl r s x l e f k t) e refl refl refl)
 
 -- ---- all units, one after the other, from the state e
-module _ (pl : Plan) (e : State) (own : (r : ℕ) (x : Packet) (l : List Packet) → r < R pl → e .queue (Q r) ≡ x ∷ l → e .handled (Q r) ≡ false → (x .kind ≡ Setup) ⊎ (x .kind ≡ Tdown)) where
+module _ (pl : Plan) (e : State) (own : (r : ℕ) (x : Packet) (l : List Packet) → r < R pl → e .lines .queue (Q r) ≡ x ∷ l → e .lines .handled (Q r) ≡ false → (x .kind ≡ Setup) ⊎ (x .kind ≡ Tdown)) where
   -- after the units below n, none of which ended a packet
   pub record Upto (n : ℕ) (t : State) : Type 0 where
-    pub others : (q : Queue) → ((r : ℕ) → q ≢ Q r) → t .queue q ≡ e .queue q
-    pub ahead : (r : ℕ) → n ≤ r → (t .queue (Q r) ≡ e .queue (Q r)) × (t .handled (Q r) ≡ e .handled (Q r))
-    pub done : (r : ℕ) → r < n → (t .queue (Q r) ≡ []) ⊎ (t .handled (Q r) ≡ true)
-    pub long : (r : ℕ) → length (t .queue (Q r)) ≡ length (e .queue (Q r))
-    pub flag : t .flag ≡ e .flag
-    pub wire : t .wire ≡ e .wire
-    pub slot : t .slot ≡ e .slot
-    pub credit : t .credit ≡ e .credit
+    pub others : (q : Queue) → ((r : ℕ) → q ≢ Q r) → t .lines .queue q ≡ e .lines .queue q
+    pub ahead : (r : ℕ) → n ≤ r → (t .lines .queue (Q r) ≡ e .lines .queue (Q r)) × (t .lines .handled (Q r) ≡ e .lines .handled (Q r))
+    pub done : (r : ℕ) → r < n → (t .lines .queue (Q r) ≡ []) ⊎ (t .lines .handled (Q r) ≡ true)
+    pub long : (r : ℕ) → length (t .lines .queue (Q r)) ≡ length (e .lines .queue (Q r))
+    pub flag : t .flow .flag ≡ e .flow .flag
+    pub wire : t .links .wire ≡ e .links .wire
+    pub slot : t .clock .slot ≡ e .clock .slot
+    pub credit : t .flow .credit ≡ e .flow .credit
 
   begins : Upto 0 e
   begins =
@@ -157,18 +157,18 @@ module _ (pl : Plan) (e : State) (own : (r : ℕ) (x : Packet) (l : List Packet)
       apart : (r : ℕ) → suc n ≤ r → Q r ≢ Q n
       apart r l d = let m : r ≡ n = unit-same d in omega arith
 
-      done′ : (r : ℕ) → (r < n) ⊎ (r ≡ n) → (unit pl n t .queue (Q r) ≡ []) ⊎ (unit pl n t .handled (Q r) ≡ true)
+      done′ : (r : ℕ) → (r < n) ⊎ (r ≡ n) → (unit pl n t .lines .queue (Q r) ≡ []) ⊎ (unit pl n t .lines .handled (Q r) ≡ true)
       done′ r (inl l) = by (u .done r l)
         where
           ne : Q r ≢ Q n
           ne d = let m : r ≡ n = unit-same d in omega arith
 
-          by : (t .queue (Q r) ≡ []) ⊎ (t .handled (Q r) ≡ true) → (unit pl n t .queue (Q r) ≡ []) ⊎ (unit pl n t .handled (Q r) ≡ true)
+          by : (t .lines .queue (Q r) ≡ []) ⊎ (t .lines .handled (Q r) ≡ true) → (unit pl n t .lines .queue (Q r) ≡ []) ⊎ (unit pl n t .lines .handled (Q r) ≡ true)
           by (inl a) = inl (k .queue (Q r) ne ∙ a)
           by (inr a) = inr (k .handled (Q r) ne ∙ a)
       done′ r (inr m) = rw m (h .done)
 
-      long′ : (r : ℕ) → (eqb r n ≡ true) ⊎ (eqb r n ≡ false) → length (unit pl n t .queue (Q r)) ≡ length (e .queue (Q r))
+      long′ : (r : ℕ) → (eqb r n ≡ true) ⊎ (eqb r n ≡ false) → length (unit pl n t .lines .queue (Q r)) ≡ length (e .lines .queue (Q r))
       long′ r (inl b) = let m : r ≡ n = eqb-true r n b in rw m (h .long ∙ u .long n)
       long′ r (inr b) = ap length (k .queue (Q r) (λ d. eqb-false r n b (unit-same d))) ∙ u .long r
 
@@ -196,11 +196,11 @@ module _ (pl : Plan) (e : State) (own : (r : ℕ) (x : Packet) (l : List Packet)
 -- ---- a packet that ends has left its queue
 module _ (pl : Plan) (e : State) (r : ℕ) (x : Ends e r) where
   record Waits (t : State) : Type 0 where
-    pub queue : t .queue (Q r) ≡ x .packet ∷ x .rest
-    pub fresh : t .handled (Q r) ≡ false
+    pub queue : t .lines .queue (Q r) ≡ x .packet ∷ x .rest
+    pub fresh : t .lines .handled (Q r) ≡ false
 
   Passed : ℕ → State → Type 0
-  Passed n t = ((n ≤ r) × Waits t) ⊎ ((r < n) × (t .queue (Q r) ≡ x .rest))
+  Passed n t = ((n ≤ r) × Waits t) ⊎ ((r < n) × (t .lines .queue (Q r) ≡ x .rest))
 
   passes : (n : ℕ) (t : State) → Passed n t → Passed (suc n) (unit pl n t)
   unfolding Passed
@@ -209,10 +209,10 @@ module _ (pl : Plan) (e : State) (r : ℕ) (x : Ends e r) where
       k : Turned pl n t
       k = turned pl n t
 
-      by : (eqb n r ≡ true) ⊎ (eqb n r ≡ false) → ((n ≤ r) × Waits t) ⊎ ((r < n) × (t .queue (Q r) ≡ x .rest)) → ((suc n ≤ r) × Waits (unit pl n t)) ⊎ ((r < suc n) × (unit pl n t .queue (Q r) ≡ x .rest))
+      by : (eqb n r ≡ true) ⊎ (eqb n r ≡ false) → ((n ≤ r) × Waits t) ⊎ ((r < n) × (t .lines .queue (Q r) ≡ x .rest)) → ((suc n ≤ r) × Waits (unit pl n t)) ⊎ ((r < suc n) × (unit pl n t .lines .queue (Q r) ≡ x .rest))
       by (inl b) (inl (l, w)) =
           let m : n ≡ r = eqb-true n r b in
-          inr (omega arith, rw m (ap (λ (u : State). u .queue (Q r)) (unit-ends pl r t (x .packet) (x .rest) (w .queue) (w .fresh) (x .kind) (x .last)) ∙ queue-here (t .queue) (Q r) (x .rest)))
+          inr (omega arith, rw m (ap (λ (u : State). u .lines .queue (Q r)) (unit-ends pl r t (x .packet) (x .rest) (w .queue) (w .fresh) (x .kind) (x .last)) ∙ queue-here (t .lines .queue) (Q r) (x .rest)))
       by (inl b) (inr (l, q)) = let m : n ≡ r = eqb-true n r b in absurd (omega arith)
       by (inr b) (inl (l, w)) =
           let ne : n ≢ r = eqb-false n r b in
@@ -220,16 +220,16 @@ module _ (pl : Plan) (e : State) (r : ℕ) (x : Ends e r) where
           inl (omega arith, record { queue = k .queue (Q r) d ∙ w .queue; fresh = k .handled (Q r) d ∙ w .fresh })
       by (inr b) (inr (l, q)) = let d : Q r ≢ Q n = λ g. eqb-false n r b (sym (unit-same g)) in inr (omega arith, k .queue (Q r) d ∙ q)
 
-  after-units : r < R pl → upTo (unit pl) (R pl) e .queue (Q r) ≡ x .rest
+  after-units : r < R pl → upTo (unit pl) (R pl) e .lines .queue (Q r) ≡ x .rest
   unfolding Passed
   after-units h = by (up-keeps-at Passed (unit pl) (R pl) e (λ n t l p. passes n t p) (inl (omega arith, record { queue = x .queue; fresh = x .fresh })))
     where
-      by : ((R pl ≤ r) × Waits (upTo (unit pl) (R pl) e)) ⊎ ((r < R pl) × (upTo (unit pl) (R pl) e .queue (Q r) ≡ x .rest)) → upTo (unit pl) (R pl) e .queue (Q r) ≡ x .rest
+      by : ((R pl ≤ r) × Waits (upTo (unit pl) (R pl) e)) ⊎ ((r < R pl) × (upTo (unit pl) (R pl) e .lines .queue (Q r) ≡ x .rest)) → upTo (unit pl) (R pl) e .lines .queue (Q r) ≡ x .rest
       by (inl (l, w)) = absurd (omega arith)
       by (inr (l, q)) = q
 
   -- tearing down at an active leaves the units' queues
-  undo-leaves : (t : State) (a : ℕ) → undo pl a t .queue (Q r) ≡ t .queue (Q r)
+  undo-leaves : (t : State) (a : ℕ) → undo pl a t .lines .queue (Q r) ≡ t .lines .queue (Q r)
   unfolding join
   undo-leaves t a = by (undo-does pl a t)
     where
@@ -239,25 +239,25 @@ module _ (pl : Plan) (e : State) (r : ℕ) (x : Ends e r) where
       out-not : {a b : ℕ} → Q a ≡ activeOut b → ⊥
       out-not g = let z : _≡_ {A = ℕ} 0 1 = cc in omega arith
 
-      joined : (s : State) (y : Packet) → join (activeOut a) y s .queue (Q r) ≡ s .queue (Q r)
-      joined s y = queue-away (s .queue) (activeOut a) (s .queue (activeOut a) ++ (y ∷ [])) (Q r) out-not
+      joined : (s : State) (y : Packet) → join (activeOut a) y s .lines .queue (Q r) ≡ s .lines .queue (Q r)
+      joined s y = queue-away (s .lines .queue) (activeOut a) (s .lines .queue (activeOut a) ++ (y ∷ [])) (Q r) out-not
 
-      by : ActiveDoes pl a t → undo pl a t .queue (Q r) ≡ t .queue (Q r)
-      by (waits g) = ap (λ (u : State). u .queue (Q r)) g
+      by : ActiveDoes pl a t → undo pl a t .lines .queue (Q r) ≡ t .lines .queue (Q r)
+      by (waits g) = ap (λ (u : State). u .lines .queue (Q r)) g
       by (tears y l q m h) =
-          ap (λ (u : State). u .queue (Q r)) (undo-tears pl a t y l q m h)
+          ap (λ (u : State). u .lines .queue (Q r)) (undo-tears pl a t y l q m h)
           ∙ joined (withQueue (activeIn a) (marked y ∷ l) t) (tdownOf (S pl) y)
-          ∙ queue-away (t .queue) (activeIn a) (marked y ∷ l) (Q r) active-not
+          ∙ queue-away (t .lines .queue) (activeIn a) (marked y ∷ l) (Q r) active-not
 
   pub ends-moves : r < R pl → Moved pl e (doExecute pl e)
   unfolding doExecute
   ends-moves h =
       let u : State = upTo (unit pl) (R pl) e in
       let c = all-chosen pl (upTo (unit pl) (R pl) e) in
-      let a : upTo (λ n. choose pl (outputAt pl n)) (outputs pl) (upTo (unit pl) (R pl) e) .queue (Q r) ≡ x .rest
-      = ap (λ (s : State). s .queue (Q r)) (c .state) ∙ after-units h in
-      let b : upTo (undo pl) (A pl) (upTo (λ n. choose pl (outputAt pl n)) (outputs pl) (upTo (unit pl) (R pl) e)) .queue (Q r) ≡ x .rest
-      = up-keeps (λ (s : State). s .queue (Q r) ≡ x .rest) (undo pl) (A pl) (upTo (λ n. choose pl (outputAt pl n)) (outputs pl) (upTo (unit pl) (R pl) e)) (λ n s l q. undo-leaves s n ∙ q) a in
-      let m : length (x .packet ∷ x .rest) ≡ length (e .queue (Q r)) = ap length (sym (x .queue)) in
+      let a : upTo (λ n. choose pl (outputAt pl n)) (outputs pl) (upTo (unit pl) (R pl) e) .lines .queue (Q r) ≡ x .rest
+      = ap (λ (s : State). s .lines .queue (Q r)) (c .state) ∙ after-units h in
+      let b : upTo (undo pl) (A pl) (upTo (λ n. choose pl (outputAt pl n)) (outputs pl) (upTo (unit pl) (R pl) e)) .lines .queue (Q r) ≡ x .rest
+      = up-keeps (λ (s : State). s .lines .queue (Q r) ≡ x .rest) (undo pl) (A pl) (upTo (λ n. choose pl (outputAt pl n)) (outputs pl) (upTo (unit pl) (R pl) e)) (λ n s l q. undo-leaves s n ∙ q) a in
+      let m : length (x .packet ∷ x .rest) ≡ length (e .lines .queue (Q r)) = ap length (sym (x .queue)) in
       let n = ap length b in
       inr (Q r, h, omega arith)

@@ -126,15 +126,15 @@ unfolding next
 next-by pl q o x e = rw e
 
 -- the phases' ends
-pub execute-phase : (pl : Plan) (s : State) → doRead pl s .phase ≡ Execute
+pub execute-phase : (pl : Plan) (s : State) → doRead pl s .clock .phase ≡ Execute
 unfolding doRead
 execute-phase pl s = refl
 
-write-phase : (pl : Plan) (s : State) → doExecute pl s .phase ≡ Write
+write-phase : (pl : Plan) (s : State) → doExecute pl s .clock .phase ≡ Write
 unfolding doExecute
 write-phase pl s = refl
 
-read-phase : (pl : Plan) (s : State) → doWrite pl s .phase ≡ Read
+read-phase : (pl : Plan) (s : State) → doWrite pl s .clock .phase ≡ Read
 unfolding doWrite
 read-phase pl s = refl
 
@@ -144,12 +144,12 @@ isNobody (sender k) = false
 
 module _ {pl : Plan} (wired : Wired pl) (range : InRange (pl .head)) (free : FeedRing pl → ⊥) where
   -- ---- from a state in EXECUTE
-  module _ (e : State) (inv : Inv pl e) (phase : e .phase ≡ Execute) where
+  module _ (e : State) (inv : Inv pl e) (phase : e .clock .phase ≡ Execute) where
     has : NoChoices pl e × WiresEmpty pl e × FlagsDown pl e
     has = execute-has e phase (inv .shape)
 
     -- an unhandled head at a unit is a SETUP or a TDOWN
-    own : (r : ℕ) (x : Packet) (l : List Packet) → r < R pl → e .queue (Q r) ≡ x ∷ l → e .handled (Q r) ≡ false → (x .kind ≡ Setup) ⊎ (x .kind ≡ Tdown)
+    own : (r : ℕ) (x : Packet) (l : List Packet) → r < R pl → e .lines .queue (Q r) ≡ x ∷ l → e .lines .handled (Q r) ≡ false → (x .kind ≡ Setup) ⊎ (x .kind ≡ Tdown)
     own r x l h q f = by (x .kind) refl
       where
         b : Belongs pl (inQueue (Q r)) x
@@ -201,13 +201,13 @@ module _ {pl : Plan} (wired : Wired pl) (range : InRange (pl .head)) (free : Fee
       unfolding p
       handled-p r h = u .done r h
 
-      slot-p : p .slot ≡ e .slot
+      slot-p : p .clock .slot ≡ e .clock .slot
       unfolding p
       slot-p = u .slot
 
       -- the slot of the j-th round
       abbrev At : ℕ → State → Type 0
-      At j s = s .slot .0 ≡ (e .slot .0 + j) % S pl
+      At j s = s .clock .slot .0 ≡ (e .clock .slot .0 + j) % S pl
 
       record Seen (j : ℕ) : Type 0 where
         pub state : State
@@ -217,33 +217,33 @@ module _ {pl : Plan} (wired : Wired pl) (range : InRange (pl .head)) (free : Fee
 
       data Calm (j : ℕ) (s : State) : Type 0 where
         first : j ≡ 0 → s ≡ e → Calm j s
-        reading : s .phase ≡ Read → Inv pl s → Same pl p s → At j s → Calm j s
-        executing : s .phase ≡ Execute → Inv pl s → Same pl p s → At j s → Calm j s
-        writing : s .phase ≡ Write → Inv pl s → Same pl p s → At j s → (d : State) → Same pl p d → At j d
-            → ((n : ℕ) → n < outputs pl → s .choice (outputAt pl n) ≡ picked pl d (outputAt pl n)) → Calm j s
+        reading : s .clock .phase ≡ Read → Inv pl s → Same pl p s → At j s → Calm j s
+        executing : s .clock .phase ≡ Execute → Inv pl s → Same pl p s → At j s → Calm j s
+        writing : s .clock .phase ≡ Write → Inv pl s → Same pl p s → At j s → (d : State) → Same pl p d → At j d
+            → ((n : ℕ) → n < outputs pl → s .links .choice (outputAt pl n) ≡ picked pl d (outputAt pl n)) → Calm j s
 
       handled-s : (s : State) → Same pl p s → AllHandled pl s
       handled-s s k r h = by (handled-p r h)
         where
-          by : (p .queue (Q r) ≡ []) ⊎ (p .handled (Q r) ≡ true) → (s .queue (Q r) ≡ []) ⊎ (s .handled (Q r) ≡ true)
+          by : (p .lines .queue (Q r) ≡ []) ⊎ (p .lines .handled (Q r) ≡ true) → (s .lines .queue (Q r) ≡ []) ⊎ (s .lines .handled (Q r) ≡ true)
           by (inl a) = inl (k .inner (Q r) refl refl ∙ a)
           by (inr a) = inr (k .handled (Q r) ∙ a)
 
       at-start : At 0 e
-      at-start = sym (ap (λ (n : ℕ). n % S pl) (add-zero (e .slot .0)) ∙ mod-eq-of-lt (inv .core .slot))
+      at-start = sym (ap (λ (n : ℕ). n % S pl) (add-zero (e .clock .slot .0)) ∙ mod-eq-of-lt (inv .core .slot))
 
       -- ---- the calls in each stage
       abbrev Next : ℕ → Call → State → Type 0
       Next j c s = Turn pl Calm Seen j c s
 
       -- the state after Execute where nothing ended: each output has picked in d
-      executed : (j : ℕ) (s d : State) → s .phase ≡ Execute → Inv pl s → Picks pl p d (doExecute pl s) → Same pl p d → At j d → Next j execute s
+      executed : (j : ℕ) (s d : State) → s .clock .phase ≡ Execute → Inv pl s → Picks pl p d (doExecute pl s) → Same pl p d → At j d → Next j execute s
       executed j s d f i k m t =
           let g = turn-now pl s Execute f in
           let n : call pl execute s .state ≡ doExecute pl s = ap (λ (r : Outcome). r .state) g in
           stays refl
-          (writing (ap (λ (x : State). x .phase) n ∙ write-phase pl s) (call-inv wired range execute s i) (rw n (k .same)) (ap (λ (x : State). x .slot .0) n ∙ ap (λ (x : Slot). x .0) (k .slot) ∙ t) d m t
-          (λ x h. ap (λ (y : State). y .choice (outputAt pl x)) n ∙ k .picks x h))
+          (writing (ap (λ (x : State). x .clock .phase) n ∙ write-phase pl s) (call-inv wired range execute s i) (rw n (k .same)) (ap (λ (x : State). x .clock .slot .0) n ∙ ap (λ (x : Slot). x .0) (k .slot) ∙ t) d m t
+          (λ x h. ap (λ (y : State). y .links .choice (outputAt pl x)) n ∙ k .picks x h))
 
       first-picks : Picks pl p p (doExecute pl e)
       unfolding doExecute p
@@ -265,32 +265,32 @@ module _ {pl : Plan} (wired : Wired pl) (range : InRange (pl .head)) (free : Fee
       at-first (visit v) = waits (visit v) (λ g. visit-not v Execute g)
 
       -- a call that leaves the stage as it is
-      reads-on : (j : ℕ) (c : Call) (s : State) → s .phase ≡ Read → Inv pl s → At j s → endsRound c (call pl c s .answer) ≡ 0 → Undisturbed pl p s (call pl c s .state) → Next j c s
+      reads-on : (j : ℕ) (c : Call) (s : State) → s .clock .phase ≡ Read → Inv pl s → At j s → endsRound c (call pl c s .answer) ≡ 0 → Undisturbed pl p s (call pl c s .state) → Next j c s
       reads-on j c s f i t z k = stays z (reading (k .phase ∙ f) (call-inv wired range c s i) (k .same) (ap (λ (x : Slot). x .0) (k .slot) ∙ t))
 
-      executes-on : (j : ℕ) (c : Call) (s : State) → s .phase ≡ Execute → Inv pl s → At j s → endsRound c (call pl c s .answer) ≡ 0 → Undisturbed pl p s (call pl c s .state) → Next j c s
+      executes-on : (j : ℕ) (c : Call) (s : State) → s .clock .phase ≡ Execute → Inv pl s → At j s → endsRound c (call pl c s .answer) ≡ 0 → Undisturbed pl p s (call pl c s .state) → Next j c s
       executes-on j c s f i t z k = stays z (executing (k .phase ∙ f) (call-inv wired range c s i) (k .same) (ap (λ (x : Slot). x .0) (k .slot) ∙ t))
 
       -- a phase's call outside its phase disturbs nothing, and ends no round
-      out-of-phase : (x : Phase) (s : State) → Same pl p s → s .phase ≢ x
+      out-of-phase : (x : Phase) (s : State) → Same pl p s → s .clock .phase ≢ x
           → (endsRound (turn x) (call pl (turn x) s .answer) ≡ 0) × Undisturbed pl p s (call pl (turn x) s .state)
       out-of-phase x s k ne =
           let g = turn-not pl s x ne in
           (ap (λ (r : Outcome). endsRound (turn x) (r .answer)) g ∙ refused-turns Write (turn x) WrongPhase, rw g (still pl p s k))
 
-      at-reading : (j : ℕ) (c : Call) (s : State) → s .phase ≡ Read → Inv pl s → Same pl p s → At j s → Next j c s
+      at-reading : (j : ℕ) (c : Call) (s : State) → s .clock .phase ≡ Read → Inv pl s → Same pl p s → At j s → Next j c s
       at-reading j (turn Read) s f i k t =
           let g = turn-now pl s Read f in
           let n : call pl read s .state ≡ doRead pl s = ap (λ (r : Outcome). r .state) g in
           let d = read-stays pl p s k in
-          stays refl (executing (ap (λ (x : State). x .phase) n ∙ execute-phase pl s) (call-inv wired range read s i) (rw n (d .same)) (ap (λ (x : State). x .slot .0) n ∙ ap (λ (x : Slot). x .0) (d .slot) ∙ t))
+          stays refl (executing (ap (λ (x : State). x .clock .phase) n ∙ execute-phase pl s) (call-inv wired range read s i) (rw n (d .same)) (ap (λ (x : State). x .clock .slot .0) n ∙ ap (λ (x : Slot). x .0) (d .slot) ∙ t))
       at-reading j (turn Execute) s f i k t =
           let o = out-of-phase Execute s k (λ g. read-execute (sym f ∙ g)) in reads-on j execute s f i t (o .0) (o .1)
       at-reading j (turn Write) s f i k t =
           let o = out-of-phase Write s k (λ g. read-write (sym f ∙ g)) in reads-on j write s f i t (o .0) (o .1)
       at-reading j (visit v) s f i k t = reads-on j (visit v) s f i t refl (visit-undisturbed pl p s k v)
 
-      at-executing : (j : ℕ) (c : Call) (s : State) → s .phase ≡ Execute → Inv pl s → Same pl p s → At j s → Next j c s
+      at-executing : (j : ℕ) (c : Call) (s : State) → s .clock .phase ≡ Execute → Inv pl s → Same pl p s → At j s → Next j c s
       at-executing j (turn Execute) s f i k t = executed j s s f i (execute-picks pl p s k (handled-s s k)) k t
       at-executing j (turn Read) s f i k t =
           let o = out-of-phase Read s k (λ g. read-execute (sym g ∙ f)) in executes-on j read s f i t (o .0) (o .1)
@@ -298,8 +298,8 @@ module _ {pl : Plan} (wired : Wired pl) (range : InRange (pl .head)) (free : Fee
           let o = out-of-phase Write s k (λ g. execute-write (sym f ∙ g)) in executes-on j write s f i t (o .0) (o .1)
       at-executing j (visit v) s f i k t = executes-on j (visit v) s f i t refl (visit-undisturbed pl p s k v)
 
-      module _ (j : ℕ) (s : State) (f : s .phase ≡ Write) (i : Inv pl s) (k : Same pl p s) (t : At j s) (d : State) (m : Same pl p d) (v : At j d)
-          (picks : (n : ℕ) → n < outputs pl → s .choice (outputAt pl n) ≡ picked pl d (outputAt pl n)) where
+      module _ (j : ℕ) (s : State) (f : s .clock .phase ≡ Write) (i : Inv pl s) (k : Same pl p s) (t : At j s) (d : State) (m : Same pl p d) (v : At j d)
+          (picks : (n : ℕ) → n < outputs pl → s .links .choice (outputAt pl n) ≡ picked pl d (outputAt pl n)) where
         writes-on : (c : Call) → endsRound c (call pl c s .answer) ≡ 0 → Undisturbed pl p s (call pl c s .state) → Next j c s
         writes-on c z w =
             stays z
@@ -307,32 +307,32 @@ module _ {pl : Plan} (wired : Wired pl) (range : InRange (pl .head)) (free : Fee
             (λ n h. ap (λ (x : Output → Choice). x (outputAt pl n)) (w .choice) ∙ picks n h))
 
         -- a picked head moves
-        sends : (n : ℕ) → n < outputs pl → (c : Choice) → s .choice (outputAt pl n) ≡ c → isNobody c ≡ false → MovesNow pl write s
+        sends : (n : ℕ) → n < outputs pl → (c : Choice) → s .links .choice (outputAt pl n) ≡ c → isNobody c ≡ false → MovesNow pl write s
         unfolding isNobody
         sends n h nobody e b = absurd (true≢false b)
         sends n h (sender r) e b =
             let o : Output = outputAt pl n in
             let g = write-has s f (i .shape) .1 (outputAt pl n) r (drives-at pl n h) e in
             let y = candidate-ready pl s (outputAt pl n) (g .queue) (g .ready) in
-            let left : doWrite pl s .queue (g .queue) ≡ y .rest = write-takes pl s (outputAt pl n) r (g .queue) (y .head) (y .rest) (g .rank) e (y .queue) n h refl in
+            let left : doWrite pl s .lines .queue (g .queue) ≡ y .rest = write-takes pl s (outputAt pl n) r (g .queue) (y .head) (y .rest) (g .rank) e (y .queue) n h refl in
             let now : call pl write s .state ≡ doWrite pl s = ap (λ (x : Outcome). x .state) (turn-now pl s Write f) in
-            let a : length (call pl write s .state .queue (g .queue)) ≡ length (y .rest) = ap length (ap (λ (x : State). x .queue (g .queue)) now ∙ left) in
-            let c : length (s .queue (g .queue)) ≡ suc (length (y .rest)) = ap length (y .queue) in
+            let a : length (call pl write s .state .lines .queue (g .queue)) ≡ length (y .rest) = ap length (ap (λ (x : State). x .lines .queue (g .queue)) now ∙ left) in
+            let c : length (s .lines .queue (g .queue)) ≡ suc (length (y .rest)) = ap length (y .queue) in
             (refl, inr (g .queue, sender-exists pl (outputAt pl n) r (g .queue) (drives-at pl n h) (g .rank), omega arith))
 
         -- nobody is picked: the round was seen
-        unsent : ((n : ℕ) → n < outputs pl → isNobody (s .choice (outputAt pl n)) ≡ true) → Next j write s
+        unsent : ((n : ℕ) → n < outputs pl → isNobody (s .links .choice (outputAt pl n)) ≡ true) → Next j write s
         unfolding isNobody
         unsent nil =
-            let quiet : NoChoices pl s = λ o h. ap (s .choice) (sym (output-at pl o h)) ∙ nobody-of (s .choice (outputAt pl (outputNumber pl o))) (nil (outputNumber pl o) (output-below pl o h)) in
+            let quiet : NoChoices pl s = λ o h. ap (s .links .choice) (sym (output-at pl o h)) ∙ nobody-of (s .links .choice (outputAt pl (outputNumber pl o))) (nil (outputNumber pl o) (output-below pl o h)) in
             let w = write-stays pl p s k quiet in
             let now = turn-now pl s Write f in
             let n : call pl write s .state ≡ doWrite pl s = ap (λ (x : Outcome). x .state) now in
-            let slot : doWrite pl s .slot .0 ≡ (e .slot .0 + suc j) % S pl
-            = ap (λ (x : Slot). x .0) (w .1) ∙ ap (λ (x : ℕ). (x + 1) % S pl) t ∙ mod-add-mod (e .slot .0 + j) (S pl) 1 ∙ ap (λ (x : ℕ). x % S pl) (plus-suc (e .slot .0) j) in
+            let slot : doWrite pl s .clock .slot .0 ≡ (e .clock .slot .0 + suc j) % S pl
+            = ap (λ (x : Slot). x .0) (w .1) ∙ ap (λ (x : ℕ). (x + 1) % S pl) t ∙ mod-add-mod (e .clock .slot .0 + j) (S pl) 1 ∙ ap (λ (x : ℕ). x % S pl) (plus-suc (e .clock .slot .0) j) in
             ends (ap (λ (x : Outcome). endsRound write (x .answer)) now)
-            (reading (ap (λ (x : State). x .phase) n ∙ read-phase pl s) (call-inv wired range write s i) (rw n (w .0)) (ap (λ (x : State). x .slot .0) n ∙ slot))
-            (record { state = d; same = m; slot = v; picks = λ x h. sym (picks x h) ∙ nobody-of (s .choice (outputAt pl x)) (nil x h) })
+            (reading (ap (λ (x : State). x .clock .phase) n ∙ read-phase pl s) (call-inv wired range write s i) (rw n (w .0)) (ap (λ (x : State). x .clock .slot .0) n ∙ slot))
+            (record { state = d; same = m; slot = v; picks = λ x h. sym (picks x h) ∙ nobody-of (s .links .choice (outputAt pl x)) (nil x h) })
           where
             plus-suc : (a b : ℕ) → a + b + 1 ≡ a + suc b
             plus-suc a b = omega arith
@@ -342,10 +342,10 @@ module _ {pl : Plan} (wired : Wired pl) (range : InRange (pl .head)) (free : Fee
             nobody-of (sender r) b = absurd (false≢true b)
 
         at-writing : (c : Call) → Next j c s
-        at-writing (turn Write) = by (find (outputs pl) (λ n. not (isNobody (s .choice (outputAt pl n)))))
+        at-writing (turn Write) = by (find (outputs pl) (λ n. not (isNobody (s .links .choice (outputAt pl n)))))
           where
-            by : Found (outputs pl) (λ n. not (isNobody (s .choice (outputAt pl n)))) ⊎ ((n : ℕ) → n < outputs pl → not (isNobody (s .choice (outputAt pl n))) ≡ false) → Next j write s
-            by (inl (n, h, b)) = moves (sends n h (s .choice (outputAt pl n)) refl (not-true _ b))
+            by : Found (outputs pl) (λ n. not (isNobody (s .links .choice (outputAt pl n)))) ⊎ ((n : ℕ) → n < outputs pl → not (isNobody (s .links .choice (outputAt pl n))) ≡ false) → Next j write s
+            by (inl (n, h, b)) = moves (sends n h (s .links .choice (outputAt pl n)) refl (not-true _ b))
             by (inr nil) = unsent (λ n h. not-false _ (nil n h))
         at-writing (turn Read) = let o = out-of-phase Read s k (λ g. read-write (sym g ∙ f)) in writes-on read (o .0) (o .1)
         at-writing (turn Execute) = let o = out-of-phase Execute s k (λ g. execute-write (sym g ∙ f)) in writes-on execute (o .0) (o .1)
@@ -368,21 +368,21 @@ module _ {pl : Plan} (wired : Wired pl) (range : InRange (pl .head)) (free : Fee
         open-round (ofSide r o) (hr, ho) = by (core-p .free-entry r o hr ho)
           where
             by : (t : ℕ) × (t < S pl) × (p .table r o t ≡ Free) → (j : ℕ) × (j < S pl) × ((d : State) → Same pl p d → At j d → isOpen d (ofSide r o) ≡ true)
-            by (t, h, f) = at (slot-reached (S pl) (e .slot .0) t (inv .core .slot) h)
+            by (t, h, f) = at (slot-reached (S pl) (e .clock .slot .0) t (inv .core .slot) h)
               where
-                at : (j : ℕ) × (j < S pl) × ((e .slot .0 + j) % S pl ≡ t) → (j : ℕ) × (j < S pl) × ((d : State) → Same pl p d → At j d → isOpen d (ofSide r o) ≡ true)
+                at : (j : ℕ) × (j < S pl) × ((e .clock .slot .0 + j) % S pl ≡ t) → (j : ℕ) × (j < S pl) × ((d : State) → Same pl p d → At j d → isOpen d (ofSide r o) ≡ true)
                 at (j, l, g) = (j, l, λ d k v. ap isFree (ap (d .table r o) (v ∙ g) ∙ k .table r o t ∙ f))
 
         -- the head in p is the head in any later state
-        head-in : (d : State) → Same pl p d → (q : Queue) (x : Packet) (rest : List Packet) → isInQueue q ≡ false → p .queue q ≡ x ∷ rest → (more : List Packet) × (d .queue q ≡ x ∷ more)
+        head-in : (d : State) → Same pl p d → (q : Queue) (x : Packet) (rest : List Packet) → isInQueue q ≡ false → p .lines .queue q ≡ x ∷ rest → (more : List Packet) × (d .lines .queue q ≡ x ∷ more)
         head-in d k q x rest ni g = by (test (isFed q))
           where
-            by : (isFed q ≡ true) ⊎ (isFed q ≡ false) → (more : List Packet) × (d .queue q ≡ x ∷ more)
+            by : (isFed q ≡ true) ⊎ (isFed q ≡ false) → (more : List Packet) × (d .lines .queue q ≡ x ∷ more)
             by (inl b) = (rest, k .inner q b ni ∙ g)
             by (inr b) = let o = k .outs q b in (rest ++ o .0, o .1 ∙ ap (λ (l : List Packet). l ++ o .0) g)
 
         -- a head that may leave: at a unit it is handled
-        may-leave : (d : State) → Same pl p d → (q : Queue) (x : Packet) (rest : List Packet) → Exists pl q → p .queue q ≡ x ∷ rest → mayLeave d q ≡ true
+        may-leave : (d : State) → Same pl p d → (q : Queue) (x : Packet) (rest : List Packet) → Exists pl q → p .lines .queue q ≡ x ∷ rest → mayLeave d q ≡ true
         may-leave d k (activeOut a) x rest h g = refl
         may-leave d k (activeIn a) x rest h g = refl
         may-leave d k (passiveIn a) x rest h g = refl
@@ -390,21 +390,21 @@ module _ {pl : Plan} (wired : Wired pl) (range : InRange (pl .head)) (free : Fee
         may-leave d k (U r a) x rest h g = refl
         may-leave d k (Q r) x rest h g = k .handled (Q r) ∙ handled-head r x rest h g
           where
-            handled-head : (r : ℕ) (x : Packet) (rest : List Packet) → r < R pl → p .queue (Q r) ≡ x ∷ rest → p .handled (Q r) ≡ true
+            handled-head : (r : ℕ) (x : Packet) (rest : List Packet) → r < R pl → p .lines .queue (Q r) ≡ x ∷ rest → p .lines .handled (Q r) ≡ true
             handled-head r x rest h g = by (handled-p r h)
               where
-                by : (p .queue (Q r) ≡ []) ⊎ (p .handled (Q r) ≡ true) → p .handled (Q r) ≡ true
+                by : (p .lines .queue (Q r) ≡ []) ⊎ (p .lines .handled (Q r) ≡ true) → p .lines .handled (Q r) ≡ true
                 by (inl z) = let w : [] ≡ x ∷ rest = sym z ∙ g in let z′ : _≡_ {A = ℕ} 0 1 = cc in absurd (omega arith)
                 by (inr b) = b
         may-leave d k (F r o) x rest h g = refl
         may-leave d k (K r a o) x rest h g = refl
 
-        blocked : (q y : Queue) (x : Packet) (rest : List Packet) → Exists pl q → isInQueue q ≡ false → p .queue q ≡ x ∷ rest
-            → next pl (headingOf (x .kind)) (x .active) (x .passive) q ≡ some y → p .credit y .0 ≡ 0
+        blocked : (q y : Queue) (x : Packet) (rest : List Packet) → Exists pl q → isInQueue q ≡ false → p .lines .queue q ≡ x ∷ rest
+            → next pl (headingOf (x .kind)) (x .active) (x .passive) q ≡ some y → p .flow .credit y .0 ≡ 0
         unfolding candidate
         blocked q y x rest h ni g n = out (leaves q ni)
           where
-            out : (o : Output) × (outputOf q ≡ some o) → p .credit y .0 ≡ 0
+            out : (o : Output) × (outputOf q ≡ some o) → p .flow .credit y .0 ≡ 0
             out (o, w) = at (open-round o drives)
               where
                 drives : Drives pl o
@@ -413,20 +413,20 @@ module _ {pl : Plan} (wired : Wired pl) (range : InRange (pl .head)) (free : Fee
                 goes : nextBy pl o x ≡ some y
                 goes = sym (next-by pl q o x w) ∙ n
 
-                closed : (d : State) → Same pl p d → isOpen d o ≡ true → picked pl d o ≡ nobody → p .credit y .0 ≡ 0
+                closed : (d : State) → Same pl p d → isOpen d o ≡ true → picked pl d o ≡ nobody → p .flow .credit y .0 ≡ 0
                 closed d k b c = by (picked-none pl d o c)
                   where
-                    stuck : candidate pl d o q ≡ false → d .credit y .0 ≡ 0
+                    stuck : candidate pl d o q ≡ false → d .flow .credit y .0 ≡ 0
                     stuck z = let l = head-in d k q x rest ni g in no-credit (rw (l .1, may-leave d k q x rest h g, goes) at z)
                       where
-                        no-credit : ltb 0 (d .credit y .0) ≡ false → d .credit y .0 ≡ 0
-                        no-credit u = let v = ltb-false 0 (d .credit y .0) u in omega arith
+                        no-credit : ltb 0 (d .flow .credit y .0) ≡ false → d .flow .credit y .0 ≡ 0
+                        no-credit u = let v = ltb-false 0 (d .flow .credit y .0) u in omega arith
 
-                    by : (isOpen d o ≡ false) ⊎ ((r : ℕ) (z : Queue) → ofRank (senders o) r ≡ some z → candidate pl d o z ≡ false) → p .credit y .0 ≡ 0
+                    by : (isOpen d o ≡ false) ⊎ ((r : ℕ) (z : Queue) → ofRank (senders o) r ≡ some z → candidate pl d o z ≡ false) → p .flow .credit y .0 ≡ 0
                     by (inl z) = absurd (true≢false (sym b ∙ z))
                     by (inr nil) = let r = ranked pl q o h w in let z = stuck (nil (r .0) q (r .1)) in let l = k .credit y in omega arith
 
-                at : (j : ℕ) × (j < S pl) × ((d : State) → Same pl p d → At j d → isOpen d o ≡ true) → p .credit y .0 ≡ 0
+                at : (j : ℕ) × (j < S pl) × ((d : State) → Same pl p d → At j d → isOpen d o ≡ true) → p .flow .credit y .0 ≡ 0
                 at (j, l, opens) =
                     let z = seen j l in
                     closed (z .state) (z .same) (opens (z .state) (z .same) (z .slot)) (ap (picked pl (z .state)) (sym (output-at pl o drives)) ∙ z .picks (outputNumber pl o) (output-below pl o drives))
@@ -441,12 +441,12 @@ module _ {pl : Plan} (wired : Wired pl) (range : InRange (pl .head)) (free : Fee
               blocked = blocked;
             }
           where
-            head-done : (r : ℕ) (x : Packet) (rest : List Packet) → r < R pl → p .queue (Q r) ≡ x ∷ rest → (p .queue (Q r) ≡ []) ⊎ (p .handled (Q r) ≡ true) → p .handled (Q r) ≡ true
+            head-done : (r : ℕ) (x : Packet) (rest : List Packet) → r < R pl → p .lines .queue (Q r) ≡ x ∷ rest → (p .lines .queue (Q r) ≡ []) ⊎ (p .lines .handled (Q r) ≡ true) → p .lines .handled (Q r) ≡ true
             head-done r x rest h g (inl z) = let w : [] ≡ x ∷ rest = sym z ∙ g in let z′ : _≡_ {A = ℕ} 0 1 = cc in absurd (omega arith)
             head-done r x rest h g (inr b) = b
 
     -- ---- so a list with S whole rounds moves a packet
-    pub from-execute : (set : Queue → Bool) → Closed pl set e → (q : Queue) (x : Packet) (rest : List Packet) → Exists pl q → isInQueue q ≡ false → set q ≡ true → e .queue q ≡ x ∷ rest
+    pub from-execute : (set : Queue → Bool) → Closed pl set e → (q : Queue) (x : Packet) (rest : List Packet) → Exists pl q → isInQueue q ≡ false → set q ≡ true → e .lines .queue q ≡ x ∷ rest
         → (cs : List Call) → S pl ≤ rounds pl cs e → Moves pl cs e
     unfolding p
     from-execute set c q x rest h ni b g cs n = by (units pl e own (R pl) (omega arith))
@@ -457,23 +457,23 @@ module _ {pl : Plan} (wired : Wired pl) (range : InRange (pl .head)) (free : Fee
             until-execute (refl, rw now (ends-moves pl e r w l)) cs (omega (arith, range .slots .0))
 
         -- the packet is still there
-        there : (u : Upto pl e own (R pl) (upTo (unit pl) (R pl) e)) (z : Queue) → e .queue z ≡ x ∷ rest → (y : Packet) × (more : List Packet) × (upTo (unit pl) (R pl) e .queue z ≡ y ∷ more)
+        there : (u : Upto pl e own (R pl) (upTo (unit pl) (R pl) e)) (z : Queue) → e .lines .queue z ≡ x ∷ rest → (y : Packet) × (more : List Packet) × (upTo (unit pl) (R pl) e .lines .queue z ≡ y ∷ more)
         there u z w = at z w
           where
-            same : (z : Queue) → e .queue z ≡ x ∷ rest → ((r : ℕ) → z ≢ Q r) → (y : Packet) × (more : List Packet) × (upTo (unit pl) (R pl) e .queue z ≡ y ∷ more)
+            same : (z : Queue) → e .lines .queue z ≡ x ∷ rest → ((r : ℕ) → z ≢ Q r) → (y : Packet) × (more : List Packet) × (upTo (unit pl) (R pl) e .lines .queue z ≡ y ∷ more)
             same z w ne = (x, rest, u .others z ne ∙ w)
 
-            long : (r : ℕ) (l : List Packet) → upTo (unit pl) (R pl) e .queue (Q r) ≡ l → e .queue (Q r) ≡ x ∷ rest → (y : Packet) × (more : List Packet) × (upTo (unit pl) (R pl) e .queue (Q r) ≡ y ∷ more)
-            long r [] v w = let a : 0 ≡ length (e .queue (Q r)) = ap length (sym v) ∙ u .long r in let d : length (e .queue (Q r)) ≡ suc (length rest) = ap length w in absurd (omega arith)
+            long : (r : ℕ) (l : List Packet) → upTo (unit pl) (R pl) e .lines .queue (Q r) ≡ l → e .lines .queue (Q r) ≡ x ∷ rest → (y : Packet) × (more : List Packet) × (upTo (unit pl) (R pl) e .lines .queue (Q r) ≡ y ∷ more)
+            long r [] v w = let a : 0 ≡ length (e .lines .queue (Q r)) = ap length (sym v) ∙ u .long r in let d : length (e .lines .queue (Q r)) ≡ suc (length rest) = ap length w in absurd (omega arith)
             long r (y ∷ more) v w = (y, more, v)
 
-            at : (z : Queue) → e .queue z ≡ x ∷ rest → (y : Packet) × (more : List Packet) × (upTo (unit pl) (R pl) e .queue z ≡ y ∷ more)
+            at : (z : Queue) → e .lines .queue z ≡ x ∷ rest → (y : Packet) × (more : List Packet) × (upTo (unit pl) (R pl) e .lines .queue z ≡ y ∷ more)
             at (activeOut a) w = same (activeOut a) w (λ r k. let z : _≡_ {A = ℕ} 0 1 = cc in omega arith)
             at (activeIn a) w = same (activeIn a) w (λ r k. let z : _≡_ {A = ℕ} 0 1 = cc in omega arith)
             at (passiveIn a) w = same (passiveIn a) w (λ r k. let z : _≡_ {A = ℕ} 0 1 = cc in omega arith)
             at (passiveOut a) w = same (passiveOut a) w (λ r k. let z : _≡_ {A = ℕ} 0 1 = cc in omega arith)
             at (U r i) w = same (U r i) w (λ r k. let z : _≡_ {A = ℕ} 0 1 = cc in omega arith)
-            at (Q r) w = long r (upTo (unit pl) (R pl) e .queue (Q r)) refl w
+            at (Q r) w = long r (upTo (unit pl) (R pl) e .lines .queue (Q r)) refl w
             at (F r o) w = same (F r o) w (λ r k. let z : _≡_ {A = ℕ} 0 1 = cc in omega arith)
             at (K r i o) w = same (K r i o) w (λ r k. let z : _≡_ {A = ℕ} 0 1 = cc in omega arith)
 

@@ -36,15 +36,15 @@ use Rattle.theory.proofs.Shape.Arbitration.{chosen, picks-alike}
 
 -- s is as p was, but for what may happen while nothing moves
 pub record Same (pl : Plan) (p s : State) : Type 0 where
-  pub inner : (q : Queue) → isFed q ≡ true → isInQueue q ≡ false → s .queue q ≡ p .queue q
-  pub outs : (q : Queue) → isFed q ≡ false → (more : List Packet) × (s .queue q ≡ p .queue q ++ more)
-  pub handled : (q : Queue) → s .handled q ≡ p .handled q
+  pub inner : (q : Queue) → isFed q ≡ true → isInQueue q ≡ false → s .lines .queue q ≡ p .lines .queue q
+  pub outs : (q : Queue) → isFed q ≡ false → (more : List Packet) × (s .lines .queue q ≡ p .lines .queue q ++ more)
+  pub handled : (q : Queue) → s .lines .handled q ≡ p .lines .handled q
   pub table : (r o t : ℕ) → s .table r o t ≡ p .table r o t
-  pub credit : (q : Queue) → p .credit q .0 ≤ s .credit q .0
+  pub credit : (q : Queue) → p .flow .credit q .0 ≤ s .flow .credit q .0
   pub wires : WiresEmpty pl s
 
 pub same-self : (pl : Plan) (p : State) → WiresEmpty pl p → Same pl p p
-same-self pl p w = record { inner = λ q f i. refl; outs = λ q f. ([], sym (nil (p .queue q))); handled = λ q. refl; table = λ r o t. refl; credit = λ q. omega arith; wires = w }
+same-self pl p w = record { inner = λ q f i. refl; outs = λ q f. ([], sym (nil (p .lines .queue q))); handled = λ q. refl; table = λ r o t. refl; credit = λ q. omega arith; wires = w }
   where
     nil : (l : List Packet) → l ++ [] ≡ l
     nil [] = refl
@@ -56,8 +56,8 @@ module _ (pl : Plan) (p s : State) (same : Same pl p s) where
   pub in-same : (k : Queue) (l : List Packet) → isFed k ≡ true → isInQueue k ≡ true → Same pl p (withQueue k l s)
   in-same k l f i =
       record {
-        inner = λ q g j. queue-away (s .queue) k l q (λ e. true≢false (sym i ∙ ap isInQueue (sym e) ∙ j)) ∙ same .inner q g j;
-        outs = λ q g. let o = same .outs q g in (o .0, queue-away (s .queue) k l q (λ e. true≢false (sym f ∙ ap isFed (sym e) ∙ g)) ∙ o .1);
+        inner = λ q g j. queue-away (s .lines .queue) k l q (λ e. true≢false (sym i ∙ ap isInQueue (sym e) ∙ j)) ∙ same .inner q g j;
+        outs = λ q g. let o = same .outs q g in (o .0, queue-away (s .lines .queue) k l q (λ e. true≢false (sym f ∙ ap isFed (sym e) ∙ g)) ∙ o .1);
         handled = same .handled;
         table = same .table;
         credit = same .credit;
@@ -69,7 +69,7 @@ module _ (pl : Plan) (p s : State) (same : Same pl p s) where
   unfolding join
   join-same k x f =
       record {
-        inner = λ q g j. queue-away (s .queue) k (s .queue k ++ (x ∷ [])) q (λ e. true≢false (sym g ∙ ap isFed e ∙ f)) ∙ same .inner q g j;
+        inner = λ q g j. queue-away (s .lines .queue) k (s .lines .queue k ++ (x ∷ [])) q (λ e. true≢false (sym g ∙ ap isFed e ∙ f)) ∙ same .inner q g j;
         outs = outs′;
         handled = same .handled;
         table = same .table;
@@ -77,18 +77,18 @@ module _ (pl : Plan) (p s : State) (same : Same pl p s) where
         wires = same .wires;
       }
     where
-      outs′ : (q : Queue) → isFed q ≡ false → (more : List Packet) × (put sameQueue (s .queue) k (s .queue k ++ (x ∷ [])) q ≡ p .queue q ++ more)
+      outs′ : (q : Queue) → isFed q ≡ false → (more : List Packet) × (put sameQueue (s .lines .queue) k (s .lines .queue k ++ (x ∷ [])) q ≡ p .lines .queue q ++ more)
       outs′ q g = by (test (sameQueue q k)) (same .outs q g)
         where
-          by : (sameQueue q k ≡ true) ⊎ (sameQueue q k ≡ false) → (more : List Packet) × (s .queue q ≡ p .queue q ++ more)
-              → (more : List Packet) × (put sameQueue (s .queue) k (s .queue k ++ (x ∷ [])) q ≡ p .queue q ++ more)
+          by : (sameQueue q k ≡ true) ⊎ (sameQueue q k ≡ false) → (more : List Packet) × (s .lines .queue q ≡ p .lines .queue q ++ more)
+              → (more : List Packet) × (put sameQueue (s .lines .queue) k (s .lines .queue k ++ (x ∷ [])) q ≡ p .lines .queue q ++ more)
           by (inl t) (more, e) =
               let c : q ≡ k = same-queue q k t in
-              (more ++ (x ∷ []), rw (t, pick) (ap (λ (l : List Packet). l ++ (x ∷ [])) (ap (s .queue) (sym c) ∙ e) ∙ append-assoc (p .queue q) more (x ∷ [])))
+              (more ++ (x ∷ []), rw (t, pick) (ap (λ (l : List Packet). l ++ (x ∷ [])) (ap (s .lines .queue) (sym c) ∙ e) ∙ append-assoc (p .lines .queue q) more (x ∷ [])))
           by (inr t) (more, e) = (more, rw (t, pick) e)
 
 -- ---- READ: with empty wires it only adds credits
-no-delivery : (pl : Plan) (s : State) (o : Output) → s .wire o ≡ Empty → deliver pl o s ≡ s
+no-delivery : (pl : Plan) (s : State) (o : Output) → s .links .wire o ≡ Empty → deliver pl o s ≡ s
 unfolding deliver arrive
 no-delivery pl s o e = rw e
 
@@ -100,13 +100,13 @@ none-delivered pl s w =
 -- what settling keeps
 record Settled (pl : Plan) (p s t : State) : Type 0 where
   pub same : Same pl p t
-  pub slot : t .slot ≡ s .slot
+  pub slot : t .clock .slot ≡ s .clock .slot
 
 settles : (pl : Plan) (p s t : State) (q : Queue) → Settled pl p s t → Settled pl p s (settle q t)
 unfolding settle lower
-settles pl p s t q k = by (t .flag q) refl
+settles pl p s t q k = by (t .flow .flag q) refl
   where
-    by : (b : Bool) → t .flag q ≡ b → Settled pl p s (lower q b t)
+    by : (b : Bool) → t .flow .flag q ≡ b → Settled pl p s (lower q b t)
     by false e = k
     by true e =
         record {
@@ -121,11 +121,11 @@ settles pl p s t q k = by (t .flag q) refl
           slot = k .slot;
         }
       where
-        credit′ : (x : Queue) → p .credit x .0 ≤ put sameQueue (t .credit) q (record { 0 = t .credit q .0 + 1 }) x .0
+        credit′ : (x : Queue) → p .flow .credit x .0 ≤ put sameQueue (t .flow .credit) q (record { 0 = t .flow .credit q .0 + 1 }) x .0
         credit′ x = at (test (sameQueue x q)) (k .same .credit x)
           where
-            at : (sameQueue x q ≡ true) ⊎ (sameQueue x q ≡ false) → p .credit x .0 ≤ t .credit x .0 → p .credit x .0 ≤ put sameQueue (t .credit) q (record { 0 = t .credit q .0 + 1 }) x .0
-            at (inl u) l = rw (u, pick) (let c : t .credit x .0 ≡ t .credit q .0 = ap (λ (z : Queue). t .credit z .0) (same-queue x q u) in omega arith)
+            at : (sameQueue x q ≡ true) ⊎ (sameQueue x q ≡ false) → p .flow .credit x .0 ≤ t .flow .credit x .0 → p .flow .credit x .0 ≤ put sameQueue (t .flow .credit) q (record { 0 = t .flow .credit q .0 + 1 }) x .0
+            at (inl u) l = rw (u, pick) (let c : t .flow .credit x .0 ≡ t .flow .credit q .0 = ap (λ (z : Queue). t .flow .credit z .0) (same-queue x q u) in omega arith)
             at (inr u) l = rw (u, pick) l
 
 settled-all : (pl : Plan) (p s : State) → Same pl p s → Settled pl p s (upTo (λ n. settle (queueAt pl n)) (queues pl) s)
@@ -135,7 +135,7 @@ settled-all pl p s k =
 -- the outcome of a phase in which nothing moves
 pub record Stays (pl : Plan) (p s t : State) : Type 0 where
   pub same : Same pl p t
-  pub slot : t .slot ≡ s .slot
+  pub slot : t .clock .slot ≡ s .clock .slot
 
 phase-same : (pl : Plan) (p t : State) (x : Phase) → Same pl p t → Same pl p (withPhase x t)
 phase-same pl p t x k = record { inner = k .inner; outs = k .outs; handled = k .handled; table = k .table; credit = k .credit; wires = k .wires }
@@ -150,14 +150,14 @@ read-stays pl p s k =
 -- ---- EXECUTE: units with handled heads do nothing, outputs pick, actives tear down
 -- no unit has a head that is not handled
 abbrev pub AllHandled : Plan → State → Type 0
-AllHandled pl s = (r : ℕ) → r < R pl → (s .queue (Q r) ≡ []) ⊎ (s .handled (Q r) ≡ true)
+AllHandled pl s = (r : ℕ) → r < R pl → (s .lines .queue (Q r) ≡ []) ⊎ (s .lines .handled (Q r) ≡ true)
 
-no-unit : (pl : Plan) (s : State) (r : ℕ) → (s .queue (Q r) ≡ []) ⊎ (s .handled (Q r) ≡ true) → unit pl r s ≡ s
+no-unit : (pl : Plan) (s : State) (r : ℕ) → (s .lines .queue (Q r) ≡ []) ⊎ (s .lines .handled (Q r) ≡ true) → unit pl r s ≡ s
 unfolding unit atUnit
 no-unit pl s r (inl e) = rw e
-no-unit pl s r (inr e) = by (s .queue (Q r))
+no-unit pl s r (inr e) = by (s .lines .queue (Q r))
   where
-    by : (l : List Packet) → atUnit pl r l (s .handled (Q r)) s ≡ s
+    by : (l : List Packet) → atUnit pl r l (s .lines .handled (Q r)) s ≡ s
     by [] = refl
     by (x ∷ l) = rw e
 
@@ -190,17 +190,17 @@ chooses pl s t n c =
 pub all-chosen : (pl : Plan) (s : State) → Chosen pl s (upTo (λ n. choose pl (outputAt pl n)) (outputs pl) s) (outputs pl)
 all-chosen pl s =
     up-keeps-at (λ (n : ℕ) (t : State). Chosen pl s t n) (λ n. choose pl (outputAt pl n)) (outputs pl) s (λ n t h c. chooses pl s t n c)
-    (record { choices = s .choice; state = refl; picks = λ m h. absurd (omega arith) })
+    (record { choices = s .links .choice; state = refl; picks = λ m h. absurd (omega arith) })
 
 -- what tearing down keeps
 record Undone (pl : Plan) (p s t : State) : Type 0 where
   pub same : Same pl p t
-  pub slot : t .slot ≡ s .slot
-  pub choice : t .choice ≡ s .choice
+  pub slot : t .clock .slot ≡ s .clock .slot
+  pub choice : t .links .choice ≡ s .links .choice
 
 undoes : (pl : Plan) (p s t : State) (a : ℕ) → Undone pl p s t → Undone pl p s (undo pl a t)
 unfolding undo atActive answer join
-undoes pl p s t a k = by (t .queue (activeIn a))
+undoes pl p s t a k = by (t .lines .queue (activeIn a))
   where
     made : (x : Packet) (l : List Packet) (b : Bool) → Undone pl p s (answer pl a x l b t)
     made x l false = k
@@ -218,8 +218,8 @@ undoes pl p s t a k = by (t .queue (activeIn a))
 -- the outcome of EXECUTE: besides, every output's choice is what it picks
 pub record Picks (pl : Plan) (p s t : State) : Type 0 where
   pub same : Same pl p t
-  pub slot : t .slot ≡ s .slot
-  pub picks : (n : ℕ) → n < outputs pl → t .choice (outputAt pl n) ≡ picked pl s (outputAt pl n)
+  pub slot : t .clock .slot ≡ s .clock .slot
+  pub picks : (n : ℕ) → n < outputs pl → t .links .choice (outputAt pl n) ≡ picked pl s (outputAt pl n)
 
 chosen-same : (pl : Plan) (p s : State) (f : Output → Choice) → Same pl p s → Same pl p (chosen s f)
 chosen-same pl p s f k = record { inner = k .inner; outs = k .outs; handled = k .handled; table = k .table; credit = k .credit; wires = k .wires }
@@ -241,7 +241,7 @@ execute-picks pl p s k h =
     record { same = phase-same pl p _ Write (t .same); slot = t .slot; picks = t .picks }
 
 -- ---- WRITE: where nobody is picked nothing is sent
-no-send : (pl : Plan) (s : State) (o : Output) → s .choice o ≡ nobody → send pl o s ≡ s
+no-send : (pl : Plan) (s : State) (o : Output) → s .links .choice o ≡ nobody → send pl o s ≡ s
 unfolding send sendBy
 no-send pl s o e = rw e
 
@@ -250,7 +250,7 @@ none-sent pl s w =
     up-keeps (λ (t : State). t ≡ s) (λ n. send pl (outputAt pl n)) (outputs pl) s
     (λ n t h e. no-send pl t (outputAt pl n) (rw e (w (outputAt pl n) (drives-at pl n h))) ∙ e) refl
 
-pub write-stays : (pl : Plan) (p s : State) → Same pl p s → NoChoices pl s → Same pl p (doWrite pl s) × (doWrite pl s .slot ≡ slotNext (s .slot) (S pl))
+pub write-stays : (pl : Plan) (p s : State) → Same pl p s → NoChoices pl s → Same pl p (doWrite pl s) × (doWrite pl s .clock .slot ≡ slotNext (s .clock .slot) (S pl))
 unfolding doWrite
 write-stays pl p s k n =
     let e = none-sent pl s n in

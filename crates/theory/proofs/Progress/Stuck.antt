@@ -4,19 +4,17 @@ use mathlib.Core.Path.{_≡_, refl, sym, ap, _∙_}
 use mathlib.Core.Logic.{_⊎_, inl, inr, _≢_}
 use mathlib.Core.Bool.{Bool, true, false, false≢true, true≢false}
 use mathlib.Core.List.{List, [], _∷_}
-use mathlib.Core.Option.{Option, none, some}
+use mathlib.Core.Option.{Option, some}
 use Prim.Native.Nat.{ℕ, _≤_, _<_}
 use native.Mathlib.Nat.{min-le-right}
 use native.Mathlib.Omega.{arith}
 use lib.ListN.{length}
 use borrow.Author.Tests.{eq-eqb}
 use Rattle.basis.specs.Among.{In}
-use Rattle.basis.specs.Choice.{pick}
 use Rattle.basis.specs.Walk.{on, end}
 use Rattle.packets.specs.declared.Kind.{Kind}
-use Rattle.packets.specs.declared.Kind.the-variants.{Setup, Tdown, Ack, Nack}
+use Rattle.packets.specs.declared.Kind.the-variants.{Ack, Nack}
 use Rattle.packets.specs.declared.Packet.{Packet}
-use Rattle.packets.specs.declared.Wire.the-variants.{Empty, Full}
 use Rattle.plan.specs.declared.Head.{Head}
 use Rattle.plan.specs.Head.{InRange}
 use Rattle.plan.specs.declared.Joint.{Joint}
@@ -26,7 +24,7 @@ use Rattle.plan.specs.Rules.{home}
 use Rattle.paths.specs.Walk.{onward}
 use Rattle.paths.specs.Served.{Served}
 use Rattle.feeding.specs.Queue.{Queue, activeOut, activeIn, passiveIn, passiveOut, U, Q, F, K, Exists, number, queues, queueAt}
-use Rattle.feeding.specs.Feeds.{Output, outputOf, Heading, ahead, back, headingOf, destination, enters, across, next, beyond, span, leavesFrom, Fits, Place, inQueue, handledAt, Feeds, FeedRing}
+use Rattle.feeding.specs.Feeds.{Heading, ahead, back, headingOf, destination, enters, across, next, span, leavesFrom, Fits, inQueue, Feeds, FeedRing, headPlace}
 use Rattle.wiring.specs.Wired.{Wired}
 use Rattle.wiring.proofs.Joints.{router-some, interface-some}
 use Rattle.journeys.proofs.Numbers.{queue-at, number-same, number-below}
@@ -35,14 +33,14 @@ use Rattle.journeys.specs.Visits.{Visits}
 use Rattle.journeys.proofs.Walks.{onward-on, onward-end}
 use Rattle.journeys.proofs.Fitting.{fits-visits}
 use Rattle.machine.specs.Capacity.{capacity}
-use Rattle.machine.specs.Outputs.{nextBy, senders}
 use Rattle.machine.specs.State.{State, startAllowance}
-use Rattle.machine.specs.Valid.{PacketOk, Belongs, headPlace, Lined, brings, bit, isFed, onWires, inAll, inWire, total, spends}
+use Rattle.machine.specs.Valid.{Belongs, Lined, bit, isFed, onWires, inAll, total, spends}
 use Rattle.machine.specs.Outputs.{outputs, outputAt}
 use Rattle.machine.specs.Progress.{isInQueue, PassiveRoom}
 use Rattle.machine.proofs.OutNumbers.{drives-at}
 use Rattle.theory.proofs.Ground.Sums.{sum-two, sum-nought}
 use Rattle.theory.proofs.Core.{Core, WiresEmpty, FlagsDown, account}
+use Rattle.theory.proofs.Places.Lines.{head-leaves, may-leave}
 use Rattle.theory.proofs.Places.Closure.{fits-next, active-answer}
 use Rattle.theory.proofs.Progress.Follow.{follow}
 
@@ -121,44 +119,37 @@ pub record Jammed (pl : Plan) (s : State) : Type 0 where
   pub core : Core pl s
   pub wires : WiresEmpty pl s
   pub flags : FlagsDown pl s
-  pub handled : (r : ℕ) (x : Packet) (rest : List Packet) → r < R pl → s .queue (Q r) ≡ x ∷ rest → s .handled (Q r) ≡ true
-  pub blocked : (q y : Queue) (x : Packet) (rest : List Packet) → Exists pl q → isInQueue q ≡ false → s .queue q ≡ x ∷ rest
-      → next pl (headingOf (x .kind)) (x .active) (x .passive) q ≡ some y → s .credit y .0 ≡ 0
+  pub handled : (r : ℕ) (x : Packet) (rest : List Packet) → r < R pl → s .lines .queue (Q r) ≡ x ∷ rest → s .lines .handled (Q r) ≡ true
+  pub blocked : (q y : Queue) (x : Packet) (rest : List Packet) → Exists pl q → isInQueue q ≡ false → s .lines .queue q ≡ x ∷ rest
+      → next pl (headingOf (x .kind)) (x .active) (x .passive) q ≡ some y → s .flow .credit y .0 ≡ 0
 
 -- a set of queues that packets leave only for an in-queue, and for a passive's only where it is not full
 pub record Closed (pl : Plan) (set : Queue → Bool) (s : State) : Type 0 where
   pub stays : (h : Heading) (a p : ℕ) (q y : Queue) → a < A pl → p < P pl → Served pl a p → set q ≡ true → Visits pl h a p q → next pl h a p q ≡ some y → isInQueue y ≡ false → set y ≡ true
-  pub room : (h : Heading) (a p b : ℕ) (q : Queue) → a < A pl → p < P pl → Served pl a p → set q ≡ true → Visits pl h a p q → next pl h a p q ≡ some (passiveIn b) → b < P pl → length (s .queue (passiveIn b)) < capacity (pl .head) (passiveIn b)
+  pub room : (h : Heading) (a p b : ℕ) (q : Queue) → a < A pl → p < P pl → Served pl a p → set q ≡ true → Visits pl h a p q → next pl h a p q ≡ some (passiveIn b) → b < P pl → length (s .lines .queue (passiveIn b)) < capacity (pl .head) (passiveIn b)
 
 module _ {pl : Plan} (wired : Wired pl) (range : InRange (pl .head)) (free : FeedRing pl → ⊥) (s : State) (jam : Jammed pl s) (set : Queue → Bool) (closed : Closed pl set s) where
   -- a queue with a packet that could leave it
   abbrev Waiting : Queue → Type 0
-  Waiting q = Exists pl q × (isInQueue q ≡ false) × (set q ≡ true) × ((x : Packet) × (rest : List Packet) × (s .queue q ≡ x ∷ rest))
+  Waiting q = Exists pl q × (isInQueue q ≡ false) × (set q ≡ true) × ((x : Packet) × (rest : List Packet) × (s .lines .queue q ≡ x ∷ rest))
 
   -- the head is where it leaves from
-  head-place : (q : Queue) (x : Packet) (rest : List Packet) → Exists pl q → s .queue q ≡ x ∷ rest → headPlace (s .handled q) q ≡ leavesFrom q
-  head-place (activeOut a) x rest h e = refl
-  head-place (activeIn a) x rest h e = refl
-  head-place (passiveIn a) x rest h e = refl
-  head-place (passiveOut a) x rest h e = refl
-  head-place (U r i) x rest h e = refl
-  head-place (Q r) x rest h e = rw (jam .handled r x rest h e)
-  head-place (F r o) x rest h e = refl
-  head-place (K r i o) x rest h e = refl
+  head-place : (q : Queue) (x : Packet) (rest : List Packet) → Exists pl q → s .lines .queue q ≡ x ∷ rest → headPlace (s .lines .handled q) q ≡ leavesFrom q
+  head-place q x rest h e = head-leaves s q (may-leave s q (λ r u. rw u (jam .handled r x rest (rw u at h) (rw u at e))))
 
-  head-belongs : (q : Queue) (x : Packet) (rest : List Packet) → Exists pl q → s .queue q ≡ x ∷ rest → Belongs pl (leavesFrom q) x
+  head-belongs : (q : Queue) (x : Packet) (rest : List Packet) → Exists pl q → s .lines .queue q ≡ x ∷ rest → Belongs pl (leavesFrom q) x
   head-belongs q x rest h e = rw (head-place q x rest h e) at ((rw e at (jam .core .places q h)) .0)
 
   no-wires : (y : Queue) → onWires pl y s ≡ 0
   unfolding onWires
   no-wires y = sum-nought (outputs pl) _ (λ n l. rw (jam .wires (outputAt pl n) (drives-at pl n l)))
 
-  full : (y : Queue) → Exists pl y → isFed y ≡ true → s .credit y .0 ≡ 0 → length (s .queue y) ≡ capacity (pl .head) y
+  full : (y : Queue) → Exists pl y → isFed y ≡ true → s .flow .credit y .0 ≡ 0 → length (s .lines .queue y) ≡ capacity (pl .head) y
   unfolding account
   full y h f c =
       let a = jam .core .credits y h f in
       let w = no-wires y in
-      let b : bit (s .flag y) ≡ 0 = rw (jam .flags y h) in
+      let b : bit (s .flow .flag y) ≡ 0 = rw (jam .flags y h) in
       omega arith
 
   -- ---- an active's in-queue to which an answer goes is not full
@@ -169,23 +160,23 @@ module _ {pl : Plan} (wired : Wired pl) (range : InRange (pl .head)) (free : Fee
       by (e, l, inl k) = rw (eq-eqb (z .active) b (sym e), k)
       by (e, l, inr k) = rw (eq-eqb (z .active) b (sym e), k)
 
-  line-spends : (b : ℕ) → b < A pl → inAll (spends b) (s .queue (activeIn b)) ≡ length (s .queue (activeIn b))
-  line-spends b h = all-one (spends b) (s .queue (activeIn b)) (λ z i. spends-one b z (activeIn b) (at (s .queue (activeIn b)) (jam .core .places (activeIn b) h) z i) refl)
+  line-spends : (b : ℕ) → b < A pl → inAll (spends b) (s .lines .queue (activeIn b)) ≡ length (s .lines .queue (activeIn b))
+  line-spends b h = all-one (spends b) (s .lines .queue (activeIn b)) (λ z i. spends-one b z (activeIn b) (at (s .lines .queue (activeIn b)) (jam .core .places (activeIn b) h) z i) refl)
     where
-      at : (l : List Packet) → Lined pl (activeIn b) (s .handled (activeIn b)) l → (z : Packet) → In z l → Belongs pl (inQueue (activeIn b)) z
+      at : (l : List Packet) → Lined pl (activeIn b) (s .lines .handled (activeIn b)) l → (z : Packet) → In z l → Belongs pl (inQueue (activeIn b)) z
       at [] l z i = absurd i
       at (x ∷ l) (g, k) z (inl e) = rw e g
       at (x ∷ l) (g, k) z (inr i) = k z i
 
-  room-at-active : (q : Queue) (x : Packet) (rest : List Packet) (b : ℕ) → b < A pl → Exists pl q → isInQueue q ≡ false → s .queue q ≡ x ∷ rest → spends b x ≡ 1
-      → length (s .queue (activeIn b)) ≡ capacity (pl .head) (activeIn b) → ⊥
+  room-at-active : (q : Queue) (x : Packet) (rest : List Packet) (b : ℕ) → b < A pl → Exists pl q → isInQueue q ≡ false → s .lines .queue q ≡ x ∷ rest → spends b x ≡ 1
+      → length (s .lines .queue (activeIn b)) ≡ capacity (pl .head) (activeIn b) → ⊥
   unfolding total
   room-at-active q x rest b hb hq ni e w f =
       let i : ℕ = number pl q in
       let ne : number pl q ≢ number pl (activeIn b) = λ g. not-in q b ni (number-same pl q (activeIn b) hq hb g) in
-      let two = sum-two (queues pl) (λ n. inAll (spends b) (s .queue (queueAt pl n))) (number pl q) (number pl (activeIn b)) (number-below pl q hq) (number-below pl (activeIn b) hb) ne in
-      let one : 1 ≤ inAll (spends b) (s .queue (queueAt pl (number pl q))) = rw (queue-at pl q hq, e) (omega arith) in
-      let line : inAll (spends b) (s .queue (queueAt pl (number pl (activeIn b)))) ≡ length (s .queue (activeIn b)) = rw (queue-at pl (activeIn b) hb) (line-spends b hb) in
+      let two = sum-two (queues pl) (λ n. inAll (spends b) (s .lines .queue (queueAt pl n))) (number pl q) (number pl (activeIn b)) (number-below pl q hq) (number-below pl (activeIn b) hb) ne in
+      let one : 1 ≤ inAll (spends b) (s .lines .queue (queueAt pl (number pl q))) = rw (queue-at pl q hq, e) (omega arith) in
+      let line : inAll (spends b) (s .lines .queue (queueAt pl (number pl (activeIn b)))) ≡ length (s .lines .queue (activeIn b)) = rw (queue-at pl (activeIn b) hb) (line-spends b hb) in
       let least : startAllowance pl ≤ pl .head .ain .0 = min-le-right (pl .head .aout .0) (pl .head .ain .0) in
       let account = jam .core .allowances b hb in
       omega arith
@@ -225,14 +216,14 @@ module _ {pl : Plan} (wired : Wired pl) (range : InRange (pl .head)) (free : Fee
           may-exist wired (x .active) (x .passive) (g .ranges .active) (g .ranges .passive) (g .serves) (headingOf (x .kind)) y
           (may-next wired (x .active) (x .passive) (g .ranges .active) (g .ranges .passive) (g .serves) (headingOf (x .kind)) q y v n)
 
-      there : (y : Queue) (n : next pl (headingOf (x .kind)) (x .active) (x .passive) q ≡ some y) → length (s .queue y) ≡ capacity (pl .head) y
+      there : (y : Queue) (n : next pl (headingOf (x .kind)) (x .active) (x .passive) q ≡ some y) → length (s .lines .queue y) ≡ capacity (pl .head) y
       there y n = full y (exists y n) (next-fed pl (headingOf (x .kind)) (x .active) (x .passive) q y n) (jam .blocked q y x rest h ni e n)
 
       -- a full queue has a packet
-      filled : (y : Queue) → Exists pl y → length (s .queue y) ≡ capacity (pl .head) y → (z : Packet) × (more : List Packet) × (s .queue y ≡ z ∷ more)
-      filled y k f = some-packet (s .queue y) refl
+      filled : (y : Queue) → Exists pl y → length (s .lines .queue y) ≡ capacity (pl .head) y → (z : Packet) × (more : List Packet) × (s .lines .queue y ≡ z ∷ more)
+      filled y k f = some-packet (s .lines .queue y) refl
         where
-          some-packet : (l : List Packet) → s .queue y ≡ l → (z : Packet) × (more : List Packet) × (s .queue y ≡ z ∷ more)
+          some-packet : (l : List Packet) → s .lines .queue y ≡ l → (z : Packet) × (more : List Packet) × (s .lines .queue y ≡ z ∷ more)
           some-packet [] m = let c = capacity-some (pl .head) range y in absurd (nothing (sym (ap length m) ∙ f) c)
             where
               nothing : 0 ≡ capacity (pl .head) y → 1 ≤ capacity (pl .head) y → ⊥
@@ -259,7 +250,7 @@ module _ {pl : Plan} (wired : Wired pl) (range : InRange (pl .head)) (free : Fee
       found (y, n) = into y n
 
   -- no packet is in a queue of the set other than an in-queue
-  pub none-waits : (q : Queue) (x : Packet) (rest : List Packet) → Exists pl q → isInQueue q ≡ false → set q ≡ true → s .queue q ≡ x ∷ rest → ⊥
+  pub none-waits : (q : Queue) (x : Packet) (rest : List Packet) → Exists pl q → isInQueue q ≡ false → set q ≡ true → s .lines .queue q ≡ x ∷ rest → ⊥
   none-waits q x rest h ni b e =
       follow (number pl) (queues pl) (Feeds pl) Waiting ⊥ (λ u w. number-below pl u (w .0)) (λ u v w z m. number-same pl u v (w .0) (z .0) m) step free q (h, ni, b, (x, rest, e))
 
@@ -324,7 +315,7 @@ answering-closed {pl} wired s = record { stays = stays′; room = room′ }
         by (inr q) = let k : Passive c ≡ Active a = sym there ∙ onward-end pl (active a) (record { router = r; side = j }) q in let z′ : _≡_ {A = ℕ} 0 1 = cc in omega arith
 
     room′ : (h : Heading) (a p c : ℕ) (q : Queue) → a < A pl → p < P pl → Served pl a p → answering q ≡ true → Visits pl h a p q → next pl h a p q ≡ some (passiveIn c) → c < P pl
-        → length (s .queue (passiveIn c)) < capacity (pl .head) (passiveIn c)
+        → length (s .lines .queue (passiveIn c)) < capacity (pl .head) (passiveIn c)
     room′ ahead a p c (passiveOut x) ha hp d b v n l = absurd v
     room′ back a p c (passiveOut x) ha hp d b v n l = let k : K (home pl (passive x) .router) (home pl (passive x) .side) (routeTo pl (active a) (home pl (passive x) .router)) ≡ passiveIn c = some-same n in let z : _≡_ {A = ℕ} 0 1 = cc in absurd (omega arith)
     room′ ahead a p c (K r j o) ha hp d b v n l = absurd v

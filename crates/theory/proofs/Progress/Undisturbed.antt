@@ -20,20 +20,20 @@ use Rattle.theory.proofs.Progress.Still.{Same, launch-same, reply-same,
 
 -- ---- the three timed calls, in their phase and outside it
 module _ (pl : Plan) (s : State) (x : Phase) where
-  pub turn-now : s .phase ≡ x → call pl (turn x) s ≡ gives Done (stepOf pl x s)
+  pub turn-now : s .clock .phase ≡ x → call pl (turn x) s ≡ gives Done (stepOf pl x s)
   unfolding call
-  turn-now e = rw (phase-is (s .phase) x e)
+  turn-now e = rw (phase-is (s .clock .phase) x e)
 
-  pub turn-not : s .phase ≢ x → call pl (turn x) s ≡ gives (Refused WrongPhase) s
+  pub turn-not : s .clock .phase ≢ x → call pl (turn x) s ≡ gives (Refused WrongPhase) s
   unfolding call
-  turn-not ne = rw (refuted (isPhase (s .phase) x) (λ t. ne (phase-of (s .phase) x (rw t))))
+  turn-not ne = rw (refuted (isPhase (s .clock .phase) x) (λ t. ne (phase-of (s .clock .phase) x (rw t))))
 
 -- ---- the other calls
 pub record Undisturbed (pl : Plan) (p s t : State) : Type 0 where
   pub same : Same pl p t
-  pub slot : t .slot ≡ s .slot
-  pub phase : t .phase ≡ s .phase
-  pub choice : t .choice ≡ s .choice
+  pub slot : t .clock .slot ≡ s .clock .slot
+  pub phase : t .clock .phase ≡ s .clock .phase
+  pub choice : t .links .choice ≡ s .links .choice
 
 module _ (pl : Plan) (p s : State) (k : Same pl p s) where
   pub still : Undisturbed pl p s s
@@ -58,7 +58,7 @@ module _ (pl : Plan) (p s : State) (k : Same pl p s) where
   visit-undisturbed v = untimed (visit v) (call pl (visit v) s) (call-does pl s (visit v)) refl
 
 -- in EXECUTE all but Execute leave the state
-module _ (pl : Plan) (s : State) (e : s .phase ≡ Execute) where
+module _ (pl : Plan) (s : State) (e : s .clock .phase ≡ Execute) where
   only : (c : Call) (o : Outcome) → Does pl s c o → c ≢ execute → (o .state ≡ s) × (endsRound c (o .answer) ≡ 0)
   only c o (refuses d w n) ne = (refl, refused-turns Write d w)
   only c o (turns x f) ne = absurd (ne (ap turn (sym f ∙ e)))

@@ -1,6 +1,6 @@
 -- The two laws of arbitration: what an output picks is a candidate among its senders, and an open output that picks nobody has none. And what it
 -- looks at: not at choices, so that outputs may pick in any order. Nothing else looks at how the pick is made.
-use mathlib.Core.Path.{_≡_, refl, sym, ap, _∙_}
+use mathlib.Core.Path.{_≡_, refl, sym, ap}
 use mathlib.Core.Logic.{_⊎_, inl, inr}
 use mathlib.Core.Bool.{Bool, true, false}
 use mathlib.Core.List.{List, [], _∷_}
@@ -10,11 +10,11 @@ use native.Mathlib.Omega.{arith}
 use Rattle.basis.specs.Choice.{also, test}
 use Rattle.plan.specs.Plan.{Plan}
 use Rattle.packets.specs.declared.Packet.{Packet}
-use Rattle.feeding.specs.Queue.{Queue, activeOut, activeIn, passiveIn, passiveOut, U, Q, F, K}
+use Rattle.feeding.specs.Queue.{Queue}
 use Rattle.feeding.specs.Feeds.{Output, ofActive, ofPassive, ofSide, toUnit, fromUnit}
 use Rattle.journeys.proofs.Places.{some-same, some-not-none}
 use Rattle.machine.specs.Outputs.{nextBy, senders}
-use Rattle.machine.specs.State.{State, Choice, nobody, sender}
+use Rattle.machine.specs.State.{State, Choice, nobody, sender, withLinks}
 use Rattle.machine.specs.Execute.{hasCredit, mayLeave, headReady, candidate, isOpen, firstOf, picked}
 use Rattle.machine.specs.Write.{ofRank}
 use Rattle.machine.proofs.Apart.{nobody-not, sender-same}
@@ -74,22 +74,11 @@ picked-none pl s o e = by (test (isOpen s o))
 -- ---- the pick does not look at choices
 -- s with other choices
 abbrev pub chosen : State → (Output → Choice) → State
-chosen s f =
-    record { phase = s .phase; slot = s .slot; queue = s .queue; wire = s .wire; credit = s .credit; flag = s .flag; handled = s .handled; choice = f; table = s .table; allowance = s .allowance }
+chosen s f = withLinks (record { wire = s .links .wire; choice = f }) s
 
 credit-alike : (s : State) (f : Output → Choice) (y : Option Queue) → hasCredit (chosen s f) y ≡ hasCredit s y
 credit-alike s f none = refl
 credit-alike s f (some q) = refl
-
-leave-alike : (s : State) (f : Output → Choice) (q : Queue) → mayLeave (chosen s f) q ≡ mayLeave s q
-leave-alike s f (activeOut x) = refl
-leave-alike s f (activeIn x) = refl
-leave-alike s f (passiveIn x) = refl
-leave-alike s f (passiveOut x) = refl
-leave-alike s f (U r i) = refl
-leave-alike s f (Q r) = refl
-leave-alike s f (F r o) = refl
-leave-alike s f (K r i o) = refl
 
 ready-alike : (pl : Plan) (s : State) (f : Output → Choice) (o : Output) (b : Bool) (l : List Packet) → headReady pl (chosen s f) o b l ≡ headReady pl s o b l
 ready-alike pl s f o b [] = refl
@@ -97,7 +86,7 @@ ready-alike pl s f o b (x ∷ l) = ap (also b) (credit-alike s f (nextBy pl o x)
 
 candidate-alike : (pl : Plan) (s : State) (f : Output → Choice) (o : Output) (q : Queue) → candidate pl (chosen s f) o q ≡ candidate pl s o q
 unfolding candidate
-candidate-alike pl s f o q = ready-alike pl s f o (mayLeave (chosen s f) q) (s .queue q) ∙ ap (λ (b : Bool). headReady pl s o b (s .queue q)) (leave-alike s f q)
+candidate-alike pl s f o q = ready-alike pl s f o (mayLeave (chosen s f) q) (s .lines .queue q)
 
 open-alike : (s : State) (f : Output → Choice) (o : Output) → isOpen (chosen s f) o ≡ isOpen s o
 open-alike s f (ofActive a) = refl

@@ -20,37 +20,37 @@ use Rattle.theory.proofs.Shape.Spared.{Spares, spared-sendable, spares-
 -- ---- what a shape has, by phase
 module _ {pl : Plan} (s : State) where
   -- in READ
-  pub read-has : s .phase ≡ Read → Shape pl s → NoChoices pl s
+  pub read-has : s .clock .phase ≡ Read → Shape pl s → NoChoices pl s
   read-has p (in-read e n) = n
   read-has p (in-execute e n w f) = n
   read-has p (in-write e w c) = absurd (read-write (sym p ∙ e))
 
   -- in EXECUTE
-  pub execute-has : s .phase ≡ Execute → Shape pl s → NoChoices pl s × WiresEmpty pl s × FlagsDown pl s
+  pub execute-has : s .clock .phase ≡ Execute → Shape pl s → NoChoices pl s × WiresEmpty pl s × FlagsDown pl s
   execute-has p (in-read e n) = absurd (read-execute (sym e ∙ p))
   execute-has p (in-execute e n w f) = (n, w, f)
   execute-has p (in-write e w c) = absurd (execute-write (sym p ∙ e))
 
   -- in WRITE
-  pub write-has : s .phase ≡ Write → Shape pl s → WiresEmpty pl s × ChoicesSendable pl s
+  pub write-has : s .clock .phase ≡ Write → Shape pl s → WiresEmpty pl s × ChoicesSendable pl s
   write-has p (in-read e n) = absurd (read-write (sym e ∙ p))
   write-has p (in-execute e n w f) = absurd (execute-write (sym e ∙ p))
   write-has p (in-write e w c) = (w, c)
 
   -- ---- a change in WRITE that spares every output, and changes no wire and no choice
-  pub spared-shape : (t : State) → t .phase ≡ s .phase → t .wire ≡ s .wire → t .choice ≡ s .choice → ((o : Output) → Spares pl s t o) → s .phase ≡ Write → Shape pl s → Shape pl t
+  pub spared-shape : (t : State) → t .clock .phase ≡ s .clock .phase → t .links .wire ≡ s .links .wire → t .links .choice ≡ s .links .choice → ((o : Output) → Spares pl s t o) → s .clock .phase ≡ Write → Shape pl s → Shape pl t
   spared-shape t p w c a q h =
       let g = write-has q h in
       in-write (p ∙ q) (λ o d. ap (λ (m : Output → Wire). m o) w ∙ g .0 o d) (λ o k d e. spared-sendable (a o) k (g .1 o k d (sym (ap (λ (m : Output → Choice). m o) c) ∙ e)))
 
   -- ---- the calls
   -- Launch, in READ
-  pub launched-shape : (a p t : ℕ) → s .phase ≡ Read → Shape pl s → Shape pl (launched a p t s)
+  pub launched-shape : (a p t : ℕ) → s .clock .phase ≡ Read → Shape pl s → Shape pl (launched a p t s)
   unfolding launched join
   launched-shape a p t q h = in-read q (read-has q h)
 
   -- Reply, in WRITE
-  pub replied-shape : (p : ℕ) (k : Kind) (x : Packet) (rest : List Packet) → s .phase ≡ Write → Shape pl s
+  pub replied-shape : (p : ℕ) (k : Kind) (x : Packet) (rest : List Packet) → s .clock .phase ≡ Write → Shape pl s
       → Shape pl (replied p k (x ∷ rest) s)
   unfolding join
   replied-shape p k x rest q h = spared-shape (replied p k (x ∷ rest) s) refl refl refl spares q h
@@ -64,7 +64,7 @@ module _ {pl : Plan} (s : State) where
           (join-spares (passiveOut p) (repliedAs k x) (withFlag (passiveIn p) true (withQueue (passiveIn p) rest s))))
 
   -- Consume, in WRITE
-  pub removed-shape : (a : ℕ) (rest : List Packet) → s .phase ≡ Write → Shape pl s → Shape pl (removed a rest s)
+  pub removed-shape : (a : ℕ) (rest : List Packet) → s .clock .phase ≡ Write → Shape pl s → Shape pl (removed a rest s)
   unfolding removed
   removed-shape a rest q h = spared-shape (removed a rest s) refl refl refl spares q h
     where

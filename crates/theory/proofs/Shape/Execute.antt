@@ -33,7 +33,7 @@ use Rattle.theory.proofs.Shape.Spared.{Spares, spared-sendable, spares-
 -- ---- (1) units
 -- while the units below n have had their turn: a flag that is up is that of such a unit's Q, and its mark is down
 abbrev pub Quiet : Plan → ℕ → State → Type 0
-Quiet pl n s = (q : Queue) → Exists pl q → s .flag q ≡ true → (r : ℕ) × (r < n) × (q ≡ Q r) × (s .handled q ≡ false)
+Quiet pl n s = (q : Queue) → Exists pl q → s .flow .flag q ≡ true → (r : ℕ) × (r < n) × (q ≡ Q r) × (s .lines .handled q ≡ false)
 
 module _ (pl : Plan) where
   -- before the first unit's turn
@@ -41,13 +41,13 @@ module _ (pl : Plan) where
   quiet-start s f q h up = absurd (not-both up (f q h))
 
   -- the flag of the unit whose turn it is is down
-  pub quiet-down : (n : ℕ) (s : State) → n < R pl → Quiet pl n s → s .flag (Q n) ≡ false
-  quiet-down n s h g = refuted (s .flag (Q n)) (λ up. by (g (Q n) h up))
+  pub quiet-down : (n : ℕ) (s : State) → n < R pl → Quiet pl n s → s .flow .flag (Q n) ≡ false
+  quiet-down n s h g = refuted (s .flow .flag (Q n)) (λ up. by (g (Q n) h up))
     where
-      by : (r : ℕ) × (r < n) × (Q n ≡ Q r) × (s .handled (Q n) ≡ false) → ⊥
+      by : (r : ℕ) × (r < n) × (Q n ≡ Q r) × (s .lines .handled (Q n) ≡ false) → ⊥
       by (r, l, e, m) = let z : n ≡ r = unit-same e in omega arith
 
-  quiet-same : (n : ℕ) (s t : State) → t .flag ≡ s .flag → t .handled ≡ s .handled → Quiet pl n s → Quiet pl n t
+  quiet-same : (n : ℕ) (s t : State) → t .flow .flag ≡ s .flow .flag → t .lines .handled ≡ s .lines .handled → Quiet pl n s → Quiet pl n t
   quiet-same n s t f m g q h up =
       let d = g q h (sym (ap (λ (m : Queue → Bool). m q) f) ∙ up) in
       (d .0, d .1, d .2, ap (λ (m : Queue → Bool). m q) m ∙ d .3)
@@ -55,27 +55,27 @@ module _ (pl : Plan) where
   quiet-more : (n : ℕ) (s : State) → Quiet pl n s → Quiet pl (suc n) s
   quiet-more n s g q h up = by (g q h up)
     where
-      by : (r : ℕ) × (r < n) × (q ≡ Q r) × (s .handled q ≡ false) → (r : ℕ) × (r < suc n) × (q ≡ Q r) × (s .handled q ≡ false)
+      by : (r : ℕ) × (r < n) × (q ≡ Q r) × (s .lines .handled q ≡ false) → (r : ℕ) × (r < suc n) × (q ≡ Q r) × (s .lines .handled q ≡ false)
       by (r, l, e, m) = (r, omega arith, e, m)
 
   -- the head of Q n is handled
-  quiet-handled : (n : ℕ) (s t : State) → t .flag ≡ s .flag → t .handled ≡ put sameQueue (s .handled) (Q n) true → Quiet pl n s → Quiet pl (suc n) t
+  quiet-handled : (n : ℕ) (s t : State) → t .flow .flag ≡ s .flow .flag → t .lines .handled ≡ put sameQueue (s .lines .handled) (Q n) true → Quiet pl n s → Quiet pl (suc n) t
   quiet-handled n s t f m g q h up = by (g q h (sym (ap (λ (m : Queue → Bool). m q) f) ∙ up))
     where
-      by : (r : ℕ) × (r < n) × (q ≡ Q r) × (s .handled q ≡ false) → (r : ℕ) × (r < suc n) × (q ≡ Q r) × (t .handled q ≡ false)
+      by : (r : ℕ) × (r < n) × (q ≡ Q r) × (s .lines .handled q ≡ false) → (r : ℕ) × (r < suc n) × (q ≡ Q r) × (t .lines .handled q ≡ false)
       by (r, l, e, d) =
           let ne : q ≢ Q n = λ z. let i : r ≡ n = unit-same (sym e ∙ z) in omega arith in
-          (r, omega arith, e, ap (λ (m : Queue → Bool). m q) m ∙ queue-away (s .handled) (Q n) true q ne ∙ d)
+          (r, omega arith, e, ap (λ (m : Queue → Bool). m q) m ∙ queue-away (s .lines .handled) (Q n) true q ne ∙ d)
 
   -- the head of Q n ended
-  quiet-ended : (n : ℕ) (s t : State) → t .flag ≡ put sameQueue (s .flag) (Q n) true → t .handled ≡ s .handled → s .handled (Q n) ≡ false → Quiet pl n s → Quiet pl (suc n) t
+  quiet-ended : (n : ℕ) (s t : State) → t .flow .flag ≡ put sameQueue (s .flow .flag) (Q n) true → t .lines .handled ≡ s .lines .handled → s .lines .handled (Q n) ≡ false → Quiet pl n s → Quiet pl (suc n) t
   quiet-ended n s t f m d g q h up = by (queue-or q (Q n))
     where
-      by : (q ≡ Q n) ⊎ (q ≢ Q n) → (r : ℕ) × (r < suc n) × (q ≡ Q r) × (t .handled q ≡ false)
+      by : (q ≡ Q n) ⊎ (q ≢ Q n) → (r : ℕ) × (r < suc n) × (q ≡ Q r) × (t .lines .handled q ≡ false)
       by (inl e) = (n, omega arith, e, ap (λ (m : Queue → Bool). m q) m ∙ rw e d)
-      by (inr ne) = last (g q h (sym (ap (λ (m : Queue → Bool). m q) f ∙ queue-away (s .flag) (Q n) true q ne) ∙ up))
+      by (inr ne) = last (g q h (sym (ap (λ (m : Queue → Bool). m q) f ∙ queue-away (s .flow .flag) (Q n) true q ne) ∙ up))
         where
-          last : (r : ℕ) × (r < n) × (q ≡ Q r) × (s .handled q ≡ false) → (r : ℕ) × (r < suc n) × (q ≡ Q r) × (t .handled q ≡ false)
+          last : (r : ℕ) × (r < n) × (q ≡ Q r) × (s .lines .handled q ≡ false) → (r : ℕ) × (r < suc n) × (q ≡ Q r) × (t .lines .handled q ≡ false)
           last (r, l, e, d) = (r, omega arith, e, ap (λ (m : Queue → Bool). m q) m ∙ d)
 
   -- a unit's turn
@@ -86,8 +86,8 @@ module _ (pl : Plan) where
       (λ x rest o t b e m. quiet-ended n s (withFlag (Q n) true (withQueue (Q n) rest (withEntry n o t b s))) refl refl m g)
 
   -- it changes no wire
-  pub unit-wire : (n : ℕ) (s : State) → unit pl n s .wire ≡ s .wire
-  unit-wire n s = unit-by pl s (λ (t : State). t .wire ≡ s .wire) n refl (λ x y rest e m. refl) (λ x y rest o t b e m. refl) (λ x rest o t b e m. refl)
+  pub unit-wire : (n : ℕ) (s : State) → unit pl n s .links .wire ≡ s .links .wire
+  unit-wire n s = unit-by pl s (λ (t : State). t .links .wire ≡ s .links .wire) n refl (λ x y rest e m. refl) (λ x y rest o t b e m. refl) (λ x rest o t b e m. refl)
 
   -- after all units
   pub units-quiet : (s : State) → FlagsDown pl s → Quiet pl (R pl) (upTo (unit pl) (R pl) s)
@@ -102,14 +102,14 @@ module _ (pl : Plan) where
   pub picked-sendable : (s : State) → Quiet pl (R pl) s → (o : Output) (k : ℕ) → Drives pl o → picked pl s o ≡ sender k → Sendable pl s o k
   picked-sendable s g o k d e =
       let c = picked-candidate pl s o k e .1 in
-      record { queue = c .0; rank = c .1; ready = c .2; down = refuted (s .flag (c .0)) (λ up. not-both (leaves (c .0) (g (c .0) (sender-exists pl o k (c .0) d (c .1)) up) (candidate-ready pl s o (c .0) (c .2) .leaves)) (g (c .0) (sender-exists pl o k (c .0) d (c .1)) up .3)) }
+      record { queue = c .0; rank = c .1; ready = c .2; down = refuted (s .flow .flag (c .0)) (λ up. not-both (leaves (c .0) (g (c .0) (sender-exists pl o k (c .0) d (c .1)) up) (candidate-ready pl s o (c .0) (c .2) .leaves)) (g (c .0) (sender-exists pl o k (c .0) d (c .1)) up .3)) }
     where
-      leaves : (q : Queue) → (r : ℕ) × (r < R pl) × (q ≡ Q r) × (s .handled q ≡ false) → mayLeave s q ≡ true → s .handled q ≡ true
+      leaves : (q : Queue) → (r : ℕ) × (r < R pl) × (q ≡ Q r) × (s .lines .handled q ≡ false) → mayLeave s q ≡ true → s .lines .handled q ≡ true
       leaves q (r, l, e, m) h = rw e (rw e at h)
 
   -- the outputs below n have picked
   abbrev pub Picked : ℕ → State → Type 0
-  Picked n s = Quiet pl (R pl) s × ((j : ℕ) → j < n → (k : ℕ) → s .choice (outputAt pl j) ≡ sender k → Sendable pl s (outputAt pl j) k)
+  Picked n s = Quiet pl (R pl) s × ((j : ℕ) → j < n → (k : ℕ) → s .links .choice (outputAt pl j) ≡ sender k → Sendable pl s (outputAt pl j) k)
 
   choose-spares : (o u : Output) (s : State) → Spares pl s (choose pl o s) u
   unfolding choose
@@ -120,16 +120,16 @@ module _ (pl : Plan) where
   unfolding choose
   choose-picked n s h g = (quiet-same (R pl) s (choose pl (outputAt pl n) s) refl refl (g .0), λ j l. by j (below-suc l))
     where
-      by : (j : ℕ) → (j < n) ⊎ (j ≡ n) → (k : ℕ) → choose pl (outputAt pl n) s .choice (outputAt pl j) ≡ sender k → Sendable pl (choose pl (outputAt pl n) s) (outputAt pl j) k
+      by : (j : ℕ) → (j < n) ⊎ (j ≡ n) → (k : ℕ) → choose pl (outputAt pl n) s .links .choice (outputAt pl j) ≡ sender k → Sendable pl (choose pl (outputAt pl n) s) (outputAt pl j) k
       by j (inl l) k e =
           spared-sendable (choose-spares (outputAt pl n) (outputAt pl j) s) k
-          (g .1 j l k (sym (output-away (s .choice) (outputAt pl n) (picked pl s (outputAt pl n)) (outputAt pl j) (at-apart pl j n (omega arith) h (λ z. omega arith))) ∙ e))
+          (g .1 j l k (sym (output-away (s .links .choice) (outputAt pl n) (picked pl s (outputAt pl n)) (outputAt pl j) (at-apart pl j n (omega arith) h (λ z. omega arith))) ∙ e))
       by j (inr z) k e = rw z (last (rw z at e))
         where
-          last : choose pl (outputAt pl n) s .choice (outputAt pl n) ≡ sender k → Sendable pl (choose pl (outputAt pl n) s) (outputAt pl n) k
+          last : choose pl (outputAt pl n) s .links .choice (outputAt pl n) ≡ sender k → Sendable pl (choose pl (outputAt pl n) s) (outputAt pl n) k
           last f =
               spared-sendable (choose-spares (outputAt pl n) (outputAt pl n) s) k
-              (picked-sendable s (g .0) (outputAt pl n) k (drives-at pl n h) (sym (output-here (s .choice) (outputAt pl n) (picked pl s (outputAt pl n))) ∙ f))
+              (picked-sendable s (g .0) (outputAt pl n) k (drives-at pl n h) (sym (output-here (s .links .choice) (outputAt pl n) (picked pl s (outputAt pl n))) ∙ f))
 
   abbrev chooses : ℕ → State → State
   chooses n = choose pl (outputAt pl n)
@@ -154,14 +154,14 @@ module _ (pl : Plan) where
       (turn-spares (activeIn a) (λ z. some-not-none z) (marked x ∷ rest) s) (join-spares (activeOut a) (tdownOf (S pl) x) (withQueue (activeIn a) (marked x ∷ rest) s)))
 
   -- it changes no choice
-  pub undo-choice : (a : ℕ) (s : State) → undo pl a s .choice ≡ s .choice
+  pub undo-choice : (a : ℕ) (s : State) → undo pl a s .links .choice ≡ s .links .choice
   unfolding join
-  undo-choice a s = undo-by pl s (λ (t : State). t .choice ≡ s .choice) a refl (λ x rest e u room. refl)
+  undo-choice a s = undo-by pl s (λ (t : State). t .links .choice ≡ s .links .choice) a refl (λ x rest e u room. refl)
 
   -- and no wire
-  pub undo-wire : (a : ℕ) (s : State) → undo pl a s .wire ≡ s .wire
+  pub undo-wire : (a : ℕ) (s : State) → undo pl a s .links .wire ≡ s .links .wire
   unfolding join
-  undo-wire a s = undo-by pl s (λ (t : State). t .wire ≡ s .wire) a refl (λ x rest e u room. refl)
+  undo-wire a s = undo-by pl s (λ (t : State). t .links .wire ≡ s .links .wire) a refl (λ x rest e u room. refl)
 
   -- ---- the whole phase
   -- after EXECUTE wires are still empty

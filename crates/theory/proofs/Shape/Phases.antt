@@ -35,7 +35,7 @@ module _ (pl : Plan) (P : State → Type 0) (s : State) where
       (up-keeps P (λ n. deliver pl (outputAt pl n)) (outputs pl) s (λ i t h q. delivers (outputAt pl i) t (drives-at pl i h) q) p))
 
   -- EXECUTE: units, whose Q's flag is down at their turn, then picks, then tear-downs
-  pub execute-keeps : ((r : ℕ) (t : State) → r < R pl → t .flag (Q r) ≡ false → P t → P (unit pl r t))
+  pub execute-keeps : ((r : ℕ) (t : State) → r < R pl → t .flow .flag (Q r) ≡ false → P t → P (unit pl r t))
       → ((o : Output) (t : State) → Drives pl o → P t → P (choose pl o t))
       → ((a : ℕ) (t : State) → a < A pl → P t → P (undo pl a t))
       → ((t : State) → P t → P (withPhase Write t))
@@ -50,8 +50,8 @@ module _ (pl : Plan) (P : State → Type 0) (s : State) where
 
   -- WRITE: sendings, each with an empty wire and a choice that can be sent at its turn
   pub write-keeps : Wired pl
-      → ((o : Output) (t : State) → Drives pl o → t .wire o ≡ Empty → ((k : ℕ) → t .choice o ≡ sender k → Sendable pl t o k) → P t → P (send pl o t))
-      → ((t : State) → P t → P (withPhase Read (withSlot (slotNext (s .slot) (S pl)) t)))
+      → ((o : Output) (t : State) → Drives pl o → t .links .wire o ≡ Empty → ((k : ℕ) → t .links .choice o ≡ sender k → Sendable pl t o k) → P t → P (send pl o t))
+      → ((t : State) → P t → P (withPhase Read (withSlot (slotNext (s .clock .slot) (S pl)) t)))
       → WiresEmpty pl s → ChoicesSendable pl s → P s → P (doWrite pl s)
   unfolding doWrite
   write-keeps wired sends ends w c p =

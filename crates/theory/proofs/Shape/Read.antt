@@ -24,12 +24,12 @@ use Rattle.theory.proofs.Ground.Cells.{queue-here, output-here}
 use Rattle.theory.proofs.Core.{WiresEmpty, FlagsDown, NoChoices, Shape, in-execute}
 
 -- ---- one wire: it empties, and no wire fills
-next-wire : (y : Option Queue) (x : Packet) (s : State) → joinNext y x s .wire ≡ s .wire
+next-wire : (y : Option Queue) (x : Packet) (s : State) → joinNext y x s .links .wire ≡ s .links .wire
 unfolding join
 next-wire none x s = refl
 next-wire (some q) x s = refl
 
-next-choice : (y : Option Queue) (x : Packet) (s : State) → joinNext y x s .choice ≡ s .choice
+next-choice : (y : Option Queue) (x : Packet) (s : State) → joinNext y x s .links .choice ≡ s .links .choice
 unfolding join
 next-choice none x s = refl
 next-choice (some q) x s = refl
@@ -40,67 +40,67 @@ either true x y e f = e
 either false x y e f = f
 
 -- a delivered wire is empty
-pub deliver-empties : (pl : Plan) (o : Output) (s : State) → deliver pl o s .wire o ≡ Empty
+pub deliver-empties : (pl : Plan) (o : Output) (s : State) → deliver pl o s .links .wire o ≡ Empty
 unfolding deliver arrive
-deliver-empties pl o s = by (s .wire o) refl
+deliver-empties pl o s = by (s .links .wire o) refl
   where
-    by : (w : Wire) → s .wire o ≡ w → arrive pl o w s .wire o ≡ Empty
+    by : (w : Wire) → s .links .wire o ≡ w → arrive pl o w s .links .wire o ≡ Empty
     by Empty e = e
-    by (Full x) e = ap (λ (m : Output → Wire). m o) (next-wire (nextBy pl o x) x (withWire o Empty s)) ∙ output-here (s .wire) o Empty
+    by (Full x) e = ap (λ (m : Output → Wire). m o) (next-wire (nextBy pl o x) x (withWire o Empty s)) ∙ output-here (s .links .wire) o Empty
 
 -- and no other fills
-pub deliver-fills-none : (pl : Plan) (o : Output) (s : State) (u : Output) → s .wire u ≡ Empty → deliver pl o s .wire u ≡ Empty
+pub deliver-fills-none : (pl : Plan) (o : Output) (s : State) (u : Output) → s .links .wire u ≡ Empty → deliver pl o s .links .wire u ≡ Empty
 unfolding deliver arrive
-deliver-fills-none pl o s u h = by (s .wire o)
+deliver-fills-none pl o s u h = by (s .links .wire o)
   where
-    by : (w : Wire) → arrive pl o w s .wire u ≡ Empty
+    by : (w : Wire) → arrive pl o w s .links .wire u ≡ Empty
     by Empty = h
-    by (Full x) = ap (λ (m : Output → Wire). m u) (next-wire (nextBy pl o x) x (withWire o Empty s)) ∙ either (sameOutput u o) Empty (s .wire u) refl h
+    by (Full x) = ap (λ (m : Output → Wire). m u) (next-wire (nextBy pl o x) x (withWire o Empty s)) ∙ either (sameOutput u o) Empty (s .links .wire u) refl h
 
 -- and choices stay
-pub deliver-choice : (pl : Plan) (o : Output) (s : State) → deliver pl o s .choice ≡ s .choice
+pub deliver-choice : (pl : Plan) (o : Output) (s : State) → deliver pl o s .links .choice ≡ s .links .choice
 unfolding deliver arrive
-deliver-choice pl o s = by (s .wire o)
+deliver-choice pl o s = by (s .links .wire o)
   where
-    by : (w : Wire) → arrive pl o w s .choice ≡ s .choice
+    by : (w : Wire) → arrive pl o w s .links .choice ≡ s .links .choice
     by Empty = refl
     by (Full x) = next-choice (nextBy pl o x) x (withWire o Empty s)
 
 -- ---- one flag: it is lowered, and none rises
 -- wires stay
-pub settle-wire : (q : Queue) (s : State) → settle q s .wire ≡ s .wire
+pub settle-wire : (q : Queue) (s : State) → settle q s .links .wire ≡ s .links .wire
 unfolding settle lower
-settle-wire q s = by (s .flag q)
+settle-wire q s = by (s .flow .flag q)
   where
-    by : (b : Bool) → lower q b s .wire ≡ s .wire
+    by : (b : Bool) → lower q b s .links .wire ≡ s .links .wire
     by true = refl
     by false = refl
 
 -- choices stay
-pub settle-choice : (q : Queue) (s : State) → settle q s .choice ≡ s .choice
+pub settle-choice : (q : Queue) (s : State) → settle q s .links .choice ≡ s .links .choice
 unfolding settle lower
-settle-choice q s = by (s .flag q)
+settle-choice q s = by (s .flow .flag q)
   where
-    by : (b : Bool) → lower q b s .choice ≡ s .choice
+    by : (b : Bool) → lower q b s .links .choice ≡ s .links .choice
     by true = refl
     by false = refl
 
 -- a settled queue's flag is down
-pub settle-lowers : (q : Queue) (s : State) → settle q s .flag q ≡ false
+pub settle-lowers : (q : Queue) (s : State) → settle q s .flow .flag q ≡ false
 unfolding settle lower
-settle-lowers q s = by (s .flag q) refl
+settle-lowers q s = by (s .flow .flag q) refl
   where
-    by : (b : Bool) → s .flag q ≡ b → lower q b s .flag q ≡ false
-    by true e = queue-here (s .flag) q false
+    by : (b : Bool) → s .flow .flag q ≡ b → lower q b s .flow .flag q ≡ false
+    by true e = queue-here (s .flow .flag) q false
     by false e = e
 
 -- and no other rises
-pub settle-raises-none : (q : Queue) (s : State) (p : Queue) → s .flag p ≡ false → settle q s .flag p ≡ false
+pub settle-raises-none : (q : Queue) (s : State) (p : Queue) → s .flow .flag p ≡ false → settle q s .flow .flag p ≡ false
 unfolding settle lower
-settle-raises-none q s p h = by (s .flag q)
+settle-raises-none q s p h = by (s .flow .flag q)
   where
-    by : (b : Bool) → lower q b s .flag p ≡ false
-    by true = either (sameQueue p q) false (s .flag p) refl h
+    by : (b : Bool) → lower q b s .flow .flag p ≡ false
+    by true = either (sameQueue p q) false (s .flow .flag p) refl h
     by false = h
 
 -- ---- all of them
@@ -112,30 +112,30 @@ module _ (pl : Plan) where
   settles n = settle (queueAt pl n)
 
   delivered : (s : State) → WiresEmpty pl (upTo delivers (outputs pl) s)
-  delivered s o d = subst (λ (u : Output). upTo delivers (outputs pl) s .wire u ≡ Empty) (output-at pl o d) (all (outputNumber pl o) (output-below pl o d))
+  delivered s o d = subst (λ (u : Output). upTo delivers (outputs pl) s .links .wire u ≡ Empty) (output-at pl o d) (all (outputNumber pl o) (output-below pl o d))
     where
-      step : (i : ℕ) (t : State) → i < outputs pl → ((j : ℕ) → j < i → t .wire (outputAt pl j) ≡ Empty) → (j : ℕ) → j < suc i → deliver pl (outputAt pl i) t .wire (outputAt pl j) ≡ Empty
+      step : (i : ℕ) (t : State) → i < outputs pl → ((j : ℕ) → j < i → t .links .wire (outputAt pl j) ≡ Empty) → (j : ℕ) → j < suc i → deliver pl (outputAt pl i) t .links .wire (outputAt pl j) ≡ Empty
       step i t h p j l = by (below-suc l)
         where
-          by : (j < i) ⊎ (j ≡ i) → deliver pl (outputAt pl i) t .wire (outputAt pl j) ≡ Empty
+          by : (j < i) ⊎ (j ≡ i) → deliver pl (outputAt pl i) t .links .wire (outputAt pl j) ≡ Empty
           by (inl m) = deliver-fills-none pl (outputAt pl i) t (outputAt pl j) (p j m)
           by (inr e) = rw e (deliver-empties pl (outputAt pl i) t)
 
-      all : (j : ℕ) → j < outputs pl → upTo delivers (outputs pl) s .wire (outputAt pl j) ≡ Empty
-      all = up-keeps-at (λ (n : ℕ) (t : State). (j : ℕ) → j < n → t .wire (outputAt pl j) ≡ Empty) delivers (outputs pl) s step (λ j l. absurd (not-suc-le-zero l))
+      all : (j : ℕ) → j < outputs pl → upTo delivers (outputs pl) s .links .wire (outputAt pl j) ≡ Empty
+      all = up-keeps-at (λ (n : ℕ) (t : State). (j : ℕ) → j < n → t .links .wire (outputAt pl j) ≡ Empty) delivers (outputs pl) s step (λ j l. absurd (not-suc-le-zero l))
 
   settled : (s : State) → FlagsDown pl (upTo settles (queues pl) s)
-  settled s q h = subst (λ (u : Queue). upTo settles (queues pl) s .flag u ≡ false) (queue-at pl q h) (all (number pl q) (number-below pl q h))
+  settled s q h = subst (λ (u : Queue). upTo settles (queues pl) s .flow .flag u ≡ false) (queue-at pl q h) (all (number pl q) (number-below pl q h))
     where
-      step : (i : ℕ) (t : State) → i < queues pl → ((j : ℕ) → j < i → t .flag (queueAt pl j) ≡ false) → (j : ℕ) → j < suc i → settle (queueAt pl i) t .flag (queueAt pl j) ≡ false
+      step : (i : ℕ) (t : State) → i < queues pl → ((j : ℕ) → j < i → t .flow .flag (queueAt pl j) ≡ false) → (j : ℕ) → j < suc i → settle (queueAt pl i) t .flow .flag (queueAt pl j) ≡ false
       step i t h p j l = by (below-suc l)
         where
-          by : (j < i) ⊎ (j ≡ i) → settle (queueAt pl i) t .flag (queueAt pl j) ≡ false
+          by : (j < i) ⊎ (j ≡ i) → settle (queueAt pl i) t .flow .flag (queueAt pl j) ≡ false
           by (inl m) = settle-raises-none (queueAt pl i) t (queueAt pl j) (p j m)
           by (inr e) = rw e (settle-lowers (queueAt pl i) t)
 
-      all : (j : ℕ) → j < queues pl → upTo settles (queues pl) s .flag (queueAt pl j) ≡ false
-      all = up-keeps-at (λ (n : ℕ) (t : State). (j : ℕ) → j < n → t .flag (queueAt pl j) ≡ false) settles (queues pl) s step (λ j l. absurd (not-suc-le-zero l))
+      all : (j : ℕ) → j < queues pl → upTo settles (queues pl) s .flow .flag (queueAt pl j) ≡ false
+      all = up-keeps-at (λ (n : ℕ) (t : State). (j : ℕ) → j < n → t .flow .flag (queueAt pl j) ≡ false) settles (queues pl) s step (λ j l. absurd (not-suc-le-zero l))
 
   -- after READ every wire is empty
   pub read-wires : (s : State) → WiresEmpty pl (doRead pl s)

@@ -11,11 +11,12 @@ use Rattle.kinds.specs.declared.Credit.{Credit}
 use Rattle.packets.specs.declared.Packet.{Packet}
 use Rattle.packets.specs.Counters.{creditDown}
 use Rattle.plan.specs.Plan.{Plan}
-use Rattle.feeding.specs.Queue.{Queue, activeOut, activeIn, passiveIn, passiveOut, U, Q, F, K}
+use Rattle.feeding.specs.Queue.{Queue}
+use Rattle.feeding.specs.Role.{Role, role}
 use Rattle.feeding.specs.Feeds.{Output, outputOf}
 use Rattle.machine.specs.Outputs.{nextBy}
 use Rattle.machine.specs.State.{State, withQueue, withFlag, join}
-use Rattle.machine.specs.Execute.{mayLeave, candidate}
+use Rattle.machine.specs.Execute.{mayLeaveAs, mayLeave, candidate}
 use Rattle.machine.specs.Write.{raise, spend}
 use Rattle.theory.proofs.Core.{Sendable}
 use Rattle.theory.proofs.Places.Feeders.{sender-leaves}
@@ -32,26 +33,19 @@ longer-same {xs} {zs} e = ([], e ∙ sym (append-nil xs))
 
 -- for the senders of o, and the queues beyond it, t has what s has
 pub record Spares (pl : Plan) (s t : State) (o : Output) : Type 0 where
-  pub heads : (q : Queue) → outputOf q ≡ some o → Longer (s .queue q) (t .queue q)
-  pub marks : (q : Queue) → outputOf q ≡ some o → t .handled q ≡ s .handled q
-  pub flags : (q : Queue) → outputOf q ≡ some o → t .flag q ≡ s .flag q
-  pub credits : (x : Packet) (n : Queue) → nextBy pl o x ≡ some n → t .credit n ≡ s .credit n
+  pub heads : (q : Queue) → outputOf q ≡ some o → Longer (s .lines .queue q) (t .lines .queue q)
+  pub marks : (q : Queue) → outputOf q ≡ some o → t .lines .handled q ≡ s .lines .handled q
+  pub flags : (q : Queue) → outputOf q ≡ some o → t .flow .flag q ≡ s .flow .flag q
+  pub credits : (x : Packet) (n : Queue) → nextBy pl o x ≡ some n → t .flow .credit n ≡ s .flow .credit n
 
 -- ---- what could be sent still can
 -- what is ready is a candidate
 pub ready-candidate : (pl : Plan) (s : State) (o : Output) (q : Queue) → Ready pl s o q → candidate pl s o q ≡ true
 unfolding candidate
-ready-candidate pl s o q r = rw (r .queue) (also-of (r .leaves) (rw (r .goes) (lt-ltb 0 (s .credit (r .next) .0) (r .room))))
+ready-candidate pl s o q r = rw (r .queue) (also-of (r .leaves) (rw (r .goes) (lt-ltb 0 (s .flow .credit (r .next) .0) (r .room))))
 
-may-same : (s t : State) (q : Queue) → t .handled q ≡ s .handled q → mayLeave t q ≡ mayLeave s q
-may-same s t (activeOut x) e = refl
-may-same s t (activeIn x) e = refl
-may-same s t (passiveIn x) e = refl
-may-same s t (passiveOut x) e = refl
-may-same s t (U r i) e = refl
-may-same s t (Q r) e = e
-may-same s t (F r o) e = refl
-may-same s t (K r i o) e = refl
+may-same : (s t : State) (q : Queue) → t .lines .handled q ≡ s .lines .handled q → mayLeave t q ≡ mayLeave s q
+may-same s t q e = ap (mayLeaveAs (role q)) e
 
 -- a candidate of a spared output stays one
 pub spared-ready : {pl : Plan} {s t : State} {o : Output} → Spares pl s t o → (q : Queue) → outputOf q ≡ some o → Ready pl s o q → Ready pl t o q
@@ -80,7 +74,7 @@ spared-sendable {pl} {s} {t} {o} c k g =
 
 -- ---- changes that spare every output
 -- what is not looked at
-pub spares-alike : {pl : Plan} {o : Output} (s t : State) → t .queue ≡ s .queue → t .handled ≡ s .handled → t .flag ≡ s .flag → t .credit ≡ s .credit → Spares pl s t o
+pub spares-alike : {pl : Plan} {o : Output} (s t : State) → t .lines .queue ≡ s .lines .queue → t .lines .handled ≡ s .lines .handled → t .flow .flag ≡ s .flow .flag → t .flow .credit ≡ s .flow .credit → Spares pl s t o
 spares-alike s t q h f c =
     record {
       heads = λ x l. longer-same (ap (λ (m : Queue → List Packet). m x) q);
@@ -96,7 +90,7 @@ spares-then s t u a b =
       heads = λ x l.
           let g = a .heads x l in
           let h = b .heads x l in
-          (g .0 ++ h .0, h .1 ∙ ap (λ (xs : List Packet). xs ++ h .0) (g .1) ∙ append-assoc (s .queue x) (g .0) (h .0));
+          (g .0 ++ h .0, h .1 ∙ ap (λ (xs : List Packet). xs ++ h .0) (g .1) ∙ append-assoc (s .lines .queue x) (g .0) (h .0));
       marks = λ x l. b .marks x l ∙ a .marks x l;
       flags = λ x l. b .flags x l ∙ a .flags x l;
       credits = λ y n e. b .credits y n e ∙ a .credits y n e;
@@ -113,9 +107,9 @@ join-spares k x s =
       credits = λ y n e. refl;
     }
   where
-    by : (q : Queue) → (q ≡ k) ⊎ (q ≢ k) → Longer (s .queue q) (join k x s .queue q)
-    by q (inl e) = (x ∷ [], rw e (queue-here (s .queue) k (s .queue k ++ (x ∷ []))))
-    by q (inr ne) = longer-same (queue-away (s .queue) k (s .queue k ++ (x ∷ [])) q ne)
+    by : (q : Queue) → (q ≡ k) ⊎ (q ≢ k) → Longer (s .lines .queue q) (join k x s .lines .queue q)
+    by q (inl e) = (x ∷ [], rw e (queue-here (s .lines .queue) k (s .lines .queue k ++ (x ∷ []))))
+    by q (inr ne) = longer-same (queue-away (s .lines .queue) k (s .lines .queue k ++ (x ∷ [])) q ne)
 
 -- ---- changes of a queue that is no sender of the output
 module _ {o : Output} (k : Queue) (out : outputOf k ≡ some o → ⊥) where
@@ -126,12 +120,12 @@ module _ {o : Output} (k : Queue) (out : outputOf k ≡ some o → ⊥) where
     -- its packets
     pub turn-spares : (xs : List Packet) (s : State) → Spares pl s (withQueue k xs s) o
     turn-spares xs s =
-        record { heads = λ q l. longer-same (queue-away (s .queue) k xs q (apart q l)); marks = λ q l. refl; flags = λ q l. refl; credits = λ y n e. refl }
+        record { heads = λ q l. longer-same (queue-away (s .lines .queue) k xs q (apart q l)); marks = λ q l. refl; flags = λ q l. refl; credits = λ y n e. refl }
 
     -- its flag
     pub flag-spares : (b : Bool) (s : State) → Spares pl s (withFlag k b s) o
     flag-spares b s =
-        record { heads = λ q l. longer-same refl; marks = λ q l. refl; flags = λ q l. queue-away (s .flag) k b q (apart q l); credits = λ y n e. refl }
+        record { heads = λ q l. longer-same refl; marks = λ q l. refl; flags = λ q l. queue-away (s .flow .flag) k b q (apart q l); credits = λ y n e. refl }
 
     -- its flag, as a head leaves, and its mark
     pub raise-spares : (s : State) → Spares pl s (raise k s) o
@@ -151,5 +145,5 @@ spend-spares (some n) s away =
       heads = λ q l. longer-same refl;
       marks = λ q l. refl;
       flags = λ q l. refl;
-      credits = λ x m e. queue-away (s .credit) n (creditDown (s .credit n)) m (λ i. away n x refl (e ∙ ap some i));
+      credits = λ x m e. queue-away (s .flow .credit) n (creditDown (s .flow .credit n)) m (λ i. away n x refl (e ∙ ap some i));
     }

@@ -22,7 +22,7 @@ use Rattle.feeding.specs.Feeds.{Output}
 use Rattle.wiring.specs.Wired.{Wired}
 use Rattle.machine.specs.Store.{put, sameOutput}
 use Rattle.machine.specs.Outputs.{nextBy}
-use Rattle.machine.specs.State.{State, sender, start, withPhase, withSlot, withQueue, join}
+use Rattle.machine.specs.State.{State, Links, sender, blank, start, withPhase, withSlot, withQueue, join}
 use Rattle.machine.specs.Read.{deliver, lower, settle}
 use Rattle.machine.specs.Execute.{declined, unit, tdownOf, choose, undo}
 use Rattle.machine.specs.Write.{send}
@@ -31,7 +31,7 @@ use Rattle.machine.specs.Valid.{Drives, Carries, spendsKind, spends}
 use Rattle.machine.proofs.Apart.{full-not}
 use Rattle.theory.proofs.Core.{Core, Sendable, Allowances}
 use Rattle.theory.proofs.Places.Closure.{passive-setup, active-answer}
-use Rattle.theory.proofs.Places.Senders.{raise-wire, raise-allowance}
+use Rattle.theory.proofs.Places.Senders.{raise-links, raise-allowance}
 use Rattle.theory.proofs.Cases.{deliver-none, deliver-one, UnitDoes, rests, books, declines, ends, frees, unit-does, unit-books, unit-declines, unit-ends, unit-frees, ActiveDoes, waits, tears, undo-does, undo-tears, SendDoes, none-sent, sent, send-does, send-one}
 use Rattle.theory.proofs.Weights.Total.{anywhere, weighed, Bound, weighed-total, core-bound, weighed-plain, start-weighed, bound-put}
 use Rattle.theory.proofs.Weights.Moves.{head-belongs, phase-weighed, slot-weighed, settle-weighed, choose-weighed, deliver-weighed, send-weighed}
@@ -40,7 +40,7 @@ use Rattle.theory.proofs.Weights.Spending.{tdown-spends, kinds-spend, m
 
 -- Start has every allowance whole.
 pub start-allowances : (pl : Plan) → Allowances pl (start pl)
-unfolding start
+unfolding start blank
 start-allowances pl a h =
     let all = weighed-total pl (spends a) (start pl) (λ o d x e. absurd (full-not e)) in
     let none = start-weighed pl (anywhere (spends a)) in
@@ -48,7 +48,7 @@ start-allowances pl a h =
 
 module _ {pl : Plan} {s : State} (c : Core pl s) where
   -- Where allowance and weight together stay, the law stays.
-  pub allowances-from : (t : State) → Bound pl t → ((a : ℕ) → a < A pl → t .allowance a + weighed pl (anywhere (spends a)) t ≡ s .allowance a + weighed pl (anywhere (spends a)) s) → Allowances pl t
+  pub allowances-from : (t : State) → Bound pl t → ((a : ℕ) → a < A pl → t .flow .allowance a + weighed pl (anywhere (spends a)) t ≡ s .flow .allowance a + weighed pl (anywhere (spends a)) s) → Allowances pl t
   allowances-from t b e a h =
       let old = weighed-plain pl (spends a) s c in
       let new = weighed-total pl (spends a) t b in
@@ -57,7 +57,7 @@ module _ {pl : Plan} {s : State} (c : Core pl s) where
       omega arith
 
   -- Where wires and allowances are as they were, the weights decide.
-  pub allowances-kept : (t : State) → t .wire ≡ s .wire → t .allowance ≡ s .allowance → ((a : ℕ) → weighed pl (anywhere (spends a)) t ≡ weighed pl (anywhere (spends a)) s) → Allowances pl t
+  pub allowances-kept : (t : State) → t .links .wire ≡ s .links .wire → t .flow .allowance ≡ s .flow .allowance → ((a : ℕ) → weighed pl (anywhere (spends a)) t ≡ weighed pl (anywhere (spends a)) s) → Allowances pl t
   allowances-kept t e f k =
       allowances-from t (λ o d x q. core-bound pl s c o d x (sym (ap (λ (m : Output → Wire). m o) e) ∙ q))
       (λ a h. ap₂ (λ (m n : ℕ). m + n) (ap (λ (m : ℕ → ℕ). m a) f) (k a))
@@ -74,26 +74,26 @@ module _ {pl : Plan} {s : State} (c : Core pl s) where
   -- A delivery keeps the allowances.
   pub deliver-allowances : Wired pl → (o : Output) → Drives pl o → Allowances pl (deliver pl o s)
   unfolding join
-  deliver-allowances wired o d = by (s .wire o) refl
+  deliver-allowances wired o d = by (s .links .wire o) refl
     where
-      by : (v : Wire) → s .wire o ≡ v → Allowances pl (deliver pl o s)
+      by : (v : Wire) → s .links .wire o ≡ v → Allowances pl (deliver pl o s)
       by Empty e = subst (Allowances pl) (sym (deliver-none pl o s e)) (c .allowances)
       by (Full x) e =
           let k : Carries pl o x = c .wires o d x e in
           let is = deliver-one pl o s x (k .queue) e (k .next) in
-          allowances-from (deliver pl o s) (bound-put pl s (deliver pl o s) o Empty (core-bound pl s c) (λ x q. absurd (full-not q)) (ap (λ (t : State). t .wire) is))
-          (λ a h. ap₂ (λ (m n : ℕ). m + n) (ap (λ (t : State). t .allowance a) is) (deliver-weighed pl (anywhere (spends a)) wired c o d))
+          allowances-from (deliver pl o s) (bound-put pl s (deliver pl o s) o Empty (core-bound pl s c) (λ x q. absurd (full-not q)) (ap (λ (t : State). t .links .wire) is))
+          (λ a h. ap₂ (λ (m n : ℕ). m + n) (ap (λ (t : State). t .flow .allowance a) is) (deliver-weighed pl (anywhere (spends a)) wired c o d))
 
   -- The settling of a flag keeps the allowances.
   pub settle-allowances : (q : Queue) → Allowances pl (settle q s)
   unfolding settle lower
-  settle-allowances q = allowances-kept (settle q s) (by (s .flag q)) (on (s .flag q)) (λ a. settle-weighed pl (anywhere (spends a)) q s)
+  settle-allowances q = allowances-kept (settle q s) (by (s .flow .flag q)) (on (s .flow .flag q)) (λ a. settle-weighed pl (anywhere (spends a)) q s)
     where
-      by : (b : Bool) → lower q b s .wire ≡ s .wire
+      by : (b : Bool) → lower q b s .links .wire ≡ s .links .wire
       by true = refl
       by false = refl
 
-      on : (b : Bool) → lower q b s .allowance ≡ s .allowance
+      on : (b : Bool) → lower q b s .flow .allowance ≡ s .flow .allowance
       on true = refl
       on false = refl
 
@@ -102,8 +102,8 @@ module _ {pl : Plan} {s : State} (c : Core pl s) where
   pub unit-allowances : (r : ℕ) → r < R pl → Allowances pl (unit pl r s)
   unit-allowances r h = by (unit-does pl r s)
     where
-      changed : (t : State) → unit pl r s ≡ t → t .wire ≡ s .wire → t .allowance ≡ s .allowance → ((a : ℕ) → weighed pl (anywhere (spends a)) (unit pl r s) ≡ weighed pl (anywhere (spends a)) s) → Allowances pl (unit pl r s)
-      changed t is e f k = allowances-kept (unit pl r s) (ap (λ (u : State). u .wire) is ∙ e) (ap (λ (u : State). u .allowance) is ∙ f) k
+      changed : (t : State) → unit pl r s ≡ t → t .links .wire ≡ s .links .wire → t .flow .allowance ≡ s .flow .allowance → ((a : ℕ) → weighed pl (anywhere (spends a)) (unit pl r s) ≡ weighed pl (anywhere (spends a)) s) → Allowances pl (unit pl r s)
+      changed t is e f k = allowances-kept (unit pl r s) (ap (λ (u : State). u .links .wire) is ∙ e) (ap (λ (u : State). u .flow .allowance) is ∙ f) k
 
       by : UnitDoes pl r s → Allowances pl (unit pl r s)
       by (rests is) = subst (Allowances pl) (sym is) (c .allowances)
@@ -134,12 +134,12 @@ module _ {pl : Plan} {s : State} (c : Core pl s) where
       by (waits is) = subst (Allowances pl) (sym is) (c .allowances)
       by (tears x rest e u g) =
           let is = undo-tears pl a s x rest e u g in
-          allowances-kept (undo pl a s) (ap (λ (t : State). t .wire) is) (ap (λ (t : State). t .allowance) is)
+          allowances-kept (undo pl a s) (ap (λ (t : State). t .links .wire) is) (ap (λ (t : State). t .flow .allowance) is)
           (λ b. let all = torn-weighed pl (anywhere (spends b)) c a h x rest e u g in let none = tdown-spends b (tdownOf (S pl) x) refl in omega arith)
 
   -- ---- WRITE
   -- A sending keeps the allowances.
-  pub send-allowances : Wired pl → (o : Output) → Drives pl o → ((k : ℕ) → s .choice o ≡ sender k → Sendable pl s o k) → s .wire o ≡ Empty → Allowances pl (send pl o s)
+  pub send-allowances : Wired pl → (o : Output) → Drives pl o → ((k : ℕ) → s .links .choice o ≡ sender k → Sendable pl s o k) → s .links .wire o ≡ Empty → Allowances pl (send pl o s)
   send-allowances wired o d ready z = by (send-does pl o s ready)
     where
       by : SendDoes pl o s → Allowances pl (send pl o s)
@@ -147,10 +147,10 @@ module _ {pl : Plan} {s : State} (c : Core pl s) where
       by (sent k q e r g) =
           let is = send-one pl o s k q e r g in
           allowances-from (send pl o s)
-          (bound-put pl s (send pl o s) o (Full (g .packet)) (core-bound pl s c) onto (ap (λ (t : State). t .wire) is ∙ ap (λ (m : Output → Wire). put sameOutput m o (Full (g .packet))) (raise-wire q (withQueue q (g .rest) s))))
+          (bound-put pl s (send pl o s) o (Full (g .packet)) (core-bound pl s c) onto (ap (λ (t : State). t .links .wire) is ∙ ap (λ (l : Links). put sameOutput (l .wire) o (Full (g .packet))) (raise-links q (withQueue q (g .rest) s))))
           (λ a h.
           ap₂ (λ (m n : ℕ). m + n)
-          (ap (λ (t : State). t .allowance a) is ∙ ap (λ (m : ℕ → ℕ). m a) (raise-allowance q (withQueue q (g .rest) s)))
+          (ap (λ (t : State). t .flow .allowance a) is ∙ ap (λ (m : ℕ → ℕ). m a) (raise-allowance q (withQueue q (g .rest) s)))
           (send-weighed pl (anywhere (spends a)) wired c o d (λ u i p y x l m n v. refl) ready z))
         where
           onto : (x : Packet) → Full (g .packet) ≡ Full x → (y : Queue) × (nextBy pl o x ≡ some y)
@@ -158,17 +158,17 @@ module _ {pl : Plan} {s : State} (c : Core pl s) where
 
   -- ---- the calls
   -- A launch takes one of the allowance for its set-up.
-  pub launched-allowances : (a p t : ℕ) → a < A pl → 1 ≤ s .allowance a → Allowances pl (launched a p t s)
+  pub launched-allowances : (a p t : ℕ) → a < A pl → 1 ≤ s .flow .allowance a → Allowances pl (launched a p t s)
   unfolding launched join
   launched-allowances a p t h l =
       allowances-from (launched a p t s) (core-bound pl s c)
       (λ b k.
       let all = launched-weighed pl (anywhere (spends b)) c a p t h in
-      let now = fallen (s .allowance) a b (s .allowance a - 1) (omega arith) in
+      let now = fallen (s .flow .allowance) a b (s .flow .allowance a - 1) (omega arith) in
       omega arith)
 
   -- A reply keeps the allowances: an answer for the set-up.
-  pub replied-allowances : Wired pl → (p : ℕ) → p < P pl → (k : Kind) → spendsKind k ≡ 1 → (x : Packet) (rest : List Packet) → s .queue (passiveIn p) ≡ x ∷ rest → Allowances pl (replied p k (x ∷ rest) s)
+  pub replied-allowances : Wired pl → (p : ℕ) → p < P pl → (k : Kind) → spendsKind k ≡ 1 → (x : Packet) (rest : List Packet) → s .lines .queue (passiveIn p) ≡ x ∷ rest → Allowances pl (replied p k (x ∷ rest) s)
   unfolding join
   replied-allowances wired p h k one x rest e =
       let b = head-belongs c (passiveIn p) h x rest e in
@@ -177,13 +177,13 @@ module _ {pl : Plan} {s : State} (c : Core pl s) where
       (λ a. let all = replied-weighed pl (anywhere (spends a)) c p h k x rest e in let same = kinds-spend a x (repliedAs k x) refl (one ∙ sym (ap spendsKind setup)) in omega arith)
 
   -- A removed answer gives one back.
-  pub removed-allowances : Wired pl → (a : ℕ) → a < A pl → (x : Packet) (rest : List Packet) → s .queue (activeIn a) ≡ x ∷ rest → Allowances pl (removed a rest s)
+  pub removed-allowances : Wired pl → (a : ℕ) → a < A pl → (x : Packet) (rest : List Packet) → s .lines .queue (activeIn a) ≡ x ∷ rest → Allowances pl (removed a rest s)
   unfolding removed
   removed-allowances wired a h x rest e =
       allowances-from (removed a rest s) (core-bound pl s c)
       (λ b k.
       let all = removed-weighed pl (anywhere (spends b)) s a h x rest e in
-      let now = grown (s .allowance) a b (s .allowance a + 1) refl in
+      let now = grown (s .flow .allowance) a b (s .flow .allowance a + 1) refl in
       let one = weight b in
       omega arith)
     where

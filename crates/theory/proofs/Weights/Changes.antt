@@ -11,11 +11,11 @@ use Rattle.packets.specs.declared.Kind.the-variants.{Setup, Tdown}
 use Rattle.packets.specs.declared.Packet.{Packet}
 use Rattle.plan.specs.Plan.{Plan, R, A, P, S}
 use Rattle.feeding.specs.Queue.{Queue, activeOut, activeIn, passiveIn, passiveOut, Q, Exists}
-use Rattle.feeding.specs.Feeds.{inQueue, handledAt}
+use Rattle.feeding.specs.Feeds.{inQueue, handledAt, headPlace}
 use Rattle.machine.specs.State.{State, withQueue, withFlag, join}
 use Rattle.machine.specs.Execute.{declined, booked, freed, handledAs, unit, unmarked, marked, tdownOf, hasRoom, undo}
 use Rattle.machine.specs.Visits.{setupOf, launched, repliedAs, replied, removed}
-use Rattle.machine.specs.Valid.{headPlace, inAll}
+use Rattle.machine.specs.Valid.{inAll}
 use Rattle.theory.proofs.Core.{Core}
 use Rattle.theory.proofs.Weights.Total.{Weight, inLine, weighed, weighed-line, weighed-join}
 use Rattle.theory.proofs.Cases.{mayBookAt, unit-empty, unit-handled, unit-books, unit-declines, unit-ends, unit-frees, undo-tears}
@@ -23,7 +23,7 @@ use Rattle.theory.proofs.Weights.Moves.{queue-weighed}
 
 module _ (pl : Plan) (w : Weight) where
   -- The head of a queue taken, where it is in the queue.
-  pub taken-weighed : (q : Queue) → Exists pl q → (s : State) → headPlace (s .handled q) q ≡ inQueue q → (x : Packet) (rest : List Packet) → s .queue q ≡ x ∷ rest
+  pub taken-weighed : (q : Queue) → Exists pl q → (s : State) → headPlace (s .lines .handled q) q ≡ inQueue q → (x : Packet) (rest : List Packet) → s .lines .queue q ≡ x ∷ rest
       → weighed pl w (withQueue q rest s) + w (inQueue q) x ≡ weighed pl w s
   taken-weighed q h s p x rest e =
       let all = queue-weighed pl w q h rest s p in
@@ -31,7 +31,7 @@ module _ (pl : Plan) (w : Weight) where
       omega arith
 
   -- The head of a queue replaced, where it is in the queue.
-  pub swapped-weighed : (q : Queue) → Exists pl q → (s : State) → headPlace (s .handled q) q ≡ inQueue q → (x y : Packet) (rest : List Packet) → s .queue q ≡ x ∷ rest
+  pub swapped-weighed : (q : Queue) → Exists pl q → (s : State) → headPlace (s .lines .handled q) q ≡ inQueue q → (x y : Packet) (rest : List Packet) → s .lines .queue q ≡ x ∷ rest
       → weighed pl w (withQueue q (y ∷ rest) s) + w (inQueue q) x ≡ weighed pl w s + w (inQueue q) y
   swapped-weighed q h s p x y rest e =
       let all = queue-weighed pl w q h (y ∷ rest) s p in
@@ -41,7 +41,7 @@ module _ (pl : Plan) (w : Weight) where
   -- ---- a unit
   module _ (r : ℕ) (h : r < R pl) (s : State) where
     -- A unit's head handled: what it became weighs as handled.
-    pub handled-weighed : (x y : Packet) (rest : List Packet) → s .queue (Q r) ≡ x ∷ rest → s .handled (Q r) ≡ false
+    pub handled-weighed : (x y : Packet) (rest : List Packet) → s .lines .queue (Q r) ≡ x ∷ rest → s .lines .handled (Q r) ≡ false
         → weighed pl w (handledAs r y rest s) + w (inQueue (Q r)) x ≡ weighed pl w s + w (handledAt r) y
     unfolding inLine
     handled-weighed x y rest e f =
@@ -50,15 +50,15 @@ module _ (pl : Plan) (w : Weight) where
         omega arith
 
     -- A unit without a packet, or with a handled head, changes nothing.
-    pub idle-weighed : (s .queue (Q r) ≡ []) ⊎ (s .handled (Q r) ≡ true) → weighed pl w (unit pl r s) ≡ weighed pl w s
+    pub idle-weighed : (s .lines .queue (Q r) ≡ []) ⊎ (s .lines .handled (Q r) ≡ true) → weighed pl w (unit pl r s) ≡ weighed pl w s
     idle-weighed (inl e) = ap (weighed pl w) (unit-empty pl r s e)
-    idle-weighed (inr t) = ap (weighed pl w) (by (s .queue (Q r)) refl)
+    idle-weighed (inr t) = ap (weighed pl w) (by (s .lines .queue (Q r)) refl)
       where
-        by : (l : List Packet) → s .queue (Q r) ≡ l → unit pl r s ≡ s
+        by : (l : List Packet) → s .lines .queue (Q r) ≡ l → unit pl r s ≡ s
         by [] e = unit-empty pl r s e
         by (x ∷ rest) e = unit-handled pl r s x rest e t
 
-    module _ (x : Packet) (rest : List Packet) (e : s .queue (Q r) ≡ x ∷ rest) (f : s .handled (Q r) ≡ false) where
+    module _ (x : Packet) (rest : List Packet) (e : s .lines .queue (Q r) ≡ x ∷ rest) (f : s .lines .handled (Q r) ≡ false) where
       -- A set-up is booked.
       pub booked-weighed : x .kind ≡ Setup → mayBookAt pl r s x ≡ true → weighed pl w (unit pl r s) + w (inQueue (Q r)) x ≡ weighed pl w s + w (handledAt r) (booked (S pl) x)
       unfolding weighed
@@ -89,7 +89,7 @@ module _ (pl : Plan) (w : Weight) where
   -- ---- an active and a passive
   module _ {s : State} (c : Core pl s) where
     -- An unmarked NACK is marked, and its tear-down joins the out-queue.
-    pub torn-weighed : (a : ℕ) → a < A pl → (x : Packet) (rest : List Packet) → s .queue (activeIn a) ≡ x ∷ rest → unmarked x ≡ true → hasRoom pl (activeOut a) s ≡ true
+    pub torn-weighed : (a : ℕ) → a < A pl → (x : Packet) (rest : List Packet) → s .lines .queue (activeIn a) ≡ x ∷ rest → unmarked x ≡ true → hasRoom pl (activeOut a) s ≡ true
         → weighed pl w (undo pl a s) + w (inQueue (activeIn a)) x ≡ weighed pl w s + w (inQueue (activeIn a)) (marked x) + w (inQueue (activeOut a)) (tdownOf (S pl) x)
     unfolding weighed
     torn-weighed a h x rest e u g =
@@ -105,7 +105,7 @@ module _ (pl : Plan) (w : Weight) where
     launched-weighed a p t h = weighed-join pl w (activeOut a) h (setupOf a p t) s (λ m. c .marks (activeOut a) h m .2)
 
     -- A passive's head goes, and its answer joins the out-queue.
-    pub replied-weighed : (p : ℕ) → p < P pl → (k : Kind) (x : Packet) (rest : List Packet) → s .queue (passiveIn p) ≡ x ∷ rest
+    pub replied-weighed : (p : ℕ) → p < P pl → (k : Kind) (x : Packet) (rest : List Packet) → s .lines .queue (passiveIn p) ≡ x ∷ rest
         → weighed pl w (replied p k (x ∷ rest) s) + w (inQueue (passiveIn p)) x ≡ weighed pl w s + w (inQueue (passiveOut p)) (repliedAs k x)
     unfolding weighed
     replied-weighed p h k x rest e =
@@ -114,6 +114,6 @@ module _ (pl : Plan) (w : Weight) where
         omega arith
 
   -- An active's head is removed.
-  pub removed-weighed : (s : State) (a : ℕ) → a < A pl → (x : Packet) (rest : List Packet) → s .queue (activeIn a) ≡ x ∷ rest → weighed pl w (removed a rest s) + w (inQueue (activeIn a)) x ≡ weighed pl w s
+  pub removed-weighed : (s : State) (a : ℕ) → a < A pl → (x : Packet) (rest : List Packet) → s .lines .queue (activeIn a) ≡ x ∷ rest → weighed pl w (removed a rest s) + w (inQueue (activeIn a)) x ≡ weighed pl w s
   unfolding removed weighed
   removed-weighed s a h x rest e = taken-weighed (activeIn a) h s refl x rest e

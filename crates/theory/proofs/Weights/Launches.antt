@@ -118,7 +118,7 @@ module _ (pl : Plan) (d : Connection) where
       choose-counted o = same s (choose pl o s) k (choose-weighed pl (anywhere (bears pl d)) o s)
 
       -- So does a Consume: an ACK's connection is accepted, and another packet bears none.
-      pub removed-counted : (a : ℕ) (x : Packet) (rest : List Packet) → a < A pl → s .queue (activeIn a) ≡ x ∷ rest → Counted pl d (acceptKind pl (x .kind) x acc) n (removed a rest s)
+      pub removed-counted : (a : ℕ) (x : Packet) (rest : List Packet) → a < A pl → s .lines .queue (activeIn a) ≡ x ∷ rest → Counted pl d (acceptKind pl (x .kind) x acc) n (removed a rest s)
       unfolding borne
       removed-counted a x rest h e = by (x .kind) refl
         where
@@ -138,7 +138,7 @@ module _ (pl : Plan) (d : Connection) where
       deliver-counted o h = same s (deliver pl o s) k (deliver-weighed pl (anywhere (bears pl d)) wired c o h)
 
       -- So does a sending.
-      pub send-counted : (o : Output) → Drives pl o → ((m : ℕ) → s .choice o ≡ sender m → Sendable pl s o m) → s .wire o ≡ Empty → Counted pl d acc n (send pl o s)
+      pub send-counted : (o : Output) → Drives pl o → ((m : ℕ) → s .links .choice o ≡ sender m → Sendable pl s o m) → s .links .wire o ≡ Empty → Counted pl d acc n (send pl o s)
       unfolding borne
       send-counted o h ready z = same s (send pl o s) k (send-weighed pl (anywhere (bears pl d)) wired c o h (λ u m q y x g e f b. refl) ready z)
 
@@ -184,7 +184,7 @@ module _ (pl : Plan) (d : Connection) where
 
       -- A Reply keeps the count.
       pub replied-counted : (p : ℕ) (kind : Kind) (x : Packet) (rest : List Packet) → p < P pl
-          → (kind ≡ Ack) ⊎ (kind ≡ Nack) → s .queue (passiveIn p) ≡ x ∷ rest
+          → (kind ≡ Ack) ⊎ (kind ≡ Nack) → s .lines .queue (passiveIn p) ≡ x ∷ rest
           → Counted pl d acc n (replied p kind (x ∷ rest) s)
       unfolding borne
       replied-counted p kind x rest h q e =

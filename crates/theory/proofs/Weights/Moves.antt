@@ -13,27 +13,28 @@ use Rattle.packets.specs.declared.Phase.{Phase}
 use Rattle.packets.specs.declared.Wire.{Wire}
 use Rattle.packets.specs.declared.Wire.the-variants.{Empty, Full}
 use Rattle.plan.specs.Plan.{Plan}
-use Rattle.feeding.specs.Queue.{Queue, activeOut, activeIn, passiveIn, passiveOut, U, Q, F, K, Exists, queueAt, queues}
-use Rattle.feeding.specs.Feeds.{Output, Place, inQueue, leavesFrom}
+use Rattle.feeding.specs.Queue.{Queue, Exists, queueAt, queues}
+use Rattle.feeding.specs.Role.{Role, sending, receiving, handling, passing, role}
+use Rattle.feeding.specs.Feeds.{Output, Place, inQueue, leavesFrom, headPlace}
 use Rattle.wiring.specs.Wired.{Wired}
 use Rattle.machine.specs.Outputs.{nextBy, senders, outputs, outputAt}
-use Rattle.machine.specs.State.{State, sender, withPhase, withSlot, withQueue, withWire}
+use Rattle.machine.specs.State.{State, Links, sender, withPhase, withSlot, withQueue, withWire}
 use Rattle.machine.specs.Read.{deliver, lower, settle, doRead}
 use Rattle.machine.specs.Execute.{mayLeave, choose}
-use Rattle.machine.specs.Write.{ofRank, raise, spend, send, doWrite}
-use Rattle.machine.specs.Valid.{Belongs, headPlace, Lined, Drives, Carries, inAll}
+use Rattle.machine.specs.Write.{ofRank, raiseAs, raise, spend, send, doWrite}
+use Rattle.machine.specs.Valid.{Belongs, Lined, Drives, Carries, inAll}
 use Rattle.machine.proofs.Numbers.{sender-exists}
 use Rattle.machine.proofs.OutNumbers.{drives-at}
 use Rattle.theory.proofs.Core.{Core, Sendable}
 use Rattle.theory.proofs.Places.Lines.{head-leaves, belongs-exists}
-use Rattle.theory.proofs.Places.Senders.{raise-wire}
+use Rattle.theory.proofs.Places.Senders.{raise-links}
 use Rattle.theory.proofs.Cases.{deliver-none, deliver-one, afterSent, send-one, SendDoes, none-sent, sent, send-does}
 use Rattle.theory.proofs.Weights.Total.{Weight, inLine, onWire, weighed, line-in, line-fresh, weighed-queue, weighed-line, weighed-wire, weighed-join}
 
 -- ---- where packets are
 -- A queue's head belongs where the handled mark puts it.
-pub head-belongs : {pl : Plan} {s : State} → Core pl s → (q : Queue) → Exists pl q → (x : Packet) (rest : List Packet) → s .queue q ≡ x ∷ rest → Belongs pl (headPlace (s .handled q) q) x
-head-belongs {pl} {s} c q h x rest e = subst (Lined pl q (s .handled q)) e (c .places q h) .0
+pub head-belongs : {pl : Plan} {s : State} → Core pl s → (q : Queue) → Exists pl q → (x : Packet) (rest : List Packet) → s .lines .queue q ≡ x ∷ rest → Belongs pl (headPlace (s .lines .handled q) q) x
+head-belongs {pl} {s} c q h x rest e = subst (Lined pl q (s .lines .handled q)) e (c .places q h) .0
 
 -- ---- weights that a packet keeps as it leaves a queue for the next
 abbrev pub Steady : Plan → Weight → Type 0
@@ -44,8 +45,8 @@ Steady pl w =
 -- what a sending needs of the state
 pub record Sends (pl : Plan) (o : Output) (s : State) : Type 0 where
   pub core : Core pl s
-  pub ready : (k : ℕ) → s .choice o ≡ sender k → Sendable pl s o k
-  pub clear : s .wire o ≡ Empty
+  pub ready : (k : ℕ) → s .links .choice o ≡ sender k → Sendable pl s o k
+  pub clear : s .links .wire o ≡ Empty
 
 module _ (pl : Plan) (w : Weight) where
   -- The phase does not matter.
@@ -61,7 +62,7 @@ module _ (pl : Plan) (w : Weight) where
   -- Settling a flag keeps every weight.
   pub settle-weighed : (q : Queue) (s : State) → weighed pl w (settle q s) ≡ weighed pl w s
   unfolding settle lower weighed
-  settle-weighed q s = by (s .flag q)
+  settle-weighed q s = by (s .flow .flag q)
     where
       by : (b : Bool) → weighed pl w (lower q b s) ≡ weighed pl w s
       by true = refl
@@ -73,44 +74,40 @@ module _ (pl : Plan) (w : Weight) where
   choose-weighed o s = refl
 
   -- The packets of a queue whose head is in the queue, replaced.
-  pub queue-weighed : (q : Queue) → Exists pl q → (xs : List Packet) (s : State) → headPlace (s .handled q) q ≡ inQueue q
-      → weighed pl w (withQueue q xs s) + inAll (w (inQueue q)) (s .queue q) ≡ weighed pl w s + inAll (w (inQueue q)) xs
+  pub queue-weighed : (q : Queue) → Exists pl q → (xs : List Packet) (s : State) → headPlace (s .lines .handled q) q ≡ inQueue q
+      → weighed pl w (withQueue q xs s) + inAll (w (inQueue q)) (s .lines .queue q) ≡ weighed pl w s + inAll (w (inQueue q)) xs
   queue-weighed q h xs s e =
       let all = weighed-queue pl w q h xs s in
-      let old = line-in w q (s .handled q) (s .queue q) e in
-      let new = line-in w q (s .handled q) xs e in
+      let old = line-in w q (s .lines .handled q) (s .lines .queue q) e in
+      let new = line-in w q (s .lines .handled q) xs e in
       omega arith
 
   -- the packets of a queue replaced as its head leaves
   leave-weighed : (q : Queue) → Exists pl q → (xs : List Packet) (s : State)
-      → weighed pl w (raise q (withQueue q xs s)) + inLine w q (s .handled q) (s .queue q) ≡ weighed pl w s + inAll (w (inQueue q)) xs
+      → weighed pl w (raise q (withQueue q xs s)) + inLine w q (s .lines .handled q) (s .lines .queue q) ≡ weighed pl w s + inAll (w (inQueue q)) xs
   unfolding weighed
-  leave-weighed q h xs s = by q h
+  leave-weighed q h xs s = by (role q) refl
     where
-      plain : (q : Queue) → Exists pl q → headPlace (s .handled q) q ≡ inQueue q → weighed pl w (withQueue q xs s) + inLine w q (s .handled q) (s .queue q) ≡ weighed pl w s + inAll (w (inQueue q)) xs
-      plain q h e = weighed-queue pl w q h xs s ∙ ap (λ (n : ℕ). weighed pl w s + n) (line-in w q (s .handled q) xs e)
+      plain : headPlace (s .lines .handled q) q ≡ inQueue q → weighed pl w (withQueue q xs s) + inLine w q (s .lines .handled q) (s .lines .queue q) ≡ weighed pl w s + inAll (w (inQueue q)) xs
+      plain e = weighed-queue pl w q h xs s ∙ ap (λ (n : ℕ). weighed pl w s + n) (line-in w q (s .lines .handled q) xs e)
 
-      by : (q : Queue) → Exists pl q → weighed pl w (raise q (withQueue q xs s)) + inLine w q (s .handled q) (s .queue q) ≡ weighed pl w s + inAll (w (inQueue q)) xs
-      by (activeOut x) h = plain (activeOut x) h refl
-      by (activeIn x) h = plain (activeIn x) h refl
-      by (passiveIn x) h = plain (passiveIn x) h refl
-      by (passiveOut x) h = plain (passiveOut x) h refl
-      by (U r i) h = plain (U r i) h refl
-      by (Q r) h = weighed-line pl w (Q r) h false xs s ∙ ap (λ (n : ℕ). weighed pl w s + n) (line-fresh w (Q r) xs)
-      by (F r o) h = plain (F r o) h refl
-      by (K r i o) h = plain (K r i o) h refl
+      by : (k : Role) → role q ≡ k → weighed pl w (raiseAs k q (withQueue q xs s)) + inLine w q (s .lines .handled q) (s .lines .queue q) ≡ weighed pl w s + inAll (w (inQueue q)) xs
+      by sending e = plain (rw e)
+      by receiving e = plain (rw e)
+      by (handling r) e = weighed-line pl w q h false xs s ∙ ap (λ (n : ℕ). weighed pl w s + n) (line-fresh w q xs)
+      by passing e = plain (rw e)
 
   -- A head that is sent weighs as in its next queue from then on.
-  pub sent-weighed : (s : State) (o : Output) (q y : Queue) (x : Packet) (rest : List Packet) → Drives pl o → Exists pl q → s .wire o ≡ Empty
-      → s .queue q ≡ x ∷ rest → mayLeave s q ≡ true → nextBy pl o x ≡ some y → weighed pl w (afterSent pl o s q y x rest) + w (leavesFrom q) x ≡ weighed pl w s + w (inQueue y) x
+  pub sent-weighed : (s : State) (o : Output) (q y : Queue) (x : Packet) (rest : List Packet) → Drives pl o → Exists pl q → s .links .wire o ≡ Empty
+      → s .lines .queue q ≡ x ∷ rest → mayLeave s q ≡ true → nextBy pl o x ≡ some y → weighed pl w (afterSent pl o s q y x rest) + w (leavesFrom q) x ≡ weighed pl w s + w (inQueue y) x
   unfolding weighed inLine onWire
   sent-weighed s o q y x rest d h z e m n =
       let u : State = spend (some y) (raise q (withQueue q rest s)) in
-      let clear : onWire pl w o (raise q (withQueue q rest s) .wire o) ≡ 0 = ap (λ (v : Output → Wire). onWire pl w o (v o)) (raise-wire q (withQueue q rest s)) ∙ ap (onWire pl w o) z in
+      let clear : onWire pl w o (raise q (withQueue q rest s) .links .wire o) ≡ 0 = ap (λ (l : Links). onWire pl w o (l .wire o)) (raise-links q (withQueue q rest s)) ∙ ap (onWire pl w o) z in
       let onto : onWire pl w o (Full x) ≡ w (inQueue y) x = rw n in
       let wire = weighed-wire pl w o d (Full x) u in
-      let old : inLine w q (s .handled q) (s .queue q) ≡ w (leavesFrom q) x + inAll (w (inQueue q)) rest =
-      ap (inLine w q (s .handled q)) e ∙ ap (λ (at : Place). w at x + inAll (w (inQueue q)) rest) (head-leaves s q m)
+      let old : inLine w q (s .lines .handled q) (s .lines .queue q) ≡ w (leavesFrom q) x + inAll (w (inQueue q)) rest =
+      ap (inLine w q (s .lines .handled q)) e ∙ ap (λ (at : Place). w at x + inAll (w (inQueue q)) rest) (head-leaves s q m)
       in
       let line = leave-weighed q h rest s in
       omega arith
@@ -119,21 +116,21 @@ module _ (pl : Plan) (w : Weight) where
     -- A delivery keeps every weight.
     pub deliver-weighed : weighed pl w (deliver pl o s) ≡ weighed pl w s
     unfolding onWire
-    deliver-weighed = by (s .wire o) refl
+    deliver-weighed = by (s .links .wire o) refl
       where
-        by : (v : Wire) → s .wire o ≡ v → weighed pl w (deliver pl o s) ≡ weighed pl w s
+        by : (v : Wire) → s .links .wire o ≡ v → weighed pl w (deliver pl o s) ≡ weighed pl w s
         by Empty e = ap (weighed pl w) (deliver-none pl o s e)
         by (Full x) e =
             let k : Carries pl o x = c .wires o d x e in
             let h = belongs-exists wired (k .queue) x (k .belongs) in
             let joined = weighed-join pl w (k .queue) h x (withWire o Empty s) (λ t. c .marks (k .queue) h t .2) in
             let wire = weighed-wire pl w o d Empty s in
-            let was : onWire pl w o (s .wire o) ≡ w (inQueue (k .queue)) x = rw (e, k .next) in
+            let was : onWire pl w o (s .links .wire o) ≡ w (inQueue (k .queue)) x = rw (e, k .next) in
             let left : onWire pl w o Empty ≡ 0 = refl in
             ap (weighed pl w) (deliver-one pl o s x (k .queue) e (k .next)) ∙ omega arith
 
     -- A sending keeps a steady weight.
-    pub send-weighed : Steady pl w → ((k : ℕ) → s .choice o ≡ sender k → Sendable pl s o k) → s .wire o ≡ Empty → weighed pl w (send pl o s) ≡ weighed pl w s
+    pub send-weighed : Steady pl w → ((k : ℕ) → s .links .choice o ≡ sender k → Sendable pl s o k) → s .links .wire o ≡ Empty → weighed pl w (send pl o s) ≡ weighed pl w s
     send-weighed steady ready z = by (send-does pl o s ready)
       where
         by : SendDoes pl o s → weighed pl w (send pl o s) ≡ weighed pl w s

@@ -13,12 +13,12 @@ use Rattle.packets.specs.declared.Wire.{Wire}
 use Rattle.packets.specs.declared.Wire.the-variants.{Empty, Full}
 use Rattle.plan.specs.Plan.{Plan}
 use Rattle.feeding.specs.Queue.{Queue, Exists, number, queues, queueAt}
-use Rattle.feeding.specs.Feeds.{Output, Place, inQueue}
+use Rattle.feeding.specs.Feeds.{Output, Place, inQueue, headPlace}
 use Rattle.journeys.proofs.Numbers.{queue-at, number-below}
 use Rattle.machine.specs.Store.{put, sameQueue, same-queue, queue-same, sameOutput, same-output, output-same, put-here, put-away}
 use Rattle.machine.specs.Outputs.{nextBy, outputs, outputAt, outputNumber}
-use Rattle.machine.specs.State.{State, start, withQueue, withWire, withHandled, join}
-use Rattle.machine.specs.Valid.{headPlace, Drives, sum, inAll, inWire, total}
+use Rattle.machine.specs.State.{State, blank, start, withQueue, withWire, withHandled, join}
+use Rattle.machine.specs.Valid.{Drives, sum, inAll, inWire, total}
 use Rattle.machine.proofs.Numbers.{at-number}
 use Rattle.machine.proofs.OutNumbers.{output-at, output-below, drives-at, at-output}
 use Rattle.theory.proofs.Ground.Sums.{sum-same, sum-but, sum-nought}
@@ -65,7 +65,7 @@ inWires pl w wire = sum (outputs pl) (λ n. wireOf pl w wire (outputAt pl n))
 
 -- all packets of a state
 unfoldable pub weighed : Plan → Weight → State → ℕ
-weighed pl w s = inLines pl w (s .handled) (s .queue) + inWires pl w (s .wire)
+weighed pl w s = inLines pl w (s .lines .handled) (s .lines .queue) + inWires pl w (s .links .wire)
 
 -- ---- one line
 -- A line whose head is in the queue weighs what its packets weigh there.
@@ -122,50 +122,50 @@ module _ (pl : Plan) (w : Weight) where
       same n l ne = ap (onWire pl w (outputAt pl n)) (e (outputAt pl n) (λ p. ne (sym (at-output pl n l) ∙ ap (outputNumber pl) p)))
 
   -- One queue's packets replaced.
-  pub weighed-queue : (q : Queue) → Exists pl q → (xs : List Packet) (s : State) → weighed pl w (withQueue q xs s) + inLine w q (s .handled q) (s .queue q) ≡ weighed pl w s + inLine w q (s .handled q) xs
+  pub weighed-queue : (q : Queue) → Exists pl q → (xs : List Packet) (s : State) → weighed pl w (withQueue q xs s) + inLine w q (s .lines .handled q) (s .lines .queue q) ≡ weighed pl w s + inLine w q (s .lines .handled q) xs
   unfolding weighed
   weighed-queue q h xs s =
-      let now = ap (inLine w q (s .handled q)) (put-here sameQueue queue-same same-queue (s .queue) q xs) in
-      let away = put-away sameQueue queue-same same-queue (s .queue) q xs in
-      let all = lines-but q h (s .handled) (s .handled) (s .queue) (put sameQueue (s .queue) q xs) (λ x ne. refl) away in
+      let now = ap (inLine w q (s .lines .handled q)) (put-here sameQueue queue-same same-queue (s .lines .queue) q xs) in
+      let away = put-away sameQueue queue-same same-queue (s .lines .queue) q xs in
+      let all = lines-but q h (s .lines .handled) (s .lines .handled) (s .lines .queue) (put sameQueue (s .lines .queue) q xs) (λ x ne. refl) away in
       omega arith
 
   -- One queue's packets and handled mark replaced.
-  pub weighed-line : (q : Queue) → Exists pl q → (done : Bool) (xs : List Packet) (s : State) → weighed pl w (withHandled q done (withQueue q xs s)) + inLine w q (s .handled q) (s .queue q) ≡ weighed pl w s + inLine w q done xs
+  pub weighed-line : (q : Queue) → Exists pl q → (done : Bool) (xs : List Packet) (s : State) → weighed pl w (withHandled q done (withQueue q xs s)) + inLine w q (s .lines .handled q) (s .lines .queue q) ≡ weighed pl w s + inLine w q done xs
   unfolding weighed
   weighed-line q h done xs s =
-      let here = put-here sameQueue queue-same same-queue (s .queue) q xs in
-      let mark = put-here sameQueue queue-same same-queue (s .handled) q done in
+      let here = put-here sameQueue queue-same same-queue (s .lines .queue) q xs in
+      let mark = put-here sameQueue queue-same same-queue (s .lines .handled) q done in
       let now = ap₂ (inLine w q) mark here in
-      let away = put-away sameQueue queue-same same-queue (s .queue) q xs in
-      let others = put-away sameQueue queue-same same-queue (s .handled) q done in
-      let all = lines-but q h (s .handled) (put sameQueue (s .handled) q done) (s .queue) (put sameQueue (s .queue) q xs) others away in
+      let away = put-away sameQueue queue-same same-queue (s .lines .queue) q xs in
+      let others = put-away sameQueue queue-same same-queue (s .lines .handled) q done in
+      let all = lines-but q h (s .lines .handled) (put sameQueue (s .lines .handled) q done) (s .lines .queue) (put sameQueue (s .lines .queue) q xs) others away in
       omega arith
 
   -- One output's wire replaced.
-  pub weighed-wire : (o : Output) → Drives pl o → (v : Wire) (s : State) → weighed pl w (withWire o v s) + onWire pl w o (s .wire o) ≡ weighed pl w s + onWire pl w o v
+  pub weighed-wire : (o : Output) → Drives pl o → (v : Wire) (s : State) → weighed pl w (withWire o v s) + onWire pl w o (s .links .wire o) ≡ weighed pl w s + onWire pl w o v
   unfolding weighed
   weighed-wire o d v s =
-      let now = ap (onWire pl w o) (put-here sameOutput output-same same-output (s .wire) o v) in
-      let all = wires-but o d (s .wire) (put sameOutput (s .wire) o v) (put-away sameOutput output-same same-output (s .wire) o v) in
+      let now = ap (onWire pl w o) (put-here sameOutput output-same same-output (s .links .wire) o v) in
+      let all = wires-but o d (s .links .wire) (put sameOutput (s .links .wire) o v) (put-away sameOutput output-same same-output (s .links .wire) o v) in
       omega arith
 
   -- A packet joins a queue.
-  pub weighed-join : (q : Queue) → Exists pl q → (x : Packet) (s : State) → (s .handled q ≡ true → s .queue q ≢ []) → weighed pl w (join q x s) ≡ weighed pl w s + w (inQueue q) x
+  pub weighed-join : (q : Queue) → Exists pl q → (x : Packet) (s : State) → (s .lines .handled q ≡ true → s .lines .queue q ≢ []) → weighed pl w (join q x s) ≡ weighed pl w s + w (inQueue q) x
   unfolding join
   weighed-join q h x s m =
-      let all = weighed-queue q h (s .queue q ++ (x ∷ [])) s in
-      let line = line-joins w q (s .handled q) (s .queue q) x m in
+      let all = weighed-queue q h (s .lines .queue q ++ (x ∷ [])) s in
+      let line = line-joins w q (s .lines .handled q) (s .lines .queue q) x m in
       omega arith
 
   -- What has the same queues, handled marks and wires weighs the same.
-  pub weighed-same : (s t : State) → t .queue ≡ s .queue → t .handled ≡ s .handled → t .wire ≡ s .wire → weighed pl w t ≡ weighed pl w s
+  pub weighed-same : (s t : State) → t .lines .queue ≡ s .lines .queue → t .lines .handled ≡ s .lines .handled → t .links .wire ≡ s .links .wire → weighed pl w t ≡ weighed pl w s
   unfolding weighed
   weighed-same s t e f g = ap₂ (λ (a b : ℕ). a + b) (ap₂ (inLines pl w) f e) (ap (inWires pl w) g)
 
   -- Start has no packet.
   pub start-weighed : weighed pl w (start pl) ≡ 0
-  unfolding weighed inLines inWires inLine onWire start
+  unfolding weighed inLines inWires inLine onWire start blank
   start-weighed =
       let lines = sum-nought (queues pl) (λ n. inLine w (queueAt pl n) false []) (λ n l. refl) in
       let wires = sum-nought (outputs pl) (λ n. onWire pl w (outputAt pl n) Empty) (λ n l. refl) in
@@ -174,7 +174,7 @@ module _ (pl : Plan) (w : Weight) where
 -- ---- weights that do not depend on the place
 -- every packet on a wire has a next queue
 abbrev pub Bound : Plan → State → Type 0
-Bound pl s = (o : Output) → Drives pl o → (x : Packet) → s .wire o ≡ Full x → (y : Queue) × (nextBy pl o x ≡ some y)
+Bound pl s = (o : Output) → Drives pl o → (x : Packet) → s .links .wire o ≡ Full x → (y : Queue) × (nextBy pl o x ≡ some y)
 
 module _ (pl : Plan) (w : Packet → ℕ) (s : State) where
   line-plain : (q : Queue) (done : Bool) (xs : List Packet) → inLine (anywhere w) q done xs ≡ inAll w xs
@@ -192,10 +192,10 @@ module _ (pl : Plan) (w : Packet → ℕ) (s : State) where
   unfolding weighed inLines inWires total
   weighed-total b =
       ap₂ (λ (m n : ℕ). m + n)
-      (sum-same (queues pl) (λ n. lineOf (anywhere w) (s .handled) (s .queue) (queueAt pl n)) (λ n. inAll w (s .queue (queueAt pl n)))
-      (λ n l. line-plain (queueAt pl n) (s .handled (queueAt pl n)) (s .queue (queueAt pl n))))
-      (sum-same (outputs pl) (λ n. wireOf pl (anywhere w) (s .wire) (outputAt pl n)) (λ n. inWire w (s .wire (outputAt pl n)))
-      (λ n l. wire-plain (outputAt pl n) (s .wire (outputAt pl n)) (b (outputAt pl n) (drives-at pl n l))))
+      (sum-same (queues pl) (λ n. lineOf (anywhere w) (s .lines .handled) (s .lines .queue) (queueAt pl n)) (λ n. inAll w (s .lines .queue (queueAt pl n)))
+      (λ n l. line-plain (queueAt pl n) (s .lines .handled (queueAt pl n)) (s .lines .queue (queueAt pl n))))
+      (sum-same (outputs pl) (λ n. wireOf pl (anywhere w) (s .links .wire) (outputAt pl n)) (λ n. inWire w (s .links .wire (outputAt pl n)))
+      (λ n l. wire-plain (outputAt pl n) (s .links .wire (outputAt pl n)) (b (outputAt pl n) (drives-at pl n l))))
 
 -- In a state every packet on a wire has a next queue.
 pub core-bound : (pl : Plan) (s : State) → Core pl s → Bound pl s
@@ -206,12 +206,12 @@ pub weighed-plain : (pl : Plan) (w : Packet → ℕ) (s : State) → Core pl s �
 weighed-plain pl w s c = weighed-total pl w s (core-bound pl s c)
 
 -- A wire replaced by one whose packet has a next queue keeps it so.
-pub bound-put : (pl : Plan) (s t : State) (o : Output) (v : Wire) → Bound pl s → ((x : Packet) → v ≡ Full x → (y : Queue) × (nextBy pl o x ≡ some y)) → t .wire ≡ put sameOutput (s .wire) o v → Bound pl t
+pub bound-put : (pl : Plan) (s t : State) (o : Output) (v : Wire) → Bound pl s → ((x : Packet) → v ≡ Full x → (y : Queue) × (nextBy pl o x ≡ some y)) → t .links .wire ≡ put sameOutput (s .links .wire) o v → Bound pl t
 bound-put pl s t o v b f q u d x e = by (test (sameOutput u o))
   where
-    now : pick (sameOutput u o) v (s .wire u) ≡ Full x
+    now : pick (sameOutput u o) v (s .links .wire u) ≡ Full x
     now = sym (ap (λ (m : Output → Wire). m u) q) ∙ e
 
     by : (sameOutput u o ≡ true) ⊎ (sameOutput u o ≡ false) → (y : Queue) × (nextBy pl u x ≡ some y)
-    by (inl z) = subst (λ (k : Output). (y : Queue) × (nextBy pl k x ≡ some y)) (sym (same-output u o z)) (f x (sym (ap (λ (z : Bool). pick z v (s .wire u)) z) ∙ now))
-    by (inr z) = b u d x (sym (ap (λ (z : Bool). pick z v (s .wire u)) z) ∙ now)
+    by (inl z) = subst (λ (k : Output). (y : Queue) × (nextBy pl k x ≡ some y)) (sym (same-output u o z)) (f x (sym (ap (λ (z : Bool). pick z v (s .links .wire u)) z) ∙ now))
+    by (inr z) = b u d x (sym (ap (λ (z : Bool). pick z v (s .links .wire u)) z) ∙ now)

@@ -1,0 +1,47 @@
+-- What a queue does with its packets: the four roles by which the rules tell queues apart.
+use mathlib.Core.Path.{_≡_, refl}
+use mathlib.Core.Logic.{_⊎_, inl, inr}
+use mathlib.Core.Bool.{Bool, true, false}
+use Prim.Native.Nat.{ℕ}
+use Rattle.feeding.specs.Queue.{Queue, activeOut, activeIn, passiveIn, passiveOut, U, Q, F, K}
+
+pub data Role : Type 0 where
+  -- an interface's out-queue: no wire feeds it
+  sending : Role
+  -- an interface's in-queue: its packets leave by no wire
+  receiving : Role
+  -- Q, at the unit of this router: its head is handled before it leaves
+  handling : ℕ → Role
+  -- U, F and K: a wire feeds them, and what comes in leaves as it is
+  passing : Role
+
+abbrev pub role : Queue → Role
+role (activeOut a) = sending
+role (activeIn a) = receiving
+role (passiveIn p) = receiving
+role (passiveOut p) = sending
+role (U r i) = passing
+role (Q r) = handling r
+role (F r o) = passing
+role (K r i o) = passing
+
+-- is it the queue at a unit?
+abbrev pub isUnitAs : Role → Bool
+isUnitAs sending = false
+isUnitAs receiving = false
+isUnitAs (handling r) = true
+isUnitAs passing = false
+
+abbrev pub isUnit : Queue → Bool
+isUnit q = isUnitAs (role q)
+
+-- a queue is a unit's, or it is not
+pub unit-or : (q : Queue) → ((r : ℕ) × (q ≡ Q r)) ⊎ (isUnit q ≡ false)
+unit-or (activeOut a) = inr refl
+unit-or (activeIn a) = inr refl
+unit-or (passiveIn p) = inr refl
+unit-or (passiveOut p) = inr refl
+unit-or (U r i) = inr refl
+unit-or (Q r) = inl (r, refl)
+unit-or (F r o) = inr refl
+unit-or (K r i o) = inr refl

@@ -14,7 +14,7 @@ use Rattle.machine.specs.Execute.{doExecute}
 use Rattle.machine.specs.Write.{doWrite}
 use Rattle.machine.specs.Visits.{launched, removed}
 use Rattle.machine.specs.Calls.{Visit, Call, turn, Outcome, gives, stepOf, call}
-use Rattle.machine.specs.Does.{Visits, launches, replies, consumes, looks, Does, refuses, turns, visits}
+use Rattle.machine.specs.Does.{Visited, launches, replies, consumes, looks, Does, refuses, turns, visits}
 use Rattle.machine.specs.Progress.{turnsCall}
 use Rattle.machine.specs.Ruled.{ruledAfter, rounds}
 use Rattle.machine.proofs.Does.{call-does, refused-turns}
@@ -55,7 +55,7 @@ module _ (pl : Plan) (s : State) where
   phase-turn Execute e = rw e (record { read-turn = refl; execute-turn = refl })
   phase-turn Write e = rw e (record { read-turn = refl; execute-turn = refl })
 
-  visit-phase : (v : Visit) (o : Outcome) → Visits pl s v o → o .state .clock .phase ≡ s .clock .phase
+  visit-phase : (v : Visit) (o : Outcome) → Visited pl s v o → o .state .clock .phase ≡ s .clock .phase
   unfolding launched join removed
   visit-phase v o (launches a p t m) = refl
   visit-phase v o (replies p c x rest m) = refl

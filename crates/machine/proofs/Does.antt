@@ -25,7 +25,7 @@ use Rattle.machine.specs.State.{State}
 use Rattle.machine.specs.Visits.{isEmpty, headUnmarked, replyKind, replied}
 use Rattle.machine.specs.Guards.{Guard, refusalOf, Passed}
 use Rattle.machine.specs.Calls.{Visit, ofLaunch, ofReply, ofConsume, ofEntry, Call, turn, visit, Outcome, isPhase, launchGuards, replyGuards, consumeGuards, entryGuards, guards, consumed, accepted, decided, call}
-use Rattle.machine.specs.Does.{MayLaunch, MayReply, MayConsume, MayLook, Visits, launches, replies, consumes, looks, Does, refuses, turns, visits}
+use Rattle.machine.specs.Does.{MayLaunch, MayReply, MayConsume, MayLook, Visited, launches, replies, consumes, looks, Does, refuses, turns, visits}
 use Rattle.machine.specs.Progress.{turnsCall}
 use Rattle.machine.proofs.Apart.{phase-of}
 
@@ -72,7 +72,7 @@ module _ (pl : Plan) (s : State) where
       }
 
   replies-to : (p c : ℕ) (l : List Packet) → s .lines .queue (passiveIn p) ≡ l → Passed (replyGuards pl p c s)
-      → Visits pl s (ofReply p c) (accepted pl (visit (ofReply p c)) s)
+      → Visited pl s (ofReply p c) (accepted pl (visit (ofReply p c)) s)
   replies-to p c [] q (e, (f, (g, (h, (r, n))))) = absurd (true≢false (sym (ap isEmpty q) ∙ h))
   replies-to p c (x ∷ rest) q (e, (f, (g, (h, (r, n))))) =
       let y = and-both (not-false _ f) in
@@ -88,7 +88,7 @@ module _ (pl : Plan) (s : State) where
       }))
 
   consumes-from : (a : ℕ) (l : List Packet) → s .lines .queue (activeIn a) ≡ l → Passed (consumeGuards pl a s)
-      → Visits pl s (ofConsume a) (consumed a (s .lines .queue (activeIn a)) s)
+      → Visited pl s (ofConsume a) (consumed a (s .lines .queue (activeIn a)) s)
   consumes-from a [] q (e, (f, (g, (h, (u, n))))) = absurd (true≢false (sym (ap isEmpty q) ∙ h))
   consumes-from a (x ∷ rest) q (e, (f, (g, (h, (u, n))))) =
       rw q
@@ -108,7 +108,7 @@ module _ (pl : Plan) (s : State) where
       record { router = ltb-true r (R pl) (y .0); side = ltb-true o 4 (y .1); slot = ltb-true t (S pl) (x .1) }
 
   -- ---- every call
-  accepted-visits : (v : Visit) → Passed (guards pl (visit v) s) → Visits pl s v (accepted pl (visit v) s)
+  accepted-visits : (v : Visit) → Passed (guards pl (visit v) s) → Visited pl s v (accepted pl (visit v) s)
   accepted-visits (ofLaunch a p t) g = launches a p t (may-launch a p t g)
   accepted-visits (ofReply p c) g = replies-to p c (s .lines .queue (passiveIn p)) refl g
   accepted-visits (ofConsume a) g = consumes-from a (s .lines .queue (activeIn a)) refl g
@@ -143,7 +143,7 @@ done-not e = let z : _≡_ {A = ℕ} 0 1 = cc in omega arith
 
 module _ {pl : Plan} {s : State} where
   -- an accepted visit does not answer with a refusal
-  visit-not-refused : {v : Visit} {o : Outcome} → Visits pl s v o → {w : Refusal} → o .answer ≡ Refused w → ⊥
+  visit-not-refused : {v : Visit} {o : Outcome} → Visited pl s v o → {w : Refusal} → o .answer ≡ Refused w → ⊥
   visit-not-refused (launches a p t m) e = done-not e
   visit-not-refused (replies p c x rest m) e = done-not e
   visit-not-refused (consumes a x rest m) e = let z : _≡_ {A = ℕ} 0 1 = cc in omega arith

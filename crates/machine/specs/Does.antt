@@ -51,16 +51,16 @@ pub record MayLook (pl : Plan) (r o t : ℕ) : Type 0 where
   pub slot : t < S pl
 
 -- ---- an accepted visit, and what it gives
-pub data Visits (pl : Plan) (s : State) : Visit → Outcome → Type 0 where
-  launches : (a p t : ℕ) → MayLaunch pl s a p t → Visits pl s (ofLaunch a p t) (gives Done (launched a p t s))
+pub data Visited (pl : Plan) (s : State) : Visit → Outcome → Type 0 where
+  launches : (a p t : ℕ) → MayLaunch pl s a p t → Visited pl s (ofLaunch a p t) (gives Done (launched a p t s))
   replies : (p c : ℕ) (x : Packet) (rest : List Packet) → MayReply pl s p c x rest
-      → Visits pl s (ofReply p c) (gives Done (replied p (replyKind c) (x ∷ rest) s))
+      → Visited pl s (ofReply p c) (gives Done (replied p (replyKind c) (x ∷ rest) s))
   consumes : (a : ℕ) (x : Packet) (rest : List Packet) → MayConsume pl s a x rest
-      → Visits pl s (ofConsume a) (gives (Taken x) (removed a rest s))
-  looks : (r o t : ℕ) → MayLook pl r o t → Visits pl s (ofEntry r o t) (gives (Holds (s .table r o t)) s)
+      → Visited pl s (ofConsume a) (gives (Taken x) (removed a rest s))
+  looks : (r o t : ℕ) → MayLook pl r o t → Visited pl s (ofEntry r o t) (gives (Holds (s .table r o t)) s)
 
 -- ---- a call: refused (7 is asked before it), a phase turned, a visit
 pub data Does (pl : Plan) (s : State) : Call → Outcome → Type 0 where
   refuses : (c : Call) (w : Refusal) → w ≢ NotState → Does pl s c (gives (Refused w) s)
   turns : (x : Phase) → s .clock .phase ≡ x → Does pl s (turn x) (gives Done (stepOf pl x s))
-  visits : (v : Visit) (o : Outcome) → Visits pl s v o → Does pl s (visit v) o
+  visits : (v : Visit) (o : Outcome) → Visited pl s v o → Does pl s (visit v) o

@@ -23,7 +23,7 @@ use Rattle.machine.specs.State.{State, Choice, nobody, sender, withQueue, withW
 use Rattle.machine.specs.Read.{arrived, joinNext, arrive, deliver}
 use Rattle.machine.specs.Execute.{cameIn, declined, booked, freed, mayBook, handledAs, setUp, tearOne, tearDown, handle, atUnit, unit, hasCredit, mayLeave, headReady, candidate, unmarkedKind, unmarked, torn, hasRoom, answer, atActive, undo}
 use Rattle.machine.specs.Write.{ofRank, raise, spend, sendHead, sendFrom, sendBy, send}
-use Rattle.theory.proofs.Core.{Sendable}
+use Rattle.theory.specs.Invariant.{Sendable}
 
 -- ---- a wire
 module _ (pl : Plan) (o : Output) (s : State) where

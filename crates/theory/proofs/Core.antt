@@ -1,5 +1,4 @@
--- What refusal 7 asks, in two parts. The core holds at every moment, also inside a phase: ranges, places, credits, allowances, one free entry
--- a side. The shape depends on the phase: empty wires, choices and flags.
+-- What refusal 7 asks is a core with a shape.
 use mathlib.Core.Path.{_≡_, refl, sym, ap, _∙_}
 use mathlib.Core.Logic.{_⊎_, inl, inr, _≢_}
 use mathlib.Core.Bool.{Bool, true, false}
@@ -25,85 +24,8 @@ use Rattle.machine.specs.Execute.{candidate}
 use Rattle.machine.specs.Write.{ofRank}
 use Rattle.machine.specs.Valid.{Lined, Drives, Carries, bit, onWires, total, spends, isFed, Valid, Bounded}
 use Rattle.machine.specs.Progress.{HasWire}
+use Rattle.theory.specs.Invariant.{account, Core, Shape, in-read, in-execute, in-write}
 use Rattle.machine.proofs.Apart.{nobody-not, read-execute, read-write, execute-write}
-
--- ---- the core's parts
-abbrev pub SlotIn : Plan → State → Type 0
-SlotIn pl s = s .clock .slot .0 < S pl
-
-abbrev pub EntriesIn : Plan → State → Type 0
-EntriesIn pl s = (r o t i : ℕ) → r < R pl → o < 4 → t < S pl → s .table r o t ≡ Booked i → i < 4
-
-abbrev pub OutCapacities : Plan → State → Type 0
-OutCapacities pl s = (q : Queue) → Exists pl q → isFed q ≡ false → length (s .lines .queue q) ≤ capacity (pl .head) q
-
-abbrev pub Places : Plan → State → Type 0
-Places pl s = (q : Queue) → Exists pl q → Lined pl q (s .lines .handled q) (s .lines .queue q)
-
-abbrev pub Wires : Plan → State → Type 0
-Wires pl s = (o : Output) → Drives pl o → (x : Packet) → s .links .wire o ≡ Full x → Carries pl o x
-
-abbrev pub OutFlags : Plan → State → Type 0
-OutFlags pl s = (q : Queue) → Exists pl q → isFed q ≡ false → s .flow .flag q ≡ false
-
-abbrev pub Marks : Plan → State → Type 0
-Marks pl s = (q : Queue) → Exists pl q → s .lines .handled q ≡ true → (r : ℕ) × (q ≡ Q r) × (s .lines .queue q ≢ [])
-
-abbrev pub FreeEntry : Plan → State → Type 0
-FreeEntry pl s = (r o : ℕ) → r < R pl → o < 4 → (t : ℕ) × (t < S pl) × (s .table r o t ≡ Free)
-
--- credit, queued packets, packets on wires and the raised flag of a queue
-unfoldable pub account : Plan → Queue → State → ℕ
-account pl q s = s .flow .credit q .0 + length (s .lines .queue q) + onWires pl q s + bit (s .flow .flag q)
-
-abbrev pub Credits : Plan → State → Type 0
-Credits pl s = (q : Queue) → Exists pl q → isFed q ≡ true → account pl q s ≡ capacity (pl .head) q
-
-abbrev pub OutCredits : Plan → State → Type 0
-OutCredits pl s = (q : Queue) → Exists pl q → isFed q ≡ false → s .flow .credit q .0 ≡ capacity (pl .head) q
-
-abbrev pub Allowances : Plan → State → Type 0
-Allowances pl s = (a : ℕ) → a < A pl → s .flow .allowance a + total pl (spends a) s ≡ startAllowance pl
-
-pub record Core (pl : Plan) (s : State) : Type 0 where
-  pub slot : SlotIn pl s
-  pub entries : EntriesIn pl s
-  pub out-capacities : OutCapacities pl s
-  pub places : Places pl s
-  pub wires : Wires pl s
-  pub out-flags : OutFlags pl s
-  pub marks : Marks pl s
-  pub free-entry : FreeEntry pl s
-  pub credits : Credits pl s
-  pub out-credits : OutCredits pl s
-  pub allowances : Allowances pl s
-  pub bounded : Bounded pl s
-
--- ---- the shape's parts
-abbrev pub WiresEmpty : Plan → State → Type 0
-WiresEmpty pl s = (o : Output) → Drives pl o → s .links .wire o ≡ Empty
-
-abbrev pub FlagsDown : Plan → State → Type 0
-FlagsDown pl s = (q : Queue) → Exists pl q → s .flow .flag q ≡ false
-
-abbrev pub NoChoices : Plan → State → Type 0
-NoChoices pl s = (o : Output) → Drives pl o → s .links .choice o ≡ nobody
-
--- an output's choice can be sent: a candidate whose flag is down
-pub record Sendable (pl : Plan) (s : State) (o : Output) (k : ℕ) : Type 0 where
-  pub queue : Queue
-  pub rank : ofRank (senders o) k ≡ some queue
-  pub ready : candidate pl s o queue ≡ true
-  pub down : s .flow .flag queue ≡ false
-
-abbrev pub ChoicesSendable : Plan → State → Type 0
-ChoicesSendable pl s = (o : Output) (k : ℕ) → Drives pl o → s .links .choice o ≡ sender k → Sendable pl s o k
-
--- by phase: in READ no choices; in EXECUTE no choices, wires empty, flags down; in WRITE wires empty, choices of candidates with flags down
-pub data Shape (pl : Plan) (s : State) : Type 0 where
-  in-read : s .clock .phase ≡ Read → NoChoices pl s → Shape pl s
-  in-execute : s .clock .phase ≡ Execute → NoChoices pl s → WiresEmpty pl s → FlagsDown pl s → Shape pl s
-  in-write : s .clock .phase ≡ Write → WiresEmpty pl s → ChoicesSendable pl s → Shape pl s
 
 -- ---- a state is a core with a shape
 phases : (x : Phase) → (x ≡ Read) ⊎ (x ≡ Execute) ⊎ (x ≡ Write)

@@ -32,11 +32,12 @@ use Rattle.machine.specs.Execute.{unit, choose, undo, doExecute, hasRoom, unmar
 use Rattle.machine.specs.Write.{send, doWrite}
 use Rattle.machine.specs.Visits.{replyKind}
 use Rattle.machine.specs.Calls.{Visit, Call, Outcome, stepOf, call}
-use Rattle.machine.specs.Does.{Visits, launches, replies, consumes, looks, Does, refuses, turns, visits}
+use Rattle.machine.specs.Does.{Visited, launches, replies, consumes, looks, Does, refuses, turns, visits}
 use Rattle.machine.specs.Valid.{Drives, Valid, Bounded}
 use Rattle.machine.specs.Ruled.{Good}
 use Rattle.machine.proofs.Does.{call-does}
-use Rattle.theory.proofs.Core.{Core, Shape, in-read, in-execute, in-write, Sendable, NoChoices, WiresEmpty, FlagsDown, ChoicesSendable, Allowances, core-of, shape-of, valid-of}
+use Rattle.theory.specs.Invariant.{Inv, Core, Shape, in-read, in-execute, in-write, Sendable, NoChoices, WiresEmpty, FlagsDown, ChoicesSendable, Allowances}
+use Rattle.theory.proofs.Core.{core-of, shape-of, valid-of}
 use Rattle.theory.proofs.Weights.Spending.{reply-spends}
 use Rattle.theory.proofs.Weights.Allowance.{start-allowances, phase-allowances, slot-allowances, deliver-allowances, settle-allowances, unit-allowances, choose-allowances, undo-allowances, send-allowances, launched-allowances, replied-allowances, removed-allowances}
 use Rattle.theory.proofs.Kept.Parts.{Kept, kept-of, start-kept, phase-kept, slot-kept}
@@ -72,11 +73,6 @@ core-by k p a =
       allowances = a;
       bounded = k .bounded;
     }
-
--- a core with its shape: what a state has
-pub record Inv (pl : Plan) (s : State) : Type 0 where
-  pub core : Core pl s
-  pub shape : Shape pl s
 
 pub inv-of : (pl : Plan) (s : State) → Good pl s → Inv pl s
 inv-of pl s g = record { core = core-of pl s (g .valid) (g .bounded); shape = shape-of pl s (g .valid) }
@@ -143,7 +139,7 @@ module _ {pl : Plan} (wired : Wired pl) (range : InRange (pl .head)) where
       let h = write-has s e (i .shape) in
       record { core = write-core s (i .core) (h .0) (h .1); shape = write-shape pl s }
 
-  visit-inv : (v : Visit) (o : Outcome) (s : State) → Visits pl s v o → Inv pl s → Inv pl (o .state)
+  visit-inv : (v : Visit) (o : Outcome) (s : State) → Visited pl s v o → Inv pl s → Inv pl (o .state)
   visit-inv v o s (launches a p t m) i =
       record {
         core = core-by

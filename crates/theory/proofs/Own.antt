@@ -1,5 +1,4 @@
 -- Every booked entry has one owner.
-pub mod Owners
 pub mod Owning
 pub mod Packets
 pub mod Same

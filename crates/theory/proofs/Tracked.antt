@@ -33,20 +33,21 @@ use Rattle.machine.specs.Execute.{unit, choose, undo, doExecute, hasRoom, unmar
 use Rattle.machine.specs.Write.{send, doWrite}
 use Rattle.machine.specs.Visits.{replyKind, replied}
 use Rattle.machine.specs.Calls.{Visit, ofLaunch, ofReply, ofConsume, ofEntry, Call, turn, visit, reply, entry, Outcome, gives, stepOf, call}
-use Rattle.machine.specs.Does.{Visits, launches, replies, consumes, looks, Does, refuses, turns, visits}
+use Rattle.machine.specs.Does.{Visited, launches, replies, consumes, looks, Does, refuses, turns, visits}
 use Rattle.machine.specs.Accepted.{Connection, accept, acceptKind, MadeBy}
 use Rattle.machine.specs.Valid.{Drives}
 use Rattle.machine.specs.Progress.{Within, Quiet}
 use Rattle.machine.specs.Ruled.{Good, Ruled, ruledAfter, acceptedAfter, launchesCall, launches as launchesIn, times}
 use Rattle.machine.proofs.Does.{call-does}
-use Rattle.theory.proofs.Core.{Core, Shape, Sendable, FlagsDown, WiresEmpty, ChoicesSendable}
+use Rattle.theory.specs.Invariant.{Core, Shape, Sendable, FlagsDown, WiresEmpty, ChoicesSendable, Inv}
 use Rattle.theory.proofs.Shape.Calls.{execute-has, write-has}
 use Rattle.theory.proofs.Shape.Phases.{read-keeps, execute-keeps, write-keeps}
-use Rattle.theory.proofs.Keeps.{Inv, good-of, start-inv, call-inv, reply-kind, phase-core, turn-core, deliver-core, settle-core, unit-core, choose-core, undo-core, send-core}
+use Rattle.theory.proofs.Keeps.{good-of, start-inv, call-inv, reply-kind, phase-core, turn-core, deliver-core, settle-core, unit-core, choose-core, undo-core, send-core}
 use Rattle.theory.proofs.Progress.FromRead.{progress}
-use Rattle.theory.proofs.Own.Owners.{Owned}
+use Rattle.theory.specs.Promises.{TdownsOwn}
+use Rattle.theory.specs.Owners.{Owned}
 use Rattle.theory.proofs.Own.Steps.{start-owned, phase-owned, slot-owned, settle-owned, choose-owned, deliver-owned, send-owned, undo-owned, launched-owned, replied-owned, removed-owned}
-use Rattle.theory.proofs.Own.Units.{unit-owned}
+use Rattle.theory.proofs.Own.Units.{unit-owned, tdown-own}
 use Rattle.theory.proofs.Own.Table.{owned-table}
 use Rattle.theory.proofs.Weights.Launches.{Counted, start-counted, counted-times, phase-counted, slot-counted, settle-counted, choose-counted, removed-counted, deliver-counted, send-counted, unit-counted, undo-counted, launched-counted, replied-counted}
 
@@ -145,7 +146,7 @@ module _ {pl : Plan} (wired : Wired pl) (range : InRange (pl .head)) where
       turn-mid-at Execute e = execute-mid s (execute-has s e (k .inv .shape) .2) mid
       turn-mid-at Write e = let h = write-has s e (k .inv .shape) in write-mid s (h .0) (h .1) mid
 
-      visit-told : (v : Visit) (o : Outcome) → Visits pl s v o → Told (visit v) o
+      visit-told : (v : Visit) (o : Outcome) → Visited pl s v o → Told (visit v) o
       visit-told v o (launches a p t m) =
           record {
             owned = launched-owned wired s (k .inv .core) (k .owned) a p t (m .active);
@@ -206,6 +207,13 @@ module _ {pl : Plan} (wired : Wired pl) (range : InRange (pl .head)) where
   -- every booked entry is owned by exactly one packet under way or accepted connection, and nothing else is booked
   pub reached-owned : (cs : List Call) → Owned pl (acceptedAfter pl cs (start pl) []) (ruledAfter pl cs (start pl))
   reached-owned cs = reached cs .owned
+
+  -- every TDOWN frees an entry of its own connection
+  pub tdowns-own : TdownsOwn pl
+  tdowns-own cs = (
+    reached-owned cs,
+    λ r x rest h e f q. tdown-own wired (ruledAfter pl cs (start pl)) (reached cs .inv .core) (reached-owned cs) r h x rest e f q,
+  )
 
   -- ---- what every call keeps: core, shape and ownership, with some connections accepted and some launches
   abbrev pub Held : State → Type 0

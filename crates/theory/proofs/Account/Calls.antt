@@ -14,7 +14,7 @@ use Rattle.machine.specs.Store.{put, sameQueue}
 use Rattle.machine.specs.State.{State, withQueue, withFlag, join}
 use Rattle.machine.specs.Execute.{hasRoom}
 use Rattle.machine.specs.Visits.{setupOf, launched, repliedAs, replied, removed}
-use Rattle.theory.proofs.Core.{Core}
+use Rattle.theory.specs.Invariant.{Core}
 use Rattle.theory.proofs.Ground.Cells.{queue-away, fed-apart}
 use Rattle.theory.proofs.Account.Paid.{Paid, paid-of, paid-alike, left-paid, join-paid}
 

@@ -14,7 +14,7 @@ use Rattle.machine.specs.Capacity.{capacity}
 use Rattle.machine.specs.Store.{put, sameQueue}
 use Rattle.machine.specs.State.{State, withQueue, withFlag, withEntry, join}
 use Rattle.machine.specs.Execute.{handledAs, unit, choose, marked, tdownOf, torn, hasRoom, undo}
-use Rattle.theory.proofs.Core.{Core}
+use Rattle.theory.specs.Invariant.{Core}
 use Rattle.theory.proofs.Ground.Cells.{queue-away, fed-apart}
 use Rattle.theory.proofs.Account.Paid.{Paid, paid-of, paid-alike, head-paid, left-paid, join-paid}
 use Rattle.theory.proofs.Account.Units.{unit-by, undo-by}

@@ -24,7 +24,7 @@ use Rattle.machine.specs.State.{State, blank, start, withPhase, withSlot, withQ
 use Rattle.machine.specs.Valid.{Drives, bit, brings, onWires, isFed}
 use Rattle.theory.proofs.Ground.Sums.{sum-nought}
 use Rattle.theory.proofs.Ground.Cells.{queue-here, queue-away, queue-or, cell-sum, fed-apart}
-use Rattle.theory.proofs.Core.{OutCapacities, OutFlags, OutCredits, Credits, account, Core}
+use Rattle.theory.specs.Invariant.{OutCapacities, OutFlags, OutCredits, Credits, account, Core}
 use Rattle.theory.proofs.Places.Feeders.{feeder, fed-by}
 
 -- the four parts of the core that speak of credits, room and flags

@@ -21,7 +21,7 @@ use Rattle.machine.specs.Outputs.{nextBy}
 use Rattle.machine.specs.State.{State, withWire, join}
 use Rattle.machine.specs.Read.{arrived, joinNext, arrive, deliver, lower, settle}
 use Rattle.machine.specs.Valid.{Drives, bit, goesTo, brings, onWires, isFed}
-use Rattle.theory.proofs.Core.{account, Core}
+use Rattle.theory.specs.Invariant.{account, Core}
 use Rattle.theory.proofs.Ground.Cells.{queue-away, same-turn, cell-sum, fed-apart, outputs-put}
 use Rattle.theory.proofs.Account.Paid.{Paid, Kept, Spared, paid-by, paid-of, next-fed, out-put}
 

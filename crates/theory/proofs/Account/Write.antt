@@ -25,7 +25,7 @@ use Rattle.machine.specs.Write.{ofRank, raise, spend, sendHead, sendFrom, sendB
 use Rattle.machine.specs.Valid.{Drives, bit, goesTo, brings, onWires, isFed}
 use Rattle.machine.proofs.Numbers.{sender-exists}
 use Rattle.theory.proofs.Ground.Cells.{queue-away, same-turn, cell-sum, fed-apart, outputs-put}
-use Rattle.theory.proofs.Core.{account, Core, Sendable}
+use Rattle.theory.specs.Invariant.{account, Core, Sendable}
 use Rattle.theory.proofs.Places.Senders.{raise-queue, raise-credit, raise-links, raise-flag, raise-none, Ready, candidate-ready}
 use Rattle.theory.proofs.Account.Paid.{Paid, Kept, Spared, paid-by, paid-of, paid-alike, next-fed, left-paid, out-paid}
 

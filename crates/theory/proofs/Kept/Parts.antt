@@ -25,7 +25,7 @@ use Rattle.machine.specs.State.{State, Lines, Choice, blank, start, withPhase, 
 use Rattle.machine.specs.Valid.{Drives, Carries, Bounded, Lined}
 use Rattle.machine.proofs.Apart.{full-not, booked-not}
 use Rattle.theory.proofs.Ground.Puts.{put-cases, put-outside, number-one, entry-cases}
-use Rattle.theory.proofs.Core.{Core, SlotIn, EntriesIn, Places, Wires, Marks, FreeEntry}
+use Rattle.theory.specs.Invariant.{Core, SlotIn, EntriesIn, Places, Wires, Marks, FreeEntry}
 
 -- what the steps keep of the places
 pub record Kept (pl : Plan) (s : State) : Type 0 where

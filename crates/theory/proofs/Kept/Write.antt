@@ -24,7 +24,7 @@ use Rattle.machine.specs.Write.{ofRank, raiseAs, raise, spend, sendHead, sendFr
 use Rattle.machine.specs.Valid.{Belongs, Drives}
 use Rattle.machine.proofs.Apart.{full-same}
 use Rattle.machine.proofs.Numbers.{sender-exists}
-use Rattle.theory.proofs.Core.{Sendable}
+use Rattle.theory.specs.Invariant.{Sendable}
 use Rattle.theory.proofs.Places.Feeders.{sender-leaves}
 use Rattle.theory.proofs.Places.Lines.{no-mark, head-leaves, line-of, belongs-exists}
 use Rattle.theory.proofs.Places.Makes.{next-belongs}

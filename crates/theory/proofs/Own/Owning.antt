@@ -1,4 +1,4 @@
--- The entries of pieces of walks: none of an empty piece, two pieces put together, the one entry of one router. Claims and stores by entry.
+-- The entries of pieces of walks: none of an empty piece, two pieces put together, the one entry of one router. Holders and stores by entry.
 use mathlib.Core.Path.{_≡_, refl, sym, ap, ap₂, _∙_}
 use mathlib.Core.Logic.{_⊎_, inl, inr}
 use mathlib.Core.Bool.{Bool, true, false, true≢false}
@@ -22,16 +22,16 @@ use Rattle.wiring.specs.Wired.{Wired}
 use Rattle.machine.specs.Store.{put}
 use Rattle.machine.specs.Valid.{bit}
 use Rattle.theory.proofs.Places.Indices.{index-stands, index-is}
-use Rattle.theory.proofs.Own.Owners.{Claim, sameClaim, claimOf, reaches, indexOf, owning, entryOf, holds}
+use Rattle.theory.specs.Owners.{Holder, sameHolder, holderOf, reaches, indexOf, owning, entryOf, holds}
 
--- ---- claims
--- A claim is itself.
-pub claim-same : (c : Claim) → sameClaim c c ≡ true
-claim-same c = also-of (eq-eqb (c .side) (c .side) refl) (also-of (eq-eqb (c .active) (c .active) refl) (eq-eqb (c .passive) (c .passive) refl))
+-- ---- holders
+-- A holder is itself.
+pub holder-same : (c : Holder) → sameHolder c c ≡ true
+holder-same c = also-of (eq-eqb (c .side) (c .side) refl) (also-of (eq-eqb (c .active) (c .active) refl) (eq-eqb (c .passive) (c .passive) refl))
 
--- Claims that the test finds one are one.
-pub same-claim : (c v : Claim) → sameClaim c v ≡ true → c ≡ v
-same-claim c v e =
+-- Holders that the test finds one are one.
+pub same-holder : (c v : Holder) → sameHolder c v ≡ true → c ≡ v
+same-holder c v e =
     let p = also-true {a = eqb (c .side) (v .side)} {b = also (eqb (c .active) (v .active)) (eqb (c .passive) (v .passive))} e in
     let q = also-true {a = eqb (c .active) (v .active)} {b = eqb (c .passive) (v .passive)} (p .1) in
     let a : c .side ≡ v .side = eqb-true (c .side) (v .side) (p .0) in
@@ -46,13 +46,13 @@ pub bit-true : (b : Bool) → 0 < bit b → b ≡ true
 bit-true true h = refl
 bit-true false h = absurd (omega arith)
 
--- What holds a claim is that claim.
-pub held : (m : Option Claim) (v : Claim) → 0 < holds m v → m ≡ some v
+-- What holds a holder is that holder.
+pub held : (m : Option Holder) (v : Holder) → 0 < holds m v → m ≡ some v
 held none v h = absurd (omega arith)
-held (some c) v h = ap some (same-claim c v (bit-true (sameClaim c v) h))
+held (some c) v h = ap some (same-holder c v (bit-true (sameHolder c v) h))
 
--- A free entry has no claim.
-pub free-none : (m : Option Claim) → entryOf m ≡ Free → m ≡ none
+-- A free entry has no holder.
+pub free-none : (m : Option Holder) → entryOf m ≡ Free → m ≡ none
 free-none none e = refl
 free-none (some c) e = absurd (let z : _≡_ {A = ℕ} 0 1 = cc in omega arith)
 
@@ -114,24 +114,24 @@ module _ (slots t : ℕ) (start : Slot) (e : Bool) (n : ℕ) where
       by (inr f) (inr c) (inl d) = let z = none-reached Off in rw (le-ltb k first f, le-ltb k mid c, lt-ltb k past d) (omega arith)
       by (inr f) (inr c) (inr d) = let z = none-reached Off in rw (le-ltb k first f, le-ltb k mid c, le-ltb k past d) (omega arith)
 
-module _ (pl : Plan) (r o t : ℕ) (v : Claim) (a p : ℕ) (start : Slot) where
+module _ (pl : Plan) (r o t : ℕ) (v : Holder) (a p : ℕ) (start : Slot) where
   -- A piece without routers owns nothing.
   pub owning-none : (first past : ℕ) → past ≤ first → owning pl r o t v a p start first past ≡ 0
   unfolding owning
   owning-none first past h =
-      piece-none (S pl) t start (eqb o (routeTo pl (passive p) r)) (bit (sameClaim (claimOf pl a p r) v)) first past (indexOf pl a p r) (λ k e l m. omega arith)
+      piece-none (S pl) t start (eqb o (routeTo pl (passive p) r)) (bit (sameHolder (holderOf pl a p r) v)) first past (indexOf pl a p r) (λ k e l m. omega arith)
 
   -- Two pieces put together own what both own.
   pub owning-sum : (first mid past : ℕ) → first ≤ mid → mid ≤ past
       → owning pl r o t v a p start first mid + owning pl r o t v a p start mid past ≡ owning pl r o t v a p start first past
   unfolding owning
   owning-sum first mid past l m =
-      piece-sum (S pl) t start (eqb o (routeTo pl (passive p) r)) (bit (sameClaim (claimOf pl a p r) v)) first mid past l m (indexOf pl a p r)
+      piece-sum (S pl) t start (eqb o (routeTo pl (passive p) r)) (bit (sameHolder (holderOf pl a p r) v)) first mid past l m (indexOf pl a p r)
 
 module _ {pl : Plan} (wired : Wired pl) (a p : ℕ) (ha : a < A pl) (hp : p < P pl) (s : Served pl a p) where
   -- The piece of one router owns one entry: that router's, by the walk's side out, so many rounds after the start.
-  pub owning-one : (k i j : ℕ) → Stands pl a p k i j → (start : Slot) (r o t : ℕ) (v : Claim)
-      → owning pl r o t v a p start k (k + 1) ≡ pick (sameEntry r o t i (routeTo pl (passive p) i) (slotAfter start (record { 0 = k }) (S pl) .0)) (bit (sameClaim (claimOf pl a p i) v)) 0
+  pub owning-one : (k i j : ℕ) → Stands pl a p k i j → (start : Slot) (r o t : ℕ) (v : Holder)
+      → owning pl r o t v a p start k (k + 1) ≡ pick (sameEntry r o t i (routeTo pl (passive p) i) (slotAfter start (record { 0 = k }) (S pl) .0)) (bit (sameHolder (holderOf pl a p i) v)) 0
   unfolding owning
   owning-one k i j f start r o t v = by (test (eqb r i))
     where
@@ -143,10 +143,10 @@ module _ {pl : Plan} (wired : Wired pl) (a p : ℕ) (ha : a < A pl) (hp : p < P 
           true≢false (sym (eq-eqb r i (ap (λ (x : Port). x .router) z)) ∙ g)
 
       by : (eqb r i ≡ true) ⊎ (eqb r i ≡ false)
-          → owning pl r o t v a p start k (k + 1) ≡ pick (sameEntry r o t i (routeTo pl (passive p) i) (slotAfter start (record { 0 = k }) (S pl) .0)) (bit (sameClaim (claimOf pl a p i) v)) 0
+          → owning pl r o t v a p start k (k + 1) ≡ pick (sameEntry r o t i (routeTo pl (passive p) i) (slotAfter start (record { 0 = k }) (S pl) .0)) (bit (sameHolder (holderOf pl a p i) v)) 0
       by (inl e) =
           let q : r ≡ i = eqb-true r i e in
           ap (λ (n : ℕ). owning pl n o t v a p start k (k + 1)) q
           ∙ rw (index-is wired a p ha hp s k i j f, le-ltb k k (omega arith), lt-ltb k (k + 1) (omega arith), e)
       by (inr g) =
-          rw g (piece-none (S pl) t start (eqb o (routeTo pl (passive p) r)) (bit (sameClaim (claimOf pl a p r) v)) k (k + 1) (indexOf pl a p r) (there g))
+          rw g (piece-none (S pl) t start (eqb o (routeTo pl (passive p) r)) (bit (sameHolder (holderOf pl a p r) v)) k (k + 1) (indexOf pl a p r) (there g))

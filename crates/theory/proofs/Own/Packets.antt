@@ -25,7 +25,7 @@ use Rattle.theory.proofs.Cases.{exitAt}
 use Rattle.theory.proofs.Weights.Moves.{Steady}
 use Rattle.theory.proofs.Places.Slots.{start-below, after-start, start-next, start-none}
 use Rattle.theory.proofs.Places.Indices.{index-is}
-use Rattle.theory.proofs.Own.Owners.{Claim, sameClaim, claimOf, indexOf, indexNumber, owning, behind, ownsUp, ownsDown, ownsKind, owns}
+use Rattle.theory.specs.Owners.{Holder, sameHolder, holderOf, indexOf, indexNumber, owning, behind, ownsUp, ownsDown, ownsKind, owns}
 use Rattle.theory.proofs.Own.Owning.{sameEntry, owning-none, owning-sum, owning-one}
 
 -- ---- the routers behind a packet
@@ -54,7 +54,7 @@ module _ {pl : Plan} (wired : Wired pl) (a p : ℕ) (ha : a < A pl) (hp : p < P 
 pub fits-as : {pl : Plan} {at : Place} {x : Packet} (k : Kind) → x .kind ≡ k → Belongs pl at x → Fits pl k (x .active) (x .passive) (x .hub .0) at
 fits-as {pl} {at} {x} k e b = subst (λ (k : Kind). Fits pl k (x .active) (x .passive) (x .hub .0) at) e (b .fits)
 
-module _ (pl : Plan) (r o t : ℕ) (v : Claim) where
+module _ (pl : Plan) (r o t : ℕ) (v : Holder) where
   -- ---- by kind
   -- What a packet of a kind owns.
   pub owns-of : (k : Kind) (at : Place) (x : Packet) → x .kind ≡ k → owns pl r o t v at x ≡ ownsKind pl r o t v at k x
@@ -91,9 +91,9 @@ module _ (pl : Plan) (r o t : ℕ) (v : Claim) where
       let was = owns-of Nack from x e in
       omega arith
 
-  -- 1 if the entry is the one of router i that a packet books or frees there, and the claim its pair's; else 0
+  -- 1 if the entry is the one of router i that a packet books or frees there, and the holder its pair's; else 0
   abbrev pub oneAt : ℕ → Packet → ℕ
-  oneAt i x = pick (sameEntry r o t i (exitAt pl i x) (x .slot .0)) (bit (sameClaim (claimOf pl (x .active) (x .passive) i) v)) 0
+  oneAt i x = pick (sameEntry r o t i (exitAt pl i x) (x .slot .0)) (bit (sameHolder (holderOf pl (x .active) (x .passive) i) v)) 0
 
   module _ (wired : Wired pl) where
     -- ---- on the way
@@ -120,7 +120,7 @@ module _ (pl : Plan) (r o t : ℕ) (v : Claim) where
         → owning pl r o t v (x .active) (x .passive) (startSlot (x .slot) (record { 0 = n }) (S pl)) n (n + 1) ≡ oneAt i x
     one-at i x at b n j f =
         owning-one wired (x .active) (x .passive) (b .ranges .active) (b .ranges .passive) (b .serves) n i j f (startSlot (x .slot) (record { 0 = n }) (S pl)) r o t v
-        ∙ ap (λ (u : Slot). pick (sameEntry r o t i (exitAt pl i x) (u .0)) (bit (sameClaim (claimOf pl (x .active) (x .passive) i) v)) 0)
+        ∙ ap (λ (u : Slot). pick (sameEntry r o t i (exitAt pl i x) (u .0)) (bit (sameHolder (holderOf pl (x .active) (x .passive) i) v)) 0)
         (after-start (S pl) (x .slot) (record { 0 = n }) (b .ranges .slot))
 
     -- A set-up that is booked owns that entry more.

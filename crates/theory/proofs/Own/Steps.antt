@@ -29,22 +29,23 @@ use Rattle.machine.specs.Visits.{launched, replied, removed}
 use Rattle.machine.specs.Accepted.{Connection, connectionOf, acceptKind}
 use Rattle.machine.specs.Valid.{Belongs, Drives}
 use Rattle.theory.proofs.Places.Closure.{passive-setup, active-answer}
-use Rattle.theory.proofs.Core.{Core, Sendable}
-use Rattle.theory.proofs.Weights.Total.{weighed, start-weighed}
+use Rattle.theory.specs.Invariant.{Core, Sendable}
+use Rattle.theory.specs.Weights.{weighed}
+use Rattle.theory.proofs.Weights.Total.{start-weighed}
 use Rattle.theory.proofs.Cases.{unmarked-nack, ActiveDoes, waits, tears, undo-does}
 use Rattle.theory.proofs.Weights.Moves.{head-belongs, phase-weighed, slot-weighed, settle-weighed, choose-weighed, deliver-weighed, send-weighed}
 use Rattle.theory.proofs.Weights.Changes.{torn-weighed, launched-weighed, replied-weighed, removed-weighed}
 use Rattle.theory.proofs.Places.Slots.{start-below}
-use Rattle.theory.proofs.Own.Owners.{Claim, owning, ownsUp, owns, ownsMade, made, holds, Agreed, Owned}
+use Rattle.theory.specs.Owners.{Holder, owning, ownsUp, owns, ownsMade, made, holds, Agreed, Owned}
 use Rattle.theory.proofs.Own.Same.{deliver-table, settle-table, choose-table, send-table, undo-table}
 use Rattle.theory.proofs.Own.Packets.{fits-as, owns-of, up-none, launched-owns, replied-owns, torn-owns, owns-steady}
 
 -- A state with the same table and the same weights is owned alike.
 pub owned-same : {pl : Plan} {acc : List Connection} (s t : State) → Owned pl acc s → t .table ≡ s .table
-    → ((r o u : ℕ) (v : Claim) → weighed pl (owns pl r o u v) t ≡ weighed pl (owns pl r o u v) s) → Owned pl acc t
+    → ((r o u : ℕ) (v : Holder) → weighed pl (owns pl r o u v) t ≡ weighed pl (owns pl r o u v) s) → Owned pl acc t
 owned-same {pl} {acc} s t k e w =
     record {
-      claims = k .claims;
+      holders = k .holders;
       entries = λ r o u hr ho hu. ap (λ (m : ℕ → ℕ → ℕ → Entry). m r o u) e ∙ k .entries r o u hr ho hu;
       owners = λ r o u hr ho hu v. ap (λ (n : ℕ). n + made pl r o u v acc) (w r o u v) ∙ k .owners r o u hr ho hu v;
       agreed = k .agreed;
@@ -55,7 +56,7 @@ pub start-owned : (pl : Plan) → Owned pl [] (start pl)
 unfolding start blank made
 start-owned pl =
     record {
-      claims = λ r o t. none;
+      holders = λ r o t. none;
       entries = λ r o t hr ho ht. refl;
       owners = λ r o t hr ho ht v. ap (λ (n : ℕ). n + 0) (start-weighed pl (owns pl r o t v));
       agreed = λ c i. absurd i;
@@ -91,7 +92,7 @@ module _ {pl : Plan} (wired : Wired pl) {acc : List Connection} (s : State) (c :
   pub undo-owned : (a : ℕ) → a < A pl → Owned pl acc (undo pl a s)
   undo-owned a h = owned-same s (undo pl a s) k (undo-table pl s a) (λ r o u v. by r o u v (undo-does pl a s))
     where
-      by : (r o u : ℕ) (v : Claim) → ActiveDoes pl a s → weighed pl (owns pl r o u v) (undo pl a s) ≡ weighed pl (owns pl r o u v) s
+      by : (r o u : ℕ) (v : Holder) → ActiveDoes pl a s → weighed pl (owns pl r o u v) (undo pl a s) ≡ weighed pl (owns pl r o u v) s
       by r o u v (waits e) = ap (weighed pl (owns pl r o u v)) e
       by r o u v (tears x rest e m g) =
           let b = head-belongs c (activeIn a) h x rest e in
@@ -104,7 +105,7 @@ module _ {pl : Plan} (wired : Wired pl) {acc : List Connection} (s : State) (c :
   unfolding launched join
   launched-owned a p t h = owned-same s (launched a p t s) k refl (λ r o u v. by r o u v)
     where
-      by : (r o u : ℕ) (v : Claim) → weighed pl (owns pl r o u v) (launched a p t s) ≡ weighed pl (owns pl r o u v) s
+      by : (r o u : ℕ) (v : Holder) → weighed pl (owns pl r o u v) (launched a p t s) ≡ weighed pl (owns pl r o u v) s
       by r o u v =
           let all = launched-weighed pl (owns pl r o u v) c a p t h in
           let none = launched-owns pl r o u v (inQueue (activeOut a)) a p t in
@@ -122,7 +123,7 @@ module _ {pl : Plan} (wired : Wired pl) {acc : List Connection} (s : State) (c :
       setup : x .kind ≡ Setup
       setup = passive-setup wired (x .active) (x .passive) (b .ranges .active) (b .ranges .passive) (b .serves) (x .kind) (x .hub .0) p (b .fits) .0
 
-      same : (r o u : ℕ) (v : Claim) → weighed pl (owns pl r o u v) (replied p kind (x ∷ rest) s) ≡ weighed pl (owns pl r o u v) s
+      same : (r o u : ℕ) (v : Holder) → weighed pl (owns pl r o u v) (replied p kind (x ∷ rest) s) ≡ weighed pl (owns pl r o u v) s
       same r o u v =
           let all = replied-weighed pl (owns pl r o u v) c p h kind x rest e in
           let one = replied-owns pl r o u v (inQueue (passiveIn p)) (inQueue (passiveOut p)) kind x q setup in
@@ -150,10 +151,10 @@ module _ {pl : Plan} (wired : Wired pl) {acc : List Connection} (s : State) (c :
       known d (inr i) = k .agreed d i
 
       accepted : x .kind ≡ Ack → Owned pl (connectionOf pl x ∷ acc) (removed a rest s)
-      accepted q = record { claims = k .claims; entries = k .entries; owners = owners′; agreed = known }
+      accepted q = record { holders = k .holders; entries = k .entries; owners = owners′; agreed = known }
         where
-          owners′ : (r o u : ℕ) → r < R pl → o < 4 → u < S pl → (v : Claim)
-              → weighed pl (owns pl r o u v) (removed a rest s) + (ownsMade pl r o u v (connectionOf pl x) + made pl r o u v acc) ≡ holds (k .claims r o u) v
+          owners′ : (r o u : ℕ) → r < R pl → o < 4 → u < S pl → (v : Holder)
+              → weighed pl (owns pl r o u v) (removed a rest s) + (ownsMade pl r o u v (connectionOf pl x) + made pl r o u v acc) ≡ holds (k .holders r o u) v
           owners′ r o u hr ho hu v =
               let all = removed-weighed pl (owns pl r o u v) s a h x rest e in
               let was = owns-of pl r o u v Ack (inQueue (activeIn a)) x q in
@@ -169,7 +170,7 @@ module _ {pl : Plan} (wired : Wired pl) {acc : List Connection} (s : State) (c :
           none : x .hub .0 ≡ 0
           none = eqb-true (x .hub .0) 0 (not-false (eqb (x .hub .0) 0) (rw q at m))
 
-          same : (r o u : ℕ) (v : Claim) → weighed pl (owns pl r o u v) (removed a rest s) ≡ weighed pl (owns pl r o u v) s
+          same : (r o u : ℕ) (v : Holder) → weighed pl (owns pl r o u v) (removed a rest s) ≡ weighed pl (owns pl r o u v) s
           same r o u v =
               let all = removed-weighed pl (owns pl r o u v) s a h x rest e in
               let was = owns-of pl r o u v Nack (inQueue (activeIn a)) x q ∙ up-none pl r o u v x none in

@@ -27,16 +27,17 @@ use Rattle.machine.specs.State.{State}
 use Rattle.machine.specs.Accepted.{Connection, Makes, MadeBy}
 use Rattle.machine.specs.Progress.{Quiet}
 use Rattle.machine.specs.Valid.{Drives, bit}
-use Rattle.theory.proofs.Core.{Core, full-wire}
+use Rattle.theory.specs.Invariant.{Core}
+use Rattle.theory.proofs.Core.{full-wire}
 use Rattle.machine.proofs.Numbers.{exists-at}
 use Rattle.machine.proofs.OutNumbers.{drives-at}
 use Rattle.theory.proofs.Ground.Sums.{sum-nought}
 use Rattle.theory.proofs.Places.Closure.{stands-below}
 use Rattle.theory.proofs.Places.CameIn.{stands-inside, stands-exit, came-in}
-use Rattle.theory.proofs.Weights.Total.{Weight, inLine, onWire, inLines, inWires, weighed}
+use Rattle.theory.specs.Weights.{Weight, inLine, onWire, inLines, inWires, weighed}
 use Rattle.theory.proofs.Places.Indices.{index-stands, index-is}
-use Rattle.theory.proofs.Own.Owners.{Claim, sameClaim, claimOf, reaches, indexOf, owning, owns, ownsMade, made, entryOf, holds, Agreed, Owned}
-use Rattle.theory.proofs.Own.Owning.{claim-same, same-claim, bit-true, held}
+use Rattle.theory.specs.Owners.{Holder, sameHolder, holderOf, reaches, indexOf, owning, owns, ownsMade, made, entryOf, holds, Agreed, Owned}
+use Rattle.theory.proofs.Own.Owning.{holder-same, same-holder, bit-true, held}
 
 -- ---- an empty network
 -- Where every wire that there is is empty, every output's is.
@@ -58,7 +59,7 @@ quiet-weighed pl w s c q =
     omega arith
 
 -- ---- the sum over the accepted connections
-module _ (pl : Plan) (r o t : ℕ) (v : Claim) where
+module _ (pl : Plan) (r o t : ℕ) (v : Holder) where
   -- one of them owns no more than all
   made-in : (c : Connection) (cs : List Connection) → In c cs → ownsMade pl r o t v c ≤ made pl r o t v cs
   unfolding made
@@ -93,18 +94,18 @@ reached slots t start first past (At k) e = (k, refl, by (ltb k first) (ltb k pa
     by false true f = eqb-true t (slotAfter start (record { 0 = k }) slots .0) f
     by false false f = absurd (false≢true f)
 
--- an entry that is owned with a claim
-record Owning (pl : Plan) (r o t : ℕ) (v : Claim) (a p : ℕ) (start : Slot) : Type 0 where
+-- an entry that is owned with a holder
+record Owning (pl : Plan) (r o t : ℕ) (v : Holder) (a p : ℕ) (start : Slot) : Type 0 where
   pub index : ℕ
   pub at : indexOf pl a p r ≡ At index
   pub side : o ≡ routeTo pl (passive p) r
   pub slot : t ≡ slotAfter start (record { 0 = index }) (S pl) .0
-  pub claim : claimOf pl a p r ≡ v
+  pub holder : holderOf pl a p r ≡ v
 
-owning-tells : (pl : Plan) (r o t : ℕ) (v : Claim) (a p : ℕ) (start : Slot) (first past : ℕ) → 0 < owning pl r o t v a p start first past → Owning pl r o t v a p start
+owning-tells : (pl : Plan) (r o t : ℕ) (v : Holder) (a p : ℕ) (start : Slot) (first past : ℕ) → 0 < owning pl r o t v a p start first past → Owning pl r o t v a p start
 unfolding owning
 owning-tells pl r o t v a p start first past h =
-    let b = picked-some (also (eqb o (routeTo pl (passive p) r)) (reaches (S pl) t start first past (indexOf pl a p r))) (bit (sameClaim (claimOf pl a p r) v)) h in
+    let b = picked-some (also (eqb o (routeTo pl (passive p) r)) (reaches (S pl) t start first past (indexOf pl a p r))) (bit (sameHolder (holderOf pl a p r) v)) h in
     let d = also-true {a = eqb o (routeTo pl (passive p) r)} {b = reaches (S pl) t start first past (indexOf pl a p r)} (b .0) in
     let g = reached (S pl) t start first past (indexOf pl a p r) (d .1) in
     record {
@@ -112,25 +113,25 @@ owning-tells pl r o t v a p start first past h =
       at = g .1;
       side = eqb-true o (routeTo pl (passive p) r) (d .0);
       slot = g .2;
-      claim = same-claim (claimOf pl a p r) v (bit-true (sameClaim (claimOf pl a p r) v) (b .1));
+      holder = same-holder (holderOf pl a p r) v (bit-true (sameHolder (holderOf pl a p r) v) (b .1));
     }
 
 module _ {pl : Plan} (wired : Wired pl) (c : Connection) (g : Agreed pl c) (r o t : ℕ) where
   -- What an accepted connection owns it makes.
-  pub owns-makes : (v : Claim) → 0 < ownsMade pl r o t v c → Makes pl c r o t (v .side)
+  pub owns-makes : (v : Holder) → 0 < ownsMade pl r o t v c → Makes pl c r o t (v .side)
   unfolding ownsMade
   owns-makes v h =
       let w = owning-tells pl r o t v (c .active) (c .passive) (c .start) 0 (span pl (c .active) (c .passive)) h in
       let f = index-stands pl (c .active) (c .passive) r (w .index) (w .at) in
       let came : cameOf ≡ f .0 = came-in wired (c .active) (c .passive) (g .active) (g .passive) (g .serves) (w .index) r (f .0) (f .1) in
-      let side : f .0 ≡ v .side = sym came ∙ ap (λ (d : Claim). d .side) (w .claim) in
+      let side : f .0 ≡ v .side = sym came ∙ ap (λ (d : Holder). d .side) (w .holder) in
       record { index = w .index; at = subst (λ (n : ℕ). Stands pl (c .active) (c .passive) (w .index) r n) side (f .1); side = w .side; slot = w .slot }
     where
       cameOf : ℕ
-      cameOf = claimOf pl (c .active) (c .passive) r .side
+      cameOf = holderOf pl (c .active) (c .passive) r .side
 
-  -- What it makes it owns, with its pair's claim.
-  pub makes-owns : (i : ℕ) → Makes pl c r o t i → ownsMade pl r o t (claimOf pl (c .active) (c .passive) r) c ≡ 1
+  -- What it makes it owns, with its pair's holder.
+  pub makes-owns : (i : ℕ) → Makes pl c r o t i → ownsMade pl r o t (holderOf pl (c .active) (c .passive) r) c ≡ 1
   unfolding ownsMade owning
   makes-owns i m =
       let short = stands-below wired (c .active) (c .passive) (g .active) (g .passive) (g .serves) (m .index) (record { router = r; side = i }) (m .at) in
@@ -140,7 +141,7 @@ module _ {pl : Plan} (wired : Wired pl) (c : Connection) (g : Agreed pl c) (r o 
         le-ltb (m .index) 0 (omega arith),
         lt-ltb (m .index) (span pl (c .active) (c .passive)) short,
         eq-eqb t (slotAfter (c .start) (record { 0 = m .index }) (S pl) .0) (m .slot),
-        claim-same (claimOf pl (c .active) (c .passive) r),
+        holder-same (holderOf pl (c .active) (c .passive) r),
       )
 
 -- In an owned state with every queue and wire empty, the table is the one that the accepted connections make.
@@ -157,22 +158,22 @@ owned-table {pl} wired {acc} s core k q = record { made = made′; else-free = f
         let below : slotAfter (c .start) (record { 0 = m .index }) (S pl) .0 < S pl = mod-lt (c .start .0 + m .index) (let l = g .start in omega arith) in
         let slot = m .slot in
         let ht : t < S pl = omega arith in
-        let none = quiet-weighed pl (owns pl r o t (claimOf pl (c .active) (c .passive) r)) s core q in
+        let none = quiet-weighed pl (owns pl r o t (holderOf pl (c .active) (c .passive) r)) s core q in
         let one = makes-owns wired c g r o t i m in
-        let all = made-in pl r o t (claimOf pl (c .active) (c .passive) r) c acc n in
-        let sum = k .owners r o t hr ho ht (claimOf pl (c .active) (c .passive) r) in
-        let is = held (k .claims r o t) (claimOf pl (c .active) (c .passive) r) (omega arith) in
+        let all = made-in pl r o t (holderOf pl (c .active) (c .passive) r) c acc n in
+        let sum = k .owners r o t hr ho ht (holderOf pl (c .active) (c .passive) r) in
+        let is = held (k .holders r o t) (holderOf pl (c .active) (c .passive) r) (omega arith) in
         k .entries r o t hr ho ht ∙ ap entryOf is
         ∙ ap Booked (came-in wired (c .active) (c .passive) (g .active) (g .passive) (g .serves) (m .index) r i (m .at))
 
     free′ : (r o t : ℕ) → r < R pl → o < 4 → t < S pl → ((c : Connection) (i : ℕ) → In c acc → Makes pl c r o t i → ⊥) → s .table r o t ≡ Free
-    free′ r o t hr ho ht no-maker = by (k .claims r o t) refl
+    free′ r o t hr ho ht no-maker = by (k .holders r o t) refl
       where
-        by : (m : Option Claim) → k .claims r o t ≡ m → s .table r o t ≡ Free
+        by : (m : Option Holder) → k .holders r o t ≡ m → s .table r o t ≡ Free
         by none e = k .entries r o t hr ho ht ∙ ap entryOf e
         by (some v) e =
             let none = quiet-weighed pl (owns pl r o t v) s core q in
             let sum = k .owners r o t hr ho ht v in
-            let one : holds (k .claims r o t) v ≡ 1 = rw (e, claim-same v) in
+            let one : holds (k .holders r o t) v ≡ 1 = rw (e, holder-same v) in
             let d = made-some pl r o t v acc (omega arith) in
             absurd (no-maker (d .0) (v .side) (d .1) (owns-makes wired (d .0) (k .agreed (d .0) (d .1)) r o t v (d .2)))

@@ -22,14 +22,15 @@ use Rattle.machine.specs.Execute.{cameIn, otherFree, mayBook, unit}
 use Rattle.machine.specs.Accepted.{Connection}
 use Rattle.machine.specs.Valid.{Belongs}
 use Rattle.theory.proofs.Places.Closure.{unit-setup}
-use Rattle.theory.proofs.Core.{Core}
+use Rattle.theory.specs.Invariant.{Core}
 use Rattle.theory.proofs.Places.CameIn.{stands-exit}
-use Rattle.theory.proofs.Weights.Total.{weighed}
+use Rattle.theory.specs.Weights.{weighed}
 use Rattle.theory.proofs.Cases.{exitAt, mayBookAt, unit-books, unit-declines, unit-ends, unit-frees, UnitDoes, rests, books, declines, ends, frees, unit-does}
 use Rattle.theory.proofs.Weights.Moves.{head-belongs}
 use Rattle.theory.proofs.Weights.Changes.{booked-weighed, declined-weighed, freed-weighed, ended-weighed}
-use Rattle.theory.proofs.Own.Owners.{Claim, claimOf, owns, made, entryOf, holds, Owned}
-use Rattle.theory.proofs.Own.Owning.{claim-same, held, free-none, put3, sameEntry, put3-at, entry-same}
+use Rattle.theory.specs.Promises.{OwnEntry}
+use Rattle.theory.specs.Owners.{Holder, holderOf, owns, made, entryOf, holds, Owned}
+use Rattle.theory.proofs.Own.Owning.{holder-same, held, free-none, put3, sameEntry, put3-at, entry-same}
 use Rattle.theory.proofs.Own.Packets.{fits-as, declined-owns, oneAt, booked-owns, freed-owns, ended-owns}
 use Rattle.theory.proofs.Own.Steps.{owned-same}
 
@@ -49,34 +50,34 @@ at-same m r o t i j k e =
     let q = also-true {a = eqb o j} {b = eqb t k} (p .1) in
     ap (λ (n : ℕ). m n o t) (eqb-true r i (p .0)) ∙ ap (λ (n : ℕ). m i n t) (eqb-true o j (q .0)) ∙ ap (m i j) (eqb-true t k (q .1))
 
--- One entry of the table changed: its old claim went, and a new one came.
-pub put-owned : {pl : Plan} {acc : List Connection} (s t : State) (k : Owned pl acc s) (i j n : ℕ) (m : Option Claim) → t .table ≡ put3 (s .table) i j n (entryOf m)
-    → ((r o u : ℕ) (v : Claim)
-    → weighed pl (owns pl r o u v) t + pick (sameEntry r o u i j n) (holds (k .claims i j n) v) 0 ≡ weighed pl (owns pl r o u v) s + pick (sameEntry r o u i j n) (holds m v) 0)
+-- One entry of the table changed: its old holder went, and a new one came.
+pub put-owned : {pl : Plan} {acc : List Connection} (s t : State) (k : Owned pl acc s) (i j n : ℕ) (m : Option Holder) → t .table ≡ put3 (s .table) i j n (entryOf m)
+    → ((r o u : ℕ) (v : Holder)
+    → weighed pl (owns pl r o u v) t + pick (sameEntry r o u i j n) (holds (k .holders i j n) v) 0 ≡ weighed pl (owns pl r o u v) s + pick (sameEntry r o u i j n) (holds m v) 0)
     → Owned pl acc t
-put-owned {pl} {acc} s t k i j n m e w = record { claims = put3 (k .claims) i j n m; entries = entries′; owners = owners′; agreed = k .agreed }
+put-owned {pl} {acc} s t k i j n m e w = record { holders = put3 (k .holders) i j n m; entries = entries′; owners = owners′; agreed = k .agreed }
   where
-    entries′ : (r o u : ℕ) → r < R pl → o < 4 → u < S pl → t .table r o u ≡ entryOf (put3 (k .claims) i j n m r o u)
+    entries′ : (r o u : ℕ) → r < R pl → o < 4 → u < S pl → t .table r o u ≡ entryOf (put3 (k .holders) i j n m r o u)
     entries′ r o u hr ho hu =
         ap (λ (f : ℕ → ℕ → ℕ → Entry). f r o u) e
         ∙ put3-at (s .table) i j n (entryOf m) r o u
         ∙ by (sameEntry r o u i j n)
-        ∙ sym (ap entryOf (put3-at (k .claims) i j n m r o u))
+        ∙ sym (ap entryOf (put3-at (k .holders) i j n m r o u))
       where
-        by : (b : Bool) → pick b (entryOf m) (s .table r o u) ≡ entryOf (pick b m (k .claims r o u))
+        by : (b : Bool) → pick b (entryOf m) (s .table r o u) ≡ entryOf (pick b m (k .holders r o u))
         by true = refl
         by false = k .entries r o u hr ho hu
 
-    owners′ : (r o u : ℕ) → r < R pl → o < 4 → u < S pl → (v : Claim) → weighed pl (owns pl r o u v) t + made pl r o u v acc ≡ holds (put3 (k .claims) i j n m r o u) v
-    owners′ r o u hr ho hu v = by (test (sameEntry r o u i j n)) (w r o u v) ∙ sym (ap (λ (c : Option Claim). holds c v) (put3-at (k .claims) i j n m r o u))
+    owners′ : (r o u : ℕ) → r < R pl → o < 4 → u < S pl → (v : Holder) → weighed pl (owns pl r o u v) t + made pl r o u v acc ≡ holds (put3 (k .holders) i j n m r o u) v
+    owners′ r o u hr ho hu v = by (test (sameEntry r o u i j n)) (w r o u v) ∙ sym (ap (λ (c : Option Holder). holds c v) (put3-at (k .holders) i j n m r o u))
       where
         by : (sameEntry r o u i j n ≡ true) ⊎ (sameEntry r o u i j n ≡ false)
-            → weighed pl (owns pl r o u v) t + pick (sameEntry r o u i j n) (holds (k .claims i j n) v) 0 ≡ weighed pl (owns pl r o u v) s + pick (sameEntry r o u i j n) (holds m v) 0
-            → weighed pl (owns pl r o u v) t + made pl r o u v acc ≡ holds (pick (sameEntry r o u i j n) m (k .claims r o u)) v
+            → weighed pl (owns pl r o u v) t + pick (sameEntry r o u i j n) (holds (k .holders i j n) v) 0 ≡ weighed pl (owns pl r o u v) s + pick (sameEntry r o u i j n) (holds m v) 0
+            → weighed pl (owns pl r o u v) t + made pl r o u v acc ≡ holds (pick (sameEntry r o u i j n) m (k .holders r o u)) v
         by (inl q) f =
-            let g : weighed pl (owns pl r o u v) t + holds (k .claims i j n) v ≡ weighed pl (owns pl r o u v) s + holds m v = rw q at f in
+            let g : weighed pl (owns pl r o u v) t + holds (k .holders i j n) v ≡ weighed pl (owns pl r o u v) s + holds m v = rw q at f in
             let old = k .owners r o u hr ho hu v in
-            let same : holds (k .claims r o u) v ≡ holds (k .claims i j n) v = ap (λ (c : Option Claim). holds c v) (at-same (k .claims) r o u i j n q) in
+            let same : holds (k .holders r o u) v ≡ holds (k .holders i j n) v = ap (λ (c : Option Holder). holds c v) (at-same (k .holders) r o u i j n q) in
             rw q (omega arith)
         by (inr q) f =
             let g : weighed pl (owns pl r o u v) t + 0 ≡ weighed pl (owns pl r o u v) s + 0 = rw q at f in
@@ -85,12 +86,12 @@ put-owned {pl} {acc} s t k i j n m e w = record { claims = put3 (k .claims) i j 
 
 module _ {pl : Plan} (wired : Wired pl) {acc : List Connection} (s : State) (c : Core pl s) (k : Owned pl acc s) (i : ℕ) (h : i < R pl) where
   module _ (x : Packet) (rest : List Packet) (e : s .lines .queue (Q i) ≡ x ∷ rest) (f : s .lines .handled (Q i) ≡ false) where
-    -- the entry of the unit's head, and its pair's claim on it
+    -- the entry of the unit's head, and its pair's holder on it
     abbrev exit : ℕ
     exit = exitAt pl i x
 
-    abbrev own : Claim
-    own = claimOf pl (x .active) (x .passive) i
+    abbrev own : Holder
+    own = holderOf pl (x .active) (x .passive) i
 
     here : Belongs pl (inQueue (Q i)) x
     here = subst (λ (d : Bool). Belongs pl (headPlace d (Q i)) x) f (head-belongs c (Q i) h x rest e)
@@ -107,25 +108,25 @@ module _ {pl : Plan} (wired : Wired pl) {acc : List Connection} (s : State) (c :
     booked-owned q t =
         put-owned s (unit pl i s) k i exit (x .slot .0) (some own) (ap (λ (u : State). u .table) (unit-books pl i s x rest e f q t)) by
       where
-        free : k .claims i exit (x .slot .0) ≡ none
+        free : k .holders i exit (x .slot .0) ≡ none
         free =
-            free-none (k .claims i exit (x .slot .0))
+            free-none (k .holders i exit (x .slot .0))
             (sym (k .entries i exit (x .slot .0) h (exit-below (x .hub .0) (fits-as Setup q here)) (here .ranges .slot))
             ∙ may-free (S pl) (s .table i exit) (x .slot .0) t)
 
-        by : (r o u : ℕ) (v : Claim) → weighed pl (owns pl r o u v) (unit pl i s) + pick (sameEntry r o u i exit (x .slot .0)) (holds (k .claims i exit (x .slot .0)) v) 0
+        by : (r o u : ℕ) (v : Holder) → weighed pl (owns pl r o u v) (unit pl i s) + pick (sameEntry r o u i exit (x .slot .0)) (holds (k .holders i exit (x .slot .0)) v) 0
             ≡ weighed pl (owns pl r o u v) s + pick (sameEntry r o u i exit (x .slot .0)) (holds (some own) v) 0
         by r o u v =
             let all = booked-weighed pl (owns pl r o u v) i h s x rest e f q t in
             let one = booked-owns pl r o u v wired i x q here in
-            let old : pick (sameEntry r o u i exit (x .slot .0)) (holds (k .claims i exit (x .slot .0)) v) 0 ≡ 0 = rw free (pick-same (sameEntry r o u i exit (x .slot .0)) 0) in
+            let old : pick (sameEntry r o u i exit (x .slot .0)) (holds (k .holders i exit (x .slot .0)) v) 0 ≡ 0 = rw free (pick-same (sameEntry r o u i exit (x .slot .0)) 0) in
             omega arith
 
     -- A declined set-up keeps what it owned.
     pub declined-owned : x .kind ≡ Setup → mayBookAt pl i s x ≡ false → Owned pl acc (unit pl i s)
     declined-owned q t = owned-same s (unit pl i s) k (ap (λ (u : State). u .table) (unit-declines pl i s x rest e f q t)) by
       where
-        by : (r o u : ℕ) (v : Claim) → weighed pl (owns pl r o u v) (unit pl i s) ≡ weighed pl (owns pl r o u v) s
+        by : (r o u : ℕ) (v : Holder) → weighed pl (owns pl r o u v) (unit pl i s) ≡ weighed pl (owns pl r o u v) s
         by r o u v =
             let all = declined-weighed pl (owns pl r o u v) i h s x rest e f q t in
             let one = declined-owns pl r o u v (inQueue (Q i)) (handledAt i) x q in
@@ -133,7 +134,7 @@ module _ {pl : Plan} (wired : Wired pl) {acc : List Connection} (s : State) (c :
 
     -- ---- a tear-down
     -- the sum falls by the entry that is freed
-    down-weighed : x .kind ≡ Tdown → (r o u : ℕ) (v : Claim) → weighed pl (owns pl r o u v) (unit pl i s) + oneAt pl r o u v i x ≡ weighed pl (owns pl r o u v) s
+    down-weighed : x .kind ≡ Tdown → (r o u : ℕ) (v : Holder) → weighed pl (owns pl r o u v) (unit pl i s) + oneAt pl r o u v i x ≡ weighed pl (owns pl r o u v) s
     down-weighed q r o u v = by (test (eqb (x .hub .0) 1))
       where
         by : (eqb (x .hub .0) 1 ≡ true) ⊎ (eqb (x .hub .0) 1 ≡ false) → weighed pl (owns pl r o u v) (unit pl i s) + oneAt pl r o u v i x ≡ weighed pl (owns pl r o u v) s
@@ -146,35 +147,34 @@ module _ {pl : Plan} (wired : Wired pl) {acc : List Connection} (s : State) (c :
             let one = freed-owns pl r o u v wired i x q here in
             omega arith
 
-    -- A tear-down finds its entry claimed by its own pair.
-    pub tdown-claim : x .kind ≡ Tdown → k .claims i (exitAt pl i x) (x .slot .0) ≡ some (claimOf pl (x .active) (x .passive) i)
-    tdown-claim q =
+    -- A tear-down finds its entry held for its own pair.
+    pub tdown-holder : x .kind ≡ Tdown → k .holders i (exitAt pl i x) (x .slot .0) ≡ some (holderOf pl (x .active) (x .passive) i)
+    tdown-holder q =
         let g = fits-as Tdown q here in
         let all = down-weighed q i exit (x .slot .0) own in
-        let one : oneAt pl i exit (x .slot .0) own i x ≡ 1 = rw (entry-same i exit (x .slot .0), claim-same own) in
+        let one : oneAt pl i exit (x .slot .0) own i x ≡ 1 = rw (entry-same i exit (x .slot .0), holder-same own) in
         let sum = k .owners i exit (x .slot .0) h (exit-below (g .0) (g .1)) (here .ranges .slot) own in
-        held (k .claims i exit (x .slot .0)) own (omega arith)
+        held (k .holders i exit (x .slot .0)) own (omega arith)
 
     -- A tear-down finds its entry booked with the side that its walk came in by.
     pub tdown-entry : x .kind ≡ Tdown → s .table i (exitAt pl i x) (x .slot .0) ≡ Booked (cameIn pl (x .active) (x .passive) i)
     tdown-entry q =
         let g = fits-as Tdown q here in
-        k .entries i exit (x .slot .0) h (exit-below (g .0) (g .1)) (here .ranges .slot) ∙ ap entryOf (tdown-claim q)
+        k .entries i exit (x .slot .0) h (exit-below (g .0) (g .1)) (here .ranges .slot) ∙ ap entryOf (tdown-holder q)
 
-    -- A tear-down owns the entry that it frees: it is claimed by its own pair, and holds the side that the pair's walk came in by.
-    pub tdown-own : x .kind ≡ Tdown
-        → (k .claims i (exitAt pl i x) (x .slot .0) ≡ some (claimOf pl (x .active) (x .passive) i)) × (s .table i (exitAt pl i x) (x .slot .0) ≡ Booked (cameIn pl (x .active) (x .passive) i))
-    tdown-own q = (tdown-claim q, tdown-entry q)
+    -- A tear-down owns the entry that it frees: it is held for its own pair, and holds the side that the pair's walk came in by.
+    pub tdown-own : x .kind ≡ Tdown → OwnEntry pl acc s k i x
+    tdown-own q = record { holder = tdown-holder q; entry = tdown-entry q }
 
     torn-owned : x .kind ≡ Tdown → unit pl i s .table ≡ put3 (s .table) i exit (x .slot .0) Free → Owned pl acc (unit pl i s)
     torn-owned q t = put-owned s (unit pl i s) k i exit (x .slot .0) none t by
       where
-        by : (r o u : ℕ) (v : Claim) → weighed pl (owns pl r o u v) (unit pl i s) + pick (sameEntry r o u i exit (x .slot .0)) (holds (k .claims i exit (x .slot .0)) v) 0
+        by : (r o u : ℕ) (v : Holder) → weighed pl (owns pl r o u v) (unit pl i s) + pick (sameEntry r o u i exit (x .slot .0)) (holds (k .holders i exit (x .slot .0)) v) 0
             ≡ weighed pl (owns pl r o u v) s + pick (sameEntry r o u i exit (x .slot .0)) 0 0
         by r o u v =
             let all = down-weighed q r o u v in
             let none = pick-same {A = ℕ} (sameEntry r o u i exit (x .slot .0)) 0 in
-            rw (tdown-claim q) (omega arith)
+            rw (tdown-holder q) (omega arith)
 
     -- A tear-down that frees its last entry keeps the ownership of the others.
     pub ended-owned : x .kind ≡ Tdown → eqb (x .hub .0) 1 ≡ true → Owned pl acc (unit pl i s)

@@ -22,7 +22,7 @@ use Rattle.journeys.proofs.Fitting.{fits-visits}
 use Rattle.machine.specs.Execute.{mayLeaveAs, mayLeave}
 use Rattle.machine.specs.State.{State}
 use Rattle.machine.specs.Valid.{Belongs, Lined, Drives}
-use Rattle.theory.proofs.Core.{Marks}
+use Rattle.theory.specs.Invariant.{Marks}
 use Rattle.theory.proofs.Places.CameIn.{stands-inside}
 
 -- ---- marks

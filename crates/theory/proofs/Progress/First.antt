@@ -23,7 +23,7 @@ use Rattle.machine.specs.Execute.{booked, declined, freed, marked, tdownOf, uni
 use Rattle.machine.specs.Progress.{Moved}
 use Rattle.machine.proofs.Apart.{unit-same}
 use Rattle.theory.proofs.Ground.Cells.{queue-here, queue-away}
-use Rattle.theory.proofs.Core.{Core}
+use Rattle.theory.specs.Invariant.{Core}
 use Rattle.theory.proofs.Cases.{UnitDoes, rests, books, declines, ends, frees, unit-does, unit-books, unit-declines, unit-ends, unit-frees, unit-handled, mayBookAt, afterBooked, afterFreed, afterEnded, ActiveDoes, waits, tears, undo-does, undo-tears}
 use Rattle.theory.proofs.Progress.Still.{all-chosen}
 

@@ -30,17 +30,19 @@ use Rattle.machine.specs.Read.{deliver, settle, lower, doRead}
 use Rattle.machine.specs.Execute.{hasRoom}
 use Rattle.machine.specs.Visits.{setupOf, launched}
 use Rattle.machine.specs.Calls.{Visit, Call, turn, visit, read, execute, write, Outcome, call}
-use Rattle.machine.specs.Does.{Visits, launches, replies, consumes, looks, Does, refuses, turns, visits}
+use Rattle.machine.specs.Does.{Visited, launches, replies, consumes, looks, Does, refuses, turns, visits}
 use Rattle.machine.specs.Valid.{Drives}
 use Rattle.machine.specs.Progress.{isInQueue, UnderWay, PassiveRoom, Waits, Moved, isTimed, endsRound}
 use Rattle.machine.specs.Ruled.{rounds, Moves, Good}
 use Rattle.machine.proofs.Apart.{read-execute, read-write, full-not, turn-same, visit-not}
 use Rattle.machine.proofs.Does.{call-does, refused-turns}
 use Rattle.machine.proofs.OutNumbers.{output-at, output-below, drives-at}
-use Rattle.theory.proofs.Core.{WiresEmpty, full-wire}
+use Rattle.theory.specs.Promises.{answering, AnswersMove}
+use Rattle.theory.specs.Invariant.{WiresEmpty, Inv}
+use Rattle.theory.proofs.Core.{full-wire}
 use Rattle.theory.proofs.Shape.Read.{read-wires}
-use Rattle.theory.proofs.Keeps.{Inv, inv-of, call-inv}
-use Rattle.theory.proofs.Progress.Stuck.{Closed, every, every-closed, answering, answering-closed}
+use Rattle.theory.proofs.Keeps.{inv-of, call-inv}
+use Rattle.theory.proofs.Progress.Stuck.{Closed, every, every-closed, answering-closed}
 use Rattle.theory.proofs.Progress.Interval.{MovesNow, moves-now, moves-later}
 use Rattle.theory.proofs.Progress.Still.{none-delivered}
 use Rattle.theory.proofs.Progress.Undisturbed.{turn-now}
@@ -81,7 +83,7 @@ module _ (pl : Plan) (s : State) (e : s .clock .phase ≡ Read) where
   only c o (turns x f) ne = absurd (ne (ap turn (sym f ∙ e)))
   only c o (visits v r d) ne = by v r d
     where
-      by : (v : Visit) (r : Outcome) → Visits pl s v r → Before s (r .state) × (endsRound (visit v) (r .answer) ≡ 0)
+      by : (v : Visit) (r : Outcome) → Visited pl s v r → Before s (r .state) × (endsRound (visit v) (r .answer) ≡ 0)
       by v r (launches a q t m) = (launched-before a q t s, refl)
       by v r (replies q c x rest m) = absurd (read-write (sym e ∙ m .phase))
       by v r (consumes a x rest m) = absurd (read-write (sym e ∙ m .phase))
@@ -191,8 +193,7 @@ module _ {pl : Plan} (wired : Wired pl) (range : InRange (pl .head)) (free : Fee
       going (inr (q, x, rest, h, ni, f)) = inr (q, x, rest, h, ni, refl, f)
 
   -- answers move whatever the passives do: a packet in some K or passive out-queue
-  pub answers-move : (s : State) → Good pl s → s .clock .phase ≡ Read → (q : Queue) (x : Packet) (rest : List Packet) → Exists pl q → answering q ≡ true → s .lines .queue q ≡ x ∷ rest
-      → (cs : List Call) → S pl ≤ rounds pl cs s → Moves pl cs s
+  pub answers-move : AnswersMove pl
   answers-move s g e q x rest h a f cs n = from-read answering cs s (inv-of pl s g) e (answering-closed wired s) (inr (q, x, rest, h, no-in q a, a, f)) n
     where
       no-in : (q : Queue) → answering q ≡ true → isInQueue q ≡ false

@@ -43,14 +43,14 @@ use Rattle.machine.proofs.Apart.{read-execute, read-write, execute-write, turn-
 use Rattle.machine.proofs.Does.{refused-turns}
 use Rattle.machine.proofs.Numbers.{sender-exists}
 use Rattle.machine.proofs.OutNumbers.{output-at, output-below, drives-at}
-use Rattle.theory.proofs.Core.{Core, Shape, WiresEmpty, FlagsDown, NoChoices, ChoicesSendable, Sendable}
+use Rattle.theory.specs.Invariant.{Core, Shape, WiresEmpty, FlagsDown, NoChoices, ChoicesSendable, Sendable, Inv}
 use Rattle.theory.proofs.Places.Closure.{unit-no-answer}
 use Rattle.theory.proofs.Places.Lines.{output-drives}
 use Rattle.theory.proofs.Places.Senders.{candidate-ready}
 use Rattle.theory.proofs.Shape.Arbitration.{picked-none}
 use Rattle.theory.proofs.Shape.Execute.{Quiet, quiet-start, quiet-down, unit-quiet, units-wires}
 use Rattle.theory.proofs.Shape.Calls.{execute-has, write-has}
-use Rattle.theory.proofs.Keeps.{Inv, unit-core, call-inv}
+use Rattle.theory.proofs.Keeps.{unit-core, call-inv}
 use Rattle.theory.proofs.Progress.Stuck.{Jammed, Closed, none-waits}
 use Rattle.theory.proofs.Progress.Interval.{MovesNow, moves-now, moves-later, Turn, moves, stays, ends, interval}
 use Rattle.theory.proofs.Progress.Still.{Same, same-self, AllHandled, Picks, read-stays, execute-rest, execute-picks, write-stays}

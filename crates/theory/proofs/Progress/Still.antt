@@ -31,7 +31,7 @@ use Rattle.machine.specs.Valid.{Drives, isFed}
 use Rattle.machine.specs.Progress.{isInQueue}
 use Rattle.machine.proofs.OutNumbers.{drives-at}
 use Rattle.theory.proofs.Ground.Cells.{queue-away}
-use Rattle.theory.proofs.Core.{WiresEmpty, NoChoices}
+use Rattle.theory.specs.Invariant.{WiresEmpty, NoChoices}
 use Rattle.theory.proofs.Shape.Arbitration.{chosen, picks-alike}
 
 -- s is as p was, but for what may happen while nothing moves

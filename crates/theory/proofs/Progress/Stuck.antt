@@ -39,7 +39,8 @@ use Rattle.machine.specs.Outputs.{outputs, outputAt}
 use Rattle.machine.specs.Progress.{isInQueue, PassiveRoom}
 use Rattle.machine.proofs.OutNumbers.{drives-at}
 use Rattle.theory.proofs.Ground.Sums.{sum-two, sum-nought}
-use Rattle.theory.proofs.Core.{Core, WiresEmpty, FlagsDown, account}
+use Rattle.theory.specs.Promises.{answering}
+use Rattle.theory.specs.Invariant.{Core, WiresEmpty, FlagsDown, account}
 use Rattle.theory.proofs.Places.Lines.{head-leaves, may-leave}
 use Rattle.theory.proofs.Places.Closure.{fits-next, active-answer}
 use Rattle.theory.proofs.Progress.Follow.{follow}
@@ -262,17 +263,7 @@ every q = true
 pub every-closed : (pl : Plan) (s : State) → PassiveRoom pl s → Closed pl every s
 every-closed pl s room = record { stays = λ h a p q y ha hp d b v n i. refl; room = λ h a p b q ha hp d c v n l. room b l }
 
--- the queues of answers alone: K and the passives' out-queues; an answer never goes to a passive
-abbrev pub answering : Queue → Bool
-answering (activeOut x) = false
-answering (activeIn x) = false
-answering (passiveIn x) = false
-answering (passiveOut x) = true
-answering (U r i) = false
-answering (Q r) = false
-answering (F r o) = false
-answering (K r i o) = true
-
+-- the queues of answers alone: an answer never goes to a passive
 -- what an answer meets beyond a side: a K, or an in-queue
 across-answers : (pl : Plan) (a p : ℕ) (j : Joint) (y : Queue) → across pl back a p j ≡ some y → isInQueue y ≡ false → answering y ≡ true
 across-answers pl a p Nothing y n i = absurd (some-not-none n)

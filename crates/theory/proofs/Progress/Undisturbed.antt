@@ -12,7 +12,7 @@ use Rattle.plan.specs.Plan.{Plan}
 use Rattle.machine.specs.State.{State, join}
 use Rattle.machine.specs.Visits.{launched, replyKind, removed}
 use Rattle.machine.specs.Calls.{Visit, Call, turn, visit, execute, Outcome, gives, isPhase, stepOf, call}
-use Rattle.machine.specs.Does.{Visits, launches, replies, consumes, looks, Does, refuses, turns, visits}
+use Rattle.machine.specs.Does.{Visited, launches, replies, consumes, looks, Does, refuses, turns, visits}
 use Rattle.machine.specs.Progress.{isTimed, endsRound}
 use Rattle.machine.proofs.Apart.{phase-of, phase-is, read-execute, execute-write}
 use Rattle.machine.proofs.Does.{call-does, refused-turns}
@@ -39,7 +39,7 @@ module _ (pl : Plan) (p s : State) (k : Same pl p s) where
   pub still : Undisturbed pl p s s
   still = record { same = k; slot = refl; phase = refl; choice = refl }
 
-  visits-undisturbed : (v : Visit) (o : Outcome) → Visits pl s v o → Undisturbed pl p s (o .state)
+  visits-undisturbed : (v : Visit) (o : Outcome) → Visited pl s v o → Undisturbed pl p s (o .state)
   unfolding launched join removed
   visits-undisturbed v o (launches a q t m) =
       record { same = launch-same pl p s a q t k; slot = refl; phase = refl; choice = refl }
@@ -64,7 +64,7 @@ module _ (pl : Plan) (s : State) (e : s .clock .phase ≡ Execute) where
   only c o (turns x f) ne = absurd (ne (ap turn (sym f ∙ e)))
   only c o (visits v r d) ne = by v r d
     where
-      by : (v : Visit) (r : Outcome) → Visits pl s v r → (r .state ≡ s) × (endsRound (visit v) (r .answer) ≡ 0)
+      by : (v : Visit) (r : Outcome) → Visited pl s v r → (r .state ≡ s) × (endsRound (visit v) (r .answer) ≡ 0)
       by v r (launches a q t m) = absurd (read-execute (sym (m .phase) ∙ e))
       by v r (replies q c x rest m) = absurd (execute-write (sym e ∙ m .phase))
       by v r (consumes a x rest m) = absurd (execute-write (sym e ∙ m .phase))

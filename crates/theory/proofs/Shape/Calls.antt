@@ -14,7 +14,7 @@ use Rattle.journeys.proofs.Places.{some-not-none}
 use Rattle.machine.specs.State.{State, Choice, withQueue, withFlag, join}
 use Rattle.machine.specs.Visits.{launched, repliedAs, replied, removed}
 use Rattle.machine.proofs.Apart.{read-execute, read-write, execute-write}
-use Rattle.theory.proofs.Core.{WiresEmpty, FlagsDown, NoChoices, ChoicesSendable, Shape, in-read, in-execute, in-write}
+use Rattle.theory.specs.Invariant.{WiresEmpty, FlagsDown, NoChoices, ChoicesSendable, Shape, in-read, in-execute, in-write}
 use Rattle.theory.proofs.Shape.Spared.{Spares, spared-sendable, spares-alike, spares-then, join-spares, turn-spares, flag-spares}
 
 -- ---- what a shape has, by phase

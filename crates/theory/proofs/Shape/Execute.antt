@@ -24,7 +24,7 @@ use Rattle.machine.proofs.Apart.{unit-same}
 use Rattle.machine.proofs.Numbers.{sender-exists}
 use Rattle.machine.proofs.OutNumbers.{output-at, output-below, drives-at, at-apart}
 use Rattle.theory.proofs.Ground.Cells.{queue-or, queue-away, output-here, output-away}
-use Rattle.theory.proofs.Core.{WiresEmpty, FlagsDown, Sendable, ChoicesSendable, Shape, in-write}
+use Rattle.theory.specs.Invariant.{WiresEmpty, FlagsDown, Sendable, ChoicesSendable, Shape, in-write}
 use Rattle.theory.proofs.Places.Senders.{candidate-ready}
 use Rattle.theory.proofs.Account.Units.{unit-by, undo-by}
 use Rattle.theory.proofs.Shape.Arbitration.{picked-candidate}

@@ -18,7 +18,7 @@ use Rattle.machine.specs.Write.{send, doWrite}
 use Rattle.machine.specs.Valid.{Drives}
 use Rattle.machine.proofs.Numbers.{exists-at}
 use Rattle.machine.proofs.OutNumbers.{drives-at}
-use Rattle.theory.proofs.Core.{WiresEmpty, FlagsDown, Sendable, ChoicesSendable}
+use Rattle.theory.specs.Invariant.{WiresEmpty, FlagsDown, Sendable, ChoicesSendable}
 use Rattle.theory.proofs.Shape.Execute.{Quiet, quiet-start, quiet-down, unit-quiet}
 use Rattle.theory.proofs.Shape.Write.{Pending, pending-start, pending-now, send-pending}
 

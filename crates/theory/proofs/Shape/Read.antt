@@ -21,7 +21,7 @@ use Rattle.machine.specs.State.{State, Choice, withWire, join}
 use Rattle.machine.specs.Read.{joinNext, arrive, deliver, lower, settle, doRead}
 use Rattle.machine.proofs.OutNumbers.{output-at, output-below}
 use Rattle.theory.proofs.Ground.Cells.{queue-here, output-here}
-use Rattle.theory.proofs.Core.{WiresEmpty, FlagsDown, NoChoices, Shape, in-execute}
+use Rattle.theory.specs.Invariant.{WiresEmpty, FlagsDown, NoChoices, Shape, in-execute}
 
 -- ---- one wire: it empties, and no wire fills
 next-wire : (y : Option Queue) (x : Packet) (s : State) → joinNext y x s .links .wire ≡ s .links .wire

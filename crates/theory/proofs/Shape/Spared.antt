@@ -18,7 +18,7 @@ use Rattle.machine.specs.Outputs.{nextBy}
 use Rattle.machine.specs.State.{State, withQueue, withFlag, join}
 use Rattle.machine.specs.Execute.{mayLeaveAs, mayLeave, candidate}
 use Rattle.machine.specs.Write.{raise, spend}
-use Rattle.theory.proofs.Core.{Sendable}
+use Rattle.theory.specs.Invariant.{Sendable}
 use Rattle.theory.proofs.Places.Feeders.{sender-leaves}
 use Rattle.theory.proofs.Ground.Cells.{queue-or, queue-here, queue-away}
 use Rattle.theory.proofs.Places.Senders.{raise-queue, raise-credit, raise-handled, raise-other, Ready, candidate-ready}

@@ -23,7 +23,7 @@ use Rattle.machine.specs.Write.{ofRank, raise, spend, sendHead, sendFrom, sendB
 use Rattle.machine.specs.Valid.{Drives}
 use Rattle.machine.proofs.OutNumbers.{output-at, output-below, drives-at, at-apart}
 use Rattle.theory.proofs.Ground.Cells.{output-here, output-away}
-use Rattle.theory.proofs.Core.{WiresEmpty, NoChoices, Sendable, ChoicesSendable, Shape, in-read}
+use Rattle.theory.specs.Invariant.{WiresEmpty, NoChoices, Sendable, ChoicesSendable, Shape, in-read}
 use Rattle.theory.proofs.Places.Feeders.{one-feeder, sender-leaves}
 use Rattle.theory.proofs.Places.Senders.{raise-links}
 use Rattle.theory.proofs.Shape.Spared.{Spares, spared-sendable, spares-alike, spares-then, turn-spares, raise-spares, spend-spares}

@@ -29,11 +29,12 @@ use Rattle.machine.specs.Write.{send}
 use Rattle.machine.specs.Visits.{launched, repliedAs, replied, removed}
 use Rattle.machine.specs.Valid.{Drives, Carries, spendsKind, spends}
 use Rattle.machine.proofs.Apart.{full-not}
-use Rattle.theory.proofs.Core.{Core, Sendable, Allowances}
+use Rattle.theory.specs.Invariant.{Core, Sendable, Allowances}
 use Rattle.theory.proofs.Places.Closure.{passive-setup, active-answer}
 use Rattle.theory.proofs.Places.Senders.{raise-links, raise-allowance}
 use Rattle.theory.proofs.Cases.{deliver-none, deliver-one, UnitDoes, rests, books, declines, ends, frees, unit-does, unit-books, unit-declines, unit-ends, unit-frees, ActiveDoes, waits, tears, undo-does, undo-tears, SendDoes, none-sent, sent, send-does, send-one}
-use Rattle.theory.proofs.Weights.Total.{anywhere, weighed, Bound, weighed-total, core-bound, weighed-plain, start-weighed, bound-put}
+use Rattle.theory.specs.Weights.{anywhere, weighed}
+use Rattle.theory.proofs.Weights.Total.{Bound, weighed-total, core-bound, weighed-plain, start-weighed, bound-put}
 use Rattle.theory.proofs.Weights.Moves.{head-belongs, phase-weighed, slot-weighed, settle-weighed, choose-weighed, deliver-weighed, send-weighed}
 use Rattle.theory.proofs.Weights.Changes.{booked-weighed, declined-weighed, freed-weighed, ended-weighed, torn-weighed, launched-weighed, replied-weighed, removed-weighed}
 use Rattle.theory.proofs.Weights.Spending.{tdown-spends, kinds-spend, mine, fallen, grown}

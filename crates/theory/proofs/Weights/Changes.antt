@@ -16,8 +16,9 @@ use Rattle.machine.specs.State.{State, withQueue, withFlag, join}
 use Rattle.machine.specs.Execute.{declined, booked, freed, handledAs, unit, unmarked, marked, tdownOf, hasRoom, undo}
 use Rattle.machine.specs.Visits.{setupOf, launched, repliedAs, replied, removed}
 use Rattle.machine.specs.Valid.{inAll}
-use Rattle.theory.proofs.Core.{Core}
-use Rattle.theory.proofs.Weights.Total.{Weight, inLine, weighed, weighed-line, weighed-join}
+use Rattle.theory.specs.Invariant.{Core}
+use Rattle.theory.specs.Weights.{Weight, inLine, weighed}
+use Rattle.theory.proofs.Weights.Total.{weighed-line, weighed-join}
 use Rattle.theory.proofs.Cases.{mayBookAt, unit-empty, unit-handled, unit-books, unit-declines, unit-ends, unit-frees, undo-tears}
 use Rattle.theory.proofs.Weights.Moves.{queue-weighed}
 

@@ -29,8 +29,9 @@ use Rattle.machine.specs.Accepted.{Connection, connectionOf, acceptKind}
 use Rattle.machine.specs.Ruled.{launchesCall, sameConnection, times}
 use Rattle.machine.specs.Valid.{Drives}
 use Rattle.theory.proofs.Places.Closure.{passive-setup}
-use Rattle.theory.proofs.Core.{Core, Sendable}
-use Rattle.theory.proofs.Weights.Total.{anywhere, weighed, start-weighed}
+use Rattle.theory.specs.Invariant.{Core, Sendable}
+use Rattle.theory.specs.Weights.{anywhere, weighed}
+use Rattle.theory.proofs.Weights.Total.{start-weighed}
 use Rattle.theory.proofs.Cases.{UnitDoes, rests, books, declines, ends, frees, unit-does, unmarked-nack, ActiveDoes, waits, tears, undo-does}
 use Rattle.theory.proofs.Weights.Moves.{head-belongs, phase-weighed, slot-weighed, settle-weighed, choose-weighed, deliver-weighed, send-weighed}
 use Rattle.theory.proofs.Weights.Changes.{booked-weighed, declined-weighed, freed-weighed, ended-weighed, torn-weighed, launched-weighed, replied-weighed, removed-weighed}

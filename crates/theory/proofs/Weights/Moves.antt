@@ -25,11 +25,12 @@ use Rattle.machine.specs.Write.{ofRank, raiseAs, raise, spend, send, doWrite}
 use Rattle.machine.specs.Valid.{Belongs, Lined, Drives, Carries, inAll}
 use Rattle.machine.proofs.Numbers.{sender-exists}
 use Rattle.machine.proofs.OutNumbers.{drives-at}
-use Rattle.theory.proofs.Core.{Core, Sendable}
+use Rattle.theory.specs.Invariant.{Core, Sendable}
 use Rattle.theory.proofs.Places.Lines.{head-leaves, belongs-exists}
 use Rattle.theory.proofs.Places.Senders.{raise-links}
 use Rattle.theory.proofs.Cases.{deliver-none, deliver-one, afterSent, send-one, SendDoes, none-sent, sent, send-does}
-use Rattle.theory.proofs.Weights.Total.{Weight, inLine, onWire, weighed, line-in, line-fresh, weighed-queue, weighed-line, weighed-wire, weighed-join}
+use Rattle.theory.specs.Weights.{Weight, inLine, onWire, weighed}
+use Rattle.theory.proofs.Weights.Total.{line-in, line-fresh, weighed-queue, weighed-line, weighed-wire, weighed-join}
 
 -- ---- where packets are
 -- A queue's head belongs where the handled mark puts it.

@@ -27,22 +27,22 @@ use Rattle.machine.specs.State.{State}
 use Rattle.machine.specs.Execute.{cameIn}
 use Rattle.machine.specs.Accepted.{Connection}
 use Rattle.machine.specs.Valid.{bit}
-use Rattle.theory.proofs.Weights.Total.{Weight, weighed}
+use Rattle.theory.specs.Weights.{Weight, weighed}
 
--- ---- claims
--- a claim on an entry: the side that it holds, and the pair that it was booked for
-pub record Claim : Type 0 where
+-- ---- for whom an entry is booked
+-- the pair, and the side that its walk came in by
+pub record Holder : Type 0 where
   pub side : ℕ
   pub active : ℕ
   pub passive : ℕ
 
--- two claims are one: the same side and the same pair
-abbrev pub sameClaim : Claim → Claim → Bool
-sameClaim c v = also (eqb (c .side) (v .side)) (also (eqb (c .active) (v .active)) (eqb (c .passive) (v .passive)))
+-- the same side and the same pair
+abbrev pub sameHolder : Holder → Holder → Bool
+sameHolder c v = also (eqb (c .side) (v .side)) (also (eqb (c .active) (v .active)) (eqb (c .passive) (v .passive)))
 
--- the claim of a pair on the entries of router r: the side that its walk comes in by
-abbrev pub claimOf : Plan → ℕ → ℕ → ℕ → Claim
-claimOf pl a p r = record { side = cameIn pl a p r; active = a; passive = p }
+-- a pair as the holder of entries of router r
+abbrev pub holderOf : Plan → ℕ → ℕ → ℕ → Holder
+holderOf pl a p r = record { side = cameIn pl a p r; active = a; passive = p }
 
 -- ---- the entries of a piece of a walk
 -- the k-th router is on the piece from the first to before the past one, and t is the slot k rounds after the start
@@ -54,11 +54,11 @@ reaches slots t start first past Off = false
 abbrev pub indexOf : Plan → ℕ → ℕ → ℕ → Index
 indexOf pl a p r = indexOn pl (passive p) (home pl (active a)) r
 
--- 1 if the entry (r, o, t) with the claim v is one of those that the pair (a, p) books from a start slot on, at its routers from the first to
+-- 1 if the entry (r, o, t), held by v, is one of those that the pair (a, p) books from a start slot on, at its routers from the first to
 -- before the past one; else 0
-unfoldable pub owning : Plan → ℕ → ℕ → ℕ → Claim → ℕ → ℕ → Slot → ℕ → ℕ → ℕ
+unfoldable pub owning : Plan → ℕ → ℕ → ℕ → Holder → ℕ → ℕ → Slot → ℕ → ℕ → ℕ
 owning pl r o t v a p start first past =
-    pick (also (eqb o (routeTo pl (passive p) r)) (reaches (S pl) t start first past (indexOf pl a p r))) (bit (sameClaim (claimOf pl a p r) v)) 0
+    pick (also (eqb o (routeTo pl (passive p) r)) (reaches (S pl) t start first past (indexOf pl a p r))) (bit (sameHolder (holderOf pl a p r) v)) 0
 
 -- ---- packets
 abbrev pub indexNumber : Index → ℕ
@@ -78,43 +78,43 @@ behind pl a p (inQueue (passiveOut x)) = 0
 behind pl a p (inQueue (K r i o)) = 0
 
 -- SETUP, ACK, NACK: hub routers from the walk's first, with the slot minus hub at that
-abbrev pub ownsUp : Plan → ℕ → ℕ → ℕ → Claim → Packet → ℕ
+abbrev pub ownsUp : Plan → ℕ → ℕ → ℕ → Holder → Packet → ℕ
 ownsUp pl r o t v x = owning pl r o t v (x .active) (x .passive) (startSlot (x .slot) (x .hub) (S pl)) 0 (x .hub .0)
 
 -- TDOWN with n routers behind it: the hub routers ahead of it, with its slot at the next of them
-abbrev pub ownsDown : Plan → ℕ → ℕ → ℕ → Claim → ℕ → Packet → ℕ
+abbrev pub ownsDown : Plan → ℕ → ℕ → ℕ → Holder → ℕ → Packet → ℕ
 ownsDown pl r o t v n x = owning pl r o t v (x .active) (x .passive) (startSlot (x .slot) (record { 0 = n }) (S pl)) n (n + x .hub .0)
 
 -- what a packet of a kind owns at a place
-abbrev pub ownsKind : Plan → ℕ → ℕ → ℕ → Claim → Place → Kind → Packet → ℕ
+abbrev pub ownsKind : Plan → ℕ → ℕ → ℕ → Holder → Place → Kind → Packet → ℕ
 ownsKind pl r o t v at Setup x = ownsUp pl r o t v x
 ownsKind pl r o t v at Tdown x = ownsDown pl r o t v (behind pl (x .active) (x .passive) at) x
 ownsKind pl r o t v at Ack x = ownsUp pl r o t v x
 ownsKind pl r o t v at Nack x = ownsUp pl r o t v x
 
--- 1 if the packet at that place owns the entry with that claim, else 0
-unfoldable pub owns : Plan → ℕ → ℕ → ℕ → Claim → Weight
+-- 1 if the packet at that place owns the entry, held by v; else 0
+unfoldable pub owns : Plan → ℕ → ℕ → ℕ → Holder → Weight
 owns pl r o t v at x = ownsKind pl r o t v at (x .kind) x
 
 -- ---- accepted connections: all routers of the walk, as `Makes` says
-unfoldable pub ownsMade : Plan → ℕ → ℕ → ℕ → Claim → Connection → ℕ
+unfoldable pub ownsMade : Plan → ℕ → ℕ → ℕ → Holder → Connection → ℕ
 ownsMade pl r o t v c = owning pl r o t v (c .active) (c .passive) (c .start) 0 (span pl (c .active) (c .passive))
 
--- how many of the accepted connections own the entry with that claim
-unfoldable pub made : Plan → ℕ → ℕ → ℕ → Claim → List Connection → ℕ
+-- how many of the accepted connections own the entry, held by v
+unfoldable pub made : Plan → ℕ → ℕ → ℕ → Holder → List Connection → ℕ
 made pl r o t v [] = 0
 made pl r o t v (c ∷ cs) = ownsMade pl r o t v c + made pl r o t v cs
 
--- ---- the ghost table
--- the entry that a claim makes
-abbrev pub entryOf : Option Claim → Entry
+-- ---- the table with holders
+-- the entry: the holder's side
+abbrev pub entryOf : Option Holder → Entry
 entryOf none = Free
 entryOf (some c) = Booked (c .side)
 
--- 1 if the entry is claimed by v
-abbrev pub holds : Option Claim → Claim → ℕ
+-- 1 if the holder is v
+abbrev pub holds : Option Holder → Holder → ℕ
 holds none v = 0
-holds (some c) v = bit (sameClaim c v)
+holds (some c) v = bit (sameHolder c v)
 
 -- an accepted connection is of a served pair, and starts at a slot
 pub record Agreed (pl : Plan) (c : Connection) : Type 0 where
@@ -123,11 +123,11 @@ pub record Agreed (pl : Plan) (c : Connection) : Type 0 where
   pub serves : Served pl (c .active) (c .passive)
   pub start : c .start .0 < S pl
 
--- OWN: a table of claims, the entries as the claims say, and each claim owned once
+-- every booked entry has a holder, and is owned once: by a packet of that pair, or by an accepted connection of it
 pub record Owned (pl : Plan) (acc : List Connection) (s : State) : Type 0 where
-  pub claims : ℕ → ℕ → ℕ → Option Claim
-  -- the table holds the sides of the claims
-  pub entries : (r o t : ℕ) → r < R pl → o < 4 → t < S pl → s .table r o t ≡ entryOf (claims r o t)
-  -- packets and accepted connections own each claim once, and nothing else
-  pub owners : (r o t : ℕ) → r < R pl → o < 4 → t < S pl → (v : Claim) → weighed pl (owns pl r o t v) s + made pl r o t v acc ≡ holds (claims r o t) v
+  pub holders : ℕ → ℕ → ℕ → Option Holder
+  -- the table has the holders' sides, and is free where there is none
+  pub entries : (r o t : ℕ) → r < R pl → o < 4 → t < S pl → s .table r o t ≡ entryOf (holders r o t)
+  -- packets and accepted connections together own each entry once for its holder, and never for another
+  pub owners : (r o t : ℕ) → r < R pl → o < 4 → t < S pl → (v : Holder) → weighed pl (owns pl r o t v) s + made pl r o t v acc ≡ holds (holders r o t) v
   pub agreed : (c : Connection) → In c acc → Agreed pl c

@@ -1,0 +1,4 @@
+pub mod Invariant
+pub mod Weights
+pub mod Owners
+pub mod Promises

@@ -4,3 +4,6 @@ pub mod FirstBookings
 pub mod LastFree
 pub mod Spent
 pub mod Declined
+pub mod TornDown
+pub mod Order
+pub mod Wrap

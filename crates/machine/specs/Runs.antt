@@ -7,3 +7,6 @@ pub mod Declined
 pub mod TornDown
 pub mod Order
 pub mod Wrap
+pub mod Capacities
+pub mod Entries
+pub mod Refusals

@@ -6,6 +6,7 @@ pub mod Spent
 pub mod Declined
 pub mod TornDown
 pub mod Order
+pub mod Heads
 pub mod Wrap
 pub mod Capacities
 pub mod Entries

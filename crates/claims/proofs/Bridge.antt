@@ -10,7 +10,7 @@ use Rattle.load.specs.declared.Loaded.the-variants.{Accepted}
 use Rattle.load.specs.Load.{loadOf}
 use Rattle.machine.specs.State.{State, start}
 use Rattle.machine.specs.Calls.{Call, call}
-use Rattle.machine.proofs.Does.{call-does, refused-leaves}
+use Rattle.theory.proofs.Does.{call-does, refused-leaves}
 use Rattle.machine.specs.Progress.{Within, Quiet, Waits}
 use Rattle.machine.specs.Ruled.{Good, Ruled, Moves, ruledAfter, rounds}
 use Rattle.layout.specs.Rows.{past}

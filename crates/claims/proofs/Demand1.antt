@@ -24,7 +24,7 @@ use Rattle.load.specs.Load.{loadOf}
 use Rattle.machine.specs.State.{start}
 use Rattle.machine.specs.Guards.{Guard, guard, refusalOf}
 use Rattle.machine.specs.Calls.{Call, Outcome, guards, accepted, decided, call}
-use Rattle.machine.proofs.Does.{accepted-not}
+use Rattle.theory.proofs.Does.{accepted-not}
 use Rattle.layout.specs.Rows.{past}
 use Rattle.layout.specs.Offsets.{size}
 use Rattle.layout.specs.Encode.{encode}

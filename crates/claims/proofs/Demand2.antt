@@ -19,7 +19,7 @@ use Rattle.load.specs.Rules.{accepted-obeys, obeys-accepted}
 use Rattle.machine.specs.State.{start}
 use Rattle.machine.specs.Guards.{refusalOf}
 use Rattle.machine.specs.Calls.{Call, gives, guards, accepted, decided, call}
-use Rattle.machine.proofs.Does.{call-accepted}
+use Rattle.theory.proofs.Does.{call-accepted}
 use Rattle.layout.specs.Rows.{past}
 use Rattle.layout.specs.Offsets.{size}
 use Rattle.layout.specs.Encode.{encode}

@@ -19,7 +19,7 @@ use Rattle.load.specs.Runs.{t-loads, loads}
 use Rattle.machine.specs.State.{State, start}
 use Rattle.machine.specs.Calls.{Call, call}
 use Rattle.machine.specs.Ruled.{ruledAfter}
-use Rattle.machine.specs.Runs.Watch.{After, watching, watch}
+use Rattle.machine.specs.Runs.Watch.{After, each, watching, moments, watch}
 use Rattle.machine.specs.Runs.FirstBookings.{launchInRound0}
 use Rattle.layout.specs.Offsets.{size}
 use Rattle.layout.specs.Figures.{t-parts, planT as plannedT}
@@ -38,12 +38,12 @@ abbrev values : List After → List Value
 values [] = []
 values (x ∷ xs) = x .answer ∷ values xs
 
-values-watching : (pl : Plan) (cs : List Call) (s : State) → values (watching pl (λ s. []) [] cs s) ≡ ruledAnswers pl cs s
+values-watching : (pl : Plan) (cs : List Call) (s : State) → values (watching pl (λ s. []) [] (each (λ c. c ∷ []) cs) s) ≡ ruledAnswers pl cs s
 values-watching pl [] s = refl
 values-watching pl (c ∷ cs) s = ap (λ (l : List Value). valueOf (call pl c s .answer) ∷ l) (values-watching pl cs (call pl c s .state))
 
 watched : (cs : List Call) → ruledAnswers (planOf planT) cs (start (planOf planT)) ≡ values (watch planT (λ s. []) [] cs)
-unfolding watch
+unfolding watch moments
 watched cs = sym (values-watching (planOf planT) cs (start (planOf planT)))
 
 evaluated : values (watch planT (λ s. []) [] (launchInRound0 ++ allEntries)) ≡ firstAnswers

@@ -18,7 +18,7 @@ use Rattle.load.specs.declared.Loaded.the-variants.{Accepted, Refused as Unload
 use Rattle.load.specs.Load.{loadOf}
 use Rattle.machine.specs.State.{State, start}
 use Rattle.machine.specs.Calls.{Outcome, Call, call}
-use Rattle.machine.proofs.Does.{call-does, refused-leaves}
+use Rattle.theory.proofs.Does.{call-does, refused-leaves}
 use Rattle.layout.specs.Rows.{past}
 use Rattle.layout.specs.Offsets.{size}
 use Rattle.layout.specs.Encode.{encode, encode-append, length-encode}

@@ -14,10 +14,10 @@ use Rattle.machine.specs.Execute.{doExecute}
 use Rattle.machine.specs.Write.{doWrite}
 use Rattle.machine.specs.Visits.{launched, removed}
 use Rattle.machine.specs.Calls.{Visit, Call, turn, Outcome, gives, stepOf, call}
-use Rattle.machine.specs.Does.{Visited, launches, replies, consumes, looks, Does, refuses, turns, visits}
+use Rattle.theory.specs.Does.{Visited, launches, replies, consumes, looks, Does, refuses, turns, visits}
 use Rattle.machine.specs.Progress.{turnsCall}
 use Rattle.machine.specs.Ruled.{ruledAfter, rounds}
-use Rattle.machine.proofs.Does.{call-does, refused-turns}
+use Rattle.theory.proofs.Does.{call-does, refused-turns}
 
 -- ---- accepted calls of a phase in a list; `rounds` counts the Writes
 abbrev pub turnsIn : Plan → Phase → List Call → State → ℕ

@@ -1,4 +1,3 @@
 pub mod Apart
 pub mod Numbers
 pub mod OutNumbers
-pub mod Does

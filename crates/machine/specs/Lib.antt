@@ -8,7 +8,6 @@ pub mod Write
 pub mod Visits
 pub mod Guards
 pub mod Calls
-pub mod Does
 pub mod Conditions
 pub mod Accepted
 pub mod Valid

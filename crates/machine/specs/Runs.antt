@@ -4,3 +4,10 @@ pub mod FirstBookings
 pub mod LastFree
 pub mod Spent
 pub mod Declined
+pub mod TornDown
+pub mod Order
+pub mod Heads
+pub mod Wrap
+pub mod Capacities
+pub mod Entries
+pub mod Refusals

@@ -1,4 +1,4 @@
--- Plans of document 01's runs, by their bytes.
+-- Plans of document 01's runs and of more runs of the same kind, by their bytes.
 use mathlib.Core.List.{List, [], _∷_}
 use Prim.Native.Nat.{ℕ}
 
@@ -11,3 +11,35 @@ planT = 8 ∷ 66 ∷ 17 ∷ 36 ∷ 146 ∷ 76 ∷ 6 ∷ 0 ∷ 0 ∷ 0 ∷ 32 ∷
 -- 10 82 21 24 92 4C 02 20 00 02 0E 04 20 00 24 22
 abbrev pub twoRouters : List ℕ
 twoRouters = 16 ∷ 130 ∷ 33 ∷ 36 ∷ 146 ∷ 76 ∷ 2 ∷ 32 ∷ 0 ∷ 2 ∷ 14 ∷ 4 ∷ 32 ∷ 0 ∷ 36 ∷ 34 ∷ []
+
+-- plan T with S=8 and more room: capacities 2, active in 3. An active's start allowance is 2.
+-- 08 42 42 69 24 94 06 00 00 00 20
+abbrev pub widerT : List ℕ
+widerT = 8 ∷ 66 ∷ 66 ∷ 105 ∷ 36 ∷ 148 ∷ 6 ∷ 0 ∷ 0 ∷ 0 ∷ 32 ∷ []
+
+-- one router, S=16: side 0 to passive 0, side 1 to active 0, side 2 to active 1, side 3 to passive 1. The capacities
+-- fall on the way to a passive: active out 6, U 4, Q 3, F 2, passive in 1. Passive out 4, K 5, active in 7.
+-- 08 84 86 F1 AA 66 04 04 26 21 41 80
+abbrev pub narrowThere : List ℕ
+narrowThere = 8 ∷ 132 ∷ 134 ∷ 241 ∷ 170 ∷ 102 ∷ 4 ∷ 4 ∷ 38 ∷ 33 ∷ 65 ∷ 128 ∷ []
+
+-- the same joints and routes, and little room on the way back: passive in 4, passive out 2, K 1, active in 5. Active
+-- out 6, U 7, Q 3, F 3.
+-- 08 84 86 BD B3 16 04 04 26 21 41 80
+abbrev pub narrowBack : List ℕ
+narrowBack = 8 ∷ 132 ∷ 134 ∷ 189 ∷ 179 ∷ 22 ∷ 4 ∷ 4 ∷ 38 ∷ 33 ∷ 65 ∷ 128 ∷ []
+
+-- two routers, S=4, capacities 1. Router 0: side 0 to active 0, side 1 to active 1, side 2 to passive 0, side 3 to side
+-- 3 of router 1. Router 1: side 0 to passive 1, side 2 to active 2. Routes: the shortest, but router 0 has none to
+-- passive 1: actives 0 and 1 are not served with it.
+-- 10 C4 21 24 92 4C 04 26 02 3E 20 04 42 18 2D 76 D3 00
+abbrev pub allSides : List ℕ
+allSides = 16 ∷ 196 ∷ 33 ∷ 36 ∷ 146 ∷ 76 ∷ 4 ∷ 38 ∷ 2 ∷ 62 ∷ 32 ∷ 4 ∷ 66 ∷ 24 ∷ 45 ∷ 118 ∷ 211 ∷ 0 ∷ []
+
+-- four routers in a row, S=3, capacities 1: side 1 of each is joined to side 0 of the next. Active 0 at side 0 of
+-- router 0, passive 0 at side 1 of router 3, active 1 at side 2 of router 1. Routes: the shortest.
+-- 20 82 19 24 92 4C 02 20 00 02 0A 44 20 02 2A 60 00 02 4E 00 00 00 24 22 01 00 80
+abbrev pub fourRouters : List ℕ
+fourRouters =
+    32 ∷ 130 ∷ 25 ∷ 36 ∷ 146 ∷ 76 ∷ 2 ∷ 32 ∷ 0 ∷ 2 ∷ 10 ∷ 68 ∷ 32 ∷ 2 ∷ 42 ∷ 96 ∷ 0 ∷ 2 ∷ 78 ∷ 0 ∷ 0 ∷ 0 ∷ 36 ∷ 34 ∷ 1
+    ∷ 0 ∷ 128 ∷ []

@@ -32,10 +32,10 @@ use Rattle.machine.specs.Execute.{unit, choose, undo, doExecute, hasRoom, unmar
 use Rattle.machine.specs.Write.{send, doWrite}
 use Rattle.machine.specs.Visits.{replyKind}
 use Rattle.machine.specs.Calls.{Visit, Call, Outcome, stepOf, call}
-use Rattle.machine.specs.Does.{Visited, launches, replies, consumes, looks, Does, refuses, turns, visits}
+use Rattle.theory.specs.Does.{Visited, launches, replies, consumes, looks, Does, refuses, turns, visits}
 use Rattle.machine.specs.Valid.{Drives, Valid, Bounded}
 use Rattle.machine.specs.Ruled.{Good}
-use Rattle.machine.proofs.Does.{call-does}
+use Rattle.theory.proofs.Does.{call-does}
 use Rattle.theory.specs.Invariant.{Inv, Core, Shape, in-read, in-execute, in-write, Sendable, NoChoices, WiresEmpty, FlagsDown, ChoicesSendable, Allowances}
 use Rattle.theory.proofs.Core.{core-of, shape-of, valid-of}
 use Rattle.theory.proofs.Weights.Spending.{reply-spends}

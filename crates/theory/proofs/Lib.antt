@@ -1,4 +1,5 @@
 pub mod Ground
+pub mod Does
 pub mod Core
 pub mod Places
 pub mod Cases

@@ -33,12 +33,12 @@ use Rattle.machine.specs.Execute.{unit, choose, undo, doExecute, hasRoom, unmar
 use Rattle.machine.specs.Write.{send, doWrite}
 use Rattle.machine.specs.Visits.{replyKind, replied}
 use Rattle.machine.specs.Calls.{Visit, ofLaunch, ofReply, ofConsume, ofEntry, Call, turn, visit, reply, entry, Outcome, gives, stepOf, call}
-use Rattle.machine.specs.Does.{Visited, launches, replies, consumes, looks, Does, refuses, turns, visits}
+use Rattle.theory.specs.Does.{Visited, launches, replies, consumes, looks, Does, refuses, turns, visits}
 use Rattle.machine.specs.Accepted.{Connection, accept, acceptKind, MadeBy}
 use Rattle.machine.specs.Valid.{Drives}
 use Rattle.machine.specs.Progress.{Within, Quiet}
 use Rattle.machine.specs.Ruled.{Good, Ruled, ruledAfter, acceptedAfter, launchesCall, launches as launchesIn, times}
-use Rattle.machine.proofs.Does.{call-does}
+use Rattle.theory.proofs.Does.{call-does}
 use Rattle.theory.specs.Invariant.{Core, Shape, Sendable, FlagsDown, WiresEmpty, ChoicesSendable, Inv}
 use Rattle.theory.proofs.Shape.Calls.{execute-has, write-has}
 use Rattle.theory.proofs.Shape.Phases.{read-keeps, execute-keeps, write-keeps}

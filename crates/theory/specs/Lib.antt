@@ -1,3 +1,4 @@
+pub mod Does
 pub mod Invariant
 pub mod Weights
 pub mod Owners

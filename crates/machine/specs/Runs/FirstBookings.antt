@@ -8,7 +8,7 @@ use Rattle.packets.specs.declared.Packet.{Packet}
 use Rattle.feeding.specs.Queue.{activeIn, passiveIn, F}
 use Rattle.machine.specs.State.{State}
 use Rattle.machine.specs.Calls.{Call, read, execute, write, launch, reply, consume}
-use Rattle.machine.specs.Runs.Watch.{round, packet, entryIn, after, steady, watch}
+use Rattle.machine.specs.Runs.Watch.{round, packet, slotIn, entryIn, after, steady, watch}
 use Rattle.plan.specs.Samples.{planT}
 use Rattle.packets.specs.Answers.{done, taken}
 
@@ -96,7 +96,7 @@ launchInRound1 =
 
 -- the current slot, then the entries of side 1
 abbrev pub slotAndSide1 : State → List ℕ
-slotAndSide1 s = s .clock .slot .0 ∷ side1 s
+slotAndSide1 s = slotIn s ∷ side1 s
 
 -- F[1] and the passive's in-queue: the set-up is in F[1]; it has reached the passive
 abbrev pub inF : List (List Packet)

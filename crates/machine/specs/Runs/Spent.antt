@@ -8,7 +8,7 @@ use Rattle.packets.specs.declared.Packet.{Packet}
 use Rattle.feeding.specs.Queue.{activeOut, activeIn}
 use Rattle.machine.specs.State.{State}
 use Rattle.machine.specs.Calls.{Call, read, execute, write, launch, reply, consume}
-use Rattle.machine.specs.Runs.Watch.{round, packet, after, steady, watch}
+use Rattle.machine.specs.Runs.Watch.{round, packet, allowanceIn, after, steady, watch}
 use Rattle.machine.specs.Runs.FirstBookings.{launched, ack}
 use Rattle.plan.specs.Samples.{planT}
 use Rattle.packets.specs.Answers.{refused, done, taken}
@@ -34,7 +34,7 @@ allowanceSpent =
 
 -- the active's allowance: it is spent; it is back
 abbrev pub allowance0 : State → List ℕ
-allowance0 s = s .flow .allowance 0 ∷ []
+allowance0 s = allowanceIn s 0 ∷ []
 
 abbrev pub spent : List ℕ
 spent = 0 ∷ []

@@ -30,12 +30,12 @@ use Rattle.machine.specs.Read.{deliver, settle, lower, doRead}
 use Rattle.machine.specs.Execute.{hasRoom}
 use Rattle.machine.specs.Visits.{setupOf, launched}
 use Rattle.machine.specs.Calls.{Visit, Call, turn, visit, read, execute, write, Outcome, call}
-use Rattle.machine.specs.Does.{Visited, launches, replies, consumes, looks, Does, refuses, turns, visits}
+use Rattle.theory.specs.Does.{Visited, launches, replies, consumes, looks, Does, refuses, turns, visits}
 use Rattle.machine.specs.Valid.{Drives}
 use Rattle.machine.specs.Progress.{isInQueue, UnderWay, PassiveRoom, Waits, Moved, isTimed, endsRound}
 use Rattle.machine.specs.Ruled.{rounds, Moves, Good}
 use Rattle.machine.proofs.Apart.{read-execute, read-write, full-not, turn-same, visit-not}
-use Rattle.machine.proofs.Does.{call-does, refused-turns}
+use Rattle.theory.proofs.Does.{call-does, refused-turns}
 use Rattle.machine.proofs.OutNumbers.{output-at, output-below, drives-at}
 use Rattle.theory.specs.Promises.{answering, AnswersMove}
 use Rattle.theory.specs.Invariant.{WiresEmpty, Inv}

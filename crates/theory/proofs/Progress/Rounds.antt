@@ -40,7 +40,7 @@ use Rattle.machine.specs.Valid.{Belongs, Drives, isFed}
 use Rattle.machine.specs.Progress.{isInQueue, Moved, isTimed, endsRound}
 use Rattle.machine.specs.Ruled.{rounds, Moves}
 use Rattle.machine.proofs.Apart.{read-execute, read-write, execute-write, turn-same, visit-not}
-use Rattle.machine.proofs.Does.{refused-turns}
+use Rattle.theory.proofs.Does.{refused-turns}
 use Rattle.machine.proofs.Numbers.{sender-exists}
 use Rattle.machine.proofs.OutNumbers.{output-at, output-below, drives-at}
 use Rattle.theory.specs.Invariant.{Core, Shape, WiresEmpty, FlagsDown, NoChoices, ChoicesSendable, Sendable, Inv}

@@ -12,10 +12,10 @@ use Rattle.plan.specs.Plan.{Plan}
 use Rattle.machine.specs.State.{State, join}
 use Rattle.machine.specs.Visits.{launched, replyKind, removed}
 use Rattle.machine.specs.Calls.{Visit, Call, turn, visit, execute, Outcome, gives, isPhase, stepOf, call}
-use Rattle.machine.specs.Does.{Visited, launches, replies, consumes, looks, Does, refuses, turns, visits}
+use Rattle.theory.specs.Does.{Visited, launches, replies, consumes, looks, Does, refuses, turns, visits}
 use Rattle.machine.specs.Progress.{isTimed, endsRound}
 use Rattle.machine.proofs.Apart.{phase-of, phase-is, read-execute, execute-write}
-use Rattle.machine.proofs.Does.{call-does, refused-turns}
+use Rattle.theory.proofs.Does.{call-does, refused-turns}
 use Rattle.theory.proofs.Progress.Still.{Same, launch-same, reply-same, remove-same}
 
 -- ---- the three timed calls, in their phase and outside it

@@ -21,13 +21,13 @@ use Rattle.plan.specs.Plan.{Plan, R, A, P, S}
 use Rattle.feeding.specs.Queue.{activeIn, passiveIn}
 use Rattle.wiring.proofs.Heads.{and-both}
 use Rattle.journeys.proofs.Places.{some-not-none}
 use Rattle.machine.specs.State.{State}
 use Rattle.machine.specs.Visits.{isEmpty, headUnmarked, replyKind, replied}
 use Rattle.machine.specs.Guards.{Guard, refusalOf, Passed}
 use Rattle.machine.specs.Calls.{Visit, ofLaunch, ofReply, ofConsume, ofEntry, Call, turn, visit, Outcome, isPhase, launchGuards, replyGuards, consumeGuards, entryGuards, guards, consumed, accepted, decided, call}
-use Rattle.machine.specs.Does.{MayLaunch, MayReply, MayConsume, MayLook, Visited, launches, replies, consumes, looks, Does, refuses, turns, visits}
+use Rattle.theory.specs.Does.{MayLaunch, MayReply, MayConsume, MayLook, Visited, launches, replies, consumes, looks, Does, refuses, turns, visits}
 use Rattle.machine.specs.Progress.{turnsCall}
 use Rattle.machine.proofs.Apart.{phase-of}
 
 -- ---- a list of guards
 -- none of its refusals is 7

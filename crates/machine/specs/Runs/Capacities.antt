@@ -1,0 +1,155 @@
+-- Different capacities: each kind of queue is filled to its own, and beyond it a call is refused or the sender waits with
+-- credit 0. 'Each active's allowance = the smaller of its two capacities.' One list of calls and one theorem each.
+use mathlib.Core.Path.{_≡_, refl}
+use mathlib.Core.List.{List, [], _∷_, _++_}
+use Prim.Native.Nat.{ℕ}
+use Rattle.packets.specs.declared.Kind.the-variants.{Setup, Tdown, Ack, Nack}
+use Rattle.packets.specs.declared.Packet.{Packet}
+use Rattle.feeding.specs.Queue.{activeOut, activeIn, passiveIn, passiveOut, U, Q, F, K}
+use Rattle.machine.specs.State.{State}
+use Rattle.machine.specs.Calls.{Call, read, execute, write, launch, reply, consume}
+use Rattle.machine.specs.Runs.Watch.{round, rounds, inWrite, packet, allowanceIn, countIn, creditIn, flagIn, each, after, moments}
+use Rattle.plan.specs.Samples.{widerT, narrowThere, narrowBack}
+use Rattle.packets.specs.Answers.{refused, done, taken}
+
+-- ---- the way to a passive: active out 6, U 4, Q 3, F 2, passive in 1. Nobody replies
+abbrev pub fillThere : List (List Call)
+fillThere =
+    -- round 0: active 0 launches six times, and once more; active 1 six times
+    each (launch 0 0) (15 ∷ 14 ∷ 13 ∷ 12 ∷ 11 ∷ 10 ∷ [])
+    ∷ (launch 0 0 9 ∷ [])
+    ∷ each (launch 1 0) (9 ∷ 8 ∷ 7 ∷ 6 ∷ 5 ∷ 4 ∷ [])
+    -- rounds 0 to 7; round 8
+    ∷ rounds 8
+    ∷ round
+    -- round 9: the passive replies; rounds 10 to 13: after READ of each
+    ∷ inWrite (reply 0 1)
+    ∷ (write ∷ read ∷ [])
+    ∷ (execute ∷ write ∷ read ∷ [])
+    ∷ (execute ∷ write ∷ read ∷ [])
+    ∷ (execute ∷ write ∷ read ∷ [])
+    ∷ []
+
+-- the allowances; packets in the out-queues of actives 0 and 1, in U[2], Q, F[0] and passive 0's in-queue; the credits
+-- of the last four; the flag of the last
+abbrev pub there : State → List ℕ
+there s =
+    allowanceIn s 0 ∷ allowanceIn s 1 ∷ []
+    ++ each (countIn s) (activeOut 0 ∷ activeOut 1 ∷ U 0 2 ∷ Q 0 ∷ F 0 0 ∷ passiveIn 0 ∷ [])
+    ++ each (creditIn s) (U 0 2 ∷ Q 0 ∷ F 0 0 ∷ passiveIn 0 ∷ [])
+    ++ flagIn s (passiveIn 0) ∷ []
+
+pub filled-there : moments narrowThere there [] fillThere
+    -- round 0: the allowance is 6, not 7; a seventh launch finds the out-queue full too, but 11 comes before 12
+    ≡ after done (0 ∷ 6 ∷ 6 ∷ 0 ∷ 0 ∷ 0 ∷ 0 ∷ 0 ∷ 4 ∷ 3 ∷ 2 ∷ 1 ∷ 0 ∷ []) []
+    ∷ after (refused 11) (0 ∷ 6 ∷ 6 ∷ 0 ∷ 0 ∷ 0 ∷ 0 ∷ 0 ∷ 4 ∷ 3 ∷ 2 ∷ 1 ∷ 0 ∷ []) []
+    ∷ after done (0 ∷ 0 ∷ 6 ∷ 6 ∷ 0 ∷ 0 ∷ 0 ∷ 0 ∷ 4 ∷ 3 ∷ 2 ∷ 1 ∷ 0 ∷ []) []
+    -- round 7: each is full, 4, 3, 2 and 1, with credit 0, and two set-ups wait in active 1's out-queue; round 8: still
+    ∷ after done (0 ∷ 0 ∷ 0 ∷ 2 ∷ 4 ∷ 3 ∷ 2 ∷ 1 ∷ 0 ∷ 0 ∷ 0 ∷ 0 ∷ 0 ∷ []) []
+    ∷ after done (0 ∷ 0 ∷ 0 ∷ 2 ∷ 4 ∷ 3 ∷ 2 ∷ 1 ∷ 0 ∷ 0 ∷ 0 ∷ 0 ∷ 0 ∷ []) []
+    -- round 9: the reply makes room; the credit comes with the next Read
+    ∷ after done (0 ∷ 0 ∷ 0 ∷ 2 ∷ 4 ∷ 3 ∷ 2 ∷ 0 ∷ 0 ∷ 0 ∷ 0 ∷ 0 ∷ 1 ∷ []) []
+    ∷ after done (0 ∷ 0 ∷ 0 ∷ 2 ∷ 4 ∷ 3 ∷ 2 ∷ 0 ∷ 0 ∷ 0 ∷ 0 ∷ 1 ∷ 0 ∷ []) []
+    -- rounds 11 to 13: one packet follows from F, one from Q, one from U
+    ∷ after done (0 ∷ 0 ∷ 0 ∷ 2 ∷ 4 ∷ 3 ∷ 1 ∷ 1 ∷ 0 ∷ 0 ∷ 1 ∷ 0 ∷ 0 ∷ []) []
+    ∷ after done (0 ∷ 0 ∷ 0 ∷ 2 ∷ 4 ∷ 2 ∷ 2 ∷ 1 ∷ 0 ∷ 1 ∷ 0 ∷ 0 ∷ 0 ∷ []) []
+    ∷ after done (0 ∷ 0 ∷ 0 ∷ 2 ∷ 3 ∷ 3 ∷ 2 ∷ 1 ∷ 1 ∷ 0 ∷ 0 ∷ 0 ∷ 0 ∷ []) []
+    ∷ []
+unfolding moments
+filled-there = refl
+
+-- ---- the way back: passive in 4, passive out 2, K 1, active in 5. Four set-ups to passive 1 and one to passive 0
+abbrev pub fillBack : List (List Call)
+fillBack =
+    -- round 0: five launches, and one more
+    (launch 0 1 15 ∷ launch 0 1 14 ∷ launch 0 1 13 ∷ launch 0 1 12 ∷ launch 0 0 15 ∷ [])
+    ∷ (launch 0 0 14 ∷ [])
+    -- rounds 0 to 7
+    ∷ rounds 8
+    -- round 8: both passives reply, passive 1 once more
+    ∷ (read ∷ execute ∷ reply 0 1 ∷ reply 1 1 ∷ [])
+    ∷ (reply 1 1 ∷ [])
+    -- rounds 9 and 10: passive 1 replies
+    ∷ (write ∷ inWrite (reply 1 1))
+    ∷ (write ∷ inWrite (reply 1 1))
+    ∷ (write ∷ [])
+    -- round 11: it tries to; round 12; round 13: it replies
+    ∷ inWrite (reply 1 1)
+    ∷ (write ∷ round ++ inWrite (reply 1 1))
+    -- rounds 14 to 20; round 21: active 0 consumes
+    ∷ (write ∷ rounds 7)
+    ∷ inWrite (consume 0)
+    ∷ (write ∷ read ∷ [])
+    ∷ []
+
+-- active 0's allowance; packets in its out-queue, in passive 1's in-queue and out-queue, in K[0,1], K[3,1] and active
+-- 0's in-queue; the credits of passive 1's in-queue, of K[3,1] and of active 0's in-queue
+abbrev pub back : State → List ℕ
+back s =
+    allowanceIn s 0 ∷ []
+    ++ each (countIn s) (activeOut 0 ∷ passiveIn 1 ∷ passiveOut 1 ∷ K 0 0 1 ∷ K 0 3 1 ∷ activeIn 0 ∷ [])
+    ++ each (creditIn s) (passiveIn 1 ∷ K 0 3 1 ∷ activeIn 0 ∷ [])
+
+pub filled-back : moments narrowBack back [] fillBack
+    -- round 0: the allowance is 5, not 6; a sixth launch finds room in the out-queue, and is refused
+    ≡ after done (0 ∷ 5 ∷ 0 ∷ 0 ∷ 0 ∷ 0 ∷ 0 ∷ 4 ∷ 1 ∷ 5 ∷ []) []
+    ∷ after (refused 11) (0 ∷ 5 ∷ 0 ∷ 0 ∷ 0 ∷ 0 ∷ 0 ∷ 4 ∷ 1 ∷ 5 ∷ []) []
+    -- round 7: passive 1's in-queue is full
+    ∷ after done (0 ∷ 0 ∷ 4 ∷ 0 ∷ 0 ∷ 0 ∷ 0 ∷ 0 ∷ 1 ∷ 5 ∷ []) []
+    -- round 8: a reply; a second in the same WRITE finds the flag up
+    ∷ after done (0 ∷ 0 ∷ 3 ∷ 1 ∷ 0 ∷ 0 ∷ 0 ∷ 0 ∷ 1 ∷ 5 ∷ []) []
+    ∷ after (refused 14) (0 ∷ 0 ∷ 3 ∷ 1 ∷ 0 ∷ 0 ∷ 0 ∷ 0 ∷ 1 ∷ 5 ∷ []) []
+    -- round 9: the out-queue is full, and one leaves it
+    ∷ after done (0 ∷ 0 ∷ 2 ∷ 2 ∷ 0 ∷ 0 ∷ 0 ∷ 1 ∷ 1 ∷ 5 ∷ []) []
+    -- round 10: it is full again; K[3,1] is full with credit 0, and K[0,1] goes first: nothing leaves
+    ∷ after done (0 ∷ 0 ∷ 1 ∷ 2 ∷ 1 ∷ 1 ∷ 0 ∷ 2 ∷ 0 ∷ 5 ∷ []) []
+    ∷ after done (0 ∷ 0 ∷ 1 ∷ 2 ∷ 0 ∷ 1 ∷ 0 ∷ 2 ∷ 0 ∷ 4 ∷ []) []
+    -- round 11: refused, the out-queue is full; round 13: accepted
+    ∷ after (refused 12) (0 ∷ 0 ∷ 1 ∷ 2 ∷ 0 ∷ 1 ∷ 1 ∷ 3 ∷ 0 ∷ 4 ∷ []) []
+    ∷ after done (0 ∷ 0 ∷ 0 ∷ 2 ∷ 0 ∷ 1 ∷ 2 ∷ 3 ∷ 0 ∷ 3 ∷ []) []
+    -- round 20: all five answers are in active 0's in-queue, which is full, with credit 0
+    ∷ after done (0 ∷ 0 ∷ 0 ∷ 0 ∷ 0 ∷ 0 ∷ 5 ∷ 4 ∷ 1 ∷ 0 ∷ []) []
+    -- round 21: one is consumed, passive 0's; the credit comes with the next Read
+    ∷ after (taken (packet Ack 0 0 0 1)) (1 ∷ 0 ∷ 0 ∷ 0 ∷ 0 ∷ 0 ∷ 4 ∷ 4 ∷ 1 ∷ 0 ∷ []) []
+    ∷ after done (1 ∷ 0 ∷ 0 ∷ 0 ∷ 0 ∷ 0 ∷ 4 ∷ 4 ∷ 1 ∷ 1 ∷ []) []
+    ∷ []
+unfolding moments
+filled-back = refl
+
+-- ---- an out-queue of 2 that holds a TDOWN, with an allowance left: Launch gives 12
+abbrev pub fillOut : List (List Call)
+fillOut =
+    -- rounds 0 to 3; round 4: declined
+    (launch 0 0 6 ∷ rounds 4)
+    ∷ inWrite (reply 0 0)
+    -- rounds 5 and 6; round 7: the NACK comes, is marked and consumed
+    ∷ (write ∷ rounds 2 ++ inWrite (consume 0))
+    -- round 8: two launches; round 9: the second again
+    ∷ (write ∷ launch 0 0 4 ∷ [])
+    ∷ (launch 0 0 5 ∷ [])
+    ∷ (round ++ launch 0 0 5 ∷ [])
+    ∷ []
+
+abbrev pub allowance0 : State → List ℕ
+allowance0 s = allowanceIn s 0 ∷ []
+
+abbrev pub tdown : Packet
+tdown = packet Tdown 0 0 6 1
+
+-- the set-up launched with a slot
+abbrev pub setup : ℕ → Packet
+setup t = packet Setup 0 0 t 0
+
+pub out-queue-full : moments widerT allowance0 (activeOut 0 ∷ []) fillOut
+    ≡ after done (1 ∷ []) ([] ∷ [])
+    ∷ after done (1 ∷ []) ([] ∷ [])
+    -- round 7: the whole allowance is back, and the TDOWN is still in the out-queue
+    ∷ after (taken (packet Nack 0 0 7 0)) (2 ∷ []) ((tdown ∷ []) ∷ [])
+    -- round 8: room for one set-up
+    ∷ after done (1 ∷ []) ((tdown ∷ setup 4 ∷ []) ∷ [])
+    ∷ after (refused 12) (1 ∷ []) ((tdown ∷ setup 4 ∷ []) ∷ [])
+    -- round 9: the TDOWN has left
+    ∷ after done (0 ∷ []) ((setup 4 ∷ setup 5 ∷ []) ∷ [])
+    ∷ []
+unfolding moments
+out-queue-full = refl

@@ -1,0 +1,109 @@
+-- 'Each output picks a sender: the first of F[o], K[0,o] to K[3,o] for a side; the first of U[0] to U[3] to the unit':
+-- who goes first where several wait. One list of calls and one theorem each.
+use mathlib.Core.Path.{_≡_, refl}
+use mathlib.Core.List.{List, [], _∷_, _++_}
+use Prim.Native.Nat.{ℕ}
+use Rattle.packets.specs.declared.Kind.the-variants.{Setup, Ack, Nack}
+use Rattle.packets.specs.declared.Packet.{Packet}
+use Rattle.feeding.specs.Queue.{activeIn, U, Q, F, K}
+use Rattle.machine.specs.State.{State}
+use Rattle.machine.specs.Calls.{Call, read, execute, write, launch, reply}
+use Rattle.machine.specs.Runs.Watch.{round, rounds, packet, entryIn, after, moments}
+use Rattle.plan.specs.Samples.{narrowBack}
+use Rattle.packets.specs.Answers.{done}
+
+-- ---- U[1] and U[2]: both actives launch with slot 5 in round 0, and their set-ups come to the router in round 1
+abbrev pub bothLaunch : List (List Call)
+bothLaunch =
+    (launch 0 0 5 ∷ launch 1 0 5 ∷ round ++ read ∷ [])
+    -- round 1: its WRITE
+    ∷ (execute ∷ write ∷ [])
+    -- rounds 2 and 3: after EXECUTE and WRITE of each
+    ∷ (read ∷ execute ∷ [])
+    ∷ (write ∷ [])
+    ∷ (read ∷ execute ∷ [])
+    ∷ []
+
+-- the entry of side 0 for slot 5: free; booked with side 1, active 0's
+abbrev pub slot5 : State → List ℕ
+slot5 s = entryIn s 0 0 5 ∷ []
+
+abbrev pub free : List ℕ
+free = 4 ∷ []
+
+abbrev pub booked : List ℕ
+booked = 1 ∷ []
+
+-- U[1], U[2], Q
+abbrev pub seen : List Packet → List Packet → List Packet → List (List Packet)
+seen u1 u2 q = u1 ∷ u2 ∷ q ∷ []
+
+-- the set-up of each active
+abbrev pub of0 : Packet
+of0 = packet Setup 0 0 5 0
+
+abbrev pub of1 : Packet
+of1 = packet Setup 1 0 5 0
+
+pub lower-side-first : moments narrowBack slot5 (U 0 1 ∷ U 0 2 ∷ Q 0 ∷ []) bothLaunch
+    -- round 1: both wait; U[1] goes first
+    ≡ after done free (seen (of0 ∷ []) (of1 ∷ []) [])
+    ∷ after done free (seen [] (of1 ∷ []) [])
+    -- round 2: active 0 gets the entry; U[2] goes
+    ∷ after done booked (seen [] (of1 ∷ []) (packet Setup 0 0 6 1 ∷ []))
+    ∷ after done booked (seen [] [] [])
+    -- round 3: active 1 comes too late
+    ∷ after done booked (seen [] [] (packet Nack 1 0 5 0 ∷ []))
+    ∷ []
+unfolding moments
+lower-side-first = refl
+
+-- ---- F[1], K[0,1] and K[3,1]: a NACK of the unit and an ACK of each passive, all for active 0, which is at side 1
+abbrev pub threeAnswers : List (List Call)
+threeAnswers =
+    -- round 0: a set-up to each passive; round 6: another to passive 0, for an entry that is booked
+    (launch 0 0 8 ∷ launch 0 1 8 ∷ rounds 6 ++ launch 0 0 8 ∷ round)
+    -- round 7: both passives accept; round 8; round 9: all three answers wait
+    ∷ (read ∷ execute ∷ reply 0 1 ∷ reply 1 1 ∷ write ∷ round ++ read ∷ [])
+    -- round 9: its WRITE; rounds 10, 11 and 12: after READ, and after the WRITE of 10 and 11
+    ∷ (execute ∷ write ∷ [])
+    ∷ (read ∷ [])
+    ∷ (execute ∷ write ∷ [])
+    ∷ (read ∷ [])
+    ∷ (execute ∷ write ∷ [])
+    ∷ (read ∷ [])
+    ∷ []
+
+abbrev pub nothing : State → List ℕ
+nothing s = []
+
+-- F[1], K[0,1], K[3,1], active 0's in-queue
+abbrev pub waiting : List Packet → List Packet → List Packet → List Packet → List (List Packet)
+waiting f k0 k3 ain = f ∷ k0 ∷ k3 ∷ ain ∷ []
+
+-- the unit's answer, passive 0's and passive 1's
+abbrev pub nack : Packet
+nack = packet Nack 0 0 8 0
+
+abbrev pub ack0 : Packet
+ack0 = packet Ack 0 0 9 1
+
+abbrev pub ack1 : Packet
+ack1 = packet Ack 0 1 9 1
+
+pub unit-first-then-sides : moments narrowBack nothing (F 0 1 ∷ K 0 0 1 ∷ K 0 3 1 ∷ activeIn 0 ∷ []) threeAnswers
+    ≡ after done [] (waiting [] [] [] [])
+    -- round 9: all three wait; F[1] goes first
+    ∷ after done [] (waiting (nack ∷ []) (ack0 ∷ []) (ack1 ∷ []) [])
+    ∷ after done [] (waiting [] (ack0 ∷ []) (ack1 ∷ []) [])
+    -- round 10: then K[0,1]
+    ∷ after done [] (waiting [] (ack0 ∷ []) (ack1 ∷ []) (nack ∷ []))
+    ∷ after done [] (waiting [] [] (ack1 ∷ []) (nack ∷ []))
+    -- round 11: then K[3,1]
+    ∷ after done [] (waiting [] [] (ack1 ∷ []) (nack ∷ ack0 ∷ []))
+    ∷ after done [] (waiting [] [] [] (nack ∷ ack0 ∷ []))
+    -- round 12
+    ∷ after done [] (waiting [] [] [] (nack ∷ ack0 ∷ ack1 ∷ []))
+    ∷ []
+unfolding moments
+unit-first-then-sides = refl

@@ -17,7 +17,7 @@ use Rattle.feeding.specs.Queue.{number, queues}
 use Rattle.feeding.specs.Edges.{aheadEdges, backEdges, nackEdges, nacksEdges, pairEdges, marks, markPair, markActive, cellsOf}
 use Rattle.feeding.specs.RingTest.{hasRing}
 use Rattle.load.specs.Load.{lengthOk, jointsOk, loadOf, loadNumber}
-use Rattle.plan.specs.Samples.{planT, twoRouters}
+use Rattle.plan.specs.Samples.{planT, twoRouters, widerT, narrowThere, narrowBack, allSides, fourRouters}
 
 -- Load's number, computed from the bytes
 unfoldable pub loads : List ℕ → ℕ
@@ -28,10 +28,30 @@ pub t-loads : loads planT ≡ 0
 unfolding loads
 t-loads = refl
 
--- the plan of the run in which the second router declines loads too
+-- the plan of the run in which the second router declines loads too, and so do those of the other runs
 pub two-routers-load : loads twoRouters ≡ 0
 unfolding loads
 two-routers-load = refl
+
+pub wider-t-loads : loads widerT ≡ 0
+unfolding loads
+wider-t-loads = refl
+
+pub narrow-there-loads : loads narrowThere ≡ 0
+unfolding loads
+narrow-there-loads = refl
+
+pub narrow-back-loads : loads narrowBack ≡ 0
+unfolding loads
+narrow-back-loads = refl
+
+pub all-sides-loads : loads allSides ≡ 0
+unfolding loads
+all-sides-loads = refl
+
+pub four-routers-load : loads fourRouters ≡ 0
+unfolding loads
+four-routers-load = refl
 
 pub five-bytes : loads (8 ∷ 66 ∷ 17 ∷ 36 ∷ 146 ∷ []) ≡ 1
 unfolding loads

@@ -31,6 +31,51 @@ pub fn declining() -> Draft {
     draft
 }
 
+/// Plan T with S=8 and more room: capacities 2, active in 3.
+pub fn wider_t() -> Draft {
+    let mut draft = Draft::new(1, 8, 2);
+    draft.capacities([2, 3, 2, 2, 2, 2, 2, 2]);
+    draft.active(0, 0).passive(0, 1).shortest_routes();
+    draft
+}
+
+/// One router with all its sides in use, S=16: passive 0, active 0, active 1, passive 1.
+fn four_sides(capacities: [usize; 8]) -> Draft {
+    let mut draft = Draft::new(1, 16, 1);
+    draft.capacities(capacities);
+    draft.active(0, 1).active(0, 2).passive(0, 0).passive(0, 3).shortest_routes();
+    draft
+}
+
+/// Four sides in use; the capacities fall on the way to a passive.
+pub fn narrow_there() -> Draft {
+    four_sides([6, 7, 4, 3, 2, 5, 1, 4])
+}
+
+/// Four sides in use; little room on the way back.
+pub fn narrow_back() -> Draft {
+    four_sides([6, 5, 7, 3, 3, 1, 4, 2])
+}
+
+/// Two routers where set-ups come in by each of the sides 0 to 3; actives 0 and 1 are not served
+/// with passive 1.
+pub fn all_sides() -> Draft {
+    let mut draft = Draft::new(2, 4, 1);
+    draft.active(0, 0).active(0, 1).passive(0, 2).join((0, 3), (1, 3));
+    draft.active(1, 2).passive(1, 0).shortest_routes();
+    draft.fields_mut().routers[0].to_passive[1] = None;
+    draft
+}
+
+/// Four routers in a row with S=3: active 0 at the first, active 1 at the second, the passive at
+/// the last.
+pub fn row_of_four() -> Draft {
+    let mut draft = Draft::new(4, 3, 1);
+    draft.active(0, 0).join((0, 1), (1, 0)).join((1, 1), (2, 0)).join((2, 1), (3, 0));
+    draft.passive(3, 1).active(1, 2).shortest_routes();
+    draft
+}
+
 /// Router 0 in the middle of three; three actives and three passives, nine served pairs.
 pub fn four_routers() -> Draft {
     let mut draft = Draft::new(4, 8, 1);

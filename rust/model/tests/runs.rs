@@ -1,4 +1,5 @@
-//! The runs of document 01, round by round.
+//! The runs of document 01, round by round, and more of the same kind: those that are proved by
+//! evaluation.
 
 use model::machine::{Hub, Kind, Network, Packet, Slot, State};
 use model::{named, Queue};
@@ -58,13 +59,41 @@ impl Run {
         self.network.queue(&self.state, queue).iter().copied().collect()
     }
 
+    fn len(&self, queue: Queue) -> usize {
+        self.queue(queue).len()
+    }
+
+    fn credit(&self, queue: Queue) -> usize {
+        self.state.credits[self.network.queue_index(queue)].0
+    }
+
+    /// The entries of a side, slot by slot.
+    fn side(&self, router: usize, side: usize) -> Vec<u32> {
+        (0..self.network.slots()).map(|slot| self.entry(router, side, slot)).collect()
+    }
+
+    /// Whole rounds up to that one, and its Read.
+    fn read_of(&mut self, round: usize) {
+        self.up_to(round);
+        assert_eq!(self.network.read(&mut self.state), Ok(()));
+    }
+
+    /// After a Read: the round's WRITE comes next.
+    fn execute(&mut self) {
+        assert_eq!(self.network.execute(&mut self.state), Ok(()));
+    }
+
     fn no_packets(&self) -> bool {
         self.network.packets(&self.state).next().is_none()
     }
 }
 
 fn packet(kind: Kind, slot: usize, hub: usize) -> Packet {
-    Packet { kind, active: 0, passive: 0, slot: Slot(slot), hub: Hub(hub) }
+    packet_of((0, 0), kind, slot, hub)
+}
+
+fn packet_of((active, passive): (usize, usize), kind: Kind, slot: usize, hub: usize) -> Packet {
+    Packet { kind, active, passive, slot: Slot(slot), hub: Hub(hub) }
 }
 
 /// Plan T's queue between unit and passive.
@@ -211,4 +240,256 @@ fn second_launch_with_the_allowance_spent() {
 #[test]
 fn crossing_set_ups_do_not_load() {
     assert_eq!(Network::load(&named::crossing().encode()).err(), Some(6));
+}
+
+/// The bytes of the plans whose runs are proved.
+#[test]
+fn plans_of_the_proved_runs() {
+    let plans = [
+        (named::declining(), "10822124924C022000020E0420002422"),
+        (named::wider_t(), "0842426924940600000020"),
+        (named::narrow_there(), "088486F1AA66040426214180"),
+        (named::narrow_back(), "088486BDB316040426214180"),
+        (named::all_sides(), "10C42124924C0426023E200442182D76D300"),
+        (named::row_of_four(), "20821924924C022000020A4420022A6000024E0000002422010080"),
+    ];
+    for (draft, told) in plans {
+        let hex: String = draft.encode().iter().map(|byte| format!("{byte:02X}")).collect();
+        assert_eq!(hex, told);
+    }
+}
+
+#[test]
+fn a_passives_decline_over_two_routers() {
+    let mut run = Run::new(&named::declining().encode());
+    assert_eq!(run.launch(0, 0, 2), Ok(()));
+    run.up_to(7);
+    run.run_to_write();
+    assert_eq!(run.queue(Queue::PassiveIn(0)), [packet(Kind::Setup, 0, 2)]);
+    assert_eq!(run.reply(0, 0), Ok(()));
+    run.end();
+    // The NACK comes in round 11, and is marked there; the allowance comes back at neither.
+    run.read_of(11);
+    assert_eq!(run.queue(Queue::ActiveIn(0)), [packet(Kind::Nack, 0, 2)]);
+    assert_eq!(run.state.allowances[0], 0);
+    run.execute();
+    assert_eq!(run.queue(Queue::ActiveIn(0)), [packet(Kind::Nack, 0, 0)]);
+    assert_eq!(run.queue(Queue::ActiveOut(0)), [packet(Kind::Tdown, 2, 2)]);
+    run.end();
+    assert_eq!(run.launch(0, 0, 0), Err(11));
+    run.run_to_write();
+    assert_eq!(run.consume(0), Ok(packet(Kind::Nack, 0, 0)));
+    assert_eq!(run.state.allowances[0], 1);
+    run.end();
+    // Freed router by router.
+    run.read_of(14);
+    assert_eq!((run.side(0, 1), run.side(1, 1)), (vec![4, 4, 0, 4], vec![4, 4, 4, 0]));
+    run.execute();
+    assert_eq!((run.side(0, 1), run.side(1, 1)), (vec![4; 4], vec![4, 4, 4, 0]));
+    assert_eq!(run.queue(Queue::Q { router: 0 }), [packet(Kind::Tdown, 3, 1)]);
+    run.end();
+    run.read_of(17);
+    assert_eq!(run.queue(Queue::Q { router: 1 }), [packet(Kind::Tdown, 3, 1)]);
+    run.execute();
+    assert_eq!((run.side(0, 1), run.side(1, 1)), (vec![4; 4], vec![4; 4]));
+    assert!(run.no_packets());
+}
+
+#[test]
+fn a_passives_decline_over_three_routers() {
+    let mut run = Run::new(&named::row_of_four().encode());
+    assert_eq!(run.launch(1, 0, 1), Ok(()));
+    run.up_to(11);
+    run.run_to_write();
+    let booked = [vec![4, 2, 4], vec![4, 4, 0], vec![0, 4, 4]];
+    assert_eq!([run.side(1, 1), run.side(2, 1), run.side(3, 1)], booked);
+    assert_eq!(run.reply(0, 0), Ok(()));
+    run.end();
+    run.read_of(16);
+    assert_eq!(run.queue(Queue::ActiveIn(1)), [packet_of((1, 0), Kind::Nack, 1, 3)]);
+    run.execute();
+    assert_eq!(run.queue(Queue::ActiveOut(1)), [packet_of((1, 0), Kind::Tdown, 1, 3)]);
+    assert_eq!(run.state.allowances[1], 0);
+    run.end();
+    run.run_to_write();
+    assert_eq!(run.consume(1), Ok(packet_of((1, 0), Kind::Nack, 1, 0)));
+    assert_eq!(run.state.allowances[1], 1);
+    run.end();
+    // The TDOWN is at the units in rounds 19, 22 and 25, and frees their entries one by one.
+    for (router, round) in [(1, 19), (2, 22), (3, 25)] {
+        run.read_of(round);
+        assert_eq!(run.side(router, 1), booked[router - 1]);
+        run.execute();
+        assert_eq!(run.side(router, 1), vec![4; 3]);
+        run.end();
+    }
+    assert!(run.no_packets());
+}
+
+#[test]
+fn the_lower_side_goes_first_to_the_unit() {
+    let mut run = Run::new(&named::narrow_back().encode());
+    assert_eq!((run.launch(0, 0, 5), run.launch(1, 0, 5)), (Ok(()), Ok(())));
+    let sides = [1, 2].map(|from| Queue::U { router: 0, from });
+    run.read_of(1);
+    assert_eq!(sides.map(|side| run.len(side)), [1, 1]);
+    run.execute();
+    run.end();
+    assert_eq!(sides.map(|side| run.len(side)), [0, 1]);
+    // Active 0 gets the entry, active 1 is declined.
+    run.run_to_write();
+    assert_eq!(run.queue(Queue::Q { router: 0 }), [packet(Kind::Setup, 6, 1)]);
+    run.end();
+    run.run_to_write();
+    assert_eq!(run.queue(Queue::Q { router: 0 }), [packet_of((1, 0), Kind::Nack, 5, 0)]);
+}
+
+#[test]
+fn the_unit_goes_first_by_a_side_then_the_lower_side() {
+    let mut run = Run::new(&named::narrow_back().encode());
+    assert_eq!((run.launch(0, 0, 8), run.launch(0, 1, 8)), (Ok(()), Ok(())));
+    run.up_to(6);
+    assert_eq!(run.launch(0, 0, 8), Ok(()));
+    run.up_to(7);
+    run.run_to_write();
+    assert_eq!((run.reply(0, 1), run.reply(1, 1)), (Ok(()), Ok(())));
+    run.end();
+    // Round 9: the unit's NACK and both ACKs wait for the side to active 0.
+    run.read_of(9);
+    let crossing = [0, 3].map(|from| Queue::K { router: 0, from, to: 1 });
+    assert_eq!([run.len(TO_PASSIVE), run.len(crossing[0]), run.len(crossing[1])], [1, 1, 1]);
+    run.execute();
+    run.end();
+    run.read_of(12);
+    let nack = packet(Kind::Nack, 8, 0);
+    let acks = [packet(Kind::Ack, 9, 1), packet_of((0, 1), Kind::Ack, 9, 1)];
+    assert_eq!(run.queue(Queue::ActiveIn(0)), [nack, acks[0], acks[1]]);
+}
+
+#[test]
+fn capacities_on_the_way_to_a_passive() {
+    let mut run = Run::new(&named::narrow_there().encode());
+    for launch in 0..6 {
+        assert_eq!(run.launch(0, 0, 15 - launch), Ok(()));
+        assert_eq!(run.launch(1, 0, 9 - launch), Ok(()));
+    }
+    assert_eq!(run.launch(0, 0, 9), Err(11));
+    run.up_to(8);
+    let router = 0;
+    let fed = [
+        Queue::U { router, from: 2 },
+        Queue::Q { router },
+        Queue::F { router, to: 0 },
+        Queue::PassiveIn(0),
+    ];
+    // Full, and held back until a reply makes room.
+    for round in 8..10 {
+        run.up_to(round);
+        assert_eq!(fed.map(|queue| run.len(queue)), [4, 3, 2, 1]);
+        assert_eq!(fed.map(|queue| run.credit(queue)), [0; 4]);
+        assert_eq!(run.len(Queue::ActiveOut(1)), 2);
+    }
+    run.run_to_write();
+    assert_eq!(run.reply(0, 1), Ok(()));
+    assert_eq!(run.credit(Queue::PassiveIn(0)), 0);
+    run.end();
+    for (round, credits) in [(10, [0, 0, 0, 1]), (11, [0, 0, 1, 0]), (12, [0, 1, 0, 0])] {
+        run.read_of(round);
+        assert_eq!(fed.map(|queue| run.credit(queue)), credits);
+        run.execute();
+        run.end();
+    }
+}
+
+#[test]
+fn capacities_on_the_way_back() {
+    let mut run = Run::new(&named::narrow_back().encode());
+    for slot in [15, 14, 13, 12] {
+        assert_eq!(run.launch(0, 1, slot), Ok(()));
+    }
+    assert_eq!((run.launch(0, 0, 15), run.launch(0, 0, 14)), (Ok(()), Err(11)));
+    run.up_to(8);
+    assert_eq!((run.len(Queue::PassiveIn(1)), run.credit(Queue::PassiveIn(1))), (4, 0));
+    run.run_to_write();
+    assert_eq!((run.reply(0, 1), run.reply(1, 1), run.reply(1, 1)), (Ok(()), Ok(()), Err(14)));
+    run.end();
+    let mut answers = Vec::new();
+    for _ in 9..14 {
+        run.run_to_write();
+        answers.push(run.reply(1, 1));
+        run.end();
+        let crossing = Queue::K { router: 0, from: 3, to: 1 };
+        assert!(run.len(crossing) <= 1 && run.len(Queue::PassiveOut(1)) <= 2);
+    }
+    assert_eq!(answers, [Ok(()), Ok(()), Err(12), Err(12), Ok(())]);
+    run.up_to(21);
+    assert_eq!((run.len(Queue::ActiveIn(0)), run.credit(Queue::ActiveIn(0))), (5, 0));
+}
+
+#[test]
+fn a_full_out_queue() {
+    let mut run = Run::new(&named::wider_t().encode());
+    assert_eq!(run.launch(0, 0, 6), Ok(()));
+    run.up_to(4);
+    run.run_to_write();
+    assert_eq!(run.reply(0, 0), Ok(()));
+    run.end();
+    run.up_to(7);
+    run.run_to_write();
+    assert_eq!(run.consume(0), Ok(packet(Kind::Nack, 7, 0)));
+    run.end();
+    // The TDOWN is in the out-queue, the whole allowance is back.
+    assert_eq!(run.state.allowances[0], 2);
+    assert_eq!((run.launch(0, 0, 4), run.launch(0, 0, 5)), (Ok(()), Err(12)));
+    run.up_to(9);
+    assert_eq!(run.launch(0, 0, 5), Ok(()));
+}
+
+#[test]
+fn a_walk_of_four_routers_that_wraps() {
+    let mut run = Run::new(&named::row_of_four().encode());
+    assert_eq!(run.launch(0, 0, 2), Ok(()));
+    run.up_to(16);
+    run.run_to_write();
+    let sides = [0, 1, 2, 3].map(|router| run.side(router, 1));
+    assert_eq!(sides, [vec![4, 4, 0], vec![0, 4, 4], vec![4, 0, 4], vec![4, 4, 0]]);
+    assert_eq!(run.reply(0, 1), Ok(()));
+    run.end();
+    run.up_to(22);
+    run.run_to_write();
+    let ack = packet(Kind::Ack, 0, 4);
+    assert_eq!(run.consume(0), Ok(ack));
+    // Slot 0 minus hub 4 modulo 3: the start slot.
+    assert_eq!(ack.slot.minus(ack.hub, run.network.slots()), Slot(2));
+}
+
+#[test]
+fn no_second_head_in_a_round() {
+    let mut run = Run::new(&named::narrow_there().encode());
+    assert_eq!(run.launch(0, 0, 15), Ok(()));
+    run.up_to(3);
+    for slot in 0..4 {
+        assert_eq!(run.launch(1, 0, slot), Ok(()));
+    }
+    run.up_to(4);
+    run.run_to_write();
+    assert_eq!(run.reply(0, 0), Ok(()));
+    run.end();
+    run.up_to(8);
+    assert_eq!(run.launch(0, 0, 4), Ok(()));
+    run.up_to(11);
+    run.run_to_write();
+    let (tear_down, next) = (packet(Kind::Tdown, 15, 1), packet(Kind::Setup, 4, 0));
+    let heads = [packet_of((1, 0), Kind::Setup, 4, 1), tear_down, next];
+    let q = Queue::Q { router: 0 };
+    assert_eq!(run.queue(q), heads);
+    assert_eq!(run.reply(0, 1), Ok(()));
+    run.end();
+    run.up_to(14);
+    assert_eq!(run.queue(q), [tear_down, next]);
+    run.run_to_write();
+    assert_eq!((run.queue(q), run.entry(0, 0, 15)), (vec![next], 4));
+    run.end();
+    run.run_to_write();
+    assert_eq!((run.queue(q), run.entry(0, 0, 4)), (vec![packet(Kind::Setup, 5, 1)], 1));
 }

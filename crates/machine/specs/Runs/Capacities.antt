@@ -1,11 +1,11 @@
--- Different capacities: each kind of queue is filled to its own, and beyond it a call is refused or the sender waits with
--- credit 0. 'Each active's allowance = the smaller of its two capacities.' One list of calls and one theorem each.
+-- Different capacities: each kind of queue is filled to its own, and beyond it a call is refused or the sender waits
+-- with credit 0. 'Each active's allowance = the smaller of its two capacities.' One list of calls and one theorem each.
 use mathlib.Core.Path.{_≡_, refl}
 use mathlib.Core.List.{List, [], _∷_, _++_}
 use Prim.Native.Nat.{ℕ}
 use Rattle.packets.specs.declared.Kind.the-variants.{Setup, Tdown, Ack, Nack}
 use Rattle.packets.specs.declared.Packet.{Packet}
-use Rattle.feeding.specs.Queue.{activeOut, activeIn, passiveIn, passiveOut, U, Q, F, K}
+use Rattle.feeding.specs.Queue.{Queue, activeOut, activeIn, passiveIn, passiveOut, U, Q, F, K}
 use Rattle.machine.specs.State.{State}
 use Rattle.machine.specs.Calls.{Call, read, execute, write, launch, reply, consume}
 use Rattle.machine.specs.Runs.Watch.{round, rounds, inWrite, packet, allowanceIn, countIn, creditIn, flagIn, each, after, moments}
@@ -30,30 +30,40 @@ fillThere =
     ∷ (execute ∷ write ∷ read ∷ [])
     ∷ []
 
--- the allowances; packets in the out-queues of actives 0 and 1, in U[2], Q, F[0] and passive 0's in-queue; the credits
--- of the last four; the flag of the last
+-- U[2], Q, F[0], passive 0's in-queue
+abbrev pub ahead : List Queue
+ahead = U 0 2 ∷ Q 0 ∷ F 0 0 ∷ passiveIn 0 ∷ []
+
+-- the allowances of actives 0 and 1, the packets in their out-queues, then in the four; the credits of the four, and the
+-- flag of the last
 abbrev pub there : State → List ℕ
 there s =
-    allowanceIn s 0 ∷ allowanceIn s 1 ∷ []
-    ++ each (countIn s) (activeOut 0 ∷ activeOut 1 ∷ U 0 2 ∷ Q 0 ∷ F 0 0 ∷ passiveIn 0 ∷ [])
-    ++ each (creditIn s) (U 0 2 ∷ Q 0 ∷ F 0 0 ∷ passiveIn 0 ∷ [])
+    allowanceIn s 0 ∷ allowanceIn s 1 ∷ countIn s (activeOut 0) ∷ countIn s (activeOut 1) ∷ each (countIn s) ahead
+    ++ each (creditIn s) ahead
     ++ flagIn s (passiveIn 0) ∷ []
+
+-- the four at their capacities, and at 0
+abbrev pub full : List ℕ
+full = 4 ∷ 3 ∷ 2 ∷ 1 ∷ []
+
+abbrev pub zeros : List ℕ
+zeros = 0 ∷ 0 ∷ 0 ∷ 0 ∷ []
 
 pub filled-there : moments narrowThere there [] fillThere
     -- round 0: the allowance is 6, not 7; a seventh launch finds the out-queue full too, but 11 comes before 12
-    ≡ after done (0 ∷ 6 ∷ 6 ∷ 0 ∷ 0 ∷ 0 ∷ 0 ∷ 0 ∷ 4 ∷ 3 ∷ 2 ∷ 1 ∷ 0 ∷ []) []
-    ∷ after (refused 11) (0 ∷ 6 ∷ 6 ∷ 0 ∷ 0 ∷ 0 ∷ 0 ∷ 0 ∷ 4 ∷ 3 ∷ 2 ∷ 1 ∷ 0 ∷ []) []
-    ∷ after done (0 ∷ 0 ∷ 6 ∷ 6 ∷ 0 ∷ 0 ∷ 0 ∷ 0 ∷ 4 ∷ 3 ∷ 2 ∷ 1 ∷ 0 ∷ []) []
-    -- round 7: each is full, 4, 3, 2 and 1, with credit 0, and two set-ups wait in active 1's out-queue; round 8: still
-    ∷ after done (0 ∷ 0 ∷ 0 ∷ 2 ∷ 4 ∷ 3 ∷ 2 ∷ 1 ∷ 0 ∷ 0 ∷ 0 ∷ 0 ∷ 0 ∷ []) []
-    ∷ after done (0 ∷ 0 ∷ 0 ∷ 2 ∷ 4 ∷ 3 ∷ 2 ∷ 1 ∷ 0 ∷ 0 ∷ 0 ∷ 0 ∷ 0 ∷ []) []
-    -- round 9: the reply makes room; the credit comes with the next Read
-    ∷ after done (0 ∷ 0 ∷ 0 ∷ 2 ∷ 4 ∷ 3 ∷ 2 ∷ 0 ∷ 0 ∷ 0 ∷ 0 ∷ 0 ∷ 1 ∷ []) []
-    ∷ after done (0 ∷ 0 ∷ 0 ∷ 2 ∷ 4 ∷ 3 ∷ 2 ∷ 0 ∷ 0 ∷ 0 ∷ 0 ∷ 1 ∷ 0 ∷ []) []
+    ≡ after done (0 ∷ 6 ∷ 6 ∷ 0 ∷ zeros ++ full ++ 0 ∷ []) []
+    ∷ after (refused 11) (0 ∷ 6 ∷ 6 ∷ 0 ∷ zeros ++ full ++ 0 ∷ []) []
+    ∷ after done (0 ∷ 0 ∷ 6 ∷ 6 ∷ zeros ++ full ++ 0 ∷ []) []
+    -- round 7: each is full, with credit 0, and two set-ups wait in active 1's out-queue; round 8: still
+    ∷ after done (0 ∷ 0 ∷ 0 ∷ 2 ∷ full ++ zeros ++ 0 ∷ []) []
+    ∷ after done (0 ∷ 0 ∷ 0 ∷ 2 ∷ full ++ zeros ++ 0 ∷ []) []
+    -- round 9: the reply makes room and the flag rises; round 10: the credit comes with Read
+    ∷ after done (0 ∷ 0 ∷ 0 ∷ 2 ∷ (4 ∷ 3 ∷ 2 ∷ 0 ∷ []) ++ zeros ++ 1 ∷ []) []
+    ∷ after done (0 ∷ 0 ∷ 0 ∷ 2 ∷ (4 ∷ 3 ∷ 2 ∷ 0 ∷ []) ++ (0 ∷ 0 ∷ 0 ∷ 1 ∷ []) ++ 0 ∷ []) []
     -- rounds 11 to 13: one packet follows from F, one from Q, one from U
-    ∷ after done (0 ∷ 0 ∷ 0 ∷ 2 ∷ 4 ∷ 3 ∷ 1 ∷ 1 ∷ 0 ∷ 0 ∷ 1 ∷ 0 ∷ 0 ∷ []) []
-    ∷ after done (0 ∷ 0 ∷ 0 ∷ 2 ∷ 4 ∷ 2 ∷ 2 ∷ 1 ∷ 0 ∷ 1 ∷ 0 ∷ 0 ∷ 0 ∷ []) []
-    ∷ after done (0 ∷ 0 ∷ 0 ∷ 2 ∷ 3 ∷ 3 ∷ 2 ∷ 1 ∷ 1 ∷ 0 ∷ 0 ∷ 0 ∷ 0 ∷ []) []
+    ∷ after done (0 ∷ 0 ∷ 0 ∷ 2 ∷ (4 ∷ 3 ∷ 1 ∷ 1 ∷ []) ++ (0 ∷ 0 ∷ 1 ∷ 0 ∷ []) ++ 0 ∷ []) []
+    ∷ after done (0 ∷ 0 ∷ 0 ∷ 2 ∷ (4 ∷ 2 ∷ 2 ∷ 1 ∷ []) ++ (0 ∷ 1 ∷ 0 ∷ 0 ∷ []) ++ 0 ∷ []) []
+    ∷ after done (0 ∷ 0 ∷ 0 ∷ 2 ∷ (3 ∷ 3 ∷ 2 ∷ 1 ∷ []) ++ (1 ∷ 0 ∷ 0 ∷ 0 ∷ []) ++ 0 ∷ []) []
     ∷ []
 unfolding moments
 filled-there = refl
@@ -83,35 +93,34 @@ fillBack =
     ∷ []
 
 -- active 0's allowance; packets in its out-queue, in passive 1's in-queue and out-queue, in K[0,1], K[3,1] and active
--- 0's in-queue; the credits of passive 1's in-queue, of K[3,1] and of active 0's in-queue
+-- 0's in-queue; then the credits of passive 1's in-queue, of K[3,1] and of active 0's in-queue
 abbrev pub back : State → List ℕ
 back s =
-    allowanceIn s 0 ∷ []
-    ++ each (countIn s) (activeOut 0 ∷ passiveIn 1 ∷ passiveOut 1 ∷ K 0 0 1 ∷ K 0 3 1 ∷ activeIn 0 ∷ [])
+    allowanceIn s 0 ∷ each (countIn s) (activeOut 0 ∷ passiveIn 1 ∷ passiveOut 1 ∷ K 0 0 1 ∷ K 0 3 1 ∷ activeIn 0 ∷ [])
     ++ each (creditIn s) (passiveIn 1 ∷ K 0 3 1 ∷ activeIn 0 ∷ [])
 
 pub filled-back : moments narrowBack back [] fillBack
     -- round 0: the allowance is 5, not 6; a sixth launch finds room in the out-queue, and is refused
-    ≡ after done (0 ∷ 5 ∷ 0 ∷ 0 ∷ 0 ∷ 0 ∷ 0 ∷ 4 ∷ 1 ∷ 5 ∷ []) []
-    ∷ after (refused 11) (0 ∷ 5 ∷ 0 ∷ 0 ∷ 0 ∷ 0 ∷ 0 ∷ 4 ∷ 1 ∷ 5 ∷ []) []
+    ≡ after done (0 ∷ (5 ∷ 0 ∷ 0 ∷ 0 ∷ 0 ∷ 0 ∷ []) ++ 4 ∷ 1 ∷ 5 ∷ []) []
+    ∷ after (refused 11) (0 ∷ (5 ∷ 0 ∷ 0 ∷ 0 ∷ 0 ∷ 0 ∷ []) ++ 4 ∷ 1 ∷ 5 ∷ []) []
     -- round 7: passive 1's in-queue is full
-    ∷ after done (0 ∷ 0 ∷ 4 ∷ 0 ∷ 0 ∷ 0 ∷ 0 ∷ 0 ∷ 1 ∷ 5 ∷ []) []
+    ∷ after done (0 ∷ (0 ∷ 4 ∷ 0 ∷ 0 ∷ 0 ∷ 0 ∷ []) ++ 0 ∷ 1 ∷ 5 ∷ []) []
     -- round 8: a reply; a second in the same WRITE finds the flag up
-    ∷ after done (0 ∷ 0 ∷ 3 ∷ 1 ∷ 0 ∷ 0 ∷ 0 ∷ 0 ∷ 1 ∷ 5 ∷ []) []
-    ∷ after (refused 14) (0 ∷ 0 ∷ 3 ∷ 1 ∷ 0 ∷ 0 ∷ 0 ∷ 0 ∷ 1 ∷ 5 ∷ []) []
+    ∷ after done (0 ∷ (0 ∷ 3 ∷ 1 ∷ 0 ∷ 0 ∷ 0 ∷ []) ++ 0 ∷ 1 ∷ 5 ∷ []) []
+    ∷ after (refused 14) (0 ∷ (0 ∷ 3 ∷ 1 ∷ 0 ∷ 0 ∷ 0 ∷ []) ++ 0 ∷ 1 ∷ 5 ∷ []) []
     -- round 9: the out-queue is full, and one leaves it
-    ∷ after done (0 ∷ 0 ∷ 2 ∷ 2 ∷ 0 ∷ 0 ∷ 0 ∷ 1 ∷ 1 ∷ 5 ∷ []) []
+    ∷ after done (0 ∷ (0 ∷ 2 ∷ 2 ∷ 0 ∷ 0 ∷ 0 ∷ []) ++ 1 ∷ 1 ∷ 5 ∷ []) []
     -- round 10: it is full again; K[3,1] is full with credit 0, and K[0,1] goes first: nothing leaves
-    ∷ after done (0 ∷ 0 ∷ 1 ∷ 2 ∷ 1 ∷ 1 ∷ 0 ∷ 2 ∷ 0 ∷ 5 ∷ []) []
-    ∷ after done (0 ∷ 0 ∷ 1 ∷ 2 ∷ 0 ∷ 1 ∷ 0 ∷ 2 ∷ 0 ∷ 4 ∷ []) []
+    ∷ after done (0 ∷ (0 ∷ 1 ∷ 2 ∷ 1 ∷ 1 ∷ 0 ∷ []) ++ 2 ∷ 0 ∷ 5 ∷ []) []
+    ∷ after done (0 ∷ (0 ∷ 1 ∷ 2 ∷ 0 ∷ 1 ∷ 0 ∷ []) ++ 2 ∷ 0 ∷ 4 ∷ []) []
     -- round 11: refused, the out-queue is full; round 13: accepted
-    ∷ after (refused 12) (0 ∷ 0 ∷ 1 ∷ 2 ∷ 0 ∷ 1 ∷ 1 ∷ 3 ∷ 0 ∷ 4 ∷ []) []
-    ∷ after done (0 ∷ 0 ∷ 0 ∷ 2 ∷ 0 ∷ 1 ∷ 2 ∷ 3 ∷ 0 ∷ 3 ∷ []) []
+    ∷ after (refused 12) (0 ∷ (0 ∷ 1 ∷ 2 ∷ 0 ∷ 1 ∷ 1 ∷ []) ++ 3 ∷ 0 ∷ 4 ∷ []) []
+    ∷ after done (0 ∷ (0 ∷ 0 ∷ 2 ∷ 0 ∷ 1 ∷ 2 ∷ []) ++ 3 ∷ 0 ∷ 3 ∷ []) []
     -- round 20: all five answers are in active 0's in-queue, which is full, with credit 0
-    ∷ after done (0 ∷ 0 ∷ 0 ∷ 0 ∷ 0 ∷ 0 ∷ 5 ∷ 4 ∷ 1 ∷ 0 ∷ []) []
-    -- round 21: one is consumed, passive 0's; the credit comes with the next Read
-    ∷ after (taken (packet Ack 0 0 0 1)) (1 ∷ 0 ∷ 0 ∷ 0 ∷ 0 ∷ 0 ∷ 4 ∷ 4 ∷ 1 ∷ 0 ∷ []) []
-    ∷ after done (1 ∷ 0 ∷ 0 ∷ 0 ∷ 0 ∷ 0 ∷ 4 ∷ 4 ∷ 1 ∷ 1 ∷ []) []
+    ∷ after done (0 ∷ (0 ∷ 0 ∷ 0 ∷ 0 ∷ 0 ∷ 5 ∷ []) ++ 4 ∷ 1 ∷ 0 ∷ []) []
+    -- round 21: one is consumed, passive 0's; round 22: the credit comes with Read
+    ∷ after (taken (packet Ack 0 0 0 1)) (1 ∷ (0 ∷ 0 ∷ 0 ∷ 0 ∷ 0 ∷ 4 ∷ []) ++ 4 ∷ 1 ∷ 0 ∷ []) []
+    ∷ after done (1 ∷ (0 ∷ 0 ∷ 0 ∷ 0 ∷ 0 ∷ 4 ∷ []) ++ 4 ∷ 1 ∷ 1 ∷ []) []
     ∷ []
 unfolding moments
 filled-back = refl

@@ -5,7 +5,7 @@ use mathlib.Core.List.{List, [], _∷_, _++_}
 use Prim.Native.Nat.{ℕ}
 use Rattle.packets.specs.declared.Kind.the-variants.{Setup, Tdown, Nack}
 use Rattle.packets.specs.declared.Packet.{Packet}
-use Rattle.feeding.specs.Queue.{activeOut, activeIn, passiveIn, Q}
+use Rattle.feeding.specs.Queue.{Queue, activeOut, activeIn, passiveIn, Q}
 use Rattle.machine.specs.State.{State}
 use Rattle.machine.specs.Calls.{Call, read, execute, write, launch, reply, consume}
 use Rattle.machine.specs.Runs.Watch.{rounds, inWrite, packet, entryIn, allowanceIn, after, moments}
@@ -54,6 +54,9 @@ allFree a = a ∷ 4 ∷ 4 ∷ 4 ∷ 4 ∷ 4 ∷ 4 ∷ 4 ∷ 4 ∷ []
 abbrev pub seen : List Packet → List Packet → List Packet → List Packet → List Packet → List (List Packet)
 seen out ain q0 q1 pin = out ∷ ain ∷ q0 ∷ q1 ∷ pin ∷ []
 
+abbrev pub places : List Queue
+places = activeOut 0 ∷ activeIn 0 ∷ Q 0 ∷ Q 1 ∷ passiveIn 0 ∷ []
+
 abbrev pub quiet : List (List Packet)
 quiet = seen [] [] [] [] []
 
@@ -74,7 +77,7 @@ tdown = packet Tdown 0 0 2 2
 abbrev pub tdownOn : Packet
 tdownOn = packet Tdown 0 0 3 1
 
-pub torn-over-two : moments twoRouters allowanceAndBoth (activeOut 0 ∷ activeIn 0 ∷ Q 0 ∷ Q 1 ∷ passiveIn 0 ∷ []) overTwo
+pub torn-over-two : moments twoRouters allowanceAndBoth places overTwo
     -- round 6: both routers have booked; round 7: declined
     ≡ after done (both 0) quiet
     ∷ after done (both 0) (seen [] [] [] [] (setup ∷ []))

@@ -9,11 +9,8 @@ use Rattle.basis.specs.Bounded.{anyBelow, allBelow}
 use Rattle.basis.specs.Fold.{upTo}
 use Rattle.basis.specs.Walk.{spot}
 use Rattle.fields.specs.Bits.{bitAt, fieldOf}
-use Rattle.kinds.specs.Refusals.{refusalNumber}
 use Rattle.packets.specs.declared.Kind.{Kind}
 use Rattle.packets.specs.declared.Packet.{Packet}
-use Rattle.packets.specs.declared.Answer.{Answer}
-use Rattle.packets.specs.declared.Answer.the-variants.{Refused, Done, Taken, Holds}
 use Rattle.packets.specs.Answers.{entryNumber, Value, refused, done, taken, holds, valueOf}
 use Rattle.plan.specs.Head.{capacityAt, headOf}
 use Rattle.plan.specs.Plan.{Plan, jointIn, planOf}

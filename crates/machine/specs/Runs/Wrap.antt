@@ -5,10 +5,9 @@ use mathlib.Core.List.{List, [], _∷_, _++_}
 use Prim.Native.Nat.{ℕ}
 use Rattle.packets.specs.declared.Kind.the-variants.{Setup, Ack}
 use Rattle.packets.specs.declared.Packet.{Packet}
-use Rattle.feeding.specs.Queue.{activeIn, passiveIn, Q}
+use Rattle.feeding.specs.Queue.{passiveIn, Q}
 use Rattle.machine.specs.State.{State}
 use Rattle.machine.specs.Calls.{Call, read, execute, write, launch, reply, consume}
-use Rattle.machine.specs.Accepted.{Connection}
 use Rattle.machine.specs.Runs.Watch.{rounds, packet, entryIn, after, moments, accepts}
 use Rattle.plan.specs.Samples.{fourRouters}
 use Rattle.packets.specs.Answers.{done, taken}

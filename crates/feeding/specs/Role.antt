@@ -35,6 +35,16 @@ isUnitAs passing = false
 abbrev pub isUnit : Queue → Bool
 isUnit q = isUnitAs (role q)
 
+-- is it an interface's out-queue?
+abbrev pub isOutQueueAs : Role → Bool
+isOutQueueAs sending = true
+isOutQueueAs receiving = false
+isOutQueueAs (handling r) = false
+isOutQueueAs passing = false
+
+abbrev pub isOutQueue : Queue → Bool
+isOutQueue q = isOutQueueAs (role q)
+
 -- a queue is a unit's, or it is not
 pub unit-or : (q : Queue) → ((r : ℕ) × (q ≡ Q r)) ⊎ (isUnit q ≡ false)
 unit-or (activeOut a) = inr refl

@@ -19,7 +19,7 @@ use Rattle.journeys.specs.Visits.{OnWalk, Comes, Visits}
 use Rattle.wiring.specs.Wired.{Wired}
 use Rattle.wiring.proofs.Wires.{near, home-inside}
 use Rattle.journeys.proofs.Walks.{onward-on, onward-end, end-onward, alike, stops-inside}
-use Rattle.journeys.proofs.Sides.{leads, turns, turns-later, home-turns}
+use Rattle.journeys.proofs.Sides.{leads, joined-back, turns, turns-later, home-turns}
 
 pub some-not-none : {X : Type 0} {x : X} → none ≡ some x → ⊥
 some-not-none e = let z : _≡_ {A = ℕ} 0 1 = cc in omega arith
@@ -86,6 +86,19 @@ module _ {pl : Plan} (wired : Wired pl) where
       at (suc k) l =
           near wired (onward-on pl e (w .stop k) (w .stop (suc k)) (w .goes k l))
 
+  -- a walk that begins at a joined side comes in to every router by a joined side
+  meets-joined : (e : Interface) (from : Port) (w : Walk pl e from) → pl .joint (from .router) (from .side) ≢ Nothing
+      → (y : Port) → Meets pl e from y → pl .joint (y .router) (y .side) ≢ Nothing
+  meets-joined e from w first y m =
+      let o = way-on (onward pl e) routerOf w (m .steps) y (m .here) in rw (o .1) at (at (m .steps) (o .0))
+    where
+      at : (k : ℕ) → k < w .size → pl .joint (w .stop k .router) (w .stop k .side) ≢ Nothing
+      at zero l = rw (w .begins) first
+      at (suc k) l = λ n. router-not (sym (joined-back wired e (w .stop k) (w .stop (suc k)) (w .goes k l)) ∙ n)
+
+  home-joined : (e : Interface) → Has pl e → pl .joint (home pl e .router) (home pl e .side) ≢ Nothing
+  home-joined e h n = joined-not e (sym (wired .joined e h .there) ∙ n)
+
   -- the side out is one of the four
   pub exit-inside : (e : Interface) (from : Port) (w : Walk pl e from) (y : Port) → Meets pl e from y → routeTo pl e (y .router) < 4
   exit-inside e from w y m = by (goes-from pl e from w y m)
@@ -150,6 +163,15 @@ module _ {pl : Plan} (wired : Wired pl) where
         let first : routeTo pl (active a) (z .router) ≢ z .side = rw (o .1) at (turns-later wired (active a) x v 0 (o .0)) in
         let i = meets-inside (active a) z w (near wired (onward-on pl (active a) x z q)) y n in
         (i .0, i .1, exit-inside (active a) z w y n, meets-turns (active a) z w first y n)
+
+    -- ---- a packet comes in to a router by a joined side
+    pub walk-joined : (x : Port) → Meets pl (passive p) (home pl (active a)) x → pl .joint (x .router) (x .side) ≢ Nothing
+    walk-joined x m = meets-joined (passive p) (home pl (active a)) (s .ahead) (home-joined (active a) ha) x m
+
+    pub returns-joined : (y : Port) → Comes pl a p y → pl .joint (y .router) (y .side) ≢ Nothing
+    returns-joined y (inl m) = meets-joined (active a) (home pl (passive p)) back-walk (home-joined (passive p) hp) y m
+    returns-joined y (inr (x, z, m, q, n)) =
+        meets-joined (active a) z (next-walk x z m q) (λ j. router-not (sym (joined-back wired (active a) x z q) ∙ j)) y n
 
     -- ---- the queues where a packet may be exist
     pub may-exist : (h : Heading) (x : Queue) → Visits pl h a p x → Exists pl x

@@ -40,6 +40,12 @@ leads pl e from w k h = by (below-suc {i = suc k} {n = w .size} (omega arith))
     by (inr q) = inr (onward-end pl e (w .stop k) (w .ends k q))
 
 module _ {pl : Plan} (wired : Wired pl) where
+  -- the side by which a walk comes in to the next router is joined to the side by which it left
+  pub joined-back : (e : Interface) (x y : Port) → onward pl e x ≡ on y
+      → pl .joint (y .router) (y .side) ≡ Router (x .router) (routeTo pl e (x .router))
+  joined-back e x y q =
+      wired .named (x .router) (routeTo pl e (x .router)) (y .router) (y .side) (onward-on pl e x y q) .1
+
   -- behind the first router of a walk the side out is never the side in
   pub turns-later : (e : Interface) (from : Port) (w : Walk pl e from) (m : ℕ) → suc m < w .size → routeTo pl e (w .stop (suc m) .router) ≢ w .stop (suc m) .side
   turns-later e from w m h = λ same. clash same (leads pl e from w (suc m) h)
@@ -51,7 +57,7 @@ module _ {pl : Plan} (wired : Wired pl) where
       y = w .stop (suc m)
 
       back : pl .joint (y .router) (y .side) ≡ Router (x .router) (routeTo pl e (x .router))
-      back = wired .named (x .router) (routeTo pl e (x .router)) (y .router) (y .side) (onward-on pl e x y (w .goes m h)) .1
+      back = joined-back e x y (w .goes m h)
 
       clash : routeTo pl e (y .router) ≡ y .side
           → ((suc (suc m) < w .size) × (pl .joint (y .router) (routeTo pl e (y .router)) ≡ Router (w .stop (suc (suc m)) .router) (w .stop (suc (suc m)) .side)))

@@ -22,7 +22,7 @@ use Rattle.feeding.specs.Feeds.{Output, ofActive, ofPassive, ofSide, toUnit, fr
 use Rattle.machine.specs.Outputs.{senders, outputs, outputAt}
 use Rattle.machine.specs.State.{State, Choice, nobody, sender, blank, start}
 use Rattle.machine.specs.Write.{ofRank}
-use Rattle.machine.specs.Valid.{PacketOk, Lined, Drives, isFed, Valid, Bounded}
+use Rattle.machine.specs.Valid.{PacketOk, Lined, Drives, fed, Valid, Bounded}
 use Rattle.machine.proofs.Numbers.{exists-at}
 use Rattle.machine.proofs.OutNumbers.{drives-at}
 use Rattle.layout.specs.Rows.{span}
@@ -92,9 +92,9 @@ module _ (pl : Plan) (s : State) (range : InRange (pl .head)) (v : Valid pl s) (
 
   -- ---- rows
   credit-small : (q : Queue) → Exists pl q → s .flow .credit q .0 ≤ 7
-  credit-small q h = by (test (isFed q))
+  credit-small q h = by (test (fed pl q))
     where
-      by : (isFed q ≡ true) ⊎ (isFed q ≡ false) → s .flow .credit q .0 ≤ 7
+      by : (fed pl q ≡ true) ⊎ (fed pl q ≡ false) → s .flow .credit q .0 ≤ 7
       by (inl t) = let c = v .credits q h t in let m = capacity-most (pl .head) q range in omega arith
       by (inr t) = let c = v .out-credits q h t in let m = capacity-most (pl .head) q range in omega arith
 

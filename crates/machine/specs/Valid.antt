@@ -17,10 +17,11 @@ use Rattle.packets.specs.declared.Wire.{Wire}
 use Rattle.packets.specs.declared.Wire.the-variants.{Empty, Full}
 use Rattle.packets.specs.declared.Phase.the-variants.{Read, Execute, Write}
 use Rattle.packets.specs.declared.Entry.the-variants.{Free, Booked}
+use Rattle.plan.specs.declared.Joint.{Joint}
+use Rattle.plan.specs.declared.Joint.the-variants.{Nothing, Router, Active, Passive}
 use Rattle.plan.specs.Plan.{Plan, R, A, P, S}
 use Rattle.paths.specs.Served.{Served}
-use Rattle.feeding.specs.Queue.{Queue, Q, Exists, queues, queueAt}
-use Rattle.feeding.specs.Role.{Role, sending, receiving, handling, passing, role}
+use Rattle.feeding.specs.Queue.{Queue, activeOut, activeIn, passiveIn, passiveOut, U, Q, F, K, Exists, queues, queueAt}
 use Rattle.feeding.specs.Feeds.{Output, ofActive, ofPassive, ofSide, toUnit, fromUnit, Place, inQueue, Fits, headPlace}
 use Rattle.machine.specs.Capacity.{capacity}
 use Rattle.machine.specs.Store.{sameQueue}
@@ -109,15 +110,23 @@ spendsKind Nack = 1
 abbrev pub spends : ℕ → Packet → ℕ
 spends a x = pick (eqb (x .active) a) (spendsKind (x .kind)) 0
 
--- a queue fed by a wire: all but the out-queues
-abbrev pub isFedAs : Role → Bool
-isFedAs sending = false
-isFedAs receiving = true
-isFedAs (handling r) = true
-isFedAs passing = true
+-- 'a queue fed by a wire': 'A wire enters each joined side and each interface from its neighbour; one leads from router
+-- to unit, one back.' So U[i] and K[i,o] are fed where side i is joined, in-queues, Q and F always, out-queues never.
+abbrev pub isJoined : Joint → Bool
+isJoined Nothing = false
+isJoined (Router n t) = true
+isJoined (Active n) = true
+isJoined (Passive n) = true
 
-abbrev pub isFed : Queue → Bool
-isFed q = isFedAs (role q)
+abbrev pub fed : Plan → Queue → Bool
+fed pl (activeOut a) = false
+fed pl (activeIn a) = true
+fed pl (passiveIn p) = true
+fed pl (passiveOut p) = false
+fed pl (U r i) = isJoined (pl .joint r i)
+fed pl (Q r) = true
+fed pl (F r o) = true
+fed pl (K r i o) = isJoined (pl .joint r i)
 
 -- ---- a state
 pub record Valid (pl : Plan) (s : State) : Type 0 where
@@ -136,19 +145,20 @@ pub record Valid (pl : Plan) (s : State) : Type 0 where
   -- 'a choice outside WRITE or of no candidate'
   pub choices : (o : Output) (k : ℕ) → Drives pl o → s .links .choice o ≡ sender k
       → (s .clock .phase ≡ Write) × ((q : Queue) × (ofRank (senders o) k ≡ some q) × (candidate pl s o q ≡ true))
-  -- 'a flag up in EXECUTE or on a queue whose head is picked'; an out-queue has none
+  -- 'a flag up in EXECUTE or on a queue whose head is picked'; a queue that no wire feeds has none
   pub flags-down : s .clock .phase ≡ Execute → (q : Queue) → Exists pl q → s .flow .flag q ≡ false
   pub picked-down : (o : Output) (k : ℕ) (q : Queue) → Drives pl o → s .links .choice o ≡ sender k
       → ofRank (senders o) k ≡ some q → s .flow .flag q ≡ false
-  pub out-flags : (q : Queue) → Exists pl q → isFed q ≡ false → s .flow .flag q ≡ false
+  pub out-flags : (q : Queue) → Exists pl q → fed pl q ≡ false → s .flow .flag q ≡ false
   -- 'a handled mark on an empty Q'; no other queue has marks
   pub marks : (q : Queue) → Exists pl q → s .lines .handled q ≡ true → (r : ℕ) × (q ≡ Q r) × (s .lines .queue q ≢ [])
   -- 'a side with no free entry'
   pub free-entry : (r o : ℕ) → r < R pl → o < 4 → (t : ℕ) × (t < S pl) × (s .table r o t ≡ Free)
-  -- 'credit + queued + wire + raised flag ≠ capacity of a queue fed by a wire'; an out-queue's credit is not used
-  pub credits : (q : Queue) → Exists pl q → isFed q ≡ true
+  -- 'credit + queued + wire + raised flag ≠ capacity of a queue fed by a wire'; the credit of a queue that no wire feeds
+  -- is not used: it is as Start left it
+  pub credits : (q : Queue) → Exists pl q → fed pl q ≡ true
       → s .flow .credit q .0 + length (s .lines .queue q) + onWires pl q s + bit (s .flow .flag q) ≡ capacity (pl .head) q
-  pub out-credits : (q : Queue) → Exists pl q → isFed q ≡ false → s .flow .credit q .0 ≡ capacity (pl .head) q
+  pub out-credits : (q : Queue) → Exists pl q → fed pl q ≡ false → s .flow .credit q .0 ≡ capacity (pl .head) q
   -- 'an active's allowance + its SETUPs, ACKs and NACKs ≠ its start allowance'
   pub allowances : (a : ℕ) → a < A pl → s .flow .allowance a + total pl (spends a) s ≡ startAllowance pl
 

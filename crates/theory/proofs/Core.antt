@@ -22,7 +22,7 @@ use Rattle.machine.specs.Outputs.{senders}
 use Rattle.machine.specs.State.{State, Choice, nobody, sender, startAllowance}
 use Rattle.machine.specs.Execute.{candidate}
 use Rattle.machine.specs.Write.{ofRank}
-use Rattle.machine.specs.Valid.{Lined, Drives, Carries, bit, onWires, total, spends, isFed, Valid, Bounded}
+use Rattle.machine.specs.Valid.{Lined, Drives, Carries, bit, onWires, total, spends, fed, Valid, Bounded}
 use Rattle.machine.specs.Progress.{HasWire}
 use Rattle.theory.specs.Invariant.{account, Core, Shape, in-read, in-execute, in-write}
 use Rattle.machine.proofs.Apart.{nobody-not, read-execute, read-write, execute-write}
@@ -89,12 +89,12 @@ valid-of pl s c t =
       allowances = c .allowances;
     }
   where
-    fed : (q : Queue) → Exists pl q → (isFed q ≡ true) ⊎ (isFed q ≡ false) → length (s .lines .queue q) ≤ capacity (pl .head) q
-    fed q h (inl f) = omega (arith, c .credits q h f)
-    fed q h (inr f) = c .out-capacities q h f
+    within : (q : Queue) → Exists pl q → (fed pl q ≡ true) ⊎ (fed pl q ≡ false) → length (s .lines .queue q) ≤ capacity (pl .head) q
+    within q h (inl f) = omega (arith, c .credits q h f)
+    within q h (inr f) = c .out-capacities q h f
 
     capacities′ : (q : Queue) → Exists pl q → length (s .lines .queue q) ≤ capacity (pl .head) q
-    capacities′ q h = fed q h (test (isFed q))
+    capacities′ q h = within q h (test (fed pl q))
 
     wires′ : Shape pl s → s .clock .phase ≢ Read → (o : Output) → Drives pl o → s .links .wire o ≡ Empty
     wires′ (in-read e n) ne = absurd (ne e)

@@ -20,7 +20,7 @@ use Rattle.machine.specs.Outputs.{senders}
 use Rattle.machine.specs.State.{State, nobody, sender, startAllowance}
 use Rattle.machine.specs.Execute.{candidate}
 use Rattle.machine.specs.Write.{ofRank}
-use Rattle.machine.specs.Valid.{Lined, Drives, Carries, bit, onWires, total, spends, isFed, Bounded}
+use Rattle.machine.specs.Valid.{Lined, Drives, Carries, bit, onWires, total, spends, fed, Bounded}
 
 -- ---- the core's parts
 abbrev pub SlotIn : Plan → State → Type 0
@@ -29,8 +29,9 @@ SlotIn pl s = s .clock .slot .0 < S pl
 abbrev pub EntriesIn : Plan → State → Type 0
 EntriesIn pl s = (r o t i : ℕ) → r < R pl → o < 4 → t < S pl → s .table r o t ≡ Booked i → i < 4
 
+-- room, flags and credits of the queues that no wire feeds: out-queues, and U and K of a side that is not joined
 abbrev pub OutCapacities : Plan → State → Type 0
-OutCapacities pl s = (q : Queue) → Exists pl q → isFed q ≡ false → length (s .lines .queue q) ≤ capacity (pl .head) q
+OutCapacities pl s = (q : Queue) → Exists pl q → fed pl q ≡ false → length (s .lines .queue q) ≤ capacity (pl .head) q
 
 abbrev pub Places : Plan → State → Type 0
 Places pl s = (q : Queue) → Exists pl q → Lined pl q (s .lines .handled q) (s .lines .queue q)
@@ -39,7 +40,7 @@ abbrev pub Wires : Plan → State → Type 0
 Wires pl s = (o : Output) → Drives pl o → (x : Packet) → s .links .wire o ≡ Full x → Carries pl o x
 
 abbrev pub OutFlags : Plan → State → Type 0
-OutFlags pl s = (q : Queue) → Exists pl q → isFed q ≡ false → s .flow .flag q ≡ false
+OutFlags pl s = (q : Queue) → Exists pl q → fed pl q ≡ false → s .flow .flag q ≡ false
 
 abbrev pub Marks : Plan → State → Type 0
 Marks pl s = (q : Queue) → Exists pl q → s .lines .handled q ≡ true → (r : ℕ) × (q ≡ Q r) × (s .lines .queue q ≢ [])
@@ -52,10 +53,10 @@ unfoldable pub account : Plan → Queue → State → ℕ
 account pl q s = s .flow .credit q .0 + length (s .lines .queue q) + onWires pl q s + bit (s .flow .flag q)
 
 abbrev pub Credits : Plan → State → Type 0
-Credits pl s = (q : Queue) → Exists pl q → isFed q ≡ true → account pl q s ≡ capacity (pl .head) q
+Credits pl s = (q : Queue) → Exists pl q → fed pl q ≡ true → account pl q s ≡ capacity (pl .head) q
 
 abbrev pub OutCredits : Plan → State → Type 0
-OutCredits pl s = (q : Queue) → Exists pl q → isFed q ≡ false → s .flow .credit q .0 ≡ capacity (pl .head) q
+OutCredits pl s = (q : Queue) → Exists pl q → fed pl q ≡ false → s .flow .credit q .0 ≡ capacity (pl .head) q
 
 abbrev pub Allowances : Plan → State → Type 0
 Allowances pl s = (a : ℕ) → a < A pl → s .flow .allowance a + total pl (spends a) s ≡ startAllowance pl

@@ -22,7 +22,7 @@ use Rattle.plan.specs.Rules.{portsOf, home}
 use Rattle.paths.specs.Walk.{onward, arrives, walkSize}
 use Rattle.paths.specs.Served.{backsArrive, servedFrom}
 use Rattle.paths.specs.Steps.{indexIn, indexOn}
-use Rattle.feeding.specs.Queue.{activeOut, U, Q, queues, queueAt}
+use Rattle.feeding.specs.Queue.{Queue, activeOut, U, Q, K, queues, queueAt}
 use Rattle.feeding.specs.Feeds.{ofActive}
 use Rattle.machine.specs.Outputs.{outputAt}
 use Rattle.machine.specs.State.{State, sender, blank, start, withPhase, withSlot, withQueue, withWire, withCredit, withFlag, withHandled, withChoice, withEntry, withAllowance, join}
@@ -114,3 +114,24 @@ pub t-spoilt : countValid (
     ) ≡ 0
 unfolding countValid
 t-spoilt = refl
+
+-- ---- 'a queue fed by a wire': of T's router sides 0 and 1 are joined, sides 2 and 3 are not
+-- a packet has left the queue, and no Read came since
+abbrev flagged : Queue → State → State
+flagged q s = withFlag q true (withCredit q (record { 0 = 0 }) s)
+
+pub t-fed : countValid (flagged (U 0 1) ∷ flagged (K 0 1 0) ∷ []) ≡ 2
+unfolding countValid
+t-fed = refl
+
+pub t-unfed : countValid (
+    flagged (U 0 2)
+    ∷ flagged (K 0 3 0)
+    ∷ (λ s. withFlag (U 0 2) true s)
+    ∷ (λ s. withFlag (K 0 3 0) true s)
+    ∷ (λ s. withCredit (U 0 2) (record { 0 = 0 }) s)
+    ∷ (λ s. withCredit (K 0 3 0) (record { 0 = 0 }) s)
+    ∷ []
+    ) ≡ 0
+unfolding countValid
+t-unfed = refl

@@ -31,7 +31,7 @@ use Rattle.machine.specs.Execute.{candidate}
 use Rattle.machine.specs.Write.{ofRank}
 use Rattle.machine.specs.Visits.{isEmpty}
 use Rattle.machine.specs.Calls.{isPhase}
-use Rattle.machine.specs.Valid.{bit, onWires, total, spends, isFed}
+use Rattle.machine.specs.Valid.{bit, onWires, total, spends, fed}
 
 -- every one of a list passes
 abbrev pub allIn : {X : Type 0} → (X → Bool) → List X → Bool
@@ -189,7 +189,7 @@ wiresEmptyTest pl s = isPhase (s .clock .phase) Read || everyOutput pl (λ o. no
 unfoldable pub choicesTest : Plan → State → Bool
 choicesTest pl s = everyOutput pl (λ o. choiceTest pl s o (s .links .choice o))
 
--- 'a flag up in EXECUTE or on a queue whose head is picked'; an out-queue has none
+-- 'a flag up in EXECUTE or on a queue whose head is picked'; a queue that no wire feeds has none
 unfoldable pub flagsDownTest : Plan → State → Bool
 flagsDownTest pl s = not (isPhase (s .clock .phase) Execute) || everyQueue pl (λ q. not (s .flow .flag q))
 
@@ -197,7 +197,7 @@ unfoldable pub pickedDownTest : Plan → State → Bool
 pickedDownTest pl s = everyOutput pl (λ o. pickedTest s o (s .links .choice o))
 
 unfoldable pub outFlagsTest : Plan → State → Bool
-outFlagsTest pl s = everyQueue pl (λ q. isFed q || not (s .flow .flag q))
+outFlagsTest pl s = everyQueue pl (λ q. fed pl q || not (s .flow .flag q))
 
 -- 'a handled mark on an empty Q'
 unfoldable pub marksTest : Plan → State → Bool
@@ -207,14 +207,14 @@ marksTest pl s = everyQueue pl (λ q. not (s .lines .handled q) || also (isUnit 
 unfoldable pub freeEntryTest : Plan → State → Bool
 freeEntryTest pl s = allBelow (R pl) (λ r. allBelow 4 (λ o. anyBelow (S pl) (λ t. isFree (s .table r o t))))
 
--- 'credit + queued + wire + raised flag ≠ capacity of a queue fed by a wire'; an out-queue's credit is not used
+-- 'credit + queued + wire + raised flag ≠ capacity of a queue fed by a wire'; any other queue's credit is as Start left it
 unfoldable pub creditsTest : Plan → State → Bool
 creditsTest pl s =
     everyQueue pl
-    (λ q. not (isFed q) || eqb (s .flow .credit q .0 + length (s .lines .queue q) + onWires pl q s + bit (s .flow .flag q)) (capacity (pl .head) q))
+    (λ q. not (fed pl q) || eqb (s .flow .credit q .0 + length (s .lines .queue q) + onWires pl q s + bit (s .flow .flag q)) (capacity (pl .head) q))
 
 unfoldable pub outCreditsTest : Plan → State → Bool
-outCreditsTest pl s = everyQueue pl (λ q. isFed q || eqb (s .flow .credit q .0) (capacity (pl .head) q))
+outCreditsTest pl s = everyQueue pl (λ q. fed pl q || eqb (s .flow .credit q .0) (capacity (pl .head) q))
 
 -- 'an active's allowance + its SETUPs, ACKs and NACKs ≠ its start allowance'
 unfoldable pub allowancesTest : Plan → State → Bool

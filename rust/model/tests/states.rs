@@ -150,6 +150,33 @@ fn sums() {
     refused(3, "allowance", |_, state| state.allowances[0] = 1);
 }
 
+/// Of T's router sides 0 and 1 are joined: a raised flag stands for a credit in U and K of these. No
+/// wire enters sides 2 and 3, so their U and K have neither flag nor credit, as Start left them.
+#[test]
+fn queues_that_no_wire_feeds() {
+    let flagged = |network: &Network, state: &mut State, queue, credit| {
+        let at = network.queue_index(queue);
+        (state.flags[at], state.credits[at]) = (true, Credit(credit));
+    };
+    for (from, to) in [(0, 1), (1, 0), (0, 2), (1, 3)] {
+        for queue in [Queue::U { router: 0, from }, Queue::K { router: 0, from, to }] {
+            let (network, mut state) = t_after(0);
+            flagged(&network, &mut state, queue, 0);
+            assert_eq!(network.fault(&state), None);
+            refused(0, "capacity", |network, state| flagged(network, state, queue, 1));
+        }
+    }
+    for (from, to) in [(2, 0), (2, 3), (3, 1), (3, 2)] {
+        for queue in [Queue::U { router: 0, from }, Queue::K { router: 0, from, to }] {
+            refused(0, "no state", |network, state| flagged(network, state, queue, 0));
+            refused(0, "no state", |network, state| flagged(network, state, queue, 1));
+            refused(0, "no state", |network, state| {
+                state.credits[network.queue_index(queue)] = Credit(1);
+            });
+        }
+    }
+}
+
 #[test]
 fn a_candidate_may_stand_without_a_choice() {
     let (network, mut state) = t_after(2);

@@ -31,7 +31,7 @@ module _ {pl : Plan} (s : State) (c : Core pl s) where
       → s .flow .flag (passiveIn p) ≡ false → hasRoom pl (passiveOut p) s ≡ true → Paid pl (replied p k (x ∷ rest) s)
   replied-paid p k x rest e down room =
       let same : put sameQueue (s .lines .queue) (passiveIn p) rest (passiveOut p) ≡ s .lines .queue (passiveOut p)
-      = queue-away (s .lines .queue) (passiveIn p) rest (passiveOut p) (fed-apart (passiveOut p) (passiveIn p) refl refl) in
+      = queue-away (s .lines .queue) (passiveIn p) rest (passiveOut p) (fed-apart pl (passiveOut p) (passiveIn p) refl refl) in
       let l = ltb-true (length (s .lines .queue (passiveOut p))) (capacity (pl .head) (passiveOut p)) room in
       join-paid (withFlag (passiveIn p) true (withQueue (passiveIn p) rest s))
       (left-paid s (paid-of c) (passiveIn p) x rest refl e down) (passiveOut p) (repliedAs k x) refl (rw same l)

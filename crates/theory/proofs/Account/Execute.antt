@@ -44,7 +44,7 @@ module _ {pl : Plan} (s : State) (c : Core pl s) where
       → Paid pl (join (activeOut a) z (withQueue (activeIn a) (y ∷ rest) s))
   answered-paid a x y z rest e room =
       let same : put sameQueue (s .lines .queue) (activeIn a) (y ∷ rest) (activeOut a) ≡ s .lines .queue (activeOut a) =
-      queue-away (s .lines .queue) (activeIn a) (y ∷ rest) (activeOut a) (fed-apart (activeOut a) (activeIn a) refl refl) in
+      queue-away (s .lines .queue) (activeIn a) (y ∷ rest) (activeOut a) (fed-apart pl (activeOut a) (activeIn a) refl refl) in
       let l = ltb-true (length (s .lines .queue (activeOut a))) (capacity (pl .head) (activeOut a)) room in
       join-paid (withQueue (activeIn a) (y ∷ rest) s) (head-paid s (paid-of c) (activeIn a) x y rest refl e) (activeOut a) z refl (rw same l)
 

@@ -1,4 +1,5 @@
--- The credits' part of the core, and how it is shown of a step: the account of each fed queue stays, and no out-queue's credit or flag changes.
+-- The credits' part of the core, and how it is shown of a step: the account of each queue that a wire feeds stays, and
+-- no other queue's credit or flag changes.
 use mathlib.Core.Path.{_≡_, refl, sym, ap, _∙_}
 use mathlib.Core.Logic.{_⊎_, inl, inr, _≢_}
 use mathlib.Core.Bool.{true, false}
@@ -13,19 +14,18 @@ use Rattle.packets.specs.declared.Packet.{Packet}
 use Rattle.packets.specs.declared.Wire.the-variants.{Empty}
 use Rattle.packets.specs.declared.Phase.{Phase}
 use Rattle.plan.specs.Plan.{Plan}
-use Rattle.feeding.specs.Queue.{Queue, activeOut, activeIn, passiveIn, passiveOut, U, Q, F, K, Exists}
+use Rattle.feeding.specs.Queue.{Queue, Exists}
 use Rattle.feeding.specs.Feeds.{Output, headingOf}
 use Rattle.wiring.specs.Wired.{Wired}
-use Rattle.journeys.proofs.Places.{some-not-none}
 use Rattle.machine.specs.Capacity.{capacity}
 use Rattle.machine.specs.Store.{put, sameQueue}
 use Rattle.machine.specs.Outputs.{nextBy, outputs, outputAt}
 use Rattle.machine.specs.State.{State, blank, start, withPhase, withSlot, withQueue, withFlag, join}
-use Rattle.machine.specs.Valid.{Drives, bit, brings, onWires, isFed}
+use Rattle.machine.specs.Valid.{Drives, bit, brings, onWires, fed}
 use Rattle.theory.proofs.Ground.Sums.{sum-nought}
 use Rattle.theory.proofs.Ground.Cells.{queue-here, queue-away, queue-or, cell-sum, fed-apart}
 use Rattle.theory.specs.Invariant.{OutCapacities, OutFlags, OutCredits, Credits, account, Core}
-use Rattle.theory.proofs.Places.Feeders.{feeder, fed-by}
+use Rattle.theory.proofs.Places.Feeders.{fed-by, feeder-fed}
 
 -- the four parts of the core that speak of credits, room and flags
 pub record Paid (pl : Plan) (s : State) : Type 0 where
@@ -40,14 +40,14 @@ paid-of c = record { credits = c .credits; out-credits = c .out-credits; out-cap
 
 -- a fed queue's account stays over a step
 abbrev pub Kept : Plan → State → State → Type 0
-Kept pl s t = (q : Queue) → isFed q ≡ true → account pl q t ≡ account pl q s
+Kept pl s t = (q : Queue) → fed pl q ≡ true → account pl q t ≡ account pl q s
 
--- an out-queue's credit and flag stay over a step
-abbrev pub Spared : State → State → Type 0
-Spared s t = (q : Queue) → isFed q ≡ false → (t .flow .credit q ≡ s .flow .credit q) × (t .flow .flag q ≡ s .flow .flag q)
+-- the credit and flag of a queue that no wire feeds stay over a step
+abbrev pub Spared : Plan → State → State → Type 0
+Spared pl s t = (q : Queue) → fed pl q ≡ false → (t .flow .credit q ≡ s .flow .credit q) × (t .flow .flag q ≡ s .flow .flag q)
 
--- so the step keeps the four parts, if no out-queue is over capacity after it
-pub paid-by : {pl : Plan} (s t : State) → Paid pl s → Kept pl s t → Spared s t → OutCapacities pl t → Paid pl t
+-- so the step keeps the four parts, if no queue that no wire feeds is over capacity after it
+pub paid-by : {pl : Plan} (s t : State) → Paid pl s → Kept pl s t → Spared pl s t → OutCapacities pl t → Paid pl t
 paid-by s t c k p r =
     record {
       credits = λ q h f. k q f ∙ c .credits q h f;
@@ -61,26 +61,15 @@ pub paid-alike : {pl : Plan} (s t : State) → t .lines .queue ≡ s .lines .que
 unfolding account onWires
 paid-alike s t q c f w p = paid-by s t p (λ x h. rw (q, c, f, w)) (λ x h. rw (c, f) (refl, refl)) (λ x h g. rw q (p .out-capacities x h g))
 
--- ---- the next queue of a packet on a wire is fed
-feeder-fed : (pl : Plan) (q : Queue) (o : Output) → feeder pl q ≡ some o → isFed q ≡ true
-feeder-fed pl (activeOut x) o e = absurd (some-not-none e)
-feeder-fed pl (passiveOut x) o e = absurd (some-not-none e)
-feeder-fed pl (activeIn x) o e = refl
-feeder-fed pl (passiveIn x) o e = refl
-feeder-fed pl (U r i) o e = refl
-feeder-fed pl (Q r) o e = refl
-feeder-fed pl (F r k) o e = refl
-feeder-fed pl (K r i k) o e = refl
-
 -- the queue that an output brings a packet to is fed
-pub next-fed : {pl : Plan} → Wired pl → (o : Output) (x : Packet) (n : Queue) → Drives pl o → nextBy pl o x ≡ some n → isFed n ≡ true
+pub next-fed : {pl : Plan} → Wired pl → (o : Output) (x : Packet) (n : Queue) → Drives pl o → nextBy pl o x ≡ some n → fed pl n ≡ true
 next-fed {pl} wired o x n d e = feeder-fed pl n o (fed-by wired (headingOf (x .kind)) (x .active) (x .passive) o d n e)
 
 -- ---- one queue is changed
 module _ {pl : Plan} (s : State) (c : Paid pl s) where
-  -- an out-queue that is changed stays within its capacity
-  pub out-put : (k : Queue) (xs : List Packet) → (isFed k ≡ false → length xs ≤ capacity (pl .head) k)
-      → (q : Queue) → Exists pl q → isFed q ≡ false → length (put sameQueue (s .lines .queue) k xs q) ≤ capacity (pl .head) q
+  -- a queue that no wire feeds stays within its capacity where it is changed so
+  pub out-put : (k : Queue) (xs : List Packet) → (fed pl k ≡ false → length xs ≤ capacity (pl .head) k)
+      → (q : Queue) → Exists pl q → fed pl q ≡ false → length (put sameQueue (s .lines .queue) k xs q) ≤ capacity (pl .head) q
   out-put k xs l q h f = by (queue-or q k)
     where
       by : (q ≡ k) ⊎ (q ≢ k) → length (put sameQueue (s .lines .queue) k xs q) ≤ capacity (pl .head) q
@@ -88,17 +77,17 @@ module _ {pl : Plan} (s : State) (c : Paid pl s) where
       by (inr ne) = rw (queue-away (s .lines .queue) k xs q ne) (c .out-capacities q h f)
 
   -- the head of a fed queue becomes another packet
-  pub head-paid : (k : Queue) (x y : Packet) (rest : List Packet) → isFed k ≡ true → s .lines .queue k ≡ x ∷ rest → Paid pl (withQueue k (y ∷ rest) s)
+  pub head-paid : (k : Queue) (x y : Packet) (rest : List Packet) → fed pl k ≡ true → s .lines .queue k ≡ x ∷ rest → Paid pl (withQueue k (y ∷ rest) s)
   unfolding account onWires
-  head-paid k x y rest fed e = paid-by s (withQueue k (y ∷ rest) s) c kept (λ q f. (refl, refl)) (out-put k (y ∷ rest) (λ f. absurd (not-both fed f)))
+  head-paid k x y rest wire e = paid-by s (withQueue k (y ∷ rest) s) c kept (λ q f. (refl, refl)) (out-put k (y ∷ rest) (λ f. absurd (not-both wire f)))
     where
       kept : Kept pl s (withQueue k (y ∷ rest) s)
       kept q f = let queue = cell-sum length (s .lines .queue) k (y ∷ rest) 0 0 (rw e (omega arith)) q in omega arith
 
   -- a fed queue's head leaves and its flag rises
-  pub left-paid : (k : Queue) (x : Packet) (rest : List Packet) → isFed k ≡ true → s .lines .queue k ≡ x ∷ rest → s .flow .flag k ≡ false → Paid pl (withFlag k true (withQueue k rest s))
+  pub left-paid : (k : Queue) (x : Packet) (rest : List Packet) → fed pl k ≡ true → s .lines .queue k ≡ x ∷ rest → s .flow .flag k ≡ false → Paid pl (withFlag k true (withQueue k rest s))
   unfolding account onWires
-  left-paid k x rest fed e down = paid-by s (withFlag k true (withQueue k rest s)) c kept spared (out-put k rest (λ f. absurd (not-both fed f)))
+  left-paid k x rest wire e down = paid-by s (withFlag k true (withQueue k rest s)) c kept spared (out-put k rest (λ f. absurd (not-both wire f)))
     where
       kept : Kept pl s (withFlag k true (withQueue k rest s))
       kept q f =
@@ -106,19 +95,19 @@ module _ {pl : Plan} (s : State) (c : Paid pl s) where
           let flag = cell-sum bit (s .flow .flag) k true 1 0 (rw down (omega arith)) q in
           omega arith
 
-      spared : Spared s (withFlag k true (withQueue k rest s))
-      spared q f = (refl, queue-away (s .flow .flag) k true q (fed-apart q k f fed))
+      spared : Spared pl s (withFlag k true (withQueue k rest s))
+      spared q f = (refl, queue-away (s .flow .flag) k true q (fed-apart pl q k f wire))
 
-  -- an out-queue is changed within its capacity
-  pub out-paid : (k : Queue) (xs : List Packet) → isFed k ≡ false → length xs ≤ capacity (pl .head) k → Paid pl (withQueue k xs s)
+  -- a queue that no wire feeds is changed within its capacity
+  pub out-paid : (k : Queue) (xs : List Packet) → fed pl k ≡ false → length xs ≤ capacity (pl .head) k → Paid pl (withQueue k xs s)
   unfolding account onWires
   out-paid k xs out l = paid-by s (withQueue k xs s) c kept (λ q f. (refl, refl)) (out-put k xs (λ f. l))
     where
       kept : Kept pl s (withQueue k xs s)
-      kept q f = let same = ap length (queue-away (s .lines .queue) k xs q (λ e. fed-apart k q out f (sym e))) in omega arith
+      kept q f = let same = ap length (queue-away (s .lines .queue) k xs q (λ e. fed-apart pl k q out f (sym e))) in omega arith
 
-  -- a packet joins an out-queue with room
-  pub join-paid : (k : Queue) (x : Packet) → isFed k ≡ false → length (s .lines .queue k) < capacity (pl .head) k → Paid pl (join k x s)
+  -- a packet joins such a queue with room
+  pub join-paid : (k : Queue) (x : Packet) → fed pl k ≡ false → length (s .lines .queue k) < capacity (pl .head) k → Paid pl (join k x s)
   unfolding join
   join-paid k x out l =
       let more : length (s .lines .queue k ++ (x ∷ [])) ≡ length (s .lines .queue k) + 1 = length-append (s .lines .queue k) (x ∷ []) in

@@ -20,7 +20,7 @@ use Rattle.machine.specs.Store.{sameQueue}
 use Rattle.machine.specs.Outputs.{nextBy}
 use Rattle.machine.specs.State.{State, withWire, join}
 use Rattle.machine.specs.Read.{arrived, joinNext, arrive, deliver, lower, settle}
-use Rattle.machine.specs.Valid.{Drives, bit, goesTo, brings, onWires, isFed}
+use Rattle.machine.specs.Valid.{Drives, bit, goesTo, brings, onWires, fed}
 use Rattle.theory.specs.Invariant.{account, Core}
 use Rattle.theory.proofs.Ground.Cells.{queue-away, same-turn, cell-sum, fed-apart, outputs-put}
 use Rattle.theory.proofs.Account.Paid.{Paid, Kept, Spared, paid-by, paid-of, next-fed, out-put}
@@ -29,10 +29,10 @@ module _ {pl : Plan} (wired : Wired pl) where
   joined-paid : (o : Output) (x : Packet) (n : Queue) (s : State) → Drives pl o → Paid pl s → s .links .wire o ≡ Full x → nextBy pl o x ≡ some n
       → Paid pl (arrived n x (withWire o Empty s))
   unfolding join account onWires
-  joined-paid o x n s d c e g = paid-by s (arrived n x (withWire o Empty s)) c kept (λ q f. (refl, refl)) (out-put s c n (s .lines .queue n ++ (x ∷ [])) (λ f. absurd (not-both fed f)))
+  joined-paid o x n s d c e g = paid-by s (arrived n x (withWire o Empty s)) c kept (λ q f. (refl, refl)) (out-put s c n (s .lines .queue n ++ (x ∷ [])) (λ f. absurd (not-both wire-fed f)))
     where
-      fed : isFed n ≡ true
-      fed = next-fed wired o x n d g
+      wire-fed : fed pl n ≡ true
+      wire-fed = next-fed wired o x n d g
 
       kept : Kept pl s (arrived n x (withWire o Empty s))
       kept q f =
@@ -57,9 +57,9 @@ pub settle-paid : {pl : Plan} (p : Queue) (s : State) → Exists pl p → Core p
 unfolding settle lower account onWires
 settle-paid {pl} p s h c = by (s .flow .flag p) refl
   where
-    fed : s .flow .flag p ≡ true → (isFed p ≡ true) ⊎ (isFed p ≡ false) → isFed p ≡ true
-    fed e (inl f) = f
-    fed e (inr f) = absurd (not-both e (c .out-flags p h f))
+    flagged : s .flow .flag p ≡ true → (fed pl p ≡ true) ⊎ (fed pl p ≡ false) → fed pl p ≡ true
+    flagged e (inl f) = f
+    flagged e (inr f) = absurd (not-both e (c .out-flags p h f))
 
     by : (b : Bool) → s .flow .flag p ≡ b → Paid pl (lower p b s)
     by false e = paid-of c
@@ -71,7 +71,7 @@ settle-paid {pl} p s h c = by (s .flow .flag p) refl
             let flag = cell-sum bit (s .flow .flag) p false 0 1 (rw e (omega arith)) q in
             omega arith
 
-        spared : Spared s (lower p true s)
+        spared : Spared pl s (lower p true s)
         spared q f =
-            let ne = fed-apart q p f (fed e (test (isFed p))) in
+            let ne = fed-apart pl q p f (flagged e (test (fed pl p))) in
             (queue-away (s .flow .credit) p (creditUp (s .flow .credit p)) q ne, queue-away (s .flow .flag) p false q ne)

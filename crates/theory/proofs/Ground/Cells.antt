@@ -10,7 +10,7 @@ use Rattle.feeding.specs.Queue.{Queue}
 use Rattle.feeding.specs.Feeds.{Output}
 use Rattle.machine.specs.Store.{put, sameQueue, same-queue, queue-same, sameOutput, same-output, output-same, put-here, put-away}
 use Rattle.machine.specs.Outputs.{outputs, outputAt, outputNumber}
-use Rattle.machine.specs.Valid.{Drives, bit, sum, isFed}
+use Rattle.machine.specs.Valid.{Drives, bit, sum, fed}
 use Rattle.machine.proofs.OutNumbers.{output-at, output-below, at-output}
 use Rattle.theory.proofs.Ground.Sums.{sum-but}
 
@@ -46,9 +46,9 @@ same-turn x y = same-test (sameQueue x y) (sameQueue y x) (turn x y) (turn y x)
     turn : (x y : Queue) → sameQueue x y ≡ true → sameQueue y x ≡ true
     turn x y t = rw (same-queue x y t) (queue-same y)
 
--- an out-queue is no queue that a wire feeds
-pub fed-apart : (q p : Queue) → isFed q ≡ false → isFed p ≡ true → q ≢ p
-fed-apart q p f t e = let z : _≡_ {A = Bool} true false = sym t ∙ ap isFed (sym e) ∙ f in let c : _≡_ {A = ℕ} 0 1 = cc in omega arith
+-- a queue that no wire feeds is none that a wire feeds
+pub fed-apart : (pl : Plan) (q p : Queue) → fed pl q ≡ false → fed pl p ≡ true → q ≢ p
+fed-apart pl q p f t e = let z : _≡_ {A = Bool} true false = sym t ∙ ap (fed pl) (sym e) ∙ f in let c : _≡_ {A = ℕ} 0 1 = cc in omega arith
 
 -- a number of each queue, where one queue's number grew by g and lost l
 pub cell-sum : {X : Type 0} (w : X → ℕ) (m : Queue → X) (k : Queue) (a : X) (g l : ℕ) → w a + l ≡ w (m k) + g

@@ -1,21 +1,28 @@
 -- Each queue is fed by one output, and is a sender of one output: so two outputs never meet in a credit, a wire or a queue.
+-- And a queue in which a packet may be is fed by a wire, or it is an interface's out-queue.
 use mathlib.Core.Path.{_≡_, refl, sym, ap, _∙_}
 use mathlib.Core.Logic.{_⊎_, inl, inr, _≢_}
+use mathlib.Core.Bool.{true, not}
 use mathlib.Core.List.{List, [], _∷_}
 use mathlib.Core.Option.{Option, none, some}
 use Prim.Native.Nat.{ℕ, zero, suc, _<_}
 use native.Mathlib.Omega.{arith}
 use Rattle.basis.specs.Among.{In}
+use Rattle.packets.specs.declared.Packet.{Packet}
 use Rattle.plan.specs.declared.Joint.{Joint}
 use Rattle.plan.specs.declared.Joint.the-variants.{Nothing, Router, Active, Passive}
 use Rattle.plan.specs.Plan.{Plan, Port, Interface, active, passive, R, A, P, Has, jointOf}
 use Rattle.plan.specs.Rules.{home}
+use Rattle.paths.specs.Served.{Served}
 use Rattle.feeding.specs.Queue.{Queue, activeOut, activeIn, passiveIn, passiveOut, U, Q, F, K}
-use Rattle.feeding.specs.Feeds.{Heading, ahead, back, Output, ofActive, ofPassive, ofSide, toUnit, fromUnit, enters, across, beyond, outputOf}
+use Rattle.feeding.specs.Role.{isOutQueue}
+use Rattle.feeding.specs.Feeds.{Heading, ahead, back, headingOf, Output, ofActive, ofPassive, ofSide, toUnit, fromUnit, enters, across, beyond, outputOf, leavesFrom}
 use Rattle.wiring.specs.Wired.{Wired}
-use Rattle.journeys.proofs.Places.{some-same, some-not-none}
+use Rattle.journeys.specs.Visits.{Visits}
+use Rattle.journeys.proofs.Places.{some-same, some-not-none, walk-joined, returns-joined}
+use Rattle.journeys.proofs.Fitting.{fits-visits}
 use Rattle.machine.specs.Outputs.{senders}
-use Rattle.machine.specs.Valid.{Drives}
+use Rattle.machine.specs.Valid.{Belongs, Drives, isJoined, fed}
 use Rattle.machine.specs.Write.{ofRank}
 
 -- ---- the output that feeds a queue
@@ -63,6 +70,54 @@ module _ {pl : Plan} (wired : Wired pl) where
   -- so two outputs with one next queue are one
   pub one-feeder : (g h : Heading) (a p b q : ℕ) (o u : Output) → Drives pl o → Drives pl u → (y : Queue) → beyond pl g a p o ≡ some y → beyond pl h b q u ≡ some y → o ≡ u
   one-feeder g h a p b q o u d e y m n = some-same (sym (fed-by g a p o d y m) ∙ fed-by h b q u e y n)
+
+-- ---- queues that a wire feeds
+leads-joined : (j : Joint) (o : Output) → leadsIn j ≡ some o → isJoined j ≡ true
+leads-joined Nothing o e = absurd (some-not-none e)
+leads-joined (Router n t) o e = refl
+leads-joined (Active n) o e = refl
+leads-joined (Passive n) o e = refl
+
+-- a queue that an output feeds is one
+pub feeder-fed : (pl : Plan) (q : Queue) (o : Output) → feeder pl q ≡ some o → fed pl q ≡ true
+feeder-fed pl (activeOut x) o e = absurd (some-not-none e)
+feeder-fed pl (passiveOut x) o e = absurd (some-not-none e)
+feeder-fed pl (activeIn x) o e = refl
+feeder-fed pl (passiveIn x) o e = refl
+feeder-fed pl (U r i) o e = leads-joined (pl .joint r i) o e
+feeder-fed pl (Q r) o e = refl
+feeder-fed pl (F r k) o e = refl
+feeder-fed pl (K r i k) o e = leads-joined (pl .joint r i) o e
+
+joined-fed : (j : Joint) → j ≢ Nothing → isJoined j ≡ true
+joined-fed Nothing n = absurd (n refl)
+joined-fed (Router n t) ne = refl
+joined-fed (Active n) ne = refl
+joined-fed (Passive n) ne = refl
+
+module _ {pl : Plan} (wired : Wired pl) where
+  -- a queue in which a packet of a served pair may be is fed by a wire unless it is an out-queue: what is in U[i] or
+  -- K[i,o] came in by side i, which is joined
+  visits-fed : (a p : ℕ) → a < A pl → p < P pl → Served pl a p → (h : Heading) (q : Queue) → Visits pl h a p q
+      → fed pl q ≡ not (isOutQueue q)
+  unfolding Visits
+  visits-fed a p ha hp s h (activeOut x) v = refl
+  visits-fed a p ha hp s h (passiveOut x) v = refl
+  visits-fed a p ha hp s h (activeIn x) v = refl
+  visits-fed a p ha hp s h (passiveIn x) v = refl
+  visits-fed a p ha hp s ahead (U r i) v =
+      joined-fed (pl .joint r i) (walk-joined wired a p ha hp s (record { router = r; side = i }) v)
+  visits-fed a p ha hp s back (U r i) v = absurd v
+  visits-fed a p ha hp s h (Q r) v = refl
+  visits-fed a p ha hp s h (F r o) v = refl
+  visits-fed a p ha hp s ahead (K r i o) v = absurd v
+  visits-fed a p ha hp s back (K r i o) v =
+      joined-fed (pl .joint r i) (returns-joined wired a p ha hp s (record { router = r; side = i }) (v .0))
+
+  pub belongs-fed : (q : Queue) (x : Packet) → Belongs pl (leavesFrom q) x → fed pl q ≡ not (isOutQueue q)
+  belongs-fed q x b =
+      visits-fed (x .active) (x .passive) (b .ranges .active) (b .ranges .passive) (b .serves) (headingOf (x .kind)) q
+      (fits-visits pl (x .active) (x .passive) (x .kind) (x .hub .0) q (b .fits))
 
 -- ---- a queue's output
 -- the sender of a rank leaves by its output

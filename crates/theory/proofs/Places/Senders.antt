@@ -10,14 +10,13 @@ use Rattle.basis.specs.Choice.{also-true, not-both, test}
 use Rattle.packets.specs.declared.Packet.{Packet}
 use Rattle.plan.specs.Plan.{Plan}
 use Rattle.feeding.specs.Queue.{Queue}
-use Rattle.feeding.specs.Role.{Role, sending, receiving, handling, passing, role}
+use Rattle.feeding.specs.Role.{Role, sending, receiving, handling, passing, role, isOutQueueAs, isOutQueue}
 use Rattle.feeding.specs.Feeds.{Output}
 use Rattle.machine.specs.Store.{put, sameQueue}
 use Rattle.machine.specs.Outputs.{nextBy}
 use Rattle.machine.specs.State.{State, withFlag, withHandled}
 use Rattle.machine.specs.Execute.{hasCredit, mayLeave, headReady, candidate}
 use Rattle.machine.specs.Write.{raiseAs, raise}
-use Rattle.machine.specs.Valid.{isFedAs, isFed}
 use Rattle.theory.proofs.Ground.Cells.{queue-away}
 
 -- ---- what raising a flag leaves
@@ -55,33 +54,33 @@ raise-handled q s p ne = by (role q)
     by (handling r) = queue-away (s .lines .handled) q false p ne
     by passing = refl
 
--- a fed queue's flag rises, an out-queue's does not
-pub raise-flag : (q : Queue) (s : State) → isFed q ≡ true → raise q s .flow .flag ≡ put sameQueue (s .flow .flag) q true
+-- the flag of a queue that is no out-queue rises
+pub raise-flag : (q : Queue) (s : State) → isOutQueue q ≡ false → raise q s .flow .flag ≡ put sameQueue (s .flow .flag) q true
 raise-flag q s f = by (role q) f
   where
-    by : (k : Role) → isFedAs k ≡ true → raiseAs k q s .flow .flag ≡ put sameQueue (s .flow .flag) q true
-    by sending f = absurd (not-both f refl)
+    by : (k : Role) → isOutQueueAs k ≡ false → raiseAs k q s .flow .flag ≡ put sameQueue (s .flow .flag) q true
+    by sending f = absurd (not-both refl f)
     by receiving f = refl
     by (handling r) f = refl
     by passing f = refl
 
 -- an out-queue's flag stays
-pub raise-none : (q : Queue) (s : State) → isFed q ≡ false → raise q s .flow .flag ≡ s .flow .flag
+pub raise-none : (q : Queue) (s : State) → isOutQueue q ≡ true → raise q s .flow .flag ≡ s .flow .flag
 raise-none q s f = by (role q) f
   where
-    by : (k : Role) → isFedAs k ≡ false → raiseAs k q s .flow .flag ≡ s .flow .flag
+    by : (k : Role) → isOutQueueAs k ≡ true → raiseAs k q s .flow .flag ≡ s .flow .flag
     by sending f = refl
-    by receiving f = absurd (not-both refl f)
-    by (handling r) f = absurd (not-both refl f)
-    by passing f = absurd (not-both refl f)
+    by receiving f = absurd (not-both f refl)
+    by (handling r) f = absurd (not-both f refl)
+    by passing f = absurd (not-both f refl)
 
 -- another queue's flag stays
 pub raise-other : (q : Queue) (s : State) (p : Queue) → p ≢ q → raise q s .flow .flag p ≡ s .flow .flag p
-raise-other q s p ne = by (test (isFed q))
+raise-other q s p ne = by (test (isOutQueue q))
   where
-    by : (isFed q ≡ true) ⊎ (isFed q ≡ false) → raise q s .flow .flag p ≡ s .flow .flag p
-    by (inl f) = ap (λ (m : Queue → Bool). m p) (raise-flag q s f) ∙ queue-away (s .flow .flag) q true p ne
-    by (inr f) = ap (λ (m : Queue → Bool). m p) (raise-none q s f)
+    by : (isOutQueue q ≡ true) ⊎ (isOutQueue q ≡ false) → raise q s .flow .flag p ≡ s .flow .flag p
+    by (inl f) = ap (λ (m : Queue → Bool). m p) (raise-none q s f)
+    by (inr f) = ap (λ (m : Queue → Bool). m p) (raise-flag q s f) ∙ queue-away (s .flow .flag) q true p ne
 
 -- ---- senders
 -- a candidate: its head, and its next queue, which has credit

@@ -27,6 +27,7 @@ use Rattle.packets.specs.declared.Entry.the-variants.{Free, Booked}
 use Rattle.plan.specs.Head.{InRange}
 use Rattle.plan.specs.Plan.{Plan, R, A, P, S}
 use Rattle.feeding.specs.Queue.{Queue, activeOut, activeIn, passiveIn, passiveOut, U, Q, F, K, Exists}
+use Rattle.feeding.specs.Role.{isOutQueue}
 use Rattle.feeding.specs.Feeds.{Output, ofActive, ofPassive, ofSide, toUnit, fromUnit, outputOf, headingOf, next, inQueue, FeedRing}
 use Rattle.wiring.specs.Wired.{Wired}
 use Rattle.machine.specs.Capacity.{capacity}
@@ -36,7 +37,7 @@ use Rattle.machine.specs.Execute.{unit, hasCredit, mayLeave, candidate, isOpen,
 use Rattle.machine.specs.Write.{ofRank, doWrite}
 use Rattle.machine.specs.Read.{doRead}
 use Rattle.machine.specs.Calls.{Outcome, Call, turn, visit, read, execute, write, call}
-use Rattle.machine.specs.Valid.{Belongs, Drives, isFed}
+use Rattle.machine.specs.Valid.{Belongs, Drives}
 use Rattle.machine.specs.Progress.{isInQueue, Moved, isTimed, endsRound}
 use Rattle.machine.specs.Ruled.{rounds, Moves}
 use Rattle.machine.proofs.Apart.{read-execute, read-write, execute-write, turn-same, visit-not}
@@ -375,11 +376,11 @@ module _ {pl : Plan} (wired : Wired pl) (range : InRange (pl .head)) (free : Fee
 
         -- the head in p is the head in any later state
         head-in : (d : State) → Same pl p d → (q : Queue) (x : Packet) (rest : List Packet) → isInQueue q ≡ false → p .lines .queue q ≡ x ∷ rest → (more : List Packet) × (d .lines .queue q ≡ x ∷ more)
-        head-in d k q x rest ni g = by (test (isFed q))
+        head-in d k q x rest ni g = by (test (isOutQueue q))
           where
-            by : (isFed q ≡ true) ⊎ (isFed q ≡ false) → (more : List Packet) × (d .lines .queue q ≡ x ∷ more)
-            by (inl b) = (rest, k .inner q b ni ∙ g)
-            by (inr b) = let o = k .outs q b in (rest ++ o .0, o .1 ∙ ap (λ (l : List Packet). l ++ o .0) g)
+            by : (isOutQueue q ≡ true) ⊎ (isOutQueue q ≡ false) → (more : List Packet) × (d .lines .queue q ≡ x ∷ more)
+            by (inl b) = let o = k .outs q b in (rest ++ o .0, o .1 ∙ ap (λ (l : List Packet). l ++ o .0) g)
+            by (inr b) = (rest, k .inner q b ni ∙ g)
 
         -- a head that may leave: at a unit it is handled
         may-leave : (d : State) → Same pl p d → (q : Queue) (x : Packet) (rest : List Packet) → Exists pl q → p .lines .queue q ≡ x ∷ rest → mayLeave d q ≡ true

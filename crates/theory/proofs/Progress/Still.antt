@@ -19,6 +19,7 @@ use Rattle.packets.specs.declared.Entry.{Entry}
 use Rattle.packets.specs.Counters.{slotNext}
 use Rattle.plan.specs.Plan.{Plan, R, A, P, S}
 use Rattle.feeding.specs.Queue.{Queue, activeOut, activeIn, passiveIn, passiveOut, U, Q, F, K, Exists, queues, queueAt}
+use Rattle.feeding.specs.Role.{isOutQueue}
 use Rattle.feeding.specs.Feeds.{Output, ofActive, ofPassive, ofSide, toUnit, fromUnit}
 use Rattle.machine.specs.Store.{put, sameQueue, same-queue, sameOutput, same-output, output-same}
 use Rattle.machine.specs.Outputs.{nextBy, senders, outputs, outputAt}
@@ -27,7 +28,6 @@ use Rattle.machine.specs.Read.{arrive, deliver, lower, settle, doRead}
 use Rattle.machine.specs.Execute.{unit, atUnit, hasCredit, mayLeave, headReady, candidate, isOpen, firstOf, picked, choose, answer, atActive, undo, doExecute, hasRoom, unmarked}
 use Rattle.machine.specs.Write.{sendBy, send, doWrite}
 use Rattle.machine.specs.Visits.{launched, replied, removed}
-use Rattle.machine.specs.Valid.{Drives, isFed}
 use Rattle.machine.specs.Progress.{isInQueue}
 use Rattle.machine.proofs.OutNumbers.{drives-at}
 use Rattle.theory.proofs.Ground.Cells.{queue-away}
@@ -36,8 +36,8 @@ use Rattle.theory.proofs.Shape.Arbitration.{chosen, picks-alike}
 
 -- s is as p was, but for what may happen while nothing moves
 pub record Same (pl : Plan) (p s : State) : Type 0 where
-  pub inner : (q : Queue) → isFed q ≡ true → isInQueue q ≡ false → s .lines .queue q ≡ p .lines .queue q
-  pub outs : (q : Queue) → isFed q ≡ false → (more : List Packet) × (s .lines .queue q ≡ p .lines .queue q ++ more)
+  pub inner : (q : Queue) → isOutQueue q ≡ false → isInQueue q ≡ false → s .lines .queue q ≡ p .lines .queue q
+  pub outs : (q : Queue) → isOutQueue q ≡ true → (more : List Packet) × (s .lines .queue q ≡ p .lines .queue q ++ more)
   pub handled : (q : Queue) → s .lines .handled q ≡ p .lines .handled q
   pub table : (r o t : ℕ) → s .table r o t ≡ p .table r o t
   pub credit : (q : Queue) → p .flow .credit q .0 ≤ s .flow .credit q .0
@@ -53,11 +53,11 @@ same-self pl p w = record { inner = λ q f i. refl; outs = λ q f. ([], sym (nil
 -- ---- changes that keep it
 module _ (pl : Plan) (p s : State) (same : Same pl p s) where
   -- an in-queue's contents are changed
-  pub in-same : (k : Queue) (l : List Packet) → isFed k ≡ true → isInQueue k ≡ true → Same pl p (withQueue k l s)
+  pub in-same : (k : Queue) (l : List Packet) → isOutQueue k ≡ false → isInQueue k ≡ true → Same pl p (withQueue k l s)
   in-same k l f i =
       record {
         inner = λ q g j. queue-away (s .lines .queue) k l q (λ e. true≢false (sym i ∙ ap isInQueue (sym e) ∙ j)) ∙ same .inner q g j;
-        outs = λ q g. let o = same .outs q g in (o .0, queue-away (s .lines .queue) k l q (λ e. true≢false (sym f ∙ ap isFed (sym e) ∙ g)) ∙ o .1);
+        outs = λ q g. let o = same .outs q g in (o .0, queue-away (s .lines .queue) k l q (λ e. true≢false (sym g ∙ ap isOutQueue e ∙ f)) ∙ o .1);
         handled = same .handled;
         table = same .table;
         credit = same .credit;
@@ -65,11 +65,11 @@ module _ (pl : Plan) (p s : State) (same : Same pl p s) where
       }
 
   -- a packet joins an out-queue
-  pub join-same : (k : Queue) (x : Packet) → isFed k ≡ false → Same pl p (join k x s)
+  pub join-same : (k : Queue) (x : Packet) → isOutQueue k ≡ true → Same pl p (join k x s)
   unfolding join
   join-same k x f =
       record {
-        inner = λ q g j. queue-away (s .lines .queue) k (s .lines .queue k ++ (x ∷ [])) q (λ e. true≢false (sym g ∙ ap isFed e ∙ f)) ∙ same .inner q g j;
+        inner = λ q g j. queue-away (s .lines .queue) k (s .lines .queue k ++ (x ∷ [])) q (λ e. true≢false (sym f ∙ ap isOutQueue (sym e) ∙ g)) ∙ same .inner q g j;
         outs = outs′;
         handled = same .handled;
         table = same .table;
@@ -77,7 +77,7 @@ module _ (pl : Plan) (p s : State) (same : Same pl p s) where
         wires = same .wires;
       }
     where
-      outs′ : (q : Queue) → isFed q ≡ false → (more : List Packet) × (put sameQueue (s .lines .queue) k (s .lines .queue k ++ (x ∷ [])) q ≡ p .lines .queue q ++ more)
+      outs′ : (q : Queue) → isOutQueue q ≡ true → (more : List Packet) × (put sameQueue (s .lines .queue) k (s .lines .queue k ++ (x ∷ [])) q ≡ p .lines .queue q ++ more)
       outs′ q g = by (test (sameQueue q k)) (same .outs q g)
         where
           by : (sameQueue q k ≡ true) ⊎ (sameQueue q k ≡ false) → (more : List Packet) × (s .lines .queue q ≡ p .lines .queue q ++ more)

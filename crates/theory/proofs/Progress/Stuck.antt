@@ -4,7 +4,7 @@ use mathlib.Core.Path.{_≡_, refl, sym, ap, _∙_}
 use mathlib.Core.Logic.{_⊎_, inl, inr, _≢_}
 use mathlib.Core.Bool.{Bool, true, false, false≢true, true≢false}
 use mathlib.Core.List.{List, [], _∷_}
-use mathlib.Core.Option.{Option, some}
+use mathlib.Core.Option.{Option, none, some}
 use Prim.Native.Nat.{ℕ, _≤_, _<_}
 use native.Mathlib.Nat.{min-le-right}
 use native.Mathlib.Omega.{arith}
@@ -24,7 +24,7 @@ use Rattle.plan.specs.Rules.{home}
 use Rattle.paths.specs.Walk.{onward}
 use Rattle.paths.specs.Served.{Served}
 use Rattle.feeding.specs.Queue.{Queue, activeOut, activeIn, passiveIn, passiveOut, U, Q, F, K, Exists, number, queues, queueAt}
-use Rattle.feeding.specs.Feeds.{Heading, ahead, back, headingOf, destination, enters, across, next, span, leavesFrom, Fits, inQueue, Feeds, FeedRing, headPlace}
+use Rattle.feeding.specs.Feeds.{Heading, ahead, back, headingOf, destination, Output, outputOf, leaving, enters, across, next, span, leavesFrom, Fits, inQueue, Feeds, FeedRing, headPlace}
 use Rattle.wiring.specs.Wired.{Wired}
 use Rattle.wiring.proofs.Joints.{router-some, interface-some}
 use Rattle.journeys.proofs.Numbers.{queue-at, number-same, number-below}
@@ -34,14 +34,15 @@ use Rattle.journeys.proofs.Walks.{onward-on, onward-end}
 use Rattle.journeys.proofs.Fitting.{fits-visits}
 use Rattle.machine.specs.Capacity.{capacity}
 use Rattle.machine.specs.State.{State, startAllowance}
-use Rattle.machine.specs.Valid.{Belongs, Lined, bit, isFed, onWires, inAll, total, spends}
+use Rattle.machine.specs.Valid.{Belongs, Lined, bit, fed, onWires, inAll, total, spends}
 use Rattle.machine.specs.Outputs.{outputs, outputAt}
 use Rattle.machine.specs.Progress.{isInQueue, PassiveRoom}
 use Rattle.machine.proofs.OutNumbers.{drives-at}
 use Rattle.theory.proofs.Ground.Sums.{sum-two, sum-nought}
 use Rattle.theory.specs.Promises.{answering}
 use Rattle.theory.specs.Invariant.{Core, WiresEmpty, FlagsDown, account}
-use Rattle.theory.proofs.Places.Lines.{head-leaves, may-leave}
+use Rattle.theory.proofs.Places.Feeders.{fed-by, feeder-fed}
+use Rattle.theory.proofs.Places.Lines.{head-leaves, may-leave, output-drives}
 use Rattle.theory.proofs.Places.Closure.{fits-next, active-answer}
 use Rattle.theory.proofs.Progress.Follow.{follow}
 
@@ -82,27 +83,15 @@ module _ {pl : Plan} (wired : Wired pl) (a p : ℕ) (ha : a < A pl) (hp : p < P 
   next-some back (K r i o) (m, g) e =
       across-some pl back a p (pl .joint r o) (rw g (goes-joined pl (active a) (record { router = r; side = i }) (returns-on wired a p ha hp s (record { router = r; side = i }) m)))
 
--- a next queue is no out-queue
-enters-fed : (pl : Plan) (h : Heading) (a p : ℕ) (x : Port) → isFed (enters pl h a p x) ≡ true
-enters-fed pl ahead a p x = refl
-enters-fed pl back a p x = refl
-
-across-fed : (pl : Plan) (h : Heading) (a p : ℕ) (j : Joint) (y : Queue) → across pl h a p j ≡ some y → isFed y ≡ true
-across-fed pl h a p Nothing y q = absurd (some-not-none q)
-across-fed pl h a p (Router n t) y q = rw (← some-same q) (enters-fed pl h a p (record { router = n; side = t }))
-across-fed pl h a p (Active n) y q = rw (← some-same q)
-across-fed pl h a p (Passive n) y q = rw (← some-same q)
-
-pub next-fed : (pl : Plan) (h : Heading) (a p : ℕ) (q y : Queue) → next pl h a p q ≡ some y → isFed y ≡ true
+-- the queue that a packet goes to next is fed by a wire
+next-fed : {pl : Plan} → Wired pl → (h : Heading) (a p : ℕ) (q y : Queue) → Exists pl q → next pl h a p q ≡ some y
+    → fed pl y ≡ true
 unfolding next
-next-fed pl h a p (activeOut x) y e = rw (← some-same e) (enters-fed pl h a p (home pl (active x)))
-next-fed pl h a p (passiveOut x) y e = rw (← some-same e) (enters-fed pl h a p (home pl (passive x)))
-next-fed pl h a p (activeIn x) y e = absurd (some-not-none e)
-next-fed pl h a p (passiveIn x) y e = absurd (some-not-none e)
-next-fed pl h a p (U r i) y e = rw (← some-same e)
-next-fed pl h a p (Q r) y e = rw (← some-same e)
-next-fed pl h a p (F r o) y e = across-fed pl h a p (pl .joint r o) y e
-next-fed pl h a p (K r i o) y e = across-fed pl h a p (pl .joint r o) y e
+next-fed {pl} wired h a p q y k n = by (outputOf q) refl n
+  where
+    by : (o : Option Output) → outputOf q ≡ o → leaving pl h a p o ≡ some y → fed pl y ≡ true
+    by none e n = absurd (some-not-none n)
+    by (some o) e n = feeder-fed pl y o (fed-by wired h a p o (output-drives pl q o k e) y n)
 
 -- every capacity is at least 1
 pub capacity-some : (h : Head) → InRange h → (q : Queue) → 1 ≤ capacity h q
@@ -145,7 +134,7 @@ module _ {pl : Plan} (wired : Wired pl) (range : InRange (pl .head)) (free : Fee
   unfolding onWires
   no-wires y = sum-nought (outputs pl) _ (λ n l. rw (jam .wires (outputAt pl n) (drives-at pl n l)))
 
-  full : (y : Queue) → Exists pl y → isFed y ≡ true → s .flow .credit y .0 ≡ 0 → length (s .lines .queue y) ≡ capacity (pl .head) y
+  full : (y : Queue) → Exists pl y → fed pl y ≡ true → s .flow .credit y .0 ≡ 0 → length (s .lines .queue y) ≡ capacity (pl .head) y
   unfolding account
   full y h f c =
       let a = jam .core .credits y h f in
@@ -218,7 +207,7 @@ module _ {pl : Plan} (wired : Wired pl) (range : InRange (pl .head)) (free : Fee
           (may-next wired (x .active) (x .passive) (g .ranges .active) (g .ranges .passive) (g .serves) (headingOf (x .kind)) q y v n)
 
       there : (y : Queue) (n : next pl (headingOf (x .kind)) (x .active) (x .passive) q ≡ some y) → length (s .lines .queue y) ≡ capacity (pl .head) y
-      there y n = full y (exists y n) (next-fed pl (headingOf (x .kind)) (x .active) (x .passive) q y n) (jam .blocked q y x rest h ni e n)
+      there y n = full y (exists y n) (next-fed wired (headingOf (x .kind)) (x .active) (x .passive) q y h n) (jam .blocked q y x rest h ni e n)
 
       -- a full queue has a packet
       filled : (y : Queue) → Exists pl y → length (s .lines .queue y) ≡ capacity (pl .head) y → (z : Packet) × (more : List Packet) × (s .lines .queue y ≡ z ∷ more)

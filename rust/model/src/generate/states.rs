@@ -4,7 +4,7 @@
 use super::Random;
 use crate::feeding::Queue;
 use crate::fields::SIDES;
-use crate::machine::state::{is_fed_by_a_wire, Credit};
+use crate::machine::state::Credit;
 use crate::machine::{Hub, Kind, Network, Packet, Phase, Slot, State};
 
 /// A small change, made in place; it may leave what is no state.
@@ -83,7 +83,8 @@ fn add_to_queue(random: &mut Random, network: &Network, state: &mut State) {
     let packet = any_packet(random, network);
     let queue = any_queue(random, network);
     let at = network.queue_index(queue);
-    if spend_allowance(state, &packet) && (!is_fed_by_a_wire(queue) || spend_credit(state, at)) {
+    let unfed = !network.is_fed_by_a_wire(queue);
+    if spend_allowance(state, &packet) && (unfed || spend_credit(state, at)) {
         let place = random.below(state.queues[at].len() + 1);
         state.queues[at].insert(place, packet);
     }
@@ -109,7 +110,7 @@ fn remove_from_queue(random: &mut Random, network: &Network, state: &mut State) 
         if packet.kind != Kind::Tdown {
             state.allowances[packet.active] += 1;
         }
-        if is_fed_by_a_wire(queue) {
+        if network.is_fed_by_a_wire(queue) {
             state.credits[at].0 += 1;
         }
     }

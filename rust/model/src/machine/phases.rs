@@ -2,7 +2,7 @@
 
 use super::network::{Link, Network};
 use super::packet::{Hub, Kind, Packet, Slot};
-use super::state::{is_fed_by_a_wire, Credit, Phase, State, Table};
+use super::state::{is_out_queue, Credit, Phase, State, Table};
 use crate::feeding::Queue;
 use crate::plan::Port;
 
@@ -132,7 +132,7 @@ impl Network {
     /// Takes the picked head out of its queue; "the handled mark goes when that head leaves".
     fn send(&self, state: &mut State, sender: Queue) -> Packet {
         let at = self.queue_index(sender);
-        state.flags[at] = is_fed_by_a_wire(sender);
+        state.flags[at] = !is_out_queue(sender);
         if let Queue::Q { router } = sender {
             state.handled[router] = false;
         }

@@ -5,7 +5,8 @@ use std::collections::VecDeque;
 use super::network::{Link, Network};
 use super::packet::{Packet, Slot};
 use crate::feeding::Queue;
-use crate::fields::SIDES;
+use crate::fields::{Joint, SIDES};
+use crate::plan::Port;
 
 /// "The phase is READ, EXECUTE, WRITE in turn."
 #[derive(Clone, Copy, Debug, PartialEq, Eq)]
@@ -89,19 +90,32 @@ impl Table {
     }
 }
 
-/// Whether a wire leads into this queue: it has credit and a flag. (Out-queues have neither.)
-pub fn is_fed_by_a_wire(queue: Queue) -> bool {
-    !matches!(queue, Queue::ActiveOut(_) | Queue::PassiveOut(_))
+/// Whether this is an interface's out-queue.
+pub fn is_out_queue(queue: Queue) -> bool {
+    matches!(queue, Queue::ActiveOut(_) | Queue::PassiveOut(_))
 }
 
 impl Network {
+    /// Whether a wire leads into this queue: it has credit and a flag. "A wire enters each joined
+    /// side and each interface from its neighbour; one leads from router to unit, one back." What
+    /// enters by side i goes to U[i] or a K[i,o], what enters an interface to its in-queue, what
+    /// goes to the unit to Q, and back to an F[o].
+    pub fn is_fed_by_a_wire(&self, queue: Queue) -> bool {
+        match queue {
+            Queue::U { router, from: side } | Queue::K { router, from: side, .. } => {
+                self.plan().joint(Port { router, side }) != Joint::Nothing
+            }
+            _ => !is_out_queue(queue),
+        }
+    }
+
     /// "Start: READ, queues, wires and table empty, flags down, no choices, credit of each queue
     /// fed by a wire = its capacity, each active's allowance = the smaller of its two capacities."
     pub fn start(&self) -> State {
         let plan = self.plan();
         let queues = Queue::count(plan);
         let mut credits = vec![Credit(0); queues];
-        for &queue in self.queues().iter().filter(|&&queue| is_fed_by_a_wire(queue)) {
+        for &queue in self.queues().iter().filter(|&&queue| self.is_fed_by_a_wire(queue)) {
             credits[self.queue_index(queue)] = Credit(self.capacity(queue));
         }
         State {

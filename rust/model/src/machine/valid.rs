@@ -3,7 +3,7 @@
 use super::network::Network;
 use super::packet::{Kind, Packet};
 use super::places::Place;
-use super::state::{is_fed_by_a_wire, Phase, State};
+use super::state::{Phase, State};
 use crate::feeding::Queue;
 use crate::fields::SIDES;
 
@@ -57,7 +57,8 @@ impl Network {
     }
 }
 
-/// Every part has the plan's size; what belongs to no queue, or to one without wire, is empty.
+/// Every part has the plan's size; what belongs to no queue is empty, and a queue that no wire feeds
+/// has neither credit nor flag.
 fn has_form(network: &Network, state: &State) -> bool {
     let plan = network.plan();
     let (queues, links) = (Queue::count(plan), network.links().len());
@@ -80,10 +81,10 @@ fn unused_is_empty(network: &Network, state: &State) -> bool {
         let at = network.queue_index(queue);
         state.credits[at].0 == 0 && !state.flags[at]
     };
-    let outs = network.queues().iter().filter(|&&queue| !is_fed_by_a_wire(queue));
+    let unfed = network.queues().iter().filter(|&&queue| !network.is_fed_by_a_wire(queue));
     let sides = |router| (0..SIDES).map(move |side| Queue::K { router, from: side, to: side });
     let mut never = (0..network.plan().routers()).flat_map(sides);
-    outs.copied().all(blank)
+    unfed.copied().all(blank)
         && never.all(|queue| blank(queue) && network.queue(state, queue).is_empty())
 }
 
@@ -150,7 +151,7 @@ fn credits_add_up(network: &Network, state: &State) -> bool {
             bound[network.queue_index(queue)] += 1;
         }
     }
-    let mut fed = network.queues().iter().filter(|&&queue| is_fed_by_a_wire(queue));
+    let mut fed = network.queues().iter().filter(|&&queue| network.is_fed_by_a_wire(queue));
     fed.all(|&queue| {
         let at = network.queue_index(queue);
         let taken = state.queues[at].len() + bound[at] + usize::from(state.flags[at]);

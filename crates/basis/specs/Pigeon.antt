@@ -70,8 +70,10 @@ pigeon (suc n) f h = by (λ g k. pigeon n g k) (find (suc n) (λ i. eqb (f i) (f
                 o2 : f (t .second) ≢ y
                 o2 = other (t .second) (omega arith)
 
-                pair : ((f (t .first) ≡ n) × (rename n y (f (t .first)) ≡ y)) ⊎ ((f (t .first) ≢ n) × (rename n y (f (t .first)) ≡ f (t .first)))
-                    → ((f (t .second) ≡ n) × (rename n y (f (t .second)) ≡ y)) ⊎ ((f (t .second) ≢ n) × (rename n y (f (t .second)) ≡ f (t .second)))
+                pair : ((f (t .first) ≡ n) × (rename n y (f (t .first)) ≡ y))
+                    ⊎ ((f (t .first) ≢ n) × (rename n y (f (t .first)) ≡ f (t .first)))
+                    → ((f (t .second) ≡ n) × (rename n y (f (t .second)) ≡ y))
+                    ⊎ ((f (t .second) ≢ n) × (rename n y (f (t .second)) ≡ f (t .second)))
                     → f (t .first) ≡ f (t .second)
                 pair (inl a) (inl b) = omega arith
                 pair (inl a) (inr b) = omega (arith, t .same, o1, o2)

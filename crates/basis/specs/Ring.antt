@@ -122,7 +122,8 @@ module _ (n : ℕ) (feeds : ℕ → ℕ → Bool) where
           let l = r .linked j m in
           live-more k (r .node j) (l .from)
           ∙ any-of n (λ y. feeds (r .node j) y && getD (live k) y false) (r .node (suc j)) (l .to)
-          (and-eq-true-iff (feeds (r .node j) (r .node (suc j))) (getD (live k) (r .node (suc j)) false) .1 (l .step, t))
+          (and-eq-true-iff (feeds (r .node j) (r .node (suc j))) (getD (live k) (r .node (suc j)) false) .1
+          (l .step, t))
 
       go : ((j : ℕ) → j ≤ r .size → getD (live k) (r .node j) false ≡ true) → (i < r .size) ⊎ (i ≡ r .size)
           → getD (live (suc k)) (r .node i) false ≡ true
@@ -144,7 +145,8 @@ module _ (n : ℕ) (feeds : ℕ → ℕ → Bool) where
   pub test-of-ring : Ring (Leads n feeds) → ringTest ≡ true
   unfolding ringTest
   test-of-ring r =
-      any-of n (λ x. getD (live n) x false) (r .node 0) (r .linked 0 (r .some) .from) (live-in-ring r n 0 (omega arith))
+      any-of n (λ x. getD (live n) x false) (r .node 0) (r .linked 0 (r .some) .from)
+      (live-in-ring r n 0 (omega arith))
 
   -- ---- following the next: each step comes to what is wanted, or to another node that the relation leads to
   module _ (D : Type 0) (B : ℕ → Type 0)

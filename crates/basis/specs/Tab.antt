@@ -72,7 +72,8 @@ module _ {A : Type 0} where
   pub tab-ext : (n : ℕ) (f g : ℕ → A) (d : A) → ((i : ℕ) → i < n → f i ≡ g i) → tab n f ≡ tab n g
   tab-ext n f g d h =
       ext-getD d (tab n f) (tab n g) (length-tab n f ∙ sym (length-tab n g))
-      (λ i l. getD-tab n f i d (rw length-tab at l) ∙ h i (rw length-tab at l) ∙ sym (getD-tab n g i d (rw length-tab at l)))
+      (λ i l. getD-tab n f i d (rw length-tab at l) ∙ h i (rw length-tab at l)
+      ∙ sym (getD-tab n g i d (rw length-tab at l)))
 
   -- a list as a store, d past its end; and a store that is d from n on is read back from its list
   abbrev pub fromList : A → List A → ℕ → A

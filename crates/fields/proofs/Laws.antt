@@ -1,4 +1,5 @@
--- A field read from two bytes is the number that its bits make, for every place and every width up to six. Assumes nothing.
+-- A field read from two bytes is the number that its bits make, for every place and every width up to six. Assumes
+-- nothing.
 use mathlib.Core.Path.{_≡_, refl, ap, ap₂, sym, _∙_}
 use mathlib.Core.Logic.{_⊎_, inl, inr, ⊎-elim}
 use mathlib.Core.List.{List, [], _∷_}
@@ -62,7 +63,8 @@ module _ (s : List ℕ) (p : ℕ) (low : getD s (p / 8 + 1) 0 < 256) where
       ap (λ (n : ℕ). x % 2 ^ n) (sym (add-one w))
       ∙ mod-pow-add x w 1
       ∙ ap₂ (λ (y b : ℕ). y * 2 + b)
-      (ap (λ (n : ℕ). n % 2 ^ w) (shr-shr both (16 - p % 8 - suc w) 1 ∙ ap (λ (n : ℕ). both / 2 ^ n) k) ∙ field-is w (omega arith))
+      (ap (λ (n : ℕ). n % 2 ^ w) (shr-shr both (16 - p % 8 - suc w) 1 ∙ ap (λ (n : ℕ). both / 2 ^ n) k)
+      ∙ field-is w (omega arith))
       (bit-is w h)
 
 -- what the code computes with its shifts
@@ -84,7 +86,8 @@ bits-at (b ∷ s) (suc (suc (suc (suc zero)))) = refl
 bits-at (b ∷ s) (suc (suc (suc (suc (suc zero))))) = refl
 bits-at (b ∷ s) (suc (suc (suc (suc (suc (suc zero)))))) = refl
 bits-at (b ∷ s) (suc (suc (suc (suc (suc (suc (suc zero))))))) = sym (ap (λ (n : ℕ). n % 2) (div-one b))
-bits-at (b ∷ s) (suc (suc (suc (suc (suc (suc (suc (suc q)))))))) = bits-at s q ∙ ap₂ (λ (i k : ℕ). getD (b ∷ s) i 0 / 2 ^ (7 - k) % 2) next same
+bits-at (b ∷ s) (suc (suc (suc (suc (suc (suc (suc (suc q)))))))) =
+    bits-at s q ∙ ap₂ (λ (i k : ℕ). getD (b ∷ s) i 0 / 2 ^ (7 - k) % 2) next same
   where
     next : suc (q / 8) ≡ suc (suc (suc (suc (suc (suc (suc (suc q))))))) / 8
     next = omega arith

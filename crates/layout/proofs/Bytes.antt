@@ -30,7 +30,8 @@ use Rattle.layout.proofs.Numbering.{entry-named}
 use Rattle.layout.specs.Offsets.{places, entries, routerEntries, slotRoom}
 use Rattle.layout.specs.Codes.{phase-small, kind-small, flag-small, choiceCode}
 use Rattle.layout.specs.Places.{packetBytes, noPacket, placeBytes}
-use Rattle.layout.specs.Encode.{queueBytes, wireBytes, outputBytes, allowanceBytes, entryBytes, queuePart, outputPart, allowancePart, tablePart, encode}
+use Rattle.layout.specs.Encode.{queueBytes, wireBytes, outputBytes, allowanceBytes, entryBytes, queuePart}
+use Rattle.layout.specs.Encode.{outputPart, allowancePart, tablePart, encode}
 use Rattle.layout.specs.Decode.{capacity-most}
 
 -- all elements of a list are bytes
@@ -53,7 +54,8 @@ bytes-append (a ∷ x) y (h, l) k = (h, bytes-append x y l k)
 pub bytes-span : (i n : ℕ) (g : ℕ → List ℕ) → ((j : ℕ) → i ≤ j → j < i + n → Bytes (g j)) → Bytes (span i n g)
 unfolding span
 bytes-span i zero g h = record {}
-bytes-span i (suc n) g h = bytes-append (g i) (span (suc i) n g) (h i (omega arith) (omega arith)) (bytes-span (suc i) n g (λ j a b. h j (omega arith) (omega arith)))
+bytes-span i (suc n) g h = bytes-append (g i) (span (suc i) n g) (h i (omega arith) (omega arith))
+    (bytes-span (suc i) n g (λ j a b. h j (omega arith) (omega arith)))
 
 no-packet-small : Bytes noPacket
 no-packet-small = (omega arith, (omega arith, (omega arith, (omega arith, (omega arith, record {})))))
@@ -75,7 +77,10 @@ module _ (pl : Plan) (s : State) (range : InRange (pl .head)) (v : Valid pl s) (
   -- ---- packets
   packet-small : (x : Packet) → PacketOk pl x → Bytes (packetBytes x)
   packet-small x h =
-      let k = kind-small (x .kind) in let a = range .actives .1 in let p = range .passives .1 in let t = range .slots .1 in
+      let k = kind-small (x .kind) in
+      let a = range .actives .1 in
+      let p = range .passives .1 in
+      let t = range .slots .1 in
       let ha = h .active in let hp = h .passive in let ht = h .slot in let hh = h .hub in
       (omega arith, (omega arith, (omega arith, (omega arith, (omega arith, record {})))))
 
@@ -83,7 +88,8 @@ module _ (pl : Plan) (s : State) (range : InRange (pl .head)) (v : Valid pl s) (
   unfolding placeBytes
   places-small zero xs h = record {}
   places-small (suc c) [] h = bytes-append noPacket (placeBytes c []) no-packet-small (places-small c [] h)
-  places-small (suc c) (x ∷ xs) h = bytes-append (packetBytes x) (placeBytes c xs) (packet-small x (h x (inl refl))) (places-small c xs (λ y i. h y (inr i)))
+  places-small (suc c) (x ∷ xs) h = bytes-append (packetBytes x) (placeBytes c xs) (packet-small x (h x (inl refl)))
+      (places-small c xs (λ y i. h y (inr i)))
 
   lined-ok : (q : Queue) (done : Bool) (xs : List Packet) → Lined pl q done xs → (x : Packet) → In x xs → PacketOk pl x
   lined-ok q done [] h x i = absurd i
@@ -101,8 +107,14 @@ module _ (pl : Plan) (s : State) (range : InRange (pl .head)) (v : Valid pl s) (
   queue-small : (q : Queue) → Exists pl q → Bytes (queueBytes s q)
   unfolding queueBytes
   queue-small q h =
-      let c = credit-small q h in let f = flag-small (s .flow .flag q) in let g = flag-small (s .lines .handled q) in let n = v .capacities q h in let m = capacity-most (pl .head) q range in
-      (omega arith, (omega arith, (omega arith, (omega arith, places-small places (s .lines .queue q) (lined-ok q (s .lines .handled q) (s .lines .queue q) (v .places q h))))))
+      let c = credit-small q h in
+      let f = flag-small (s .flow .flag q) in
+      let g = flag-small (s .lines .handled q) in
+      let n = v .capacities q h in
+      let m = capacity-most (pl .head) q range in
+      let l =
+      places-small places (s .lines .queue q) (lined-ok q (s .lines .handled q) (s .lines .queue q) (v .places q h)) in
+      (omega arith, (omega arith, (omega arith, (omega arith, l))))
 
   wire-small : (o : Output) → Drives pl o → (w : Wire) → s .links .wire o ≡ w → Bytes (wireBytes w)
   wire-small o h Empty e = (omega arith, no-packet-small)
@@ -110,12 +122,17 @@ module _ (pl : Plan) (s : State) (range : InRange (pl .head)) (v : Valid pl s) (
 
   choice-small : (o : Output) → Drives pl o → (c : Choice) → s .links .choice o ≡ c → choiceCode c < 256
   choice-small o h nobody e = omega arith
-  choice-small o h (sender k) e = let c = v .choices o k h e .1 in let l = rank-below (senders o) k (c .0) (c .1) in let m = senders-few o in omega arith
+  choice-small o h (sender k) e =
+      let c = v .choices o k h e .1 in
+      let l = rank-below (senders o) k (c .0) (c .1) in
+      let m = senders-few o in
+      omega arith
 
   output-small : (o : Output) → Drives pl o → Bytes (outputBytes s o)
   unfolding outputBytes
   output-small o h =
-      bytes-append (wireBytes (s .links .wire o)) (choiceCode (s .links .choice o) ∷ []) (wire-small o h (s .links .wire o) refl) (choice-small o h (s .links .choice o) refl, record {})
+      bytes-append (wireBytes (s .links .wire o)) (choiceCode (s .links .choice o) ∷ [])
+      (wire-small o h (s .links .wire o) refl) (choice-small o h (s .links .choice o) refl, record {})
 
   allowance-small : (a : ℕ) → a < A pl → Bytes (allowanceBytes s a)
   allowance-small a h = let e = v .allowances a h in let m = range .aout .1 in (omega arith, record {})
@@ -147,7 +164,8 @@ module _ (pl : Plan) (s : State) (range : InRange (pl .head)) (v : Valid pl s) (
               (bytes-append (allowancePart pl s) (tablePart pl s ++ [])
               (bytes-span 0 (A pl) _ (λ n a b. allowance-small n (omega arith)))
               (bytes-append (tablePart pl s) []
-              (bytes-span 0 (entries pl) _ (λ n a b. let e = entry-named pl n (omega arith) in entry-small (n / routerEntries) (n % routerEntries / slotRoom) (n % slotRoom) (e .0) (e .1)))
+              (bytes-span 0 (entries pl) _ (λ n a b. let e = entry-named pl n (omega arith) in
+              entry-small (n / routerEntries) (n % routerEntries / slotRoom) (n % slotRoom) (e .0) (e .1)))
               (record {})))),
         ),
       )

@@ -8,5 +8,6 @@ use Rattle.layout.specs.Offsets.{routerEntries, slotRoom, entries, entry
 module _ (pl : Plan) where
   -- an entry's number gives back its router, its side and its slot, and these its number
   pub entry-named : (n : ℕ) → n < entries pl
-      → (n / routerEntries < R pl) × (n % routerEntries / slotRoom < 4) × (n % slotRoom < slotRoom) × (entryNumber (n / routerEntries) (n % routerEntries / slotRoom) (n % slotRoom) ≡ n)
+      → (n / routerEntries < R pl) × (n % routerEntries / slotRoom < 4) × (n % slotRoom < slotRoom)
+      × (entryNumber (n / routerEntries) (n % routerEntries / slotRoom) (n % slotRoom) ≡ n)
   entry-named n h = (omega arith, omega arith, omega arith, omega arith)

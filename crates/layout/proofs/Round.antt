@@ -1,4 +1,5 @@
--- The state of a state's bytes is that state: each row is read where it stands, and outside the plan's places both are blank.
+-- The state of a state's bytes is that state: each row is read where it stands, and outside the plan's places both are
+-- blank.
 use mathlib.Core.Path.{_≡_, refl, sym, ap, ap₂, _∙_, fun-ext}
 use mathlib.Core.Bool.{Bool, true, false}
 use mathlib.Core.List.{List, [], _∷_}
@@ -18,13 +19,18 @@ use Rattle.feeding.specs.Feeds.{Output}
 use Rattle.machine.specs.State.{State, blank}
 use Rattle.machine.specs.Valid.{Bounded, Drives}
 use Rattle.layout.specs.Rows.{Stands, stands-left, stands-right, stands-get, stands-byte}
-use Rattle.layout.specs.Named.{existsTest, test-exists, exists-test, drivesTest, test-drives, drives-test, entryTest, test-entry, entry-test}
-use Rattle.layout.specs.Offsets.{places, creditByte, flagByte, handledByte, lengthByte, wireByte, choiceByte, firstPlace, wirePacket, queueRow, outputRow, allowanceRow, entryRow}
-use Rattle.layout.specs.Codes.{phase-code, flagCode, flagOf, flag-code, choiceCode, choiceOf, choice-code, entryOf, entry-code}
+use Rattle.layout.specs.Named.{existsTest, test-exists, exists-test, drivesTest, test-drives, drives-test}
+use Rattle.layout.specs.Named.{entryTest, test-entry, entry-test}
+use Rattle.layout.specs.Offsets.{places, creditByte, flagByte, handledByte, lengthByte, wireByte, choiceByte}
+use Rattle.layout.specs.Offsets.{firstPlace, wirePacket, queueRow, outputRow, allowanceRow, entryRow}
+use Rattle.layout.specs.Codes.{phase-code, flagCode, flagOf, flag-code, choiceCode, choiceOf, choice-code}
+use Rattle.layout.specs.Codes.{entryOf, entry-code}
 use Rattle.layout.specs.Places.{packetBytes, placeBytes, packetAt, packet-read, packets-read}
-use Rattle.layout.specs.Encode.{queueBytes, wireBytes, outputBytes, allowanceBytes, entryBytes, encode, length-wire}
+use Rattle.layout.specs.Encode.{queueBytes, wireBytes, outputBytes, allowanceBytes, entryBytes, encode}
+use Rattle.layout.specs.Encode.{length-wire}
 use Rattle.layout.proofs.Standing.{queue-stands, output-stands, allowance-stands, entry-stands}
-use Rattle.layout.specs.Decode.{creditAt, flagAt, handledAt, lengthAt, queueIn, wireOf, wireAt, choiceAt, entryAt, decode, Small}
+use Rattle.layout.specs.Decode.{creditAt, flagAt, handledAt, lengthAt, queueIn, wireOf, wireAt, choiceAt}
+use Rattle.layout.specs.Decode.{entryAt, decode, Small}
 
 -- ---- one row is read where it stands
 module _ (s : State) (b : List ℕ) (i : ℕ) where
@@ -39,32 +45,40 @@ module _ (s : State) (b : List ℕ) (i : ℕ) where
 
   pub handled-read : (q : Queue) → Stands i (queueBytes s q) b → handledAt i b ≡ s .lines .handled q
   unfolding queueBytes
-  handled-read q t = ap flagOf (stands-get i (queueBytes s q) b t handledByte (omega arith)) ∙ flag-code (s .lines .handled q)
+  handled-read q t =
+      ap flagOf (stands-get i (queueBytes s q) b t handledByte (omega arith)) ∙ flag-code (s .lines .handled q)
 
-  pub queue-read : (q : Queue) → length (s .lines .queue q) ≤ places → Stands i (queueBytes s q) b → queueIn i b ≡ s .lines .queue q
+  pub queue-read : (q : Queue) → length (s .lines .queue q) ≤ places → Stands i (queueBytes s q) b
+      → queueIn i b ≡ s .lines .queue q
   unfolding queueBytes
   queue-read q h t =
       let n : lengthAt i b ≡ length (s .lines .queue q) = stands-get i (queueBytes s q) b t lengthByte (omega arith) in
-      let front : List ℕ = s .flow .credit q .0 ∷ flagCode (s .flow .flag q) ∷ flagCode (s .lines .handled q) ∷ length (s .lines .queue q) ∷ [] in
-      rw n (packets-read places (i + firstPlace) (s .lines .queue q) b h (stands-right i (i + firstPlace) front (placeBytes places (s .lines .queue q)) b refl t))
+      let front : List ℕ = s .flow .credit q .0 ∷ flagCode (s .flow .flag q) ∷ flagCode (s .lines .handled q)
+      ∷ length (s .lines .queue q) ∷ [] in
+      rw n (packets-read places (i + firstPlace) (s .lines .queue q) b h
+      (stands-right i (i + firstPlace) front (placeBytes places (s .lines .queue q)) b refl t))
 
   -- a wire; an output's wire and choice
   pub wire-read : (w : Wire) → Stands i (wireBytes w) b → wireAt i b ≡ w
-  wire-read Empty t = ap (λ n. wireOf (flagOf n) (packetAt (i + wirePacket) b)) (stands-get i (wireBytes Empty) b t wireByte (omega arith))
+  wire-read Empty t = ap (λ n. wireOf (flagOf n) (packetAt (i + wirePacket) b))
+      (stands-get i (wireBytes Empty) b t wireByte (omega arith))
   wire-read (Full x) t =
       ap₂ (λ n y. wireOf (flagOf n) y) (stands-get i (wireBytes (Full x)) b t wireByte (omega arith))
       (packet-read (i + wirePacket) x b (stands-right i (i + wirePacket) (1 ∷ []) (packetBytes x) b refl t))
 
   pub output-wire-read : (o : Output) → Stands i (outputBytes s o) b → wireAt i b ≡ s .links .wire o
   unfolding outputBytes
-  output-wire-read o t = wire-read (s .links .wire o) (stands-left i (wireBytes (s .links .wire o)) (choiceCode (s .links .choice o) ∷ []) b t)
+  output-wire-read o t = wire-read (s .links .wire o)
+      (stands-left i (wireBytes (s .links .wire o)) (choiceCode (s .links .choice o) ∷ []) b t)
 
   pub choice-read : (o : Output) → Stands i (outputBytes s o) b → choiceAt i b ≡ s .links .choice o
   unfolding outputBytes
   choice-read o t =
       let e : i + choiceByte ≡ i + length (wireBytes (s .links .wire o)) = rw (length-wire (s .links .wire o)) in
-      let k : Stands (i + choiceByte) (choiceCode (s .links .choice o) ∷ []) b = stands-right i (i + choiceByte) (wireBytes (s .links .wire o)) (choiceCode (s .links .choice o) ∷ []) b e t in
-      ap choiceOf (stands-byte (i + choiceByte) (choiceCode (s .links .choice o) ∷ []) b k (omega arith)) ∙ choice-code (s .links .choice o)
+      let k : Stands (i + choiceByte) (choiceCode (s .links .choice o) ∷ []) b =
+      stands-right i (i + choiceByte) (wireBytes (s .links .wire o)) (choiceCode (s .links .choice o) ∷ []) b e t in
+      ap choiceOf (stands-byte (i + choiceByte) (choiceCode (s .links .choice o) ∷ []) b k (omega arith))
+      ∙ choice-code (s .links .choice o)
 
   -- an entry
   pub entry-read : (x : Entry) → Stands i (entryBytes x) b → entryAt i b ≡ x
@@ -80,29 +94,38 @@ kept false x d v f g = sym (g refl)
 unless : {X : Type 0} (t : Bool) → t ≡ false → (X → t ≡ true) → X → ⊥
 unless t e f x = not-both (f x) e
 
-module _ (pl : Plan) (s : State) (rest : List ℕ) (range : InRange (pl .head)) (out : Bounded pl s) (small : Small pl s) where
+module _ (pl : Plan) (s : State) (rest : List ℕ) (range : InRange (pl .head)) (out : Bounded pl s)
+    (small : Small pl s) where
   -- a part of a queue's row, and of an output's
-  of-queue : {X : Type 0} (q : Queue) (x d v : X) → (Stands (queueRow pl q) (queueBytes s q) (encode pl s rest) → x ≡ v) → ((Exists pl q → ⊥) → v ≡ d) → pick (existsTest pl q) x d ≡ v
+  of-queue : {X : Type 0} (q : Queue) (x d v : X)
+      → (Stands (queueRow pl q) (queueBytes s q) (encode pl s rest) → x ≡ v) → ((Exists pl q → ⊥) → v ≡ d)
+      → pick (existsTest pl q) x d ≡ v
   of-queue q x d v f g =
-      kept (existsTest pl q) x d v (λ e. f (queue-stands pl s rest q (test-exists pl q e))) (λ e. g (unless (existsTest pl q) e (exists-test pl q)))
+      kept (existsTest pl q) x d v (λ e. f (queue-stands pl s rest q (test-exists pl q e)))
+      (λ e. g (unless (existsTest pl q) e (exists-test pl q)))
 
-  of-output : {X : Type 0} (o : Output) (x d v : X) → (Stands (outputRow pl o) (outputBytes s o) (encode pl s rest) → x ≡ v) → ((Drives pl o → ⊥) → v ≡ d) → pick (drivesTest pl o) x d ≡ v
+  of-output : {X : Type 0} (o : Output) (x d v : X)
+      → (Stands (outputRow pl o) (outputBytes s o) (encode pl s rest) → x ≡ v) → ((Drives pl o → ⊥) → v ≡ d)
+      → pick (drivesTest pl o) x d ≡ v
   of-output o x d v f g =
-      kept (drivesTest pl o) x d v (λ e. f (output-stands pl s rest o (test-drives pl o e))) (λ e. g (unless (drivesTest pl o) e (drives-test pl o)))
+      kept (drivesTest pl o) x d v (λ e. f (output-stands pl s rest o (test-drives pl o e)))
+      (λ e. g (unless (drivesTest pl o) e (drives-test pl o)))
 
   same-entry : (r o t : ℕ) → decode pl (encode pl s rest) .table r o t ≡ s .table r o t
   unfolding decode
   same-entry r o t =
       kept (entryTest pl r o t) _ (blank pl .table r o t) (s .table r o t)
       (λ e. let h = test-entry pl r o t e in let l = range .slots .1 in
-      entry-read s (encode pl s rest) (entryRow pl r o t) (s .table r o t) (entry-stands pl s rest r o t (h .0) (h .1) (omega arith)))
+      entry-read s (encode pl s rest) (entryRow pl r o t) (s .table r o t)
+      (entry-stands pl s rest r o t (h .0) (h .1) (omega arith)))
       (λ e. out .table r o t (unless (entryTest pl r o t) e (entry-test pl r o t)))
 
   same-allowance : (a : ℕ) → decode pl (encode pl s rest) .flow .allowance a ≡ s .flow .allowance a
   unfolding decode
   same-allowance a =
       kept (ltb a (A pl)) _ (blank pl .flow .allowance a) (s .flow .allowance a)
-      (λ e. stands-byte (allowanceRow pl a) (allowanceBytes s a) (encode pl s rest) (allowance-stands pl s rest a (ltb-true a (A pl) e)) (omega arith))
+      (λ e. stands-byte (allowanceRow pl a) (allowanceBytes s a) (encode pl s rest)
+      (allowance-stands pl s rest a (ltb-true a (A pl) e)) (omega arith))
       (λ e. out .allowance a (unless (ltb a (A pl)) e (lt-ltb a (A pl))))
 
   -- the state of a state's bytes is that state
@@ -112,13 +135,19 @@ module _ (pl : Plan) (s : State) (rest : List ℕ) (range : InRange (pl .head)) 
       let b : List ℕ = encode pl s rest in
       let qs : decode pl b .lines .queue ≡ s .lines .queue =
       fun-ext (λ q. kept (existsTest pl q) _ (blank pl .lines .queue q) (s .lines .queue q)
-      (λ e. let h = test-exists pl q e in queue-read s b (queueRow pl q) q (small .few q h) (queue-stands pl s rest q h))
+      (λ e. let h = test-exists pl q e in
+      queue-read s b (queueRow pl q) q (small .few q h) (queue-stands pl s rest q h))
       (λ e. out .queue q (unless (existsTest pl q) e (exists-test pl q)))) in
-      let ws : decode pl b .links .wire ≡ s .links .wire = fun-ext (λ o. of-output o _ _ (s .links .wire o) (output-wire-read s b (outputRow pl o) o) (out .wire o)) in
-      let cs : decode pl b .flow .credit ≡ s .flow .credit = fun-ext (λ q. of-queue q _ _ (s .flow .credit q) (credit-read s b (queueRow pl q) q) (out .credit q)) in
-      let fs : decode pl b .flow .flag ≡ s .flow .flag = fun-ext (λ q. of-queue q _ _ (s .flow .flag q) (flag-read s b (queueRow pl q) q) (out .flag q)) in
-      let hs : decode pl b .lines .handled ≡ s .lines .handled = fun-ext (λ q. of-queue q _ _ (s .lines .handled q) (handled-read s b (queueRow pl q) q) (out .handled q)) in
-      let ps : decode pl b .links .choice ≡ s .links .choice = fun-ext (λ o. of-output o _ _ (s .links .choice o) (choice-read s b (outputRow pl o) o) (out .choice o)) in
+      let ws : decode pl b .links .wire ≡ s .links .wire =
+      fun-ext (λ o. of-output o _ _ (s .links .wire o) (output-wire-read s b (outputRow pl o) o) (out .wire o)) in
+      let cs : decode pl b .flow .credit ≡ s .flow .credit =
+      fun-ext (λ q. of-queue q _ _ (s .flow .credit q) (credit-read s b (queueRow pl q) q) (out .credit q)) in
+      let fs : decode pl b .flow .flag ≡ s .flow .flag =
+      fun-ext (λ q. of-queue q _ _ (s .flow .flag q) (flag-read s b (queueRow pl q) q) (out .flag q)) in
+      let hs : decode pl b .lines .handled ≡ s .lines .handled =
+      fun-ext (λ q. of-queue q _ _ (s .lines .handled q) (handled-read s b (queueRow pl q) q) (out .handled q)) in
+      let ps : decode pl b .links .choice ≡ s .links .choice =
+      fun-ext (λ o. of-output o _ _ (s .links .choice o) (choice-read s b (outputRow pl o) o) (out .choice o)) in
       let ts : decode pl b .table ≡ s .table = fun-ext (λ r. fun-ext (λ o. fun-ext (λ t. same-entry r o t))) in
       let al : decode pl b .flow .allowance ≡ s .flow .allowance = fun-ext (λ a. same-allowance a) in
       let ph : decode pl b .clock .phase ≡ s .clock .phase = phase-code (s .clock .phase) in

@@ -13,42 +13,55 @@ use Rattle.machine.specs.State.{State}
 use Rattle.machine.specs.Valid.{Drives}
 use Rattle.machine.proofs.OutNumbers.{output-at, output-below}
 use Rattle.layout.specs.Rows.{Stands, stands-whole, stands-left, stands-right, stands-row}
-use Rattle.layout.specs.Offsets.{queueWidth, outputWidth, entryWidth, routerEntries, slotRoom, entryNumber, entries, queuesAt, outputsAt, allowancesAt, tableAt, queueRow, outputRow, allowanceRow, entryRow}
-use Rattle.layout.specs.Encode.{queueBytes, outputBytes, allowanceBytes, entryBytes, entryOfNumber, header, queuePart, outputPart, allowancePart, tablePart, encode, length-queue, length-output, length-queues, length-outputs, length-allowances}
+use Rattle.layout.specs.Offsets.{queueWidth, outputWidth, entryWidth, routerEntries, slotRoom, entryNumber}
+use Rattle.layout.specs.Offsets.{entries, queuesAt, outputsAt, allowancesAt, tableAt, queueRow, outputRow}
+use Rattle.layout.specs.Offsets.{allowanceRow, entryRow}
+use Rattle.layout.specs.Encode.{queueBytes, outputBytes, allowanceBytes, entryBytes, entryOfNumber, header}
+use Rattle.layout.specs.Encode.{queuePart, outputPart, allowancePart, tablePart, encode, length-queue}
+use Rattle.layout.specs.Encode.{length-output, length-queues, length-outputs, length-allowances}
 
 module _ (pl : Plan) (s : State) (rest : List ℕ) where
   abbrev bytes : List ℕ
   bytes = encode pl s rest
 
-  from-queues : Stands queuesAt (queuePart pl s ++ (outputPart pl s ++ (allowancePart pl s ++ (tablePart pl s ++ rest)))) bytes
+  from-queues : Stands queuesAt
+      (queuePart pl s ++ (outputPart pl s ++ (allowancePart pl s ++ (tablePart pl s ++ rest)))) bytes
   unfolding encode
-  from-queues = stands-right 0 queuesAt (header s) (queuePart pl s ++ (outputPart pl s ++ (allowancePart pl s ++ (tablePart pl s ++ rest)))) bytes refl (stands-whole bytes)
+  from-queues = stands-right 0 queuesAt (header s) (queuePart pl s
+      ++ (outputPart pl s ++ (allowancePart pl s ++ (tablePart pl s ++ rest)))) bytes refl (stands-whole bytes)
 
   from-outputs : Stands (outputsAt pl) (outputPart pl s ++ (allowancePart pl s ++ (tablePart pl s ++ rest))) bytes
   from-outputs =
-      stands-right queuesAt (outputsAt pl) (queuePart pl s) (outputPart pl s ++ (allowancePart pl s ++ (tablePart pl s ++ rest))) bytes (rw (length-queues pl s)) from-queues
+      stands-right queuesAt (outputsAt pl) (queuePart pl s)
+      (outputPart pl s ++ (allowancePart pl s ++ (tablePart pl s ++ rest))) bytes (rw (length-queues pl s)) from-queues
 
   from-allowances : Stands (allowancesAt pl) (allowancePart pl s ++ (tablePart pl s ++ rest)) bytes
-  from-allowances = stands-right (outputsAt pl) (allowancesAt pl) (outputPart pl s) (allowancePart pl s ++ (tablePart pl s ++ rest)) bytes (rw (length-outputs pl s)) from-outputs
+  from-allowances = stands-right (outputsAt pl) (allowancesAt pl) (outputPart pl s)
+      (allowancePart pl s ++ (tablePart pl s ++ rest)) bytes (rw (length-outputs pl s)) from-outputs
 
   from-table : Stands (tableAt pl) (tablePart pl s ++ rest) bytes
-  from-table = stands-right (allowancesAt pl) (tableAt pl) (allowancePart pl s) (tablePart pl s ++ rest) bytes (let l = length-allowances pl s in omega arith) from-allowances
+  from-table = stands-right (allowancesAt pl) (tableAt pl) (allowancePart pl s) (tablePart pl s ++ rest) bytes
+      (let l = length-allowances pl s in omega arith) from-allowances
 
   -- a queue's row stands at the queue's offset
   pub queue-stands : (q : Queue) → Exists pl q → Stands (queueRow pl q) (queueBytes s q) bytes
   unfolding queueRow
   queue-stands q h =
       subst (λ (x : Queue). Stands (queueRow pl q) (queueBytes s x) bytes) (queue-at pl q h)
-      (stands-row queueWidth (queues pl) queuesAt (λ n. queueBytes s (queueAt pl n)) bytes (λ n. length-queue s (queueAt pl n))
-      (stands-left queuesAt (queuePart pl s) (outputPart pl s ++ (allowancePart pl s ++ (tablePart pl s ++ rest))) bytes from-queues) (number pl q) (number-below pl q h))
+      (stands-row queueWidth (queues pl) queuesAt (λ n. queueBytes s (queueAt pl n)) bytes
+      (λ n. length-queue s (queueAt pl n))
+      (stands-left queuesAt (queuePart pl s) (outputPart pl s ++ (allowancePart pl s ++ (tablePart pl s ++ rest)))
+      bytes from-queues) (number pl q) (number-below pl q h))
 
   -- an output's row at the output's
   pub output-stands : (o : Output) → Drives pl o → Stands (outputRow pl o) (outputBytes s o) bytes
   unfolding outputRow
   output-stands o h =
       subst (λ (x : Output). Stands (outputRow pl o) (outputBytes s x) bytes) (output-at pl o h)
-      (stands-row outputWidth (outputs pl) (outputsAt pl) (λ n. outputBytes s (outputAt pl n)) bytes (λ n. length-output s (outputAt pl n))
-      (stands-left (outputsAt pl) (outputPart pl s) (allowancePart pl s ++ (tablePart pl s ++ rest)) bytes from-outputs) (outputNumber pl o) (output-below pl o h))
+      (stands-row outputWidth (outputs pl) (outputsAt pl) (λ n. outputBytes s (outputAt pl n)) bytes
+      (λ n. length-output s (outputAt pl n))
+      (stands-left (outputsAt pl) (outputPart pl s) (allowancePart pl s ++ (tablePart pl s ++ rest)) bytes
+      from-outputs) (outputNumber pl o) (output-below pl o h))
 
   -- an active's allowance at the active's
   pub allowance-stands : (a : ℕ) → a < A pl → Stands (allowanceRow pl a) (allowanceBytes s a) bytes
@@ -60,7 +73,8 @@ module _ (pl : Plan) (s : State) (rest : List ℕ) where
       (stands-left (allowancesAt pl) (allowancePart pl s) (tablePart pl s ++ rest) bytes from-allowances) a h)
 
   -- an entry at the entry's, also past the plan's slots
-  pub entry-stands : (r o t : ℕ) → r < R pl → o < 4 → t < slotRoom → Stands (entryRow pl r o t) (entryBytes (s .table r o t)) bytes
+  pub entry-stands : (r o t : ℕ) → r < R pl → o < 4 → t < slotRoom
+      → Stands (entryRow pl r o t) (entryBytes (s .table r o t)) bytes
   unfolding entryRow
   entry-stands r o t hr ho ht =
       let a : entryNumber r o t / routerEntries ≡ r = omega arith in

@@ -1,4 +1,5 @@
--- 'Equal states giving equal bytes', and the other way: the test is passed by the bytes that the layout gives to a state, and by no others.
+-- 'Equal states giving equal bytes', and the other way: the test is passed by the bytes that the layout gives to a
+-- state, and by no others.
 use mathlib.Core.Path.{_≡_, refl, sym, ap, ap₂, _∙_, subst⁻¹}
 use mathlib.Core.Bool.{Bool, true, false, false≢true}
 use mathlib.Core.List.{List, [], _∷_, _++_}
@@ -38,8 +39,10 @@ module _ (pl : Plan) where
   pub encode-canonical : (b : List ℕ) → canonical pl b ≡ true → b ≡ encode pl (decode pl b) (past (size pl) b)
   unfolding canonical
   encode-canonical b e =
-      let p = also-true {a = leb (size pl) (length b)} {b = sameBytes (front (size pl) b) (encode pl (decode pl b) [])} e in
-      front-past (size pl) b ∙ ap (λ x. x ++ past (size pl) b) (same-bytes (front (size pl) b) (encode pl (decode pl b) []) (p .1))
+      let p = also-true {a = leb (size pl) (length b)} {b = sameBytes (front (size pl) b) (encode pl (decode pl b) [])}
+      e in
+      front-past (size pl) b
+      ∙ ap (λ x. x ++ past (size pl) b) (same-bytes (front (size pl) b) (encode pl (decode pl b) []) (p .1))
       ∙ sym (encode-append pl (decode pl b) (past (size pl) b))
 
   -- the bytes past a state's are what was put there
@@ -51,22 +54,27 @@ module _ (pl : Plan) where
   same-encode s t rest e = ap (λ (x : State). encode pl x rest) e
 
   front-encode : (s : State) (rest : List ℕ) → front (size pl) (encode pl s rest) ≡ encode pl s []
-  front-encode s rest = rw (encode-append pl s rest) (front-append (size pl) (encode pl s []) rest (length-encode pl s))
+  front-encode s rest =
+      rw (encode-append pl s rest) (front-append (size pl) (encode pl s []) rest (length-encode pl s))
 
   long-encode : (s : State) (rest : List ℕ) → size pl ≤ length (encode pl s rest)
-  long-encode s rest = rw (encode-append pl s rest) (omega (arith, length-append (encode pl s []) rest, length-encode pl s))
+  long-encode s rest =
+      rw (encode-append pl s rest) (omega (arith, length-append (encode pl s []) rest, length-encode pl s))
 
 module _ (pl : Plan) (range : InRange (pl .head)) where
   -- a state's bytes are canonical, whatever is past them
-  pub canonical-encode : (s : State) (rest : List ℕ) → Bounded pl s → Small pl s → canonical pl (encode pl s rest) ≡ true
+  pub canonical-encode : (s : State) (rest : List ℕ) → Bounded pl s → Small pl s
+      → canonical pl (encode pl s rest) ≡ true
   unfolding canonical
   canonical-encode s rest out small =
       also-of (le-leb (size pl) (length (encode pl s rest)) (long-encode pl s rest))
       (rw (front-encode pl s rest, decode-encode pl s rest range out small) (bytes-same (encode pl s [])))
 
   -- and equal bytes come from equal states, whatever is past them
-  pub encode-same : (s t : State) (rest more : List ℕ) → Bounded pl s → Small pl s → Bounded pl t → Small pl t → encode pl s rest ≡ encode pl t more → s ≡ t
-  encode-same s t rest more os ss ot st e = sym (decode-encode pl s rest range os ss) ∙ ap (decode pl) e ∙ decode-encode pl t more range ot st
+  pub encode-same : (s t : State) (rest more : List ℕ) → Bounded pl s → Small pl s → Bounded pl t → Small pl t
+      → encode pl s rest ≡ encode pl t more → s ≡ t
+  encode-same s t rest more os ss ot st e =
+      sym (decode-encode pl s rest range os ss) ∙ ap (decode pl) e ∙ decode-encode pl t more range ot st
 
 -- ---- 'bytes the layout gives to no state' are those that are not these
 pub record Encodes (pl : Plan) (b : List ℕ) : Type 0 where
@@ -78,12 +86,22 @@ pub record Encodes (pl : Plan) (b : List ℕ) : Type 0 where
 
 -- the test is passed by the bytes that the layout gives to a state alone
 pub canonical-encodes : (pl : Plan) (b : List ℕ) → canonical pl b ≡ true → Encodes pl b
-canonical-encodes pl b e = record { state = decode pl b; rest = past (size pl) b; bounded = decode-bounded pl b; small = decode-small pl b; same = encode-canonical pl b e }
+canonical-encodes pl b e =
+    record {
+      state = decode pl b;
+      rest = past (size pl) b;
+      bounded = decode-bounded pl b;
+      small = decode-small pl b;
+      same = encode-canonical pl b e;
+    }
 
 -- and by all of them
 pub encodes-canonical : (pl : Plan) → InRange (pl .head) → (b : List ℕ) → Encodes pl b → canonical pl b ≡ true
 encodes-canonical pl range b x = rw (x .same) (canonical-encode pl range (x .state) (x .rest) (x .bounded) (x .small))
 
 -- what holds of every state's bytes holds of all bytes that pass the test
-pub states {ℓ} : (pl : Plan) (P : List ℕ → Type ℓ) → ((s : State) (rest : List ℕ) → Bounded pl s → Small pl s → P (encode pl s rest)) → (b : List ℕ) → canonical pl b ≡ true → P b
-states pl P k b e = subst⁻¹ P (encode-canonical pl b e) (k (decode pl b) (past (size pl) b) (decode-bounded pl b) (decode-small pl b))
+pub states {ℓ} : (pl : Plan) (P : List ℕ → Type ℓ)
+    → ((s : State) (rest : List ℕ) → Bounded pl s → Small pl s → P (encode pl s rest)) → (b : List ℕ)
+    → canonical pl b ≡ true → P b
+states pl P k b e =
+    subst⁻¹ P (encode-canonical pl b e) (k (decode pl b) (past (size pl) b) (decode-bounded pl b) (decode-small pl b))

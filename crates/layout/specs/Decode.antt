@@ -21,8 +21,11 @@ use Rattle.feeding.specs.Queue.{Queue, activeOut, activeIn, passiveIn, passiveO
 use Rattle.machine.specs.Capacity.{capacity}
 use Rattle.machine.specs.State.{State, Choice, blank}
 use Rattle.machine.specs.Valid.{Valid, Bounded}
-use Rattle.layout.specs.Named.{existsTest, test-exists, exists-test, drivesTest, test-drives, entryTest, test-entry}
-use Rattle.layout.specs.Offsets.{phaseByte, slotByte, places, creditByte, flagByte, handledByte, lengthByte, firstPlace, wireByte, wirePacket, choiceByte, queueRow, outputRow, allowanceRow, entryRow}
+use Rattle.layout.specs.Named.{existsTest, test-exists, exists-test, drivesTest, test-drives, entryTest}
+use Rattle.layout.specs.Named.{test-entry}
+use Rattle.layout.specs.Offsets.{phaseByte, slotByte, places, creditByte, flagByte, handledByte, lengthByte}
+use Rattle.layout.specs.Offsets.{firstPlace, wireByte, wirePacket, choiceByte, queueRow, outputRow, allowanceRow}
+use Rattle.layout.specs.Offsets.{entryRow}
 use Rattle.layout.specs.Codes.{phaseOf, flagOf, choiceOf, entryOf}
 use Rattle.layout.specs.Places.{packetAt, packetsAt, packets-few}
 
@@ -120,5 +123,6 @@ pub decode-small : (pl : Plan) (b : List ℕ) → Small pl (decode pl b)
 unfolding decode
 decode-small pl b =
     record {
-      few = λ q h. rw (exists-test pl q h) (packets-few places (lengthAt (queueRow pl q) b) (queueRow pl q + firstPlace) b);
+      few = λ q h.
+          rw (exists-test pl q h) (packets-few places (lengthAt (queueRow pl q) b) (queueRow pl q + firstPlace) b);
     }

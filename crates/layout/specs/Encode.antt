@@ -14,7 +14,8 @@ use Rattle.feeding.specs.Feeds.{Output}
 use Rattle.machine.specs.Outputs.{outputs, outputAt}
 use Rattle.machine.specs.State.{State}
 use Rattle.layout.specs.Rows.{span, span-length}
-use Rattle.layout.specs.Offsets.{places, queueWidth, outputWidth, choiceByte, entryWidth, routerEntries, slotRoom, entries, size}
+use Rattle.layout.specs.Offsets.{places, queueWidth, outputWidth, choiceByte, entryWidth, routerEntries}
+use Rattle.layout.specs.Offsets.{slotRoom, entries, size}
 use Rattle.layout.specs.Codes.{phaseCode, flagCode, choiceCode, entryCode}
 use Rattle.layout.specs.Places.{packetBytes, noPacket, placeBytes, length-places}
 
@@ -22,7 +23,8 @@ use Rattle.layout.specs.Places.{packetBytes, noPacket, placeBytes, lengt
 -- credit, flag, handled mark, length, places
 unfoldable pub queueBytes : State → Queue → List ℕ
 queueBytes s q =
-    s .flow .credit q .0 ∷ flagCode (s .flow .flag q) ∷ flagCode (s .lines .handled q) ∷ length (s .lines .queue q) ∷ placeBytes places
+    s .flow .credit q .0 ∷ flagCode (s .flow .flag q) ∷ flagCode (s .lines .handled q) ∷ length (s .lines .queue q)
+    ∷ placeBytes places
     (s .lines .queue q)
 
 -- a full wire's packet, zero bytes where it is empty
@@ -61,7 +63,8 @@ tablePart pl s = span 0 (entries pl) (λ n. entryBytes (entryOfNumber s n))
 
 -- the state's bytes, then the bytes past the state
 unfoldable pub encode : Plan → State → List ℕ → List ℕ
-encode pl s rest = header s ++ (queuePart pl s ++ (outputPart pl s ++ (allowancePart pl s ++ (tablePart pl s ++ rest))))
+encode pl s rest =
+    header s ++ (queuePart pl s ++ (outputPart pl s ++ (allowancePart pl s ++ (tablePart pl s ++ rest))))
 
 -- ---- every row has its width
 pub length-queue : (s : State) (q : Queue) → length (queueBytes s q) ≡ queueWidth
@@ -85,7 +88,8 @@ module _ (pl : Plan) (s : State) where
 
   pub length-outputs : length (outputPart pl s) ≡ outputWidth * outputs pl
   length-outputs =
-      span-length outputWidth 0 (outputs pl) (λ n. outputBytes s (outputAt pl n)) (λ n. length-output s (outputAt pl n))
+      span-length outputWidth 0 (outputs pl) (λ n. outputBytes s (outputAt pl n))
+      (λ n. length-output s (outputAt pl n))
 
   pub length-allowances : length (allowancePart pl s) ≡ 1 * A pl
   length-allowances = span-length 1 0 (A pl) (allowanceBytes s) (λ n. refl)

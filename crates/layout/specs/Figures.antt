@@ -13,7 +13,8 @@ use Rattle.feeding.specs.Feeds.{Output, ofActive, ofPassive, ofSide, toUnit, fr
 use Rattle.machine.specs.Outputs.{outputAt, outputNumber}
 use Rattle.machine.specs.State.{blank, start}
 use Rattle.layout.specs.Rows.{span, front}
-use Rattle.layout.specs.Offsets.{outputsAt, allowancesAt, tableAt, size, queueRow, outputRow, allowanceRow, entryRow}
+use Rattle.layout.specs.Offsets.{outputsAt, allowancesAt, tableAt, size, queueRow, outputRow, allowanceRow}
+use Rattle.layout.specs.Offsets.{entryRow}
 use Rattle.layout.specs.Places.{placeBytes, packetAt, packetsAt}
 use Rattle.layout.specs.Encode.{queueBytes, outputBytes, encode}
 use Rattle.layout.specs.Decode.{decode}
@@ -47,16 +48,19 @@ pub t-unit : queuesOf (U 0 0 ∷ U 0 1 ∷ U 0 2 ∷ U 0 3 ∷ Q 0 ∷ []) ≡ 8
 unfolding planT queueRow number
 t-unit = refl
 
-pub t-sides : queuesOf (F 0 0 ∷ K 0 1 0 ∷ K 0 2 0 ∷ K 0 3 0 ∷ F 0 1 ∷ K 0 0 1 ∷ K 0 2 1 ∷ K 0 3 1 ∷ F 0 2 ∷ K 0 0 2 ∷ K 0 1 2 ∷ K 0 3 2 ∷ F 0 3 ∷ K 0 0 3 ∷ K 0 1 3 ∷ K 0 2 3 ∷ [])
+pub t-sides : queuesOf (F 0 0 ∷ K 0 1 0 ∷ K 0 2 0 ∷ K 0 3 0 ∷ F 0 1 ∷ K 0 0 1 ∷ K 0 2 1 ∷ K 0 3 1 ∷ F 0 2 ∷ K 0 0 2
+    ∷ K 0 1 2 ∷ K 0 3 2 ∷ F 0 3 ∷ K 0 0 3 ∷ K 0 1 3 ∷ K 0 2 3 ∷ [])
     ≡ 275 ∷ 314 ∷ 353 ∷ 392 ∷ 431 ∷ 470 ∷ 509 ∷ 548 ∷ 587 ∷ 626 ∷ 665 ∷ 704 ∷ 743 ∷ 782 ∷ 821 ∷ 860 ∷ []
 unfolding planT queueRow number
 t-sides = refl
 
-pub t-outputs : outputsOf (ofActive 0 ∷ ofPassive 0 ∷ ofSide 0 0 ∷ ofSide 0 1 ∷ ofSide 0 2 ∷ ofSide 0 3 ∷ toUnit 0 ∷ fromUnit 0 ∷ []) ≡ 977 ∷ 984 ∷ 991 ∷ 998 ∷ 1005 ∷ 1012 ∷ 1019 ∷ 1026 ∷ []
+pub t-outputs : outputsOf (ofActive 0 ∷ ofPassive 0 ∷ ofSide 0 0 ∷ ofSide 0 1 ∷ ofSide 0 2 ∷ ofSide 0 3 ∷ toUnit 0
+    ∷ fromUnit 0 ∷ []) ≡ 977 ∷ 984 ∷ 991 ∷ 998 ∷ 1005 ∷ 1012 ∷ 1019 ∷ 1026 ∷ []
 unfolding planT queues outputRow outputNumber
 t-outputs = refl
 
-pub t-entries : (allowanceRow planT 0 ≡ 1033) × (entryRow planT 0 0 0 ≡ 1034) × (entryRow planT 0 1 0 ≡ 1098) × (entryRow planT 0 2 0 ≡ 1162) × (entryRow planT 0 3 1 ≡ 1228)
+pub t-entries : (allowanceRow planT 0 ≡ 1033) × (entryRow planT 0 0 0 ≡ 1034) × (entryRow planT 0 1 0 ≡ 1098)
+    × (entryRow planT 0 2 0 ≡ 1162) × (entryRow planT 0 3 1 ≡ 1228)
 unfolding planT queues allowanceRow entryRow
 t-entries = (refl, refl, refl, refl, refl)
 
@@ -66,7 +70,8 @@ unfolding planT span queues queueAt outputAt start blank placeBytes queueBytes o
 startT = encode planT (start planT) []
 
 unfoldable pub isState : List ℕ → Bool
-unfolding planT span front size queues queueAt number queueRow outputAt outputNumber outputRow allowanceRow entryRow start blank placeBytes packetAt packetsAt queueBytes outputBytes encode decode sameBytes canonical
+unfolding planT span front size queues queueAt number queueRow outputAt outputNumber outputRow allowanceRow entryRow
+    start blank placeBytes packetAt packetsAt queueBytes outputBytes encode decode sameBytes canonical
 isState b = canonical planT b
 
 -- the offsets of the bytes that are not 0, from i on
@@ -81,7 +86,8 @@ sumOf (x ∷ b) = x + sumOf b
 
 -- after Start: a credit in each queue's row, and the allowance; each is 1
 pub t-filled : filled 0 startT
-    ≡ 2 ∷ 41 ∷ 80 ∷ 119 ∷ 158 ∷ 197 ∷ 236 ∷ 275 ∷ 314 ∷ 353 ∷ 392 ∷ 431 ∷ 470 ∷ 509 ∷ 548 ∷ 587 ∷ 626 ∷ 665 ∷ 704 ∷ 743 ∷ 782 ∷ 821 ∷ 860 ∷ 899 ∷ 938 ∷ 1033 ∷ []
+    ≡ 2 ∷ 41 ∷ 80 ∷ 119 ∷ 158 ∷ 197 ∷ 236 ∷ 275 ∷ 314 ∷ 353 ∷ 392 ∷ 431 ∷ 470 ∷ 509 ∷ 548 ∷ 587 ∷ 626 ∷ 665 ∷ 704 ∷ 743
+    ∷ 782 ∷ 821 ∷ 860 ∷ 899 ∷ 938 ∷ 1033 ∷ []
 unfolding startT
 t-filled = refl
 
@@ -100,6 +106,7 @@ unfolding startT isState
 t-short = refl
 
 -- a packet's byte past the length, the length 8, a flag 2, the table's second byte, an entry from S on
-pub t-others : (isState (set startT 8 1) ≡ false) × (isState (set startT 5 8) ≡ false) × (isState (set startT 3 2) ≡ false) × (isState (set startT 1035 1) ≡ false) × (isState (set startT 1038 1) ≡ false)
+pub t-others : (isState (set startT 8 1) ≡ false) × (isState (set startT 5 8) ≡ false) × (isState (set startT 3 2)
+    ≡ false) × (isState (set startT 1035 1) ≡ false) × (isState (set startT 1038 1) ≡ false)
 unfolding startT isState
 t-others = (refl, refl, refl, refl, refl)

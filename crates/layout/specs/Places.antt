@@ -77,4 +77,5 @@ packets-read (suc c) i [] b h s = refl
 packets-read zero i (x ∷ xs) b h s = absurd (omega arith)
 packets-read (suc c) i (x ∷ xs) b h s =
     ap₂ _∷_ (packet-read i x b (stands-left i (packetBytes x) (placeBytes c xs) b s))
-    (packets-read c (i + packetWidth) xs b (omega arith) (stands-right i (i + packetWidth) (packetBytes x) (placeBytes c xs) b refl s))
+    (packets-read c (i + packetWidth) xs b (omega arith)
+    (stands-right i (i + packetWidth) (packetBytes x) (placeBytes c xs) b refl s))

@@ -35,7 +35,8 @@ span-split i (suc a) b g =
     let p : suc a + suc b ≡ suc (a + suc b) = omega arith in
     let q : i + suc a ≡ suc i + a = omega arith in
     rw (p, q)
-    (ap (λ l. g i ++ l) (span-split (suc i) a b g) ∙ sym (append-assoc (g i) (span (suc i) a g) (g (suc i + a) ++ span (suc (suc i + a)) b g)))
+    (ap (λ l. g i ++ l) (span-split (suc i) a b g)
+    ∙ sym (append-assoc (g i) (span (suc i) a g) (g (suc i + a) ++ span (suc (suc i + a)) b g)))
 
 -- the same of all n rows
 pub span-at : (n q : ℕ) (g : ℕ → List ℕ) → q < n → span 0 n g ≡ span 0 q g ++ (g q ++ span (suc q) (n - suc q) g)
@@ -81,7 +82,12 @@ pub stands-row : (w n at : ℕ) (g : ℕ → List ℕ) (b : List ℕ) → ((j : 
     → (q : ℕ) → q < n → Stands (at + w * q) (g q) b
 stands-row w n at g b l s q h =
     let t : Stands at (span 0 q g ++ (g q ++ span (suc q) (n - suc q) g)) b =
-    record { before = s .before; after = s .after; same = s .same ∙ ap (λ x. s .before ++ (x ++ s .after)) (span-at n q g h); offset = s .offset } in
+    record {
+      before = s .before;
+      after = s .after;
+      same = s .same ∙ ap (λ x. s .before ++ (x ++ s .after)) (span-at n q g h);
+      offset = s .offset;
+    } in
     stands-left (at + w * q) (g q) (span (suc q) (n - suc q) g) b
     (stands-right at (at + w * q) (span 0 q g) (g q ++ span (suc q) (n - suc q) g) b (rw (span-length w 0 q g l)) t)
 

@@ -38,10 +38,21 @@ module _ (h : Head) (d v : ℕ) where
       by (inl t) =
           let w = rw t at e in
           let l = ltb-true d (h .actives) t in
-          rw (t, ne-eqb (v / 64) 1 (λ q. omega arith), eq-eqb (v / 64) 2 (omega arith), eq-eqb (v / 4 % 16) d (omega arith))
+          rw (
+            t,
+            ne-eqb (v / 64) 1 (λ q. omega arith),
+            eq-eqb (v / 64) 2 (omega arith),
+            eq-eqb (v / 4 % 16) d (omega arith),
+          )
       by (inr t) =
           let w = rw t at e in
-          rw (t, ne-eqb (v / 64) 1 (λ q. omega arith), ne-eqb (v / 64) 2 (λ q. omega arith), eq-eqb (v / 64) 3 (omega arith), eq-eqb (v / 4 % 16) (d - h .actives) (omega arith))
+          rw (
+            t,
+            ne-eqb (v / 64) 1 (λ q. omega arith),
+            ne-eqb (v / 64) 2 (λ q. omega arith),
+            eq-eqb (v / 64) 3 (omega arith),
+            eq-eqb (v / 4 % 16) (d - h .actives) (omega arith),
+          )
 
   -- on the port v - 64 where the joint is a router's
   pub through-on : v / 64 ≡ 1 → through (interfaceAt h d) (jointOfByte v) ≡ on (portOf (v - 64))
@@ -56,7 +67,8 @@ module _ (h : Head) (d v : ℕ) where
   unfolding wantedOf jointOfByte
   through-lost f g = by (test (ltb d (h .actives))) (test (eqb (v / 64) 2)) (test (eqb (v / 64) 3))
     where
-      by : (ltb d (h .actives) ≡ true) ⊎ (ltb d (h .actives) ≡ false) → (eqb (v / 64) 2 ≡ true) ⊎ (eqb (v / 64) 2 ≡ false)
+      by : (ltb d (h .actives) ≡ true) ⊎ (ltb d (h .actives) ≡ false)
+          → (eqb (v / 64) 2 ≡ true) ⊎ (eqb (v / 64) 2 ≡ false)
           → (eqb (v / 64) 3 ≡ true) ⊎ (eqb (v / 64) 3 ≡ false) → through (interfaceAt h d) (jointOfByte v) ≡ lost
       by (inl t) (inl p) z =
           let w = rw t at f in
@@ -73,11 +85,13 @@ module _ (h : Head) (d v : ℕ) where
 -- ---- a step over the tables
 module _ (h : Head) (routes : List (List ℕ)) (joints : List ℕ) (d : ℕ) where
   -- the side given for the interface of column d stands in that column
-  pub route-is : (r : ℕ) {v : ℕ} → v ≡ getD (getD routes r []) d noSide → v ≡ routeTo (tablePlan h routes joints) (interfaceAt h d) r
+  pub route-is : (r : ℕ) {v : ℕ} → v ≡ getD (getD routes r []) d noSide
+      → v ≡ routeTo (tablePlan h routes joints) (interfaceAt h d) r
   unfolding tablePlan
   route-is r {v} e = by (test (ltb d (h .actives)))
     where
-      by : (ltb d (h .actives) ≡ true) ⊎ (ltb d (h .actives) ≡ false) → v ≡ routeTo (tablePlan h routes joints) (interfaceAt h d) r
+      by : (ltb d (h .actives) ≡ true) ⊎ (ltb d (h .actives) ≡ false)
+          → v ≡ routeTo (tablePlan h routes joints) (interfaceAt h d) r
       by (inl t) = rw t e
       by (inr t) =
           let l = ltb-false d (h .actives) t in
@@ -92,27 +106,37 @@ module _ (h : Head) (routes : List (List ℕ)) (joints : List ℕ) (d : ℕ) whe
   unfolding tablePlan
   joint-is r s l = rw (lt-ltb s 4 (omega arith))
 
-  module _ (at : ℕ) {s side : ℕ} (given : (k : Head) (js : List ℕ) → side ≡ routeTo (tablePlan k routes js) (interfaceAt k d) (at / 4)) (wide : s ≡ side) where
-    by-side : (j : Joint) → tablePlan h routes joints .joint (at / 4) s ≡ j → stepOf (onward (tablePlan h routes joints) (interfaceAt h d) (portOf at)) ≡ stepOf (through (interfaceAt h d) j)
+  module _ (at : ℕ) {s side : ℕ} (given : (k : Head) (js : List ℕ)
+      → side ≡ routeTo (tablePlan k routes js) (interfaceAt k d) (at / 4)) (wide : s ≡ side) where
+    by-side : (j : Joint) → tablePlan h routes joints .joint (at / 4) s ≡ j → stepOf
+        (onward (tablePlan h routes joints) (interfaceAt h d) (portOf at)) ≡ stepOf (through (interfaceAt h d) j)
     unfolding onward
-    by-side j e = ap (λ (i : Joint). stepOf (through (interfaceAt h d) i)) (ap (tablePlan h routes joints .joint (at / 4)) (sym (wide ∙ given h joints)) ∙ e)
+    by-side j e = ap (λ (i : Joint). stepOf (through (interfaceAt h d) i))
+        (ap (tablePlan h routes joints .joint (at / 4)) (sym (wide ∙ given h joints)) ∙ e)
 
     -- ---- the ends of the code's step: no side is given
     pub step-none : 3 < s → Lost ≡ stepOf (onward (tablePlan h routes joints) (interfaceAt h d) (portOf at))
     step-none l = sym (by-side Nothing (joint-none (at / 4) s l))
 
-    module _ (l : s ≤ 3) (a : h .actives ≤ 16) {v want : ℕ} (joint : (v ≡ getD joints (4 * (at / 4) + s) 0) × (v < 256)) (w : want ≡ wantedOf h d) where
-      by-byte : (x : Spot Port) → through (interfaceAt h d) (jointOfByte v) ≡ x → stepOf x ≡ stepOf (onward (tablePlan h routes joints) (interfaceAt h d) (portOf at))
-      by-byte x e = sym (by-side (jointOfByte v) (joint-is (at / 4) s l ∙ ap jointOfByte (sym (joint .0))) ∙ ap stepOf e)
+    module _ (l : s ≤ 3) (a : h .actives ≤ 16) {v want : ℕ}
+        (joint : (v ≡ getD joints (4 * (at / 4) + s) 0) × (v < 256)) (w : want ≡ wantedOf h d) where
+      by-byte : (x : Spot Port) → through (interfaceAt h d) (jointOfByte v) ≡ x
+          → stepOf x ≡ stepOf (onward (tablePlan h routes joints) (interfaceAt h d) (portOf at))
+      by-byte x e =
+          sym (by-side (jointOfByte v) (joint-is (at / 4) s l ∙ ap jointOfByte (sym (joint .0))) ∙ ap stepOf e)
 
       -- the joint that is wanted
       pub step-end : v / 4 ≡ want → End ≡ stepOf (onward (tablePlan h routes joints) (interfaceAt h d) (portOf at))
       step-end e = by-byte end (through-end h d v a (joint .1) (e ∙ w))
 
       -- a router's joint
-      pub step-on : v / 64 ≡ 1 → On (v - 64) ≡ stepOf (onward (tablePlan h routes joints) (interfaceAt h d) (portOf at))
-      step-on e = let n : v - 64 ≡ 4 * ((v - 64) / 4) + (v - 64) % 4 = omega arith in ap On n ∙ by-byte (on (portOf (v - 64))) (through-on h d v e)
+      pub step-on : v / 64 ≡ 1
+          → On (v - 64) ≡ stepOf (onward (tablePlan h routes joints) (interfaceAt h d) (portOf at))
+      step-on e =
+          let n : v - 64 ≡ 4 * ((v - 64) / 4) + (v - 64) % 4 = omega arith in
+          ap On n ∙ by-byte (on (portOf (v - 64))) (through-on h d v e)
 
       -- any other
-      pub step-lost : (v / 4 ≡ want → ⊥) → (v / 64 ≡ 1 → ⊥) → Lost ≡ stepOf (onward (tablePlan h routes joints) (interfaceAt h d) (portOf at))
+      pub step-lost : (v / 4 ≡ want → ⊥) → (v / 64 ≡ 1 → ⊥)
+          → Lost ≡ stepOf (onward (tablePlan h routes joints) (interfaceAt h d) (portOf at))
       step-lost f g = by-byte lost (through-lost h d v (λ q. f (q ∙ sym w)) g)

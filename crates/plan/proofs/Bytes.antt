@@ -20,7 +20,8 @@ last-bits x =
     let b : x % 8 ≡ x / 4 % 2 * 4 + x % 4 = omega arith in
     omega (arith, a, b)
 
-first-bits : (x : ℕ) → x < 256 → x / 8 ≡ (((x / 128 % 2 * 2 + x / 64 % 2) * 2 + x / 32 % 2) * 2 + x / 16 % 2) * 2 + x / 8 % 2
+first-bits : (x : ℕ) → x < 256 → x / 8 ≡ (((x / 128 % 2 * 2 + x / 64 % 2) * 2 + x / 32 % 2) * 2 + x / 16 % 2) * 2
+    + x / 8 % 2
 first-bits x h =
     let a : x / 64 ≡ x / 128 % 2 * 2 + x / 64 % 2 = omega arith in
     let b : x / 16 ≡ (x / 64 * 2 + x / 32 % 2) * 2 + x / 16 % 2 = omega arith in
@@ -37,29 +38,38 @@ module _ (b : List ℕ) (i : ℕ) where
   kind-bits : fieldOf b (45 + 8 * i) 2 ≡ high / 4 % 2 * 2 + high / 2 % 2
   unfolding fieldOf
   kind-bits =
-      let p : bitAt b (45 + 8 * i + 0) ≡ high / 4 % 2 = bit-of b (5 + i) 5 (45 + 8 * i + 0) (omega arith) (omega arith) in
-      let q : bitAt b (45 + 8 * i + 1) ≡ high / 2 % 2 = bit-of b (5 + i) 6 (45 + 8 * i + 1) (omega arith) (omega arith) in
+      let p : bitAt b (45 + 8 * i + 0) ≡ high / 4 % 2 =
+      bit-of b (5 + i) 5 (45 + 8 * i + 0) (omega arith) (omega arith) in
+      let q : bitAt b (45 + 8 * i + 1) ≡ high / 2 % 2 =
+      bit-of b (5 + i) 6 (45 + 8 * i + 1) (omega arith) (omega arith) in
       rw (p, q) (omega arith)
 
   number-bits : fieldOf b (45 + 8 * i + 2) 4 ≡ ((high % 2 * 2 + low / 128 % 2) * 2 + low / 64 % 2) * 2 + low / 32 % 2
   unfolding fieldOf
   number-bits =
-      let p : bitAt b (45 + 8 * i + 2 + 0) ≡ high / 1 % 2 = bit-of b (5 + i) 7 (45 + 8 * i + 2 + 0) (omega arith) (omega arith) in
-      let q : bitAt b (45 + 8 * i + 2 + 1) ≡ low / 128 % 2 = bit-of b (6 + i) 0 (45 + 8 * i + 2 + 1) (omega arith) (omega arith) in
-      let r : bitAt b (45 + 8 * i + 2 + 2) ≡ low / 64 % 2 = bit-of b (6 + i) 1 (45 + 8 * i + 2 + 2) (omega arith) (omega arith) in
-      let s : bitAt b (45 + 8 * i + 2 + 3) ≡ low / 32 % 2 = bit-of b (6 + i) 2 (45 + 8 * i + 2 + 3) (omega arith) (omega arith) in
+      let p : bitAt b (45 + 8 * i + 2 + 0) ≡ high / 1 % 2 = bit-of b (5 + i) 7 (45 + 8 * i + 2 + 0) (omega arith)
+      (omega arith) in
+      let q : bitAt b (45 + 8 * i + 2 + 1) ≡ low / 128 % 2 = bit-of b (6 + i) 0 (45 + 8 * i + 2 + 1) (omega arith)
+      (omega arith) in
+      let r : bitAt b (45 + 8 * i + 2 + 2) ≡ low / 64 % 2 = bit-of b (6 + i) 1 (45 + 8 * i + 2 + 2) (omega arith)
+      (omega arith) in
+      let s : bitAt b (45 + 8 * i + 2 + 3) ≡ low / 32 % 2 = bit-of b (6 + i) 2 (45 + 8 * i + 2 + 3) (omega arith)
+      (omega arith) in
       rw (p, q, r, s) (omega arith)
 
   side-bits : fieldOf b (45 + 8 * i + 6) 2 ≡ low / 16 % 2 * 2 + low / 8 % 2
   unfolding fieldOf
   side-bits =
-      let p : bitAt b (45 + 8 * i + 6 + 0) ≡ low / 16 % 2 = bit-of b (6 + i) 3 (45 + 8 * i + 6 + 0) (omega arith) (omega arith) in
-      let q : bitAt b (45 + 8 * i + 6 + 1) ≡ low / 8 % 2 = bit-of b (6 + i) 4 (45 + 8 * i + 6 + 1) (omega arith) (omega arith) in
+      let p : bitAt b (45 + 8 * i + 6 + 0) ≡ low / 16 % 2 = bit-of b (6 + i) 3 (45 + 8 * i + 6 + 0) (omega arith)
+      (omega arith) in
+      let q : bitAt b (45 + 8 * i + 6 + 1) ≡ low / 8 % 2 = bit-of b (6 + i) 4 (45 + 8 * i + 6 + 1) (omega arith)
+      (omega arith) in
       rw (p, q) (omega arith)
 
   pub joint-is : low < 256 → high % 8 * 32 + low / 8 ≡ jointByte b i
   unfolding jointByte
-  joint-is h = rw (kind-bits, number-bits, side-bits) (sums (high / 4 % 2) (high / 2 % 2) (high % 2) (low / 128 % 2) (low / 64 % 2) (low / 32 % 2) (low / 16 % 2) (low / 8 % 2) (last-bits high) (first-bits low h))
+  joint-is h = rw (kind-bits, number-bits, side-bits) (sums (high / 4 % 2) (high / 2 % 2) (high % 2) (low / 128 % 2)
+      (low / 64 % 2) (low / 32 % 2) (low / 16 % 2) (low / 8 % 2) (last-bits high) (first-bits low h))
     where
       sums : (p q r s t u v w : ℕ) → high % 8 ≡ (p * 2 + q) * 2 + r → low / 8 ≡ (((s * 2 + t) * 2 + u) * 2 + v) * 2 + w
           → high % 8 * 32 + low / 8 ≡ (p * 2 + q) * 64 + (((r * 2 + s) * 2 + t) * 2 + u) * 4 + (v * 2 + w)

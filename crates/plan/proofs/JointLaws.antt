@@ -53,10 +53,12 @@ module _ (v : ℕ) where
 
 -- two tests for equality that come to the same
 same-eqb : (a b x y : ℕ) → (a ≡ b → x ≡ y) → (x ≡ y → a ≡ b) → eqb a b ≡ eqb x y
-same-eqb a b x y f g = same-test (eqb a b) (eqb x y) (λ t. eq-eqb x y (f (eqb-true a b t))) (λ t. eq-eqb a b (g (eqb-true x y t)))
+same-eqb a b x y f g =
+    same-test (eqb a b) (eqb x y) (λ t. eq-eqb x y (f (eqb-true a b t))) (λ t. eq-eqb a b (g (eqb-true x y t)))
 
 -- a port's joint is that of its byte
-pub port-joint : (h : Head) (rs : List (List ℕ)) (js : List ℕ) (i : ℕ) → jointOfPort (tablePlan h rs js) i ≡ jointOfByte (getD js i 0)
+pub port-joint : (h : Head) (rs : List (List ℕ)) (js : List ℕ) (i : ℕ)
+    → jointOfPort (tablePlan h rs js) i ≡ jointOfByte (getD js i 0)
 unfolding tablePlan
 port-joint h rs js i =
     let e : 4 * (i / 4) + i % 4 ≡ i = omega arith in
@@ -67,7 +69,8 @@ router-at : (i w : ℕ) → i < 64 → isRouterAt i (jointOfByte w) ≡ eqb w (6
 router-at i w h = by (kind-of w)
   where
     by : Kind w → isRouterAt i (jointOfByte w) ≡ eqb w (64 + i)
-    by (toRouter e) = rw (of-router w e) (same-eqb (4 * (w / 4 % 16) + w % 4) i w (64 + i) (λ f. omega arith) (λ f. omega arith))
+    by (toRouter e) =
+        rw (of-router w e) (same-eqb (4 * (w / 4 % 16) + w % 4) i w (64 + i) (λ f. omega arith) (λ f. omega arith))
     by (toActive e) = rw (of-active w e) (sym (ne-eqb w (64 + i) (λ f. omega arith)))
     by (toPassive e) = rw (of-passive w e) (sym (ne-eqb w (64 + i) (λ f. omega arith)))
     by (toNone e f g) = rw (of-none w e f g) (sym (ne-eqb w (64 + i) (λ q. e (omega arith))))
@@ -83,13 +86,21 @@ module _ (h : Head) (js : List ℕ) (i : ℕ) where
       by (toNone e f g) = rw (of-none (getD js i 0) e f g)
 
   pub back-router : i < 64 → getD js i 0 / 64 ≡ 1
-      → (not (eqb (getD js i 0 % 64 / 4) (i / 4)) && eqb (getD js (getD js i 0 % 64) 0) (64 + i)) ≡ backOk (tablePlan h [] js) i (jointOfPort (tablePlan h [] js) i)
+      → (not (eqb (getD js i 0 % 64 / 4) (i / 4)) && eqb (getD js (getD js i 0 % 64) 0) (64 + i))
+      ≡ backOk (tablePlan h [] js) i (jointOfPort (tablePlan h [] js) i)
   unfolding tablePlan
   back-router l e =
       let v : ℕ = getD js i 0 in
       let m : v % 64 / 4 ≡ v / 4 % 16 = omega arith in
       let k : 4 * (v / 4 % 16) + v % 4 ≡ v % 64 = omega arith in
-      rw (port-joint h [] js i, of-router v e, lt-ltb (v % 4) 4 (omega arith), k, m, router-at i (getD js (v % 64) 0) l)
+      rw (
+        port-joint h [] js i,
+        of-router v e,
+        lt-ltb (v % 4) 4 (omega arith),
+        k,
+        m,
+        router-at i (getD js (v % 64) 0) l,
+      )
 
 -- ---- a joint leads to an interface: kind and number are the wanted ones
 leads-active : (a v : ℕ) → a < 16 → leadsTo (active a) (jointOfByte v) ≡ eqb (v / 4) (32 + a)
@@ -97,7 +108,8 @@ leads-active a v h = by (kind-of v)
   where
     by : Kind v → leadsTo (active a) (jointOfByte v) ≡ eqb (v / 4) (32 + a)
     by (toRouter e) = rw (of-router v e) (sym (ne-eqb (v / 4) (32 + a) (λ f. omega arith)))
-    by (toActive e) = rw (of-active v e) (same-eqb (v / 4 % 16) a (v / 4) (32 + a) (λ f. omega arith) (λ f. omega arith))
+    by (toActive e) =
+        rw (of-active v e) (same-eqb (v / 4 % 16) a (v / 4) (32 + a) (λ f. omega arith) (λ f. omega arith))
     by (toPassive e) = rw (of-passive v e) (sym (ne-eqb (v / 4) (32 + a) (λ f. omega arith)))
     by (toNone e f g) = rw (of-none v e f g) (sym (ne-eqb (v / 4) (32 + a) (λ q. f (omega arith))))
 
@@ -107,10 +119,12 @@ leads-passive p v h = by (kind-of v)
     by : Kind v → leadsTo (passive p) (jointOfByte v) ≡ eqb (v / 4) (48 + p)
     by (toRouter e) = rw (of-router v e) (sym (ne-eqb (v / 4) (48 + p) (λ f. omega arith)))
     by (toActive e) = rw (of-active v e) (sym (ne-eqb (v / 4) (48 + p) (λ f. omega arith)))
-    by (toPassive e) = rw (of-passive v e) (same-eqb (v / 4 % 16) p (v / 4) (48 + p) (λ f. omega arith) (λ f. omega arith))
+    by (toPassive e) =
+        rw (of-passive v e) (same-eqb (v / 4 % 16) p (v / 4) (48 + p) (λ f. omega arith) (λ f. omega arith))
     by (toNone e f g) = rw (of-none v e f g) (sym (ne-eqb (v / 4) (48 + p) (λ q. g (omega arith))))
 
-module _ (h : Head) (act : h .actives ≤ 16) (pas : h .passives ≤ 16) (d : ℕ) (inside : d < h .actives + h .passives) (v : ℕ) where
+module _ (h : Head) (act : h .actives ≤ 16) (pas : h .passives ≤ 16) (d : ℕ) (inside : d < h .actives + h .passives)
+    (v : ℕ) where
   wanted-active : d < h .actives → wantedOf (h .actives) d ≡ 32 + d
   unfolding wantedOf
   wanted-active l = rw (lt-ltb d (h .actives) l)
@@ -122,7 +136,8 @@ module _ (h : Head) (act : h .actives ≤ 16) (pas : h .passives ≤ 16) (d : �
   pub leads : leadsTo (interfaceAt h d) (jointOfByte v) ≡ eqb (v / 4) (wantedOf (h .actives) d)
   leads = by (lt-or-ge d (h .actives))
     where
-      by : (d < h .actives) ⊎ (h .actives ≤ d) → leadsTo (interfaceAt h d) (jointOfByte v) ≡ eqb (v / 4) (wantedOf (h .actives) d)
+      by : (d < h .actives) ⊎ (h .actives ≤ d)
+          → leadsTo (interfaceAt h d) (jointOfByte v) ≡ eqb (v / 4) (wantedOf (h .actives) d)
       by (inl l) = rw (lt-ltb d (h .actives) l, wanted-active l) (leads-active d v (omega arith))
       by (inr l) = rw (le-ltb d (h .actives) l, wanted-passive l) (leads-passive (d - h .actives) v (omega arith))
 
@@ -159,31 +174,42 @@ module _ (a p v : ℕ) where
       by (toPassive e) x (inr l) = omega (arith, column-no-passive e l)
       by (toNone e f g) x y = omega (arith, column-none f g)
 
-module _ (h : Head) (act : h .actives ≤ 16) (pas : h .passives ≤ 16) (d : ℕ) (inside : d < h .actives + h .passives) (v : ℕ) where
+module _ (h : Head) (act : h .actives ≤ 16) (pas : h .passives ≤ 16) (d : ℕ) (inside : d < h .actives + h .passives)
+    (v : ℕ) where
   abbrev col : ℕ
   col = columnOf (h .actives) (h .passives) v
 
-  same-by : (w k : ℕ) → wantedOf (h .actives) d ≡ w → col ≡ k → (v / 4 ≡ w → d ≡ k) → (d ≡ k → v / 4 ≡ w) → eqb (v / 4) (wantedOf (h .actives) d) ≡ eqb d col
+  same-by : (w k : ℕ) → wantedOf (h .actives) d ≡ w → col ≡ k → (v / 4 ≡ w → d ≡ k) → (d ≡ k → v / 4 ≡ w)
+      → eqb (v / 4) (wantedOf (h .actives) d) ≡ eqb d col
   same-by w k e f g j = rw (e, f) (same-eqb (v / 4) w d k g j)
 
   wanted-column : eqb (v / 4) (wantedOf (h .actives) d) ≡ eqb d col
-  wanted-column = by (kind-of v) (lt-or-ge (v / 4 % 16) (h .actives)) (lt-or-ge (v / 4 % 16) (h .passives)) (lt-or-ge d (h .actives))
+  wanted-column = by (kind-of v) (lt-or-ge (v / 4 % 16) (h .actives)) (lt-or-ge (v / 4 % 16) (h .passives))
+      (lt-or-ge d (h .actives))
     where
       to : (k : ℕ) → col ≡ k
           → (d < h .actives → (v / 4 ≡ 32 + d → d ≡ k) × (d ≡ k → v / 4 ≡ 32 + d))
           → (h .actives ≤ d → (v / 4 ≡ 48 + (d - h .actives) → d ≡ k) × (d ≡ k → v / 4 ≡ 48 + (d - h .actives)))
           → (d < h .actives) ⊎ (h .actives ≤ d) → eqb (v / 4) (wantedOf (h .actives) d) ≡ eqb d col
       to k e f g (inl l) = same-by (32 + d) k (wanted-active h act pas d inside v l) e (f l .0) (f l .1)
-      to k e f g (inr l) = same-by (48 + (d - h .actives)) k (wanted-passive h act pas d inside v l) e (g l .0) (g l .1)
+      to k e f g (inr l) =
+          same-by (48 + (d - h .actives)) k (wanted-passive h act pas d inside v l) e (g l .0) (g l .1)
 
-      by : Kind v → (v / 4 % 16 < h .actives) ⊎ (h .actives ≤ v / 4 % 16) → (v / 4 % 16 < h .passives) ⊎ (h .passives ≤ v / 4 % 16)
+      by : Kind v → (v / 4 % 16 < h .actives) ⊎ (h .actives ≤ v / 4 % 16)
+          → (v / 4 % 16 < h .passives) ⊎ (h .passives ≤ v / 4 % 16)
           → (d < h .actives) ⊎ (h .actives ≤ d) → eqb (v / 4) (wantedOf (h .actives) d) ≡ eqb d col
-      by (toRouter e) x y z = to 32 (column-none (h .actives) (h .passives) v (λ f. omega arith) (λ f. omega arith)) (λ m. (λ q. omega arith, λ q. omega arith)) (λ m. (λ q. omega arith, λ q. omega arith)) z
-      by (toActive e) (inl l) y z = to (v / 4 % 16) (column-active (h .actives) (h .passives) v e l) (λ m. (λ q. omega arith, λ q. omega arith)) (λ m. (λ q. omega arith, λ q. omega arith)) z
-      by (toActive e) (inr l) y z = to 32 (column-no-active (h .actives) (h .passives) v e l) (λ m. (λ q. omega arith, λ q. omega arith)) (λ m. (λ q. omega arith, λ q. omega arith)) z
-      by (toPassive e) x (inl l) z = to (h .actives + v / 4 % 16) (column-passive (h .actives) (h .passives) v e l) (λ m. (λ q. omega arith, λ q. omega arith)) (λ m. (λ q. omega arith, λ q. omega arith)) z
-      by (toPassive e) x (inr l) z = to 32 (column-no-passive (h .actives) (h .passives) v e l) (λ m. (λ q. omega arith, λ q. omega arith)) (λ m. (λ q. omega arith, λ q. omega arith)) z
-      by (toNone e f g) x y z = to 32 (column-none (h .actives) (h .passives) v f g) (λ m. (λ q. absurd (f (omega arith)), λ q. omega arith)) (λ m. (λ q. absurd (g (omega arith)), λ q. omega arith)) z
+      by (toRouter e) x y z = to 32 (column-none (h .actives) (h .passives) v (λ f. omega arith) (λ f. omega arith))
+          (λ m. (λ q. omega arith, λ q. omega arith)) (λ m. (λ q. omega arith, λ q. omega arith)) z
+      by (toActive e) (inl l) y z = to (v / 4 % 16) (column-active (h .actives) (h .passives) v e l)
+          (λ m. (λ q. omega arith, λ q. omega arith)) (λ m. (λ q. omega arith, λ q. omega arith)) z
+      by (toActive e) (inr l) y z = to 32 (column-no-active (h .actives) (h .passives) v e l)
+          (λ m. (λ q. omega arith, λ q. omega arith)) (λ m. (λ q. omega arith, λ q. omega arith)) z
+      by (toPassive e) x (inl l) z = to (h .actives + v / 4 % 16) (column-passive (h .actives) (h .passives) v e l)
+          (λ m. (λ q. omega arith, λ q. omega arith)) (λ m. (λ q. omega arith, λ q. omega arith)) z
+      by (toPassive e) x (inr l) z = to 32 (column-no-passive (h .actives) (h .passives) v e l)
+          (λ m. (λ q. omega arith, λ q. omega arith)) (λ m. (λ q. omega arith, λ q. omega arith)) z
+      by (toNone e f g) x y z = to 32 (column-none (h .actives) (h .passives) v f g) (λ m.
+          (λ q. absurd (f (omega arith)), λ q. omega arith)) (λ m. (λ q. absurd (g (omega arith)), λ q. omega arith)) z
 
   -- a byte leads to the interface of a column exactly if it names the column
   pub leads-column : leadsTo (interfaceAt h d) (jointOfByte v) ≡ eqb d col

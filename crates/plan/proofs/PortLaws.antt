@@ -35,7 +35,8 @@ meet-told : (n at i : ℕ) → meet true i (toldOf n at) ≡ toldOf (n + 1) i
 unfolding toldOf
 meet-told zero at i = refl
 meet-told (suc zero) at i = refl
-meet-told (suc (suc n)) at i = rw (told-many (suc (suc n)) at (omega arith), told-many (suc (suc n) + 1) i (omega arith))
+meet-told (suc (suc n)) at i =
+    rw (told-many (suc (suc n)) at (omega arith), told-many (suc (suc n) + 1) i (omega arith))
 
 -- one more port, by its byte
 unfoldable pub hitStep : List ℕ → ℕ → ℕ → Ports → Ports
@@ -65,7 +66,8 @@ module _ (h : Head) (js : List ℕ) where
   unfolding portsOf portStep tablePlan
   ports-up e = refl
 
-  port-step : (e : Interface) (i : ℕ) (t : Ports) → portStep pl e i t ≡ meet (leadsTo e (jointOfByte (getD js i 0))) i t
+  port-step : (e : Interface) (i : ℕ) (t : Ports)
+      → portStep pl e i t ≡ meet (leadsTo e (jointOfByte (getD js i 0))) i t
   unfolding portStep
   port-step e i t = rw (port-joint h [] js i)
 
@@ -90,11 +92,13 @@ module _ (h : Head) (js : List ℕ) where
     port-small e = rw (ports-up e) (omega (arith, small e (4 * h .routers)))
 
     -- counting finds the interface's ports
-    pub ports-hit : (d w : ℕ) → d < h .actives + h .passives → w ≡ wantedOf (h .actives) d → upTo (hitStep js w) (4 * h .routers) Missing ≡ portsOf pl (interfaceAt h d)
+    pub ports-hit : (d w : ℕ) → d < h .actives + h .passives → w ≡ wantedOf (h .actives) d
+        → upTo (hitStep js w) (4 * h .routers) Missing ≡ portsOf pl (interfaceAt h d)
     unfolding hitStep
     ports-hit d w l e =
         up-same (hitStep js w) (portStep pl (interfaceAt h d)) (4 * h .routers) Missing
-        (λ i t k. rw e (sym (port-step (interfaceAt h d) i t ∙ ap (λ (b : Bool). meet b i t) (leads h act pas d l (getD js i 0)))))
+        (λ i t k. rw e
+        (sym (port-step (interfaceAt h d) i t ∙ ap (λ (b : Bool). meet b i t) (leads h act pas d l (getD js i 0)))))
         ∙ sym (ports-up (interfaceAt h d))
 
     -- ---- one pass: each column's cell is that of the interface's ports so far
@@ -105,9 +109,11 @@ module _ (h : Head) (js : List ℕ) where
     mark-cell i Several l = refl
 
     abbrev Cells : ℕ → List ℕ → Type 0
-    Cells i t = (length t ≡ 33) × ((d : ℕ) → d < h .actives + h .passives → getD t d 0 ≡ cellOf (upTo (portStep pl (interfaceAt h d)) i Missing))
+    Cells i t = (length t ≡ 33) × ((d : ℕ) → d < h .actives + h .passives → getD t d 0
+        ≡ cellOf (upTo (portStep pl (interfaceAt h d)) i Missing))
 
-    cells-step : (i : ℕ) (t : List ℕ) → i < 4 * h .routers → Cells i t → Cells (suc i) (foundStep (h .actives) (h .passives) js i t)
+    cells-step : (i : ℕ) (t : List ℕ) → i < 4 * h .routers → Cells i t
+        → Cells (suc i) (foundStep (h .actives) (h .passives) js i t)
     unfolding foundStep
     cells-step i t l (len, cells) = (length-set t c x ∙ len, λ d m. at d m (test (eqb d c)))
       where
@@ -118,13 +124,16 @@ module _ (h : Head) (js : List ℕ) where
         x = markOf (getD t c 0) i
 
         next : (d : ℕ) (m : d < h .actives + h .passives) (b : Bool) → eqb d c ≡ b
-            → upTo (portStep pl (interfaceAt h d)) (suc i) Missing ≡ meet b i (upTo (portStep pl (interfaceAt h d)) i Missing)
+            → upTo (portStep pl (interfaceAt h d)) (suc i) Missing
+            ≡ meet b i (upTo (portStep pl (interfaceAt h d)) i Missing)
         next d m b e =
             up-suc (portStep pl (interfaceAt h d)) i Missing
             ∙ port-step (interfaceAt h d) i (upTo (portStep pl (interfaceAt h d)) i Missing)
-            ∙ ap (λ (b : Bool). meet b i (upTo (portStep pl (interfaceAt h d)) i Missing)) (leads-column h act pas d m (getD js i 0) ∙ e)
+            ∙ ap (λ (b : Bool). meet b i (upTo (portStep pl (interfaceAt h d)) i Missing))
+            (leads-column h act pas d m (getD js i 0) ∙ e)
 
-        at : (d : ℕ) (m : d < h .actives + h .passives) → (eqb d c ≡ true) ⊎ (eqb d c ≡ false) → getD (set t c x) d 0 ≡ cellOf (upTo (portStep pl (interfaceAt h d)) (suc i) Missing)
+        at : (d : ℕ) (m : d < h .actives + h .passives) → (eqb d c ≡ true) ⊎ (eqb d c ≡ false)
+            → getD (set t c x) d 0 ≡ cellOf (upTo (portStep pl (interfaceAt h d)) (suc i) Missing)
         at d m (inl e) =
             let q : d ≡ c = eqb-true d c e in
             ap (λ (k : ℕ). getD (set t c x) k 0) q
@@ -137,15 +146,20 @@ module _ (h : Head) (js : List ℕ) where
             (getD-set-other t c d x 0 (eqb-false d c e) ∙ cells d m
             ∙ ap cellOf (sym (meet-miss i (upTo (portStep pl (interfaceAt h d)) i Missing))))
 
-    pub found-at : (d : ℕ) → d < h .actives + h .passives → getD (foundOf h js) d 0 ≡ cellOf (portsOf pl (interfaceAt h d))
+    pub found-at : (d : ℕ) → d < h .actives + h .passives
+        → getD (foundOf h js) d 0 ≡ cellOf (portsOf pl (interfaceAt h d))
     unfolding foundOf
     found-at d l = rw (ports-up (interfaceAt h d)) (all .1 d l)
       where
-        all : Cells (4 * h .routers) (upTo (foundStep (h .actives) (h .passives) js) (4 * h .routers) (replicate 33 64))
+        all : Cells (4 * h .routers)
+            (upTo (foundStep (h .actives) (h .passives) js) (4 * h .routers) (replicate 33 64))
         all =
             up-keeps-at Cells (foundStep (h .actives) (h .passives) js) (4 * h .routers) (replicate 33 64)
-            (λ i t k p. cells-step i t k p)
-            (refl, λ d m. getD-replicate 33 d 64 0 (omega arith) ∙ ap cellOf (up-none (portStep pl (interfaceAt h d)) Missing))
+            (λ i t k p. cells-step i t k p) (
+              refl,
+              λ d m. getD-replicate 33 d 64 0 (omega arith)
+                  ∙ ap cellOf (up-none (portStep pl (interfaceAt h d)) Missing),
+            )
 
     -- ---- what the cells tell
     one-cell : (t : Ports) → portOr0 t < 64 → ltb (cellOf t) 64 ≡ isOne t
@@ -174,35 +188,45 @@ module _ (h : Head) (js : List ℕ) where
         to : allBelow (h .actives + h .passives) Joined ≡ true → interfacesOk pl ≡ true
         to e =
             rw (
-              all-of (h .actives) (λ a. isOne (portsOf pl (active a))) (λ a l. rw (lt-ltb a (h .actives) l) at (all-at (h .actives + h .passives) Joined e a (omega arith))),
+              all-of (h .actives) (λ a. isOne (portsOf pl (active a)))
+                  (λ a l.
+                  rw (lt-ltb a (h .actives) l) at (all-at (h .actives + h .passives) Joined e a (omega arith))),
               all-of (h .passives) (λ p. isOne (portsOf pl (passive p))) (λ p l. last p l),
             )
           where
             last : (p : ℕ) → p < h .passives → isOne (portsOf pl (passive p)) ≡ true
             last p l =
                 let q : h .actives + p - h .actives ≡ p = omega arith in
-                rw (le-ltb (h .actives + p) (h .actives) (omega arith), q) at (all-at (h .actives + h .passives) Joined e (h .actives + p) (omega arith))
+                rw (le-ltb (h .actives + p) (h .actives) (omega arith), q) at (all-at (h .actives + h .passives) Joined
+                e (h .actives + p) (omega arith))
 
         from : interfacesOk pl ≡ true → allBelow (h .actives + h .passives) Joined ≡ true
         from e = all-of (h .actives + h .passives) Joined (λ d l. at d l (lt-or-ge d (h .actives)))
           where
-            parts : (allBelow (h .actives) (λ a. isOne (portsOf pl (active a))) ≡ true) × (allBelow (h .passives) (λ p. isOne (portsOf pl (passive p))) ≡ true)
+            parts : (allBelow (h .actives) (λ a. isOne (portsOf pl (active a))) ≡ true)
+                × (allBelow (h .passives) (λ p. isOne (portsOf pl (passive p))) ≡ true)
             parts = both _ _ e
 
             at : (d : ℕ) → d < h .actives + h .passives → (d < h .actives) ⊎ (h .actives ≤ d) → Joined d ≡ true
-            at d l (inl m) = rw (lt-ltb d (h .actives) m) (all-at (h .actives) (λ a. isOne (portsOf pl (active a))) (parts .0) d m)
-            at d l (inr m) = rw (le-ltb d (h .actives) m) (all-at (h .passives) (λ p. isOne (portsOf pl (passive p))) (parts .1) (d - h .actives) (omega arith))
+            at d l (inl m) =
+                rw (lt-ltb d (h .actives) m) (all-at (h .actives) (λ a. isOne (portsOf pl (active a))) (parts .0) d m)
+            at d l (inr m) = rw (le-ltb d (h .actives) m)
+                (all-at (h .passives) (λ p. isOne (portsOf pl (passive p))) (parts .1) (d - h .actives) (omega arith))
 
-    pub found-ok : (t : List ℕ) → t ≡ foundOf h js → allBelow (h .actives + h .passives) (λ d. ltb (getD t d 0) 64) ≡ interfacesOk pl
+    pub found-ok : (t : List ℕ) → t ≡ foundOf h js
+        → allBelow (h .actives + h .passives) (λ d. ltb (getD t d 0) 64) ≡ interfacesOk pl
     found-ok t e =
         rw e
         (all-same (h .actives + h .passives) (λ d. ltb (getD (foundOf h js) d 0) 64) Joined
         (λ d l. rw (found-at d l) (one-cell (portsOf pl (interfaceAt h d)) (port-small (interfaceAt h d))))
         ∙ columns)
 
-    pub found-homes : (t : List ℕ) → t ≡ foundOf h js → upTo (fill (λ d. portOfCell (getD t d 0))) (h .actives + h .passives) (replicate 32 0) ≡ homesOf pl
+    pub found-homes : (t : List ℕ) → t ≡ foundOf h js
+        → upTo (fill (λ d. portOfCell (getD t d 0))) (h .actives + h .passives) (replicate 32 0) ≡ homesOf pl
     unfolding homesOf tablePlan
     found-homes t e =
         rw e
-        (up-same (fill (λ d. portOfCell (getD (foundOf h js) d 0))) (fill (λ d. portOr0 (portsOf pl (interfaceAt h d)))) (h .actives + h .passives) (replicate 32 0)
-        (λ d s l. ap (set s d) (rw (found-at d l) (port-cell (portsOf pl (interfaceAt h d)) (port-small (interfaceAt h d))))))
+        (up-same (fill (λ d. portOfCell (getD (foundOf h js) d 0)))
+        (fill (λ d. portOr0 (portsOf pl (interfaceAt h d)))) (h .actives + h .passives) (replicate 32 0)
+        (λ d s l.
+        ap (set s d) (rw (found-at d l) (port-cell (portsOf pl (interfaceAt h d)) (port-small (interfaceAt h d))))))

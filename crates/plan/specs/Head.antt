@@ -49,7 +49,8 @@ abbrev pub within : ℕ → ℕ → ℕ → Bool
 within low n high = leb low n && leb n high
 
 unfoldable pub countsOk : Head → Bool
-countsOk h = within 1 (h .routers) 16 && within 1 (h .actives) 16 && within 1 (h .passives) 16 && within 2 (h .slots) 32
+countsOk h =
+    within 1 (h .routers) 16 && within 1 (h .actives) 16 && within 1 (h .passives) 16 && within 2 (h .slots) 32
 
 unfoldable pub capacitiesOk : Head → Bool
 capacitiesOk h =

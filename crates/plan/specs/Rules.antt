@@ -16,7 +16,8 @@ use Rattle.plan.specs.declared.Joint.the-variants.{Nothing, Router, Acti
 use Rattle.plan.specs.declared.Ports.{Ports}
 use Rattle.plan.specs.declared.Ports.the-variants.{Missing, One, Several}
 use Rattle.plan.specs.Head.{headOf, destinations, routesAt, bitCount, byteCount}
-use Rattle.plan.specs.Plan.{Plan, Port, Interface, active, passive, R, A, P, noSide, jointAt, routeAt, Has, jointOf}
+use Rattle.plan.specs.Plan.{Plan, Port, Interface, active, passive, R, A, P, noSide, jointAt, routeAt, Has}
+use Rattle.plan.specs.Plan.{jointOf}
 
 -- ---- refusal 3: 'wrong length or a fill bit set'
 -- 'Zero bits fill the last byte'
@@ -48,7 +49,8 @@ routeOk side = ltb side 4 || eqb side noSide
 
 pub record FieldsFit (b : List ℕ) : Type 0 where
   pub joints : (r s : ℕ) → r < headOf b .routers → s < 4
-      → JointFits (headOf b) (fieldOf b (jointAt r s) 2) (fieldOf b (jointAt r s + 2) 4) (fieldOf b (jointAt r s + 6) 2)
+      → JointFits (headOf b) (fieldOf b (jointAt r s) 2) (fieldOf b (jointAt r s + 2) 4)
+      (fieldOf b (jointAt r s + 6) 2)
   pub routes : (r d : ℕ) → r < headOf b .routers → d < destinations (headOf b)
       → RouteFits (fieldOf b (routeAt (headOf b) r d) 3)
 

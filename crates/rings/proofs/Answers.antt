@@ -32,12 +32,14 @@ order-onto n false x h = (x, h, refl)
 
 module _ (cells : List ℕ) (n : ℕ) where
   -- ---- the ends of a look at a node's cells: one leads on
-  pub cell-found : (m : List ℕ) (x j : ℕ) {b : Bool} → j < width → b ≡ leadsOn m n (cellAt cells x j) → b ≡ true → true ≡ goesOn cells n m x
+  pub cell-found : (m : List ℕ) (x j : ℕ) {b : Bool} → j < width → b ≡ leadsOn m n (cellAt cells x j) → b ≡ true
+      → true ≡ goesOn cells n m x
   unfolding goesOn
   cell-found m x j h e t = sym (any-of width (λ i. leadsOn m n (cellAt cells x i)) j h (sym e ∙ t))
 
   -- none leads on
-  pub cell-none : (m : List ℕ) (x : ℕ) {j : ℕ} → anyBelow j (λ i. leadsOn m n (cellAt cells x i)) ≡ false → j ≡ width → false ≡ goesOn cells n m x
+  pub cell-none : (m : List ℕ) (x : ℕ) {j : ℕ} → anyBelow j (λ i. leadsOn m n (cellAt cells x i)) ≡ false → j ≡ width
+      → false ≡ goesOn cells n m x
   unfolding goesOn
   cell-none m x e q = sym (rw q at e)
 
@@ -47,12 +49,14 @@ module _ (cells : List ℕ) (n : ℕ) where
   stays-dead x m a = record { marks = rw a; fewer = omega arith }
 
   -- it goes on
-  pub stays-alive : (x : ℕ) (m : List ℕ) → alive m x ≡ true → goesOn cells n m x ≡ true → Removes n (visited cells n x) m m 0
+  pub stays-alive : (x : ℕ) (m : List ℕ) → alive m x ≡ true → goesOn cells n m x ≡ true
+      → Removes n (visited cells n x) m m 0
   unfolding visited
   stays-alive x m a g = record { marks = rw (a, g); fewer = omega arith }
 
   -- it does not
-  pub dies : (x : ℕ) (m : List ℕ) → x < n → alive m x ≡ true → goesOn cells n m x ≡ false → Removes n (visited cells n x) m (set m x 0) 1
+  pub dies : (x : ℕ) (m : List ℕ) → x < n → alive m x ≡ true → goesOn cells n m x ≡ false
+      → Removes n (visited cells n x) m (set m x 0) 1
   unfolding visited
   dies x m h a g = record { marks = rw (a, g); fewer = let d = count-dies n x m h a in omega arith }
 
@@ -62,8 +66,8 @@ module _ (cells : List ℕ) (n : ℕ) where
   removes-none o m = record { marks = up-none (λ i. visited cells n (o i)) m; fewer = omega arith }
 
   -- one more
-  pub removes-more : (o : ℕ → ℕ) (m : List ℕ) (i x : ℕ) {t u : List ℕ} {g d : ℕ} → Removes n (visits cells n o i) m t g → x ≡ o i
-      → Removes n (visited cells n x) t u d → Removes n (visits cells n o (i + 1)) m u (g + d)
+  pub removes-more : (o : ℕ → ℕ) (m : List ℕ) (i x : ℕ) {t u : List ℕ} {g d : ℕ} → Removes n (visits cells n o i) m t g
+      → x ≡ o i → Removes n (visited cells n x) t u d → Removes n (visits cells n o (i + 1)) m u (g + d)
   unfolding visits
   removes-more o m i x {t} a e b = record {
     marks = up-more (λ j. visited cells n (o j)) m i (a .marks) (b .marks ∙ ap (λ (y : ℕ). visited cells n y t) e);
@@ -71,19 +75,23 @@ module _ (cells : List ℕ) (n : ℕ) where
   }
 
   -- after them
-  pub removes-done : (o : ℕ → ℕ) {m t : List ℕ} {i k gone : ℕ} → Removes n (visits cells n o i) m t gone → i ≡ k → Removes n (visits cells n o k) m t gone
+  pub removes-done : (o : ℕ → ℕ) {m t : List ℕ} {i k gone : ℕ} → Removes n (visits cells n o i) m t gone → i ≡ k
+      → Removes n (visits cells n o k) m t gone
   removes-done o r e = rw (← e) r
 
   -- ---- where all nodes are settled, one that is alive begins chains of any length
-  chain : (m : List ℕ) → ((x : ℕ) → x < n → Settled cells n m x) → (k x : ℕ) → x < n → alive m x ≡ true → Chain n (edge cells) k x
+  chain : (m : List ℕ) → ((x : ℕ) → x < n → Settled cells n m x) → (k x : ℕ) → x < n → alive m x ≡ true
+      → Chain n (edge cells) k x
   chain m s zero x l a = still n (edge cells) x l
   chain m s (suc k) x l a = by (λ y h b. chain m s k y h b) (goes-at cells n m x (s x l a))
     where
-      by : ((y : ℕ) → y < n → alive m y ≡ true → Chain n (edge cells) k y) → (y : ℕ) × (edge cells x y ≡ true) × (y < n) × (alive m y ≡ true) → Chain n (edge cells) (suc k) x
+      by : ((y : ℕ) → y < n → alive m y ≡ true → Chain n (edge cells) k y)
+          → (y : ℕ) × (edge cells x y ≡ true) × (y < n) × (alive m y ≡ true) → Chain n (edge cells) (suc k) x
       by rec (y, e, h, b) = longer n (edge cells) l e (rec y h b)
 
   -- after a sweep that removed none, every node is settled
-  settled : (down : Bool) (m : List ℕ) → count n (visits cells n (order n down) n m) ≡ count n m → (x : ℕ) → x < n → Settled cells n m x
+  settled : (down : Bool) (m : List ℕ) → count n (visits cells n (order n down) n m) ≡ count n m → (x : ℕ) → x < n
+      → Settled cells n m x
   settled down m e x l = by (order-onto n down x l)
     where
       by : (i : ℕ) × (i < n) × (order n down i ≡ x) → Settled cells n m x
@@ -95,22 +103,27 @@ module _ (cells : List ℕ) (n : ℕ) where
   ring-found down m {t} {left} {gone} c p r z =
       let f = r .fewer in
       let same : count n t ≡ count n m = omega arith in
-      sym (test-of-ring n (edge cells) (by (count-found n m (omega arith)) (settled down m (sym (ap (count n) (r .marks)) ∙ same))))
+      sym (test-of-ring n (edge cells)
+      (by (count-found n m (omega arith)) (settled down m (sym (ap (count n) (r .marks)) ∙ same))))
     where
       by : Found n (alive m) → ((x : ℕ) → x < n → Settled cells n m x) → Ring (Leads n (edge cells))
       by (x, l, a) s = ring-in n (edge cells) (chain m s n x l a)
 
   -- none is alive
-  pub ring-none : (m : List ℕ) {left : ℕ} → Held cells n m → left ≡ count n m → left ≤ 0 → false ≡ ringTest n (edge cells)
+  pub ring-none : (m : List ℕ) {left : ℕ} → Held cells n m → left ≡ count n m → left ≤ 0
+      → false ≡ ringTest n (edge cells)
   ring-none m h c z = sym (refuted (ringTest n (edge cells)) (λ t. never (ring-of-test n (edge cells) t)))
     where
       never : Ring (Leads n (edge cells)) → ⊥
-      never r = let s = count-some n (r .node 0) m (r .linked 0 (r .some) .from) (held-node cells n m h r) in omega arith
+      never r =
+          let s = count-some n (r .node 0) m (r .linked 0 (r .some) .from) (held-node cells n m h r) in
+          omega arith
 
   -- ---- the search at its start
   pub held-start : {m : List ℕ} → m ≡ everyAlive → n ≤ 400 → (n ≡ count n m) × Held cells n m
   held-start e h = rw e (sym (count-start n h), held-all cells n everyAlive (λ x l. alive-start x (omega arith)))
 
   -- and after a sweep
-  pub held-sweep : (down : Bool) (m : List ℕ) {t : List ℕ} {gone : ℕ} → Held cells n m → Removes n (visits cells n (order n down) n) m t gone → Held cells n t
+  pub held-sweep : (down : Bool) (m : List ℕ) {t : List ℕ} {gone : ℕ} → Held cells n m
+      → Removes n (visits cells n (order n down) n) m t gone → Held cells n t
   held-sweep down m h r = rw (r .marks) (held-visits cells n (order n down) n m h)

@@ -53,7 +53,8 @@ unfolding count
 count-dies zero x m h a = absurd (not-suc-le-zero h)
 count-dies (suc k) x m h a = by (λ l. count-dies k x m l a) (below-suc h)
   where
-    by : (x < k → suc (count k (set m x 0)) ≡ count k m) → (x < k) ⊎ (x ≡ k) → suc (count (suc k) (set m x 0)) ≡ count (suc k) m
+    by : (x < k → suc (count k (set m x 0)) ≡ count k m) → (x < k) ⊎ (x ≡ k)
+        → suc (count (suc k) (set m x 0)) ≡ count (suc k) m
     by rec (inl l) = let s = rec l in rw (alive-other m x k (λ e. omega arith)) (omega arith)
     by rec (inr e) = rw (← e, dead-at m x, a, count-past x x m (omega arith)) (omega arith)
 

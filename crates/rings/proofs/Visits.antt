@@ -1,4 +1,5 @@
--- Visits of nodes in any order: they keep every node of every ring, and where they removed none, each alive node that they visited has an alive successor.
+-- Visits of nodes in any order: they keep every node of every ring, and where they removed none, each alive node that
+-- they visited has an alive successor.
 use mathlib.Core.Path.{_≡_, refl, sym, ap, _∙_}
 use mathlib.Core.Logic.{_⊎_, inl, inr}
 use mathlib.Core.List.{List}
@@ -20,14 +21,17 @@ use Rattle.rings.proofs.Marks.{alive-other, count-dies}
 -- ---- a cell that leads on names an alive node below n
 leads-of : (m : List ℕ) (n c y : ℕ) → c ≡ suc y → y < n → alive m y ≡ true → leadsOn m n c ≡ true
 unfolding leadsOn
-leads-of m n c y e l a = let before : c - 1 ≡ y = omega arith in rw (ne-eqb c 0 (λ q. omega arith), le-ltb n c (omega arith), before) a
+leads-of m n c y e l a =
+    let before : c - 1 ≡ y = omega arith in
+    rw (ne-eqb c 0 (λ q. omega arith), le-ltb n c (omega arith), before) a
 
 -- and the other way round
 leads-at : (m : List ℕ) (n c : ℕ) → leadsOn m n c ≡ true → (y : ℕ) × (c ≡ suc y) × (y < n) × (alive m y ≡ true)
 unfolding leadsOn
 leads-at m n c t = by (test (eqb c 0)) (test (ltb n c))
   where
-    by : (eqb c 0 ≡ true) ⊎ (eqb c 0 ≡ false) → (ltb n c ≡ true) ⊎ (ltb n c ≡ false) → (y : ℕ) × (c ≡ suc y) × (y < n) × (alive m y ≡ true)
+    by : (eqb c 0 ≡ true) ⊎ (eqb c 0 ≡ false) → (ltb n c ≡ true) ⊎ (ltb n c ≡ false)
+        → (y : ℕ) × (c ≡ suc y) × (y < n) × (alive m y ≡ true)
     by (inl z) w = absurd (false≢true (rw z at t))
     by (inr z) (inl w) = absurd (false≢true (rw (z, w) at t))
     by (inr z) (inr w) =
@@ -42,17 +46,21 @@ module _ (cells : List ℕ) (n : ℕ) where
   goes-of m x y l a = by (edge-at cells x y (l .step))
     where
       by : (j : ℕ) × (j < width) × (cellAt cells x j ≡ suc y) → goesOn cells n m x ≡ true
-      by (j, h, e) = any-of width (λ i. leadsOn m n (cellAt cells x i)) j h (leads-of m n (cellAt cells x j) y e (l .to) a)
+      by (j, h, e) =
+          any-of width (λ i. leadsOn m n (cellAt cells x i)) j h (leads-of m n (cellAt cells x j) y e (l .to) a)
 
   -- and the other way round
-  pub goes-at : (m : List ℕ) (x : ℕ) → goesOn cells n m x ≡ true → (y : ℕ) × (edge cells x y ≡ true) × (y < n) × (alive m y ≡ true)
+  pub goes-at : (m : List ℕ) (x : ℕ) → goesOn cells n m x ≡ true → (y : ℕ) × (edge cells x y ≡ true) × (y < n)
+      × (alive m y ≡ true)
   unfolding goesOn
   goes-at m x t = by (any-true width (λ j. leadsOn m n (cellAt cells x j)) t)
     where
-      to : (j : ℕ) → j < width → (y : ℕ) × (cellAt cells x j ≡ suc y) × (y < n) × (alive m y ≡ true) → (y : ℕ) × (edge cells x y ≡ true) × (y < n) × (alive m y ≡ true)
+      to : (j : ℕ) → j < width → (y : ℕ) × (cellAt cells x j ≡ suc y) × (y < n) × (alive m y ≡ true)
+          → (y : ℕ) × (edge cells x y ≡ true) × (y < n) × (alive m y ≡ true)
       to j h (y, e, l, a) = (y, edge-of cells x y j h e, l, a)
 
-      by : Found width (λ j. leadsOn m n (cellAt cells x j)) → (y : ℕ) × (edge cells x y ≡ true) × (y < n) × (alive m y ≡ true)
+      by : Found width (λ j. leadsOn m n (cellAt cells x j)) → (y : ℕ) × (edge cells x y ≡ true) × (y < n)
+          × (alive m y ≡ true)
       by (j, h, e) = to j h (leads-at m n (cellAt cells x j) e)
 
   -- a node of which nothing is to be removed: where it is alive it goes on
@@ -70,7 +78,8 @@ module _ (cells : List ℕ) (n : ℕ) where
   unfolding visited
   outcome x m = by (test (alive m x)) (test (goesOn cells n m x))
     where
-      by : (alive m x ≡ true) ⊎ (alive m x ≡ false) → (goesOn cells n m x ≡ true) ⊎ (goesOn cells n m x ≡ false) → Outcome x m
+      by : (alive m x ≡ true) ⊎ (alive m x ≡ false) → (goesOn cells n m x ≡ true) ⊎ (goesOn cells n m x ≡ false)
+          → Outcome x m
       by (inl a) (inl g) = inl (rw (a, g), λ t. g)
       by (inl a) (inr g) = inr (rw (a, g), a, g)
       by (inr a) g = inl (rw a, λ t. absurd (not-both t a))
@@ -145,12 +154,13 @@ module _ (cells : List ℕ) (n : ℕ) where
         more s f i (inl l) = f i l
         more s f i (inr q) = rw q s
 
-        last : visited cells n (o k) (visits cells n o k m) ≡ visits cells n o k m → Settled (visits cells n o k m) (o k)
-            → (visits cells n o k m ≡ m) × ((i : ℕ) → i < k → Settled m (o i))
+        last : visited cells n (o k) (visits cells n o k m) ≡ visits cells n o k m
+            → Settled (visits cells n o k m) (o k) → (visits cells n o k m ≡ m) × ((i : ℕ) → i < k → Settled m (o i))
             → (visits cells n o (suc k) m ≡ m) × ((i : ℕ) → i < suc k → Settled m (o i))
         last same s (was, f) = (same ∙ was, λ i l. more (rw was at s) f i (below-suc l))
 
-        by : (count n (visits cells n o k m) ≡ count n m → (visits cells n o k m ≡ m) × ((i : ℕ) → i < k → Settled m (o i)))
+        by : (count n (visits cells n o k m) ≡ count n m → (visits cells n o k m ≡ m)
+            × ((i : ℕ) → i < k → Settled m (o i)))
             → Outcome (o k) (visits cells n o k m)
             → (visits cells n o (suc k) m ≡ m) × ((i : ℕ) → i < suc k → Settled m (o i))
         by rec (inl (same, s)) = last same s (rec (sym (ap (count n) same) ∙ e))

@@ -75,18 +75,30 @@ unless true d = record { holds = λ q e. absurd (true≢false e); passes = λ f.
 unless false d = record { holds = λ q e. d .holds q; passes = λ f. d .passes (f refl) }
 
 -- ---- every number below a bound, some number below it, every element of a list
-pub all-below : (n : ℕ) (f : ℕ → Bool) (X : ℕ → Type 0) → ((i : ℕ) → i < n → Decides (f i) (X i)) → Decides (allBelow n f) ((i : ℕ) → i < n → X i)
-all-below n f X d = record { holds = λ e i h. d i h .holds (all-at n f e i h); passes = λ g. all-of n f (λ i h. d i h .passes (g i h)) }
+pub all-below : (n : ℕ) (f : ℕ → Bool) (X : ℕ → Type 0) → ((i : ℕ) → i < n → Decides (f i) (X i))
+    → Decides (allBelow n f) ((i : ℕ) → i < n → X i)
+all-below n f X d =
+    record {
+      holds = λ e i h. d i h .holds (all-at n f e i h);
+      passes = λ g. all-of n f (λ i h. d i h .passes (g i h));
+    }
 
-pub any-below : (n : ℕ) (f : ℕ → Bool) (X : ℕ → Type 0) → ((i : ℕ) → i < n → Decides (f i) (X i)) → Decides (anyBelow n f) ((i : ℕ) × (i < n) × X i)
-any-below n f X d = record { holds = λ e. by (any-true n f e); passes = λ x. any-of n f (x .0) (x .1) (d (x .0) (x .1) .passes (x .2)) }
+pub any-below : (n : ℕ) (f : ℕ → Bool) (X : ℕ → Type 0) → ((i : ℕ) → i < n → Decides (f i) (X i))
+    → Decides (anyBelow n f) ((i : ℕ) × (i < n) × X i)
+any-below n f X d =
+    record {
+      holds = λ e. by (any-true n f e);
+      passes = λ x. any-of n f (x .0) (x .1) (d (x .0) (x .1) .passes (x .2));
+    }
   where
     by : (i : ℕ) × (i < n) × (f i ≡ true) → (i : ℕ) × (i < n) × X i
     by (i, h, e) = (i, h, d i h .holds e)
 
-pub all-in : {X : Type 0} (f : X → Bool) (Y : X → Type 0) → ((x : X) → Decides (f x) (Y x)) → (xs : List X) → Decides (allIn f xs) ((x : X) → In x xs → Y x)
+pub all-in : {X : Type 0} (f : X → Bool) (Y : X → Type 0) → ((x : X) → Decides (f x) (Y x)) → (xs : List X)
+    → Decides (allIn f xs) ((x : X) → In x xs → Y x)
 all-in f Y d [] = always (λ x i. absurd i)
-all-in {X} f Y d (x ∷ xs) = like (both (d x) (λ y. all-in f Y d xs)) (λ p y i. by p y i) (λ g. (g x (inl refl), λ y i. g y (inr i)))
+all-in {X} f Y d (x ∷ xs) =
+    like (both (d x) (λ y. all-in f Y d xs)) (λ p y i. by p y i) (λ g. (g x (inl refl), λ y i. g y (inr i)))
   where
     by : Y x × ((y : X) → In y xs → Y y) → (y : X) → In y (x ∷ xs) → Y y
     by p y (inl e) = rw e (p .0)

@@ -17,7 +17,8 @@ use Rattle.wiring.proofs.Wires.{near, home-inside}
 use Rattle.journeys.proofs.Walks.{onward-on, walk-short}
 use Rattle.journeys.proofs.Places.{back-walk, next-walk}
 use Rattle.valid.proofs.Decides.{Decides, like, never, most, same, both, either, any-below}
-use Rattle.valid.specs.Test.{standsAt, reached, leftTest, meetsTest, aheadTest, onMeets, nackMeets, returnsTest, backTest, fitsTest}
+use Rattle.valid.specs.Test.{standsAt, reached, leftTest, meetsTest, aheadTest, onMeets, nackMeets, returnsTest}
+use Rattle.valid.specs.Test.{backTest, fitsTest}
 
 -- ---- where a walk stands
 suc-not : {n : ℕ} → zero ≡ suc n → ⊥
@@ -40,12 +41,15 @@ stands-on r end = never (λ e. on-end (sym (e .1)))
 stands-on r lost = never (λ e. on-lost (sym (e .1)))
 
 -- a walk that arrives comes in by y within as many steps as there are routers
-meets : {pl : Plan} → Wired pl → (e : Interface) (from : Port) → from .router < R pl → Walk pl e from → (y : Port) → Decides (meetsTest pl e from y) (Meets pl e from y)
+meets : {pl : Plan} → Wired pl → (e : Interface) (from : Port) → from .router < R pl → Walk pl e from → (y : Port)
+    → Decides (meetsTest pl e from y) (Meets pl e from y)
 unfolding meetsTest
 meets {pl} wired e from h w y =
-    like (any-below (R pl) _ (λ k. walked pl e k from ≡ on y) (λ k l. stands-at (y .router) (y .side) (walked pl e k from)))
+    like (any-below (R pl) _ (λ k. walked pl e k from ≡ on y)
+    (λ k l. stands-at (y .router) (y .side) (walked pl e k from)))
     (λ f. record { steps = f .0; here = f .2 })
-    (λ m. let short = walk-short wired e from h w in let o = way-on (onward pl e) routerOf w (m .steps) y (m .here) in (m .steps, omega arith, m .here))
+    (λ m. let short = walk-short wired e from h w in let o = way-on (onward pl e) routerOf w (m .steps) y (m .here) in
+    (m .steps, omega arith, m .here))
 
 module _ (pl : Plan) (a p : ℕ) where
   -- ---- on the way to the passive
@@ -63,7 +67,8 @@ module _ (pl : Plan) (a p : ℕ) where
   ahead-decides (inQueue (Q r)) n = stands-on r (reached pl a p n)
   ahead-decides (handledAt r) n = left r n
   ahead-decides (inQueue (F r o)) n =
-      like (both (left r n) (λ f. same o (routeTo pl (passive p) r))) (λ f. (f .0 .0, f .0 .1, f .0 .2, f .0 .3, f .1)) (λ f. ((f .0, f .1, f .2, f .3), f .4))
+      like (both (left r n) (λ f. same o (routeTo pl (passive p) r))) (λ f. (f .0 .0, f .0 .1, f .0 .2, f .0 .3, f .1))
+      (λ f. ((f .0, f .1, f .2, f .3), f .4))
   ahead-decides (inQueue (passiveIn x)) n = both (same x p) (λ e. same n (span pl a p))
   ahead-decides (inQueue (activeIn x)) n = never (λ f. f)
   ahead-decides (inQueue (passiveOut x)) n = never (λ f. f)
@@ -75,15 +80,18 @@ module _ {pl : Plan} (wired : Wired pl) (a p : ℕ) (ha : a < A pl) (hp : p < P 
   on-meets : (n : ℕ) (x y : Port) → reached pl a p n ≡ on x → (t : Spot Port) → onward pl (active a) x ≡ t
       → Decides (onMeets pl a y t) ((z : Port) × (t ≡ on z) × Meets pl (active a) z y)
   on-meets n x y q (on z) e =
-      like (meets wired (active a) z (near wired (onward-on pl (active a) x z e) .0) (next-walk wired a p ha hp s x z (record { steps = n; here = q }) e) y)
+      like (meets wired (active a) z (near wired (onward-on pl (active a) x z e) .0)
+      (next-walk wired a p ha hp s x z (record { steps = n; here = q }) e) y)
       (λ m. (z, refl, m)) (λ f. rw (on-same (f .1)) (f .2))
   on-meets n x y q end e = never (λ f. on-end (sym (f .1)))
   on-meets n x y q lost e = never (λ f. on-lost (sym (f .1)))
 
   nack-meets : (n : ℕ) (y : Port) (t : Spot Port) → reached pl a p n ≡ t
-      → Decides (nackMeets pl a y t) ((x z : Port) × (t ≡ on x) × (onward pl (active a) x ≡ on z) × Meets pl (active a) z y)
+      → Decides (nackMeets pl a y t)
+      ((x z : Port) × (t ≡ on x) × (onward pl (active a) x ≡ on z) × Meets pl (active a) z y)
   nack-meets n y (on x) q =
-      like (on-meets n x y q (onward pl (active a) x) refl) (λ f. (x, f .0, refl, f .1, f .2)) (λ f. (f .1, rw (on-same (f .2)) (f .3), f .4))
+      like (on-meets n x y q (onward pl (active a) x) refl) (λ f. (x, f .0, refl, f .1, f .2))
+      (λ f. (f .1, rw (on-same (f .2)) (f .3), f .4))
   nack-meets n y end q = never (λ f. on-end (sym (f .2)))
   nack-meets n y lost q = never (λ f. on-lost (sym (f .2)))
 
@@ -92,7 +100,8 @@ module _ {pl : Plan} (wired : Wired pl) (a p : ℕ) (ha : a < A pl) (hp : p < P 
   returns-decides n y =
       let h = home-inside (passive p) wired hp in
       either
-      (like (both (same n (span pl a p)) (λ e. meets wired (active a) (home pl (passive p)) (h .0) (back-walk wired a p ha hp s) y)) (λ f. (f .1, f .0)) (λ f. (f .1, f .0)))
+      (like (both (same n (span pl a p)) (λ e. meets wired (active a) (home pl (passive p)) (h .0)
+      (back-walk wired a p ha hp s) y)) (λ f. (f .1, f .0)) (λ f. (f .1, f .0)))
       (nack-meets n y (reached pl a p n) refl)
 
   pub back-decides : (x : Place) (n : ℕ) → Decides (backTest pl a p x n) (Back pl a p x n)
@@ -100,9 +109,11 @@ module _ {pl : Plan} (wired : Wired pl) (a p : ℕ) (ha : a < A pl) (hp : p < P 
   back-decides (inQueue (passiveOut x)) n = both (same x p) (λ e. same n (span pl a p))
   back-decides (handledAt r) n = stands-on r (reached pl a p n)
   back-decides (inQueue (F r o)) n =
-      like (both (stands-on r (reached pl a p n)) (λ f. same o (routeTo pl (active a) r))) (λ f. (f .0 .0, f .0 .1, f .1)) (λ f. ((f .0, f .1), f .2))
+      like (both (stands-on r (reached pl a p n)) (λ f. same o (routeTo pl (active a) r)))
+      (λ f. (f .0 .0, f .0 .1, f .1)) (λ f. ((f .0, f .1), f .2))
   back-decides (inQueue (K r i o)) n =
-      like (both (same o (routeTo pl (active a) r)) (λ e. returns-decides n (record { router = r; side = i }))) (λ f. (f .1, f .0)) (λ f. (f .1, f .0))
+      like (both (same o (routeTo pl (active a) r)) (λ e. returns-decides n (record { router = r; side = i })))
+      (λ f. (f .1, f .0)) (λ f. (f .1, f .0))
   back-decides (inQueue (activeIn x)) n = both (same x a) (λ e. most n (span pl a p))
   back-decides (inQueue (Q r)) n = never (λ f. f)
   back-decides (inQueue (U r i)) n = never (λ f. f)
@@ -115,8 +126,10 @@ module _ {pl : Plan} (wired : Wired pl) (a p : ℕ) (ha : a < A pl) (hp : p < P 
   fits-decides Setup hub x = ahead-decides pl a p x hub
   fits-decides Tdown hub x =
       like
-      (both (most 1 hub) (λ h. any-below (span pl a p) _ (λ n. (n + hub ≤ span pl a p) × Ahead pl a p x n) (λ n l. both (most (n + hub) (span pl a p)) (λ m. ahead-decides pl a p x n))))
+      (both (most 1 hub) (λ h. any-below (span pl a p) _ (λ n. (n + hub ≤ span pl a p) × Ahead pl a p x n)
+      (λ n l. both (most (n + hub) (span pl a p)) (λ m. ahead-decides pl a p x n))))
       (λ f. (f .1 .0, f .1 .2 .1, f .0, f .1 .2 .0))
       (λ f. (f .2, (f .0, omega (arith, f .2, f .3), (f .3, f .1))))
-  fits-decides Ack hub x = like (both (same hub (span pl a p)) (λ e. back-decides x hub)) (λ f. (f .1, f .0)) (λ f. (f .1, f .0))
+  fits-decides Ack hub x =
+      like (both (same hub (span pl a p)) (λ e. back-decides x hub)) (λ f. (f .1, f .0)) (λ f. (f .1, f .0))
   fits-decides Nack hub x = back-decides x hub

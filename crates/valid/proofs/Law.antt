@@ -22,9 +22,12 @@ use Rattle.machine.specs.Write.{ofRank}
 use Rattle.machine.specs.Valid.{Lined, Drives, Carries, bit, onWires, total, spends, fed, Valid}
 use Rattle.wiring.specs.Wired.{Wired}
 use Rattle.valid.proofs.Decides.{Decides, like, not-so, less, most, same, given, unless, all-below, any-below}
-use Rattle.valid.specs.Test.{slotTest, entriesTest, capacitiesTest, placesTest, wiresTest, wiresEmptyTest, choicesTest, flagsDownTest, pickedDownTest, outFlagsTest, marksTest, freeEntryTest, creditsTest, outCreditsTest, allowancesTest, validTest}
+use Rattle.valid.specs.Test.{slotTest, entriesTest, capacitiesTest, placesTest, wiresTest, wiresEmptyTest}
+use Rattle.valid.specs.Test.{choicesTest, flagsDownTest, pickedDownTest, outFlagsTest, marksTest, freeEntryTest}
+use Rattle.valid.specs.Test.{creditsTest, outCreditsTest, allowancesTest, validTest}
 use Rattle.valid.proofs.Packets.{lined-decides, wire-decides}
-use Rattle.valid.proofs.Parts.{every-queue, every-output, in-phase, out-of-phase, empty-decides, choice-decides, picked-decides, mark-decides, entry-decides, free-decides}
+use Rattle.valid.proofs.Parts.{every-queue, every-output, in-phase, out-of-phase, empty-decides, choice-decides}
+use Rattle.valid.proofs.Parts.{picked-decides, mark-decides, entry-decides, free-decides}
 
 -- ---- the parts of Valid, in its order
 module _ (pl : Plan) (s : State) where
@@ -32,52 +35,68 @@ module _ (pl : Plan) (s : State) where
   unfolding slotTest
   slot-decides = less (s .clock .slot .0) (S pl)
 
-  entries-decide : Decides (entriesTest pl s) ((r o t i : ℕ) → r < R pl → o < 4 → t < S pl → s .table r o t ≡ Booked i → i < 4)
+  entries-decide : Decides (entriesTest pl s)
+      ((r o t i : ℕ) → r < R pl → o < 4 → t < S pl → s .table r o t ≡ Booked i → i < 4)
   unfolding entriesTest
   entries-decide =
       like
       (all-below (R pl) _ (λ r. (o : ℕ) → o < 4 → (t : ℕ) → t < S pl → (i : ℕ) → s .table r o t ≡ Booked i → i < 4)
       (λ r h. all-below 4 _ (λ o. (t : ℕ) → t < S pl → (i : ℕ) → s .table r o t ≡ Booked i → i < 4)
-      (λ o k. all-below (S pl) _ (λ t. (i : ℕ) → s .table r o t ≡ Booked i → i < 4) (λ t l. entry-decides (s .table r o t)))))
+      (λ o k. all-below (S pl) _ (λ t. (i : ℕ) → s .table r o t ≡ Booked i → i < 4)
+      (λ t l. entry-decides (s .table r o t)))))
       (λ f r o t i h k l e. f r h o k t l i e)
       (λ f r h o k t l i e. f r o t i h k l e)
 
-  capacities-decide : Decides (capacitiesTest pl s) ((q : Queue) → Exists pl q → length (s .lines .queue q) ≤ capacity (pl .head) q)
+  capacities-decide : Decides (capacitiesTest pl s)
+      ((q : Queue) → Exists pl q → length (s .lines .queue q) ≤ capacity (pl .head) q)
   unfolding capacitiesTest
-  capacities-decide = every-queue pl _ (λ q. length (s .lines .queue q) ≤ capacity (pl .head) q) (λ q h. most (length (s .lines .queue q)) (capacity (pl .head) q))
+  capacities-decide = every-queue pl _ (λ q. length (s .lines .queue q) ≤ capacity (pl .head) q)
+      (λ q h. most (length (s .lines .queue q)) (capacity (pl .head) q))
 
-  places-decide : Wired pl → Decides (placesTest pl s) ((q : Queue) → Exists pl q → Lined pl q (s .lines .handled q) (s .lines .queue q))
+  places-decide : Wired pl
+      → Decides (placesTest pl s) ((q : Queue) → Exists pl q → Lined pl q (s .lines .handled q) (s .lines .queue q))
   unfolding placesTest
-  places-decide wired = every-queue pl _ (λ q. Lined pl q (s .lines .handled q) (s .lines .queue q)) (λ q h. lined-decides wired q (s .lines .handled q) (s .lines .queue q))
+  places-decide wired = every-queue pl _ (λ q. Lined pl q (s .lines .handled q) (s .lines .queue q))
+      (λ q h. lined-decides wired q (s .lines .handled q) (s .lines .queue q))
 
-  wires-decide : Wired pl → Decides (wiresTest pl s) ((o : Output) → Drives pl o → (x : Packet) → s .links .wire o ≡ Full x → Carries pl o x)
+  wires-decide : Wired pl → Decides (wiresTest pl s)
+      ((o : Output) → Drives pl o → (x : Packet) → s .links .wire o ≡ Full x → Carries pl o x)
   unfolding wiresTest
-  wires-decide wired = every-output pl _ (λ o. (x : Packet) → s .links .wire o ≡ Full x → Carries pl o x) (λ o h. wire-decides wired o (s .links .wire o))
+  wires-decide wired = every-output pl _ (λ o. (x : Packet) → s .links .wire o ≡ Full x → Carries pl o x)
+      (λ o h. wire-decides wired o (s .links .wire o))
 
-  wires-empty-decide : Decides (wiresEmptyTest pl s) (s .clock .phase ≢ Read → (o : Output) → Drives pl o → s .links .wire o ≡ Empty)
+  wires-empty-decide : Decides (wiresEmptyTest pl s)
+      (s .clock .phase ≢ Read → (o : Output) → Drives pl o → s .links .wire o ≡ Empty)
   unfolding wiresEmptyTest
-  wires-empty-decide = out-of-phase (s .clock .phase) Read (every-output pl _ (λ o. s .links .wire o ≡ Empty) (λ o h. empty-decides (s .links .wire o)))
+  wires-empty-decide = out-of-phase (s .clock .phase) Read
+      (every-output pl _ (λ o. s .links .wire o ≡ Empty) (λ o h. empty-decides (s .links .wire o)))
 
   choices-decide : Decides (choicesTest pl s)
-      ((o : Output) (k : ℕ) → Drives pl o → s .links .choice o ≡ sender k → (s .clock .phase ≡ Write) × ((q : Queue) × (ofRank (senders o) k ≡ some q) × (candidate pl s o q ≡ true)))
+      ((o : Output) (k : ℕ) → Drives pl o → s .links .choice o ≡ sender k → (s .clock .phase ≡ Write)
+      × ((q : Queue) × (ofRank (senders o) k ≡ some q) × (candidate pl s o q ≡ true)))
   unfolding choicesTest
   choices-decide =
       like
       (every-output pl _
-      (λ o. (k : ℕ) → s .links .choice o ≡ sender k → (s .clock .phase ≡ Write) × ((q : Queue) × (ofRank (senders o) k ≡ some q) × (candidate pl s o q ≡ true)))
+      (λ o. (k : ℕ) → s .links .choice o ≡ sender k → (s .clock .phase ≡ Write)
+      × ((q : Queue) × (ofRank (senders o) k ≡ some q) × (candidate pl s o q ≡ true)))
       (λ o h. choice-decides pl s o (s .links .choice o)))
       (λ f o k h e. f o h k e)
       (λ f o h k e. f o k h e)
 
-  flags-down-decide : Decides (flagsDownTest pl s) (s .clock .phase ≡ Execute → (q : Queue) → Exists pl q → s .flow .flag q ≡ false)
+  flags-down-decide : Decides (flagsDownTest pl s)
+      (s .clock .phase ≡ Execute → (q : Queue) → Exists pl q → s .flow .flag q ≡ false)
   unfolding flagsDownTest
-  flags-down-decide = in-phase (s .clock .phase) Execute (every-queue pl _ (λ q. s .flow .flag q ≡ false) (λ q h. not-so (s .flow .flag q)))
+  flags-down-decide = in-phase (s .clock .phase) Execute
+      (every-queue pl _ (λ q. s .flow .flag q ≡ false) (λ q h. not-so (s .flow .flag q)))
 
-  picked-down-decide : Decides (pickedDownTest pl s) ((o : Output) (k : ℕ) (q : Queue) → Drives pl o → s .links .choice o ≡ sender k → ofRank (senders o) k ≡ some q → s .flow .flag q ≡ false)
+  picked-down-decide : Decides (pickedDownTest pl s) ((o : Output) (k : ℕ) (q : Queue) → Drives pl o
+      → s .links .choice o ≡ sender k → ofRank (senders o) k ≡ some q → s .flow .flag q ≡ false)
   unfolding pickedDownTest
   picked-down-decide =
       like
-      (every-output pl _ (λ o. (k : ℕ) (q : Queue) → s .links .choice o ≡ sender k → ofRank (senders o) k ≡ some q → s .flow .flag q ≡ false)
+      (every-output pl _ (λ o. (k : ℕ) (q : Queue) → s .links .choice o ≡ sender k → ofRank (senders o) k ≡ some q
+      → s .flow .flag q ≡ false)
       (λ o h. picked-decides pl s o (s .links .choice o)))
       (λ f o k q h e g. f o h k q e g)
       (λ f o h k q e g. f o k q h e g)
@@ -86,11 +105,14 @@ module _ (pl : Plan) (s : State) where
   unfolding outFlagsTest
   out-flags-decide = every-queue pl _ (λ q. fed pl q ≡ false → s .flow .flag q ≡ false) (λ q h. unless (fed pl q) (not-so (s .flow .flag q)))
 
-  marks-decide : Decides (marksTest pl s) ((q : Queue) → Exists pl q → s .lines .handled q ≡ true → (r : ℕ) × (q ≡ Q r) × (s .lines .queue q ≢ []))
+  marks-decide : Decides (marksTest pl s)
+      ((q : Queue) → Exists pl q → s .lines .handled q ≡ true → (r : ℕ) × (q ≡ Q r) × (s .lines .queue q ≢ []))
   unfolding marksTest
-  marks-decide = every-queue pl _ (λ q. s .lines .handled q ≡ true → (r : ℕ) × (q ≡ Q r) × (s .lines .queue q ≢ [])) (λ q h. mark-decides q (s .lines .handled q) (s .lines .queue q))
+  marks-decide = every-queue pl _ (λ q. s .lines .handled q ≡ true → (r : ℕ) × (q ≡ Q r) × (s .lines .queue q ≢ []))
+      (λ q h. mark-decides q (s .lines .handled q) (s .lines .queue q))
 
-  free-entry-decides : Decides (freeEntryTest pl s) ((r o : ℕ) → r < R pl → o < 4 → (t : ℕ) × (t < S pl) × (s .table r o t ≡ Free))
+  free-entry-decides : Decides (freeEntryTest pl s)
+      ((r o : ℕ) → r < R pl → o < 4 → (t : ℕ) × (t < S pl) × (s .table r o t ≡ Free))
   unfolding freeEntryTest
   free-entry-decides =
       like
@@ -112,10 +134,12 @@ module _ (pl : Plan) (s : State) where
   out-credits-decide =
       every-queue pl _ (λ q. fed pl q ≡ false → s .flow .credit q .0 ≡ capacity (pl .head) q) (λ q h. unless (fed pl q) (same (s .flow .credit q .0) (capacity (pl .head) q)))
 
-  allowances-decide : Decides (allowancesTest pl s) ((a : ℕ) → a < A pl → s .flow .allowance a + total pl (spends a) s ≡ startAllowance pl)
+  allowances-decide : Decides (allowancesTest pl s)
+      ((a : ℕ) → a < A pl → s .flow .allowance a + total pl (spends a) s ≡ startAllowance pl)
   unfolding allowancesTest
   allowances-decide =
-      all-below (A pl) _ (λ a. s .flow .allowance a + total pl (spends a) s ≡ startAllowance pl) (λ a h. same (s .flow .allowance a + total pl (spends a) s) (startAllowance pl))
+      all-below (A pl) _ (λ a. s .flow .allowance a + total pl (spends a) s ≡ startAllowance pl)
+      (λ a h. same (s .flow .allowance a + total pl (spends a) s) (startAllowance pl))
 
 -- ---- the law
 module _ (pl : Plan) (wired : Wired pl) where

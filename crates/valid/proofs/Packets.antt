@@ -1,4 +1,5 @@
--- The tests of packets decide what Valid says of them: a packet belongs at a place, the packets of a queue are lined up, a wire's packet is bound for its queue.
+-- The tests of packets decide what Valid says of them: a packet belongs at a place, the packets of a queue are lined
+-- up, a wire's packet is bound for its queue.
 use mathlib.Core.Path.{_≡_, refl, sym, _∙_}
 use mathlib.Core.Bool.{Bool}
 use mathlib.Core.List.{List, [], _∷_}
@@ -25,7 +26,8 @@ module _ {pl : Plan} (wired : Wired pl) where
   packet-decides : (x : Packet) → Decides (packetTest pl x) (PacketOk pl x)
   unfolding packetTest
   packet-decides x =
-      like (both (less (x .active) (A pl)) (λ a. both (less (x .passive) (P pl)) (λ p. both (less (x .slot .0) (S pl)) (λ t. most (x .hub .0) 16))))
+      like (both (less (x .active) (A pl))
+      (λ a. both (less (x .passive) (P pl)) (λ p. both (less (x .slot .0) (S pl)) (λ t. most (x .hub .0) 16))))
       (λ f. record { active = f .0; passive = f .1 .0; slot = f .1 .1 .0; hub = f .1 .1 .1 })
       (λ k. (k .active, (k .passive, (k .slot, k .hub))))
 
@@ -42,17 +44,22 @@ module _ {pl : Plan} (wired : Wired pl) where
       (λ f. record { ranges = f .0; serves = f .1 .0; fits = f .1 .1 })
       (λ b. (b .ranges, (b .serves, b .fits)))
 
-  pub lined-decides : (q : Queue) (done : Bool) (xs : List Packet) → Decides (linedTest pl q done xs) (Lined pl q done xs)
+  pub lined-decides : (q : Queue) (done : Bool) (xs : List Packet)
+      → Decides (linedTest pl q done xs) (Lined pl q done xs)
   lined-decides q done [] = always (record {})
   lined-decides q done (x ∷ rest) =
-      both (belongs-decides (headPlace done q) x) (λ b. all-in (belongsTest pl (inQueue q)) (Belongs pl (inQueue q)) (belongs-decides (inQueue q)) rest)
+      both (belongs-decides (headPlace done q) x)
+      (λ b. all-in (belongsTest pl (inQueue q)) (Belongs pl (inQueue q)) (belongs-decides (inQueue q)) rest)
 
   -- ---- wires
-  bound-decides : (o : Output) (x : Packet) (t : Option Queue) → nextBy pl o x ≡ t → Decides (boundTest pl x t) (Carries pl o x)
+  bound-decides : (o : Output) (x : Packet) (t : Option Queue) → nextBy pl o x ≡ t
+      → Decides (boundTest pl x t) (Carries pl o x)
   bound-decides o x none e = never (λ c. some-not-none (sym e ∙ c .next))
   bound-decides o x (some q) e =
-      like (belongs-decides (inQueue q) x) (λ b. record { queue = q; next = e; belongs = b }) (λ c. rw (some-same (sym e ∙ c .next)) (c .belongs))
+      like (belongs-decides (inQueue q) x) (λ b. record { queue = q; next = e; belongs = b })
+      (λ c. rw (some-same (sym e ∙ c .next)) (c .belongs))
 
   pub wire-decides : (o : Output) (t : Wire) → Decides (wireTest pl o t) ((x : Packet) → t ≡ Full x → Carries pl o x)
   wire-decides o Empty = always (λ x e. absurd (full-not e))
-  wire-decides o (Full x) = like (bound-decides o x (nextBy pl o x) refl) (λ c y e. rw (← full-same e) c) (λ f. f x refl)
+  wire-decides o (Full x) =
+      like (bound-decides o x (nextBy pl o x) refl) (λ c y e. rw (← full-same e) c) (λ f. f x refl)

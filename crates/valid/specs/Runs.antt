@@ -1,4 +1,5 @@
--- The test evaluated on plan T: it passes at Start and after every call of a whole connection, and it fails where one part of a state is spoilt.
+-- The test evaluated on plan T: it passes at Start and after every call of a whole connection, and it fails where one
+-- part of a state is spoilt.
 use mathlib.Core.Path.{_≡_, refl}
 use mathlib.Core.Bool.{Bool, true, false}
 use mathlib.Core.List.{List, [], _∷_, _++_}
@@ -25,14 +26,19 @@ use Rattle.paths.specs.Steps.{indexIn, indexOn}
 use Rattle.feeding.specs.Queue.{Queue, activeOut, U, Q, K, queues, queueAt}
 use Rattle.feeding.specs.Feeds.{ofActive}
 use Rattle.machine.specs.Outputs.{outputAt}
-use Rattle.machine.specs.State.{State, sender, blank, start, withPhase, withSlot, withQueue, withWire, withCredit, withFlag, withHandled, withChoice, withEntry, withAllowance, join}
+use Rattle.machine.specs.State.{State, sender, blank, start, withPhase, withSlot, withQueue, withWire, withCredit}
+use Rattle.machine.specs.State.{withFlag, withHandled, withChoice, withEntry, withAllowance, join}
 use Rattle.machine.specs.Read.{arrive, deliver, lower, settle, doRead}
-use Rattle.machine.specs.Execute.{cameIn, otherFree, mayBook, setUp, tearOne, tearDown, handle, atUnit, unit, candidate, firstOf, picked, choose, answer, atActive, undo, doExecute}
+use Rattle.machine.specs.Execute.{cameIn, otherFree, mayBook, setUp, tearOne, tearDown, handle, atUnit, unit}
+use Rattle.machine.specs.Execute.{candidate, firstOf, picked, choose, answer, atActive, undo, doExecute}
 use Rattle.machine.specs.Write.{sendHead, sendBy, send, doWrite}
 use Rattle.machine.specs.Visits.{launched, removed}
 use Rattle.machine.specs.Calls.{Call, read, execute, write, launch, reply, consume, call}
 use Rattle.machine.specs.Valid.{bit, sum, onWires, total}
-use Rattle.valid.specs.Test.{meetsTest, aheadTest, returnsTest, backTest, fitsTest, packetTest, belongsTest, slotTest, entriesTest, capacitiesTest, placesTest, wiresTest, wiresEmptyTest, choicesTest, flagsDownTest, pickedDownTest, outFlagsTest, marksTest, freeEntryTest, creditsTest, outCreditsTest, allowancesTest, validTest}
+use Rattle.valid.specs.Test.{meetsTest, aheadTest, returnsTest, backTest, fitsTest, packetTest, belongsTest}
+use Rattle.valid.specs.Test.{slotTest, entriesTest, capacitiesTest, placesTest, wiresTest, wiresEmptyTest}
+use Rattle.valid.specs.Test.{choicesTest, flagsDownTest, pickedDownTest, outFlagsTest, marksTest, freeEntryTest}
+use Rattle.valid.specs.Test.{creditsTest, outCreditsTest, allowancesTest, validTest}
 use Rattle.plan.specs.Samples.{planT as bytesT}
 
 -- plan T of document 01
@@ -51,20 +57,24 @@ accepted (Holds e) = true
 -- each of the calls is accepted, and the test passes before each and after the last
 unfoldable pub allValid : Plan → List Call → State → Bool
 allValid pl [] s = validTest pl s
-allValid pl (c ∷ cs) s = also (validTest pl s) (also (accepted (call pl c s .answer)) (allValid pl cs (call pl c s .state)))
+allValid pl (c ∷ cs) s =
+    also (validTest pl s) (also (accepted (call pl c s .answer)) (allValid pl cs (call pl c s .state)))
 
 -- from Start on plan T
 unfoldable pub valid : List Call → Bool
 unfolding anyBelow allBelow upTo spot onCount bitAt fieldOf capacityAt headOf jointIn planOf portsOf home onward arrives walkSize backsArrive servedFrom indexIn indexOn queues queueAt outputAt launched removed call arrive deliver lower settle doRead start blank join cameIn otherFree mayBook setUp tearOne tearDown handle atUnit unit candidate firstOf picked choose answer atActive undo doExecute sendHead sendBy send doWrite sum onWires total meetsTest aheadTest returnsTest backTest fitsTest packetTest belongsTest slotTest entriesTest capacitiesTest placesTest wiresTest wiresEmptyTest choicesTest flagsDownTest pickedDownTest outFlagsTest marksTest freeEntryTest creditsTest outCreditsTest allowancesTest validTest allValid
 valid cs = allValid planT cs (start planT)
 
--- 'Launch (0,0,0) in round 0: booked in round 2, waits at the passive from round 4; accepted there, consumed in round 7'
-pub t-connects : valid (launch 0 0 0 ∷ round ++ round ++ round ++ round ++ (read ∷ execute ∷ reply 0 1 ∷ write ∷ round) ++ round ++ (read ∷ execute ∷ consume 0 ∷ write ∷ [])) ≡ true
+-- 'Launch (0,0,0) in round 0: booked in round 2, waits at the passive from round 4; accepted there, consumed in round
+-- 7'
+pub t-connects : valid (launch 0 0 0 ∷ round ++ round ++ round ++ round ++ (read ∷ execute ∷ reply 0 1 ∷ write ∷ round)
+    ++ round ++ (read ∷ execute ∷ consume 0 ∷ write ∷ [])) ≡ true
 unfolding valid
 t-connects = refl
 
 -- the same passive declines: the NACK is marked, and a TDOWN frees the entry
-pub t-declines : valid (launch 0 0 0 ∷ round ++ round ++ round ++ round ++ (read ∷ execute ∷ reply 0 0 ∷ write ∷ round) ++ round ++ (read ∷ execute ∷ consume 0 ∷ write ∷ round) ++ round ++ round ++ round) ≡ true
+pub t-declines : valid (launch 0 0 0 ∷ round ++ round ++ round ++ round ++ (read ∷ execute ∷ reply 0 0 ∷ write ∷ round)
+    ++ round ++ (read ∷ execute ∷ consume 0 ∷ write ∷ round) ++ round ++ round ++ round) ≡ true
 unfolding valid
 t-declines = refl
 
@@ -74,7 +84,8 @@ packet k hub = record { kind = k; active = 0; passive = 0; slot = record { 0 = 0
 
 -- a set-up on the active's wire, as a Write leaves it, but for its hub
 abbrev underWay : ℕ → State → State
-underWay hub s = withWire (ofActive 0) (Full (packet Setup hub)) (withCredit (U 0 0) (record { 0 = 0 }) (withAllowance 0 0 s))
+underWay hub s =
+    withWire (ofActive 0) (Full (packet Setup hub)) (withCredit (U 0 0) (record { 0 = 0 }) (withAllowance 0 0 s))
 
 -- a NACK that the first router made, in Q; handled or not
 abbrev inUnit : Bool → State → State
@@ -88,7 +99,8 @@ unfolding valid
 countValid [] = 0
 countValid (f ∷ fs) = bit (validTest planT (f (start planT))) + countValid fs
 
-pub t-packets : countValid ((λ s. s) ∷ underWay 0 ∷ (λ s. withQueue (activeOut 0) (packet Tdown 1 ∷ []) s) ∷ inUnit true ∷ []) ≡ 4
+pub t-packets : countValid
+    ((λ s. s) ∷ underWay 0 ∷ (λ s. withQueue (activeOut 0) (packet Tdown 1 ∷ []) s) ∷ inUnit true ∷ []) ≡ 4
 unfolding countValid
 t-packets = refl
 

@@ -111,7 +111,8 @@ fitsTest pl Nack a p hub x = backTest pl a p x hub
 -- ---- packets
 unfoldable pub packetTest : Plan → Packet → Bool
 packetTest pl x =
-    also (ltb (x .active) (A pl)) (also (ltb (x .passive) (P pl)) (also (ltb (x .slot .0) (S pl)) (leb (x .hub .0) 16)))
+    also (ltb (x .active) (A pl))
+    (also (ltb (x .passive) (P pl)) (also (ltb (x .slot .0) (S pl)) (leb (x .hub .0) 16)))
 
 unfoldable pub belongsTest : Plan → Place → Packet → Bool
 belongsTest pl at x =
@@ -225,5 +226,7 @@ unfoldable pub validTest : Plan → State → Bool
 validTest pl s =
     also (slotTest pl s)
     (also (entriesTest pl s) (also (capacitiesTest pl s) (also (placesTest pl s) (also (wiresTest pl s)
-    (also (wiresEmptyTest pl s) (also (choicesTest pl s) (also (flagsDownTest pl s) (also (pickedDownTest pl s) (also (outFlagsTest pl s)
-    (also (marksTest pl s) (also (freeEntryTest pl s) (also (creditsTest pl s) (also (outCreditsTest pl s) (allowancesTest pl s))))))))))))))
+    (also (wiresEmptyTest pl s)
+    (also (choicesTest pl s) (also (flagsDownTest pl s) (also (pickedDownTest pl s) (also (outFlagsTest pl s)
+    (also (marksTest pl s)
+    (also (freeEntryTest pl s) (also (creditsTest pl s) (also (outCreditsTest pl s) (allowancesTest pl s))))))))))))))

@@ -16,7 +16,8 @@ use Rattle.fields.specs.Laws.{field-lt}
 use Rattle.plan.specs.declared.Head.{Head}
 use Rattle.plan.specs.Head.{headOf, destinations, bitCount}
 use Rattle.plan.specs.Plan.{jointAt, routeAt, noSide}
-use Rattle.plan.specs.Rules.{Filled, fillOk, JointFits, jointOk, RouteFits, routeOk, FieldsFit, jointThere, routeThere, fieldsOk}
+use Rattle.plan.specs.Rules.{Filled, fillOk, JointFits, jointOk, RouteFits, routeOk, FieldsFit, jointThere, routeThere}
+use Rattle.plan.specs.Rules.{fieldsOk}
 use Rattle.wiring.proofs.Heads.{and-both, and-of}
 
 -- A field of one bit is that bit.
@@ -32,7 +33,8 @@ fill-ok b e i h l =
     let from : ℕ = bitCount (headOf b) in
     let here : from + (i - from) ≡ i = omega arith in
     let zero-there = all-at (8 * length b - from) (λ j. eqb (fieldOf b (from + j) 1) 0) e (i - from) (omega arith) in
-    sym (field-one b i) ∙ ap (λ (j : ℕ). fieldOf b j 1) (sym here) ∙ eqb-true (fieldOf b (from + (i - from)) 1) 0 zero-there
+    sym (field-one b i) ∙ ap (λ (j : ℕ). fieldOf b j 1) (sym here)
+    ∙ eqb-true (fieldOf b (from + (i - from)) 1) 0 zero-there
 
 -- The test of the fill passes where no fill bit is set.
 pub ok-fill : (b : List ℕ) → Filled b → fillOk b (bitCount (headOf b)) ≡ true
@@ -44,12 +46,16 @@ ok-fill b f =
 
 -- ---- refusal 4: one joint, one route
 -- A joint that passes the test fits.
-pub joint-ok : (h : Head) (kind number side : ℕ) → kind < 4 → jointOk h kind number side ≡ true → JointFits h kind number side
+pub joint-ok : (h : Head) (kind number side : ℕ) → kind < 4 → jointOk h kind number side ≡ true
+    → JointFits h kind number side
 unfolding jointOk
 joint-ok h kind number side small e = at0 (test (eqb kind 0))
   where
-    at2 : eqb kind 0 ≡ false → eqb kind 1 ≡ false → (eqb kind 2 ≡ true) ⊎ (eqb kind 2 ≡ false) → JointFits h kind number side
-    at2 n0 n1 (inl t) = let p = and-both (rw (n0, n1, t) at e) in inr (inr (inl (eqb-true kind 2 t, ltb-true number (h .actives) (p .0), eqb-true side 0 (p .1))))
+    at2 : eqb kind 0 ≡ false → eqb kind 1 ≡ false → (eqb kind 2 ≡ true) ⊎ (eqb kind 2 ≡ false)
+        → JointFits h kind number side
+    at2 n0 n1 (inl t) =
+        let p = and-both (rw (n0, n1, t) at e) in
+        inr (inr (inl (eqb-true kind 2 t, ltb-true number (h .actives) (p .0), eqb-true side 0 (p .1))))
     at2 n0 n1 (inr t) =
         let a0 = eqb-false kind 0 n0 in
         let a1 = eqb-false kind 1 n1 in
@@ -63,7 +69,9 @@ joint-ok h kind number side small e = at0 (test (eqb kind 0))
     at1 n0 (inr t) = at2 n0 t (test (eqb kind 2))
 
     at0 : (eqb kind 0 ≡ true) ⊎ (eqb kind 0 ≡ false) → JointFits h kind number side
-    at0 (inl t) = let p = and-both (rw t at e) in inl (eqb-true kind 0 t, eqb-true number 0 (p .0), eqb-true side 0 (p .1))
+    at0 (inl t) =
+        let p = and-both (rw t at e) in
+        inl (eqb-true kind 0 t, eqb-true number 0 (p .0), eqb-true side 0 (p .1))
     at0 (inr t) = at1 t (test (eqb kind 1))
 
 -- A joint that fits passes the test.
@@ -100,15 +108,18 @@ fields-ok b e = let parts = and-both e in record { joints = joints′ (parts .0)
   where
     joints′ : allBelow (4 * headOf b .routers) (λ i. jointThere b (45 + 8 * i)) ≡ true
         → (r s : ℕ) → r < headOf b .routers → s < 4
-        → JointFits (headOf b) (fieldOf b (jointAt r s) 2) (fieldOf b (jointAt r s + 2) 4) (fieldOf b (jointAt r s + 6) 2)
+        → JointFits (headOf b) (fieldOf b (jointAt r s) 2) (fieldOf b (jointAt r s + 2) 4)
+        (fieldOf b (jointAt r s + 6) 2)
     joints′ t r s l m =
         let p : ℕ = jointAt r s in
         let here : 45 + 8 * (4 * r + s) ≡ p = omega arith in
         let passes = all-at (4 * headOf b .routers) (λ i. jointThere b (45 + 8 * i)) t (4 * r + s) (omega arith) in
-        joint-ok (headOf b) (fieldOf b p 2) (fieldOf b (p + 2) 4) (fieldOf b (p + 6) 2) (field-lt b p 2) (ap (jointThere b) (sym here) ∙ passes)
+        joint-ok (headOf b) (fieldOf b p 2) (fieldOf b (p + 2) 4) (fieldOf b (p + 6) 2) (field-lt b p 2)
+        (ap (jointThere b) (sym here) ∙ passes)
 
     routes′ : allBelow (headOf b .routers) (λ r. allBelow (destinations (headOf b)) (routeThere b r)) ≡ true
-        → (r d : ℕ) → r < headOf b .routers → d < destinations (headOf b) → RouteFits (fieldOf b (routeAt (headOf b) r d) 3)
+        → (r d : ℕ) → r < headOf b .routers → d < destinations (headOf b)
+        → RouteFits (fieldOf b (routeAt (headOf b) r d) 3)
     routes′ t r d l m =
         let row = all-at (headOf b .routers) (λ q. allBelow (destinations (headOf b)) (routeThere b q)) t r l in
         route-ok (fieldOf b (routeAt (headOf b) r d) 3) (all-at (destinations (headOf b)) (routeThere b r) row d m)
@@ -119,11 +130,13 @@ unfolding fieldsOk
 ok-fields b f =
     and-of (all-of (4 * headOf b .routers) (λ i. jointThere b (45 + 8 * i)) joint′)
     (all-of (headOf b .routers) (λ r. allBelow (destinations (headOf b)) (routeThere b r))
-    (λ r l. all-of (destinations (headOf b)) (routeThere b r) (λ d m. ok-route (fieldOf b (routeAt (headOf b) r d) 3) (f .routes r d l m))))
+    (λ r l. all-of (destinations (headOf b)) (routeThere b r)
+    (λ d m. ok-route (fieldOf b (routeAt (headOf b) r d) 3) (f .routes r d l m))))
   where
     joint′ : (i : ℕ) → i < 4 * headOf b .routers → jointThere b (45 + 8 * i) ≡ true
     joint′ i l =
         let p : ℕ = jointAt (i / 4) (i % 4) in
         let here : 45 + 8 * i ≡ p = omega arith in
         ap (jointThere b) here
-        ∙ ok-joint (headOf b) (fieldOf b p 2) (fieldOf b (p + 2) 4) (fieldOf b (p + 6) 2) (f .joints (i / 4) (i % 4) (omega arith) (omega arith))
+        ∙ ok-joint (headOf b) (fieldOf b p 2) (fieldOf b (p + 2) 4) (fieldOf b (p + 6) 2)
+        (f .joints (i / 4) (i % 4) (omega arith) (omega arith))

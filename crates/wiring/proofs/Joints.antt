@@ -14,7 +14,8 @@ use Rattle.plan.specs.declared.Joint.the-variants.{Nothing, Router, Active, Pas
 use Rattle.plan.specs.declared.Ports.{Ports}
 use Rattle.plan.specs.declared.Ports.the-variants.{Missing, One, Several}
 use Rattle.plan.specs.Plan.{Plan, Port, Interface, active, passive, R, A, P, Has, jointOf}
-use Rattle.plan.specs.Rules.{NamedBack, JoinedAt, JointsMatch, portOf, jointOfPort, isRouterAt, backOk, namedOk, leadsTo, meet, portsOf, isOne, portOr0, home, interfacesOk}
+use Rattle.plan.specs.Rules.{NamedBack, JoinedAt, JointsMatch, portOf, jointOfPort, isRouterAt, backOk, namedOk}
+use Rattle.plan.specs.Rules.{leadsTo, meet, portsOf, isOne, portOr0, home, interfacesOk}
 use Rattle.wiring.proofs.Heads.{and-both, and-of}
 
 -- ---- a joint by itself
@@ -82,7 +83,8 @@ seen-more f n t s = by t s (test (f n))
     first k i e (inl l) = absurd (not-both e (k i l))
     first k i e (inr q) = q
 
-    same : (k : ℕ) → ((i : ℕ) → i < n → f i ≡ true → i ≡ k) → f n ≡ false → (i : ℕ) → f i ≡ true → (i < n) ⊎ (i ≡ n) → i ≡ k
+    same : (k : ℕ) → ((i : ℕ) → i < n → f i ≡ true → i ≡ k) → f n ≡ false → (i : ℕ) → f i ≡ true → (i < n) ⊎ (i ≡ n)
+        → i ≡ k
     same k h e i t (inl l) = h i l t
     same k h e i t (inr q) = absurd (not-both t (rw q e))
 
@@ -95,7 +97,8 @@ seen-more f n t s = by t s (test (f n))
 
 -- What is known after the whole scan.
 pub seen : (f : ℕ → Bool) (n : ℕ) → Seen f n (upTo (λ i t. meet (f i) i t) n Missing)
-seen f n = up-keeps-at (Seen f) (λ i t. meet (f i) i t) n Missing (λ i t l s. seen-more f i t s) (λ i l. absurd (omega arith))
+seen f n =
+    up-keeps-at (Seen f) (λ i t. meet (f i) i t) n Missing (λ i t l s. seen-more f i t s) (λ i l. absurd (omega arith))
 
 -- ---- the tests of a plan whose joints stand inside it, at the sides 0 to 3
 -- Nothing is joined outside the plan's routers and their four sides.
@@ -167,7 +170,8 @@ ports-one pl e i inside q = by (rw q at (ports-seen pl e))
             (omega arith, omega arith)
 
 -- The scan of an interface joined at one port alone finds that port.
-pub one-ports : (pl : Plan) (e : Interface) (x : Port) → Inside pl → JoinedAt pl e x → portsOf pl e ≡ One (4 * x .router + x .side)
+pub one-ports : (pl : Plan) (e : Interface) (x : Port) → Inside pl → JoinedAt pl e x
+    → portsOf pl e ≡ One (4 * x .router + x .side)
 one-ports pl e x inside j = by (portsOf pl e) (ports-seen pl e)
   where
     is-x : (i : ℕ) → leadsTo e (jointOfPort pl i) ≡ true → i ≡ 4 * x .router + x .side
@@ -188,7 +192,8 @@ pub interfaces-at : (pl : Plan) → interfacesOk pl ≡ true → (e : Interface)
 unfolding interfacesOk
 interfaces-at pl t e h = by (and-both t) e h
   where
-    by : (allBelow (A pl) (λ a. isOne (portsOf pl (active a))) ≡ true) × (allBelow (P pl) (λ p. isOne (portsOf pl (passive p))) ≡ true)
+    by : (allBelow (A pl) (λ a. isOne (portsOf pl (active a))) ≡ true)
+        × (allBelow (P pl) (λ p. isOne (portsOf pl (passive p))) ≡ true)
         → (d : Interface) → Has pl d → isOne (portsOf pl d) ≡ true
     by (x, y) (active a) l = all-at (A pl) (λ c. isOne (portsOf pl (active c))) x a l
     by (x, y) (passive p) l = all-at (P pl) (λ c. isOne (portsOf pl (passive c))) y p l
@@ -197,10 +202,12 @@ interfaces-at pl t e h = by (and-both t) e h
 pub interfaces-of : (pl : Plan) → ((e : Interface) → Has pl e → isOne (portsOf pl e) ≡ true) → interfacesOk pl ≡ true
 unfolding interfacesOk
 interfaces-of pl k =
-    and-of (all-of (A pl) (λ a. isOne (portsOf pl (active a))) (λ a l. k (active a) l)) (all-of (P pl) (λ p. isOne (portsOf pl (passive p))) (λ p l. k (passive p) l))
+    and-of (all-of (A pl) (λ a. isOne (portsOf pl (active a))) (λ a l. k (active a) l))
+    (all-of (P pl) (λ p. isOne (portsOf pl (passive p))) (λ p l. k (passive p) l))
 
 -- Each of the plan's interfaces is joined at its home alone where the test of the interfaces passes.
-pub interfaces-ok : (pl : Plan) → Inside pl → interfacesOk pl ≡ true → (e : Interface) → Has pl e → JoinedAt pl e (home pl e)
+pub interfaces-ok : (pl : Plan) → Inside pl → interfacesOk pl ≡ true → (e : Interface) → Has pl e
+    → JoinedAt pl e (home pl e)
 unfolding home
 interfaces-ok pl inside t e h = by (portsOf pl e) refl (interfaces-at pl t e h)
   where
@@ -210,12 +217,15 @@ interfaces-ok pl inside t e h = by (portsOf pl e) refl (interfaces-at pl t e h)
     by Several q o = absurd (false≢true o)
 
 -- The test of the interfaces passes where each of the plan's interfaces is joined at some port alone.
-pub ok-interfaces : (pl : Plan) → Inside pl → ((e : Interface) → Has pl e → (x : Port) × JoinedAt pl e x) → interfacesOk pl ≡ true
-ok-interfaces pl inside k = interfaces-of pl (λ e h. let at = k e h in ap isOne (one-ports pl e (at .0) inside (at .1)))
+pub ok-interfaces : (pl : Plan) → Inside pl → ((e : Interface) → Has pl e → (x : Port) × JoinedAt pl e x)
+    → interfacesOk pl ≡ true
+ok-interfaces pl inside k =
+    interfaces-of pl (λ e h. let at = k e h in ap isOne (one-ports pl e (at .0) inside (at .1)))
 
 -- Joints that pass both tests match.
 pub joints-ok : (pl : Plan) → Inside pl → Sided pl → namedOk pl ≡ true → interfacesOk pl ≡ true → JointsMatch pl
-joints-ok pl inside sided n i = record { named = named-ok pl inside sided n; joined = λ e h. (home pl e, interfaces-ok pl inside i e h) }
+joints-ok pl inside sided n i =
+    record { named = named-ok pl inside sided n; joined = λ e h. (home pl e, interfaces-ok pl inside i e h) }
 
 -- Joints that match pass both tests.
 pub ok-joints : (pl : Plan) → Inside pl → JointsMatch pl → (namedOk pl ≡ true) × (interfacesOk pl ≡ true)

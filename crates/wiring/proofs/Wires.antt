@@ -13,7 +13,8 @@ use Rattle.plan.specs.Head.{headOf}
 use Rattle.plan.specs.Plan.{Plan, Interface, active, passive, R, Has, jointOf, jointAt, jointFrom, jointIn, planOf}
 use Rattle.plan.specs.Rules.{JointFits, FieldsFit, NamedBack, JoinedAt, JointsMatch, home, namedOk, interfacesOk}
 use Rattle.fields.specs.Laws.{field-lt}
-use Rattle.wiring.proofs.Joints.{Inside, Sided, router-some, interface-some, router-else, interface-same, named-ok, interfaces-ok, joints-ok, ok-joints}
+use Rattle.wiring.proofs.Joints.{Inside, Sided, router-some, interface-some, router-else, interface-same}
+use Rattle.wiring.proofs.Joints.{named-ok, interfaces-ok, joints-ok, ok-joints}
 use Rattle.wiring.specs.Wired.{Wired}
 
 -- A router joint leads to a side of one of the plan's routers.
@@ -21,8 +22,10 @@ pub near : {pl : Plan} {r s n t : ℕ} → Wired pl → pl .joint r s ≡ Router
 near {pl} {r} {s} {n} {t} w e = w .inside n t (λ q. router-some (sym (w .named r s n t e .1) ∙ q))
 
 -- An interface's home is a side of one of the plan's routers.
-pub home-inside : {pl : Plan} (e : Interface) → Wired pl → Has pl e → (home pl e .router < R pl) × (home pl e .side < 4)
-home-inside {pl} e w h = w .inside (home pl e .router) (home pl e .side) (λ q. interface-some e (sym (w .joined e h .there) ∙ q))
+pub home-inside : {pl : Plan} (e : Interface) → Wired pl → Has pl e
+    → (home pl e .router < R pl) × (home pl e .side < 4)
+home-inside {pl} e w h =
+    w .inside (home pl e .router) (home pl e .side) (λ q. interface-some e (sym (w .joined e h .there) ∙ q))
 
 -- ---- the joints of a plan's bytes
 -- The joint of a side inside the plan is the one that its bits give.
@@ -35,7 +38,8 @@ pub plan-inside : (b : List ℕ) → Inside (planOf b)
 unfolding planOf
 plan-inside b r s some = by (test (ltb r (headOf b .routers))) (test (ltb s 4))
   where
-    by : (ltb r (headOf b .routers) ≡ true) ⊎ (ltb r (headOf b .routers) ≡ false) → (ltb s 4 ≡ true) ⊎ (ltb s 4 ≡ false) → (r < headOf b .routers) × (s < 4)
+    by : (ltb r (headOf b .routers) ≡ true) ⊎ (ltb r (headOf b .routers) ≡ false)
+        → (ltb s 4 ≡ true) ⊎ (ltb s 4 ≡ false) → (r < headOf b .routers) × (s < 4)
     by (inl e) (inl f) = (ltb-true r (headOf b .routers) e, ltb-true s 4 f)
     by (inl e) (inr f) = absurd (some (rw (e, f)))
     by (inr e) c = absurd (some (rw e))
@@ -44,7 +48,8 @@ plan-inside b r s some = by (test (ltb r (headOf b .routers))) (test (ltb s 4))
 pub from-side : (kind number side : ℕ) {n t : ℕ} → jointFrom kind number side ≡ Router n t → side ≡ t
 from-side kind number side {n} {t} q = by (eqb kind 1) (eqb kind 2) (eqb kind 3) q
   where
-    by : (x y z : Bool) → pick x (Router number side) (pick y (Active number) (pick z (Passive number) Nothing)) ≡ Router n t → side ≡ t
+    by : (x y z : Bool) → pick x (Router number side) (pick y (Active number) (pick z (Passive number) Nothing))
+        ≡ Router n t → side ≡ t
     by true y z e = cc
     by false true z e = cc
     by false false true e = cc
@@ -56,11 +61,13 @@ unfolding jointIn planOf
 plan-sided b r s n t j =
     let p : ℕ = jointAt r s in
     let within = plan-inside b r s (λ q. router-some (sym j ∙ q)) in
-    let same = from-side (fieldOf b p 2) (fieldOf b (p + 2) 4) (fieldOf b (p + 6) 2) (sym (plan-joint b r s (within .0) (within .1)) ∙ j) in
+    let same = from-side (fieldOf b p 2) (fieldOf b (p + 2) 4) (fieldOf b (p + 6) 2)
+    (sym (plan-joint b r s (within .0) (within .1)) ∙ j) in
     rw same at (field-lt b (p + 6) 2)
 
 -- A joint that fits and leads to an interface leads to one of the plan's.
-pub fits-known : (pl : Plan) (kind number side : ℕ) (e : Interface) → JointFits (pl .head) kind number side → jointFrom kind number side ≡ jointOf e → Has pl e
+pub fits-known : (pl : Plan) (kind number side : ℕ) (e : Interface) → JointFits (pl .head) kind number side
+    → jointFrom kind number side ≡ jointOf e → Has pl e
 fits-known pl kind number side e f q = by f
   where
     at : (k : ℕ) → kind ≡ k → jointFrom k number side ≡ jointOf e
@@ -87,7 +94,8 @@ wired b f n i =
     known′ r s e j =
         let p : ℕ = jointAt r s in
         let within = plan-inside b r s (λ q. interface-some e (sym j ∙ q)) in
-        fits-known (planOf b) (fieldOf b p 2) (fieldOf b (p + 2) 4) (fieldOf b (p + 6) 2) e (f .joints r s (within .0) (within .1))
+        fits-known (planOf b) (fieldOf b p 2) (fieldOf b (p + 2) 4) (fieldOf b (p + 6) 2) e
+        (f .joints r s (within .0) (within .1))
         (sym (plan-joint b r s (within .0) (within .1)) ∙ j)
 
 -- Joints of the plan that bytes give that pass both tests match.

@@ -32,7 +32,8 @@ returns : tie.Need-returns Inv-loop μ-loop
 returns c =
     let want = c .before .before .before .before .before .wanted .ensures in
     let inv = c .before .before .before .before .loop .inv in
-    arrives-end _ (c .before .before .before .before .before .before .pre .0) want (inv .1) (c .before .before .step-to .ensures) (c .enum-told .given .1) (omega arith)
+    arrives-end _ (c .before .before .before .before .before .before .pre .0) want (inv .1)
+    (c .before .before .step-to .ensures) (c .enum-told .given .1) (omega arith)
 
 enum-told-2 : tie.Need-enum-told-2 Inv-loop μ-loop
 enum-told-2 c = search needs
@@ -41,7 +42,8 @@ returns-2 : tie.Need-returns-2 Inv-loop μ-loop
 returns-2 c =
     let want = c .before .before .before .before .before .wanted .ensures in
     let inv = c .before .before .before .before .loop .inv in
-    arrives-lost _ (c .before .before .before .before .before .before .pre .0) want (inv .1) (c .before .before .step-to .ensures) (c .enum-told2 .given .1) (omega arith)
+    arrives-lost _ (c .before .before .before .before .before .before .pre .0) want (inv .1)
+    (c .before .before .step-to .ensures) (c .enum-told2 .given .1) (omega arith)
 
 add-i : tie.Need-add-i Inv-loop μ-loop
 add-i c = search needs
@@ -52,11 +54,15 @@ loop-less c = search needs
 loop-again : tie.Need-loop-again Inv-loop μ-loop
 loop-again c =
     let want = c .before .before .before .before .before .before .wanted .ensures in
-    let inv = c .before .before .before .before .before .loop .inv in
-    (omega arith, stood-more (inv .1) (c .before .before .before .step-to .ensures) (c .before .s .given .1) _ (c .before .before .before .before .before .before .before .pre .0) want)
+    let inv = c .before .before .before .before .before .loop .inv in (
+      omega arith,
+      stood-more (inv .1) (c .before .before .before .step-to .ensures) (c .before .s .given .1) _
+          (c .before .before .before .before .before .before .before .pre .0) want,
+    )
 
 returns-3 : tie.Need-returns-3 Inv-loop μ-loop
-returns-3 c = arrives-on _ (c .before .before .before .pre .0) (c .before .before .wanted .ensures) (c .before .loop .inv .1) (omega arith)
+returns-3 c = arrives-on _ (c .before .before .before .pre .0) (c .before .before .wanted .ensures)
+    (c .before .loop .inv .1) (omega arith)
 
 pub arrives-spec : {M : Type 1} → statement M
 arrives-spec =

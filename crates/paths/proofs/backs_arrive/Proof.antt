@@ -37,7 +37,8 @@ returns : tie.Need-returns Inv-loop μ-loop
 returns c =
     let start = c .before .before .before .before .before .before in
     let inv = c .before .before .before .loop .inv in
-    backs-fail _ _ (start .pre .0) (c .before .before .before .before .wanted .ensures) (inv .1) _ (start .pre .1) _ (c .before .arrives .ensures) (omega arith)
+    backs-fail _ _ (start .pre .0) (c .before .before .before .before .wanted .ensures) (inv .1) _ (start .pre .1) _
+    (c .before .arrives .ensures) (omega arith)
     (not-true _ (c .if1 .taken)) (omega arith)
 
 step-to-requires : tie.Need-step-to-requires Inv-loop μ-loop
@@ -51,7 +52,8 @@ returns-2 c =
     let start = c .before .before .before .before .before .before .before .before in
     let want = c .before .before .before .before .before .before .wanted .ensures in
     let inv = c .before .before .before .before .before .loop .inv in
-    backs-over _ _ (start .pre .0) want (inv .1) _ (start .pre .1) _ (c .before .before .before .arrives .ensures) (omega arith)
+    backs-over _ _ (start .pre .0) want (inv .1) _ (start .pre .1) _ (c .before .before .before .arrives .ensures)
+    (omega arith)
     (inv .2) (not-false _ (c .before .before .if1 .left)) (c .before .step-to .ensures) (over _ (c .match .keys2))
 
 add-i : tie.Need-add-i Inv-loop μ-loop
@@ -67,8 +69,10 @@ loop-again c =
     let inv = c .before .before .before .before .before .before .before .loop .inv in
     let back = c .before .before .before .before .before .arrives .ensures in (
       omega arith,
-      stood-more (inv .1) (c .before .before .before .step-to .ensures) (c .before .s .given .1) _ (start .pre .0) want,
-      backs-more _ _ (start .pre .0) want (inv .1) _ (start .pre .1) _ back (omega arith) (inv .2) (not-false _ (c .before .before .before .before .if1 .left)),
+      stood-more (inv .1) (c .before .before .before .step-to .ensures) (c .before .s .given .1) _ (start .pre .0)
+          want,
+      backs-more _ _ (start .pre .0) want (inv .1) _ (start .pre .1) _ back (omega arith) (inv .2)
+          (not-false _ (c .before .before .before .before .if1 .left)),
     )
 
 returns-3 : tie.Need-returns-3 Inv-loop μ-loop

@@ -8,7 +8,8 @@ use Rattle.paths.proofs.index_on.Statement.{statement}
 use Rattle.paths.proofs.index_on.Tie as tie
 
 abbrev Inv-loop : tie.InvT-loop
-Inv-loop routes joints d from r want routers at₀ i₀ at i = (i ≤ routers) × Stood routes joints d want from i at × Unmet routes joints d want from r i
+Inv-loop routes joints d from r want routers at₀ i₀ at i =
+    (i ≤ routers) × Stood routes joints d want from i at × Unmet routes joints d want from r i
 
 abbrev μ-loop : tie.MeasureT-loop
 μ-loop routes joints d from r want routers at₀ i₀ at i = routers - i
@@ -22,7 +23,8 @@ loop-holds c = (omega arith, stood-none _ _ _ _ _ (omega arith), unmet-none _ _ 
 returns : tie.Need-returns Inv-loop μ-loop
 returns c =
     let inv = c .before .before .loop .inv in
-    index-met (inv .1) _ (inv .2) _ (c .before .before .before .before .pre .0) (c .before .before .before .wanted .ensures) (c .if1 .taken) (omega arith)
+    index-met (inv .1) _ (inv .2) _ (c .before .before .before .before .pre .0)
+    (c .before .before .before .wanted .ensures) (c .if1 .taken) (omega arith)
 
 step-to-requires : tie.Need-step-to-requires Inv-loop μ-loop
 step-to-requires c κs = search needs
@@ -34,7 +36,8 @@ returns-2 : tie.Need-returns-2 Inv-loop μ-loop
 returns-2 c =
     let want = c .before .before .before .before .before .wanted .ensures in
     let inv = c .before .before .before .before .loop .inv in
-    index-over (inv .1) _ (inv .2) _ (c .before .before .before .before .before .before .pre .0) want (c .before .before .if1 .left) (c .before .step-to .ensures) (over _ (c .match .keys2)) (omega arith)
+    index-over (inv .1) _ (inv .2) _ (c .before .before .before .before .before .before .pre .0) want
+    (c .before .before .if1 .left) (c .before .step-to .ensures) (over _ (c .match .keys2)) (omega arith)
 
 add-i : tie.Need-add-i Inv-loop μ-loop
 add-i c = search needs
@@ -47,12 +50,14 @@ loop-again c =
     let want = c .before .before .before .before .before .before .before .wanted .ensures in
     let inv = c .before .before .before .before .before .before .loop .inv in (
       omega arith,
-      stood-more (inv .1) (c .before .before .before .step-to .ensures) (c .before .s .given .1) _ (c .before .before .before .before .before .before .before .before .pre .0) want,
+      stood-more (inv .1) (c .before .before .before .step-to .ensures) (c .before .s .given .1) _
+          (c .before .before .before .before .before .before .before .before .pre .0) want,
       unmet-more (inv .1) _ (inv .2) (c .before .before .before .before .if1 .left),
     )
 
 returns-3 : tie.Need-returns-3 Inv-loop μ-loop
-returns-3 c = index-done (c .before .loop .inv .1) _ (c .before .loop .inv .2) _ (c .before .before .before .pre .0) (c .before .before .wanted .ensures) (omega arith)
+returns-3 c = index-done (c .before .loop .inv .1) _ (c .before .loop .inv .2) _ (c .before .before .before .pre .0)
+    (c .before .before .wanted .ensures) (omega arith)
 
 pub index-on-spec : {M : Type 1} → statement M
 index-on-spec =

@@ -18,7 +18,8 @@ backs-arrive-requires : tie.Need-backs-arrive-requires
 backs-arrive-requires c κs = search needs
 
 returns-2 : tie.Need-returns-2
-returns-2 c = served-if _ _ _ _ _ _ (c .before .before .arrives .ensures) (not-false _ (c .before .if1 .left)) (c .backs-arrive .ensures)
+returns-2 c = served-if _ _ _ _ _ _ (c .before .before .arrives .ensures) (not-false _ (c .before .if1 .left))
+    (c .backs-arrive .ensures)
 
 pub served-from-spec : {M : Type 1} → statement M
 served-from-spec =

@@ -17,7 +17,8 @@ cast-result : tie.Need-cast-result
 cast-result c = search needs
 
 returns-2 : tie.Need-returns-2
-returns-2 c = side-on _ _ _ _ _ _ (c .before .before .before .stands .ensures) (c .before .before .before .before .pre .2) (c .before .s .given .1)
+returns-2 c = side-on _ _ _ _ _ _ (c .before .before .before .stands .ensures)
+    (c .before .before .before .before .pre .2) (c .before .s .given .1)
 
 pub side-in-spec : {M : Type 1} → statement M
 side-in-spec = tie.close (tie.spec stands-requires enum-known-s returns cast-result returns-2)

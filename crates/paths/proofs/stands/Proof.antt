@@ -29,7 +29,8 @@ returns : tie.Need-returns Inv-loop μ-loop
 returns c =
     let want = c .before .before .before .before .wanted .ensures in
     let inv = c .before .before .before .loop .inv in
-    stands-over _ (c .before .before .before .before .before .pre .0) want (inv .1) (c .before .step-to .ensures) (over _ (c .match .keys2)) (omega arith)
+    stands-over _ (c .before .before .before .before .before .pre .0) want (inv .1) (c .before .step-to .ensures)
+    (over _ (c .match .keys2)) (omega arith)
 
 add-i : tie.Need-add-i Inv-loop μ-loop
 add-i c = search needs
@@ -40,11 +41,15 @@ loop-less c = search needs
 loop-again : tie.Need-loop-again Inv-loop μ-loop
 loop-again c =
     let want = c .before .before .before .before .before .before .wanted .ensures in
-    let inv = c .before .before .before .before .before .loop .inv in
-    (omega arith, stood-more (inv .1) (c .before .before .before .step-to .ensures) (c .before .s .given .1) _ (c .before .before .before .before .before .before .before .pre .0) want)
+    let inv = c .before .before .before .before .before .loop .inv in (
+      omega arith,
+      stood-more (inv .1) (c .before .before .before .step-to .ensures) (c .before .s .given .1) _
+          (c .before .before .before .before .before .before .before .pre .0) want,
+    )
 
 returns-2 : tie.Need-returns-2 Inv-loop μ-loop
-returns-2 c = stands-on _ (c .before .before .before .pre .0) (c .before .before .wanted .ensures) (c .before .loop .inv .1) (omega arith)
+returns-2 c = stands-on _ (c .before .before .before .pre .0) (c .before .before .wanted .ensures)
+    (c .before .loop .inv .1) (omega arith)
 
 pub stands-spec : {M : Type 1} → statement M
 stands-spec =

@@ -11,7 +11,8 @@ wide-requires : tie.Need-wide-requires
 wide-requires c κs = search needs
 
 returns : tie.Need-returns
-returns c = λ h a w. step-none h _ _ _ _ (c .before .before .side-out .ensures) (c .before .wide .ensures .0) (c .if1 .taken)
+returns c =
+    λ h a w. step-none h _ _ _ _ (c .before .before .side-out .ensures) (c .before .wide .ensures .0) (c .if1 .taken)
 
 mul-wide : tie.Need-mul-wide
 mul-wide c = search needs
@@ -28,7 +29,8 @@ wide-requires-2 c κs = search needs
 returns-2 : tie.Need-returns-2
 returns-2 c =
     let side = c .before .before .before .before .before .side-out .ensures in
-    λ h a w. step-end h _ _ _ _ side (c .before .before .before .before .wide .ensures .0) (c .before .before .before .if1 .left) a (c .before .wide2 .ensures) w (c .if2 .taken)
+    λ h a w. step-end h _ _ _ _ side (c .before .before .before .before .wide .ensures .0)
+    (c .before .before .before .if1 .left) a (c .before .wide2 .ensures) w (c .if2 .taken)
 
 sub-t15 : tie.Need-sub-t15
 sub-t15 c = search needs
@@ -36,12 +38,15 @@ sub-t15 c = search needs
 returns-3 : tie.Need-returns-3
 returns-3 c =
     let side = c .before .before .before .before .before .before .side-out .ensures in
-    λ h a w. step-on h _ _ _ _ side (c .before .before .before .before .before .wide .ensures .0) (c .before .before .before .before .if1 .left) a (c .before .before .wide2 .ensures) w (c .if3 .taken)
+    λ h a w. step-on h _ _ _ _ side (c .before .before .before .before .before .wide .ensures .0)
+    (c .before .before .before .before .if1 .left) a (c .before .before .wide2 .ensures) w (c .if3 .taken)
 
 returns-4 : tie.Need-returns-4
 returns-4 c =
     let side = c .before .before .before .before .before .before .side-out .ensures in
-    λ h a w. step-lost h _ _ _ _ side (c .before .before .before .before .before .wide .ensures .0) (c .before .before .before .before .if1 .left) a (c .before .before .wide2 .ensures) w (c .before .if2 .left) (c .if3 .left)
+    λ h a w. step-lost h _ _ _ _ side (c .before .before .before .before .before .wide .ensures .0)
+    (c .before .before .before .before .if1 .left) a (c .before .before .wide2 .ensures) w (c .before .if2 .left)
+    (c .if3 .left)
 
 pub step-to-spec : {M : Type 1} → statement M
 step-to-spec =

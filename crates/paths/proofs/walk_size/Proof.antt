@@ -1,4 +1,5 @@
--- The loop: the walk stands on a port after each router so far. Its routers are counted where a step of the loop is the end.
+-- The loop: the walk stands on a port after each router so far. Its routers are counted where a step of the loop is
+-- the end.
 use Prim.Native.Nat.{_≤_, _-_}
 use native.Mathlib.Omega.{arith}
 use borrow.Author.Needs.{needs}
@@ -38,7 +39,8 @@ returns : tie.Need-returns Inv-loop μ-loop
 returns c =
     let want = c .before .before .before .before .before .wanted .ensures in
     let inv = c .before .before .before .before .loop .inv in
-    size-end _ (c .before .before .before .before .before .before .pre .1) want (inv .1) (c .before .before .step-to .ensures) (c .enum-told .given .1) (omega arith)
+    size-end _ (c .before .before .before .before .before .before .pre .1) want (inv .1)
+    (c .before .before .step-to .ensures) (c .enum-told .given .1) (omega arith)
 
 enum-told-2 : tie.Need-enum-told-2 Inv-loop μ-loop
 enum-told-2 c = search needs
@@ -47,7 +49,8 @@ returns-2 : tie.Need-returns-2 Inv-loop μ-loop
 returns-2 c =
     let want = c .before .before .before .before .before .wanted .ensures in
     let inv = c .before .before .before .before .loop .inv in
-    size-none _ _ _ (arrives-lost _ (c .before .before .before .before .before .before .pre .1) want (inv .1) (c .before .before .step-to .ensures) (c .enum-told2 .given .1) (omega arith))
+    size-none _ _ _ (arrives-lost _ (c .before .before .before .before .before .before .pre .1) want (inv .1)
+    (c .before .before .step-to .ensures) (c .enum-told2 .given .1) (omega arith))
 
 add-i : tie.Need-add-i Inv-loop μ-loop
 add-i c = search needs
@@ -58,11 +61,15 @@ loop-less c = search needs
 loop-again : tie.Need-loop-again Inv-loop μ-loop
 loop-again c =
     let want = c .before .before .before .before .before .before .wanted .ensures in
-    let inv = c .before .before .before .before .before .loop .inv in
-    (omega arith, stood-more (inv .1) (c .before .before .before .step-to .ensures) (c .before .s .given .1) _ (c .before .before .before .before .before .before .before .pre .1) want)
+    let inv = c .before .before .before .before .before .loop .inv in (
+      omega arith,
+      stood-more (inv .1) (c .before .before .before .step-to .ensures) (c .before .s .given .1) _
+          (c .before .before .before .before .before .before .before .pre .1) want,
+    )
 
 returns-3 : tie.Need-returns-3 Inv-loop μ-loop
-returns-3 c = size-none _ _ _ (arrives-on _ (c .before .before .before .pre .1) (c .before .before .wanted .ensures) (c .before .loop .inv .1) (omega arith))
+returns-3 c = size-none _ _ _ (arrives-on _ (c .before .before .before .pre .1) (c .before .before .wanted .ensures)
+    (c .before .loop .inv .1) (omega arith))
 
 pub walk-size-spec : {M : Type 1} → statement M
 walk-size-spec =

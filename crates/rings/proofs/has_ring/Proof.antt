@@ -1,4 +1,5 @@
--- The loop: so many nodes are alive, and all nodes of rings are among them. The number falls with every sweep that goes on.
+-- The loop: so many nodes are alive, and all nodes of rings are among them. The number falls with every sweep that
+-- goes on.
 use mathlib.Core.Path.{_≡_}
 use native.Mathlib.Omega.{arith}
 use borrow.Author.Needs.{needs}
@@ -24,7 +25,8 @@ sweep-requires : tie.Need-sweep-requires Inv-loop μ-loop
 sweep-requires c κs = search needs
 
 returns : tie.Need-returns Inv-loop μ-loop
-returns c = ring-found _ _ _ _ (c .before .before .before .before .loop .inv .0) (c .before .before .before .loop-test .taken) (c .before .sweep .ensures) (omega arith)
+returns c = ring-found _ _ _ _ (c .before .before .before .before .loop .inv .0)
+    (c .before .before .before .loop-test .taken) (c .before .sweep .ensures) (omega arith)
 
 sub-left : tie.Need-sub-left Inv-loop μ-loop
 sub-left c = search needs
@@ -33,7 +35,8 @@ loop-less : tie.Need-loop-less Inv-loop μ-loop
 loop-less c = search needs
 
 loop-again : tie.Need-loop-again Inv-loop μ-loop
-loop-again c = (omega arith, held-sweep _ _ _ _ (c .before .before .before .before .loop .inv .1) (c .before .sweep .ensures))
+loop-again c =
+    (omega arith, held-sweep _ _ _ _ (c .before .before .before .before .loop .inv .1) (c .before .sweep .ensures))
 
 returns-2 : tie.Need-returns-2 Inv-loop μ-loop
 returns-2 c = ring-none _ _ _ (c .before .loop .inv .1) (c .before .loop .inv .0) (c .loop-test .left)

@@ -17,13 +17,15 @@ goes-on-requires : tie.Need-goes-on-requires
 goes-on-requires c κs = search needs
 
 returns-2 : tie.Need-returns-2
-returns-2 c = stays-alive _ _ _ _ (alive-mark _ _ (c .before .before .before .if1 .left)) (sym (c .before .goes-on .ensures) ∙ c .if2 .taken)
+returns-2 c = stays-alive _ _ _ _ (alive-mark _ _ (c .before .before .before .if1 .left))
+    (sym (c .before .goes-on .ensures) ∙ c .if2 .taken)
 
 element-write-alive : tie.Need-element-write-alive
 element-write-alive c = search needs
 
 returns-3 : tie.Need-returns-3
-returns-3 c = dies _ _ _ _ (omega arith) (alive-mark _ _ (c .before .before .before .if1 .left)) (sym (c .before .goes-on .ensures) ∙ c .if2 .left)
+returns-3 c = dies _ _ _ _ (omega arith) (alive-mark _ _ (c .before .before .before .if1 .left))
+    (sym (c .before .goes-on .ensures) ∙ c .if2 .left)
 
 pub visit-spec : {M : Type 1} → statement M
 visit-spec =

@@ -15,13 +15,25 @@ add-result-2 : tie.Need-add-result-2
 add-result-2 c = search needs
 
 mul-result-2 : tie.Need-mul-result-2
-mul-result-2 c = omega (arith, mul-le-mul-right (c .before .before .before .args .h .actives + c .before .before .before .args .h .passives) (c .before .before .before .pre .0))
+mul-result-2 c = omega (
+  arith,
+  mul-le-mul-right (c .before .before .before .args .h .actives
+      + c .before .before .before .args .h .passives) (c .before .before .before .pre .0),
+)
 
 mul-result-3 : tie.Need-mul-result-3
-mul-result-3 c = omega (arith, mul-le-mul-right (c .before .before .before .args .h .actives + c .before .before .before .args .h .passives) (c .before .before .before .pre .0))
+mul-result-3 c = omega (
+  arith,
+  mul-le-mul-right (c .before .before .before .args .h .actives
+      + c .before .before .before .args .h .passives) (c .before .before .before .pre .0),
+)
 
 add-result-3 : tie.Need-add-result-3
-add-result-3 c = omega (arith, mul-le-mul-right (c .before .before .before .args .h .actives + c .before .before .before .args .h .passives) (c .before .before .before .pre .0))
+add-result-3 c = omega (
+  arith,
+  mul-le-mul-right (c .before .before .before .args .h .actives
+      + c .before .before .before .args .h .passives) (c .before .before .before .pre .0),
+)
 
 returns : tie.Need-returns
 returns c = search needs

@@ -29,7 +29,18 @@ capacity-ok-requires-8 c κs = search needs
 
 returns : tie.Need-returns
 unfolding capacitiesOk
-returns c = simp (c .before .before .before .before .before .before .before .capacity-ok .ensures, c .before .before .before .before .before .before .capacity-ok2 .ensures, c .before .before .before .before .before .capacity-ok3 .ensures, c .before .before .before .before .capacity-ok4 .ensures, c .before .before .before .capacity-ok5 .ensures, c .before .before .capacity-ok6 .ensures, c .before .capacity-ok7 .ensures, c .capacity-ok8 .ensures)
+returns c =
+    simp (
+      c .before .before .before .before .before .before .before .capacity-ok .ensures,
+      c .before .before .before
+          .before .before .before .capacity-ok2 .ensures,
+      c .before .before .before .before .before .capacity-ok3 .ensures,
+      c .before .before .before .before .capacity-ok4 .ensures,
+      c .before .before .before .capacity-ok5 .ensures,
+      c .before .before .capacity-ok6 .ensures,
+      c .before .capacity-ok7 .ensures,
+      c .capacity-ok8 .ensures,
+    )
 
 pub capacities-ok-spec : {M : Type 1} → statement M
 capacities-ok-spec =

@@ -20,7 +20,12 @@ is-within-requires-4 c κs = search needs
 
 returns : tie.Need-returns
 unfolding countsOk
-returns c = simp (c .before .before .before .before .is-within .ensures, c .before .before .before .is-within2 .ensures, c .before .before .is-within3 .ensures, c .is-within4 .ensures)
+returns c = simp (
+  c .before .before .before .before .is-within .ensures,
+  c .before .before .before .is-within2 .ensures,
+  c .before .before .is-within3 .ensures,
+  c .is-within4 .ensures,
+)
 
 pub counts-ok-spec : {M : Type 1} → statement M
 counts-ok-spec =

@@ -50,7 +50,22 @@ capacity-requires-8 c κs = search needs
 
 returns : tie.Need-returns
 unfolding headOf
-returns c = simp (c .before .before .before .before .before .before .before .before .before .before .before .field .ensures, c .before .before .before .before .before .before .before .before .before .before .field2 .ensures, c .before .before .before .before .before .before .before .before .before .field3 .ensures, c .before .before .before .before .before .before .before .before .field4 .ensures, c .before .before .before .before .before .before .before .capacity .ensures, c .before .before .before .before .before .before .capacity2 .ensures, c .before .before .before .before .before .capacity3 .ensures, c .before .before .before .before .capacity4 .ensures, c .before .before .before .capacity5 .ensures, c .before .before .capacity6 .ensures, c .before .capacity7 .ensures, c .capacity8 .ensures)
+returns c =
+    simp (
+      c .before .before .before .before .before .before .before .before .before .before .before .field .ensures,
+      c .before .before .before .before .before .before .before .before .before .before .field2 .ensures,
+      c .before .before .before .before .before .before .before .before .before .field3 .ensures,
+      c .before .before .before .before .before .before .before .before .field4 .ensures,
+      c .before .before .before .before .before .before .before .capacity .ensures,
+      c .before .before
+          .before .before .before .before .capacity2 .ensures,
+      c .before .before .before .before .before .capacity3 .ensures,
+      c .before .before .before .before .capacity4 .ensures,
+      c .before .before .before .capacity5 .ensures,
+      c .before .before .capacity6 .ensures,
+      c .before .capacity7 .ensures,
+      c .capacity8 .ensures,
+    )
 
 pub read-head-spec : {M : Type 1} → statement M
 read-head-spec =

@@ -22,7 +22,8 @@ cast-result : tie.Need-cast-result
 cast-result c = search needs
 
 returns-2 : tie.Need-returns-2
-returns-2 c = λ h. back-router h (c .before .before .before .args .joints .now) (c .before .before .before .args .i) (c .before .before .before .pre) (c .before .if1 .left)
+returns-2 c = λ h. back-router h (c .before .before .before .args .joints .now) (c .before .before .before .args .i)
+    (c .before .before .before .pre) (c .before .if1 .left)
 
 pub back-ok-spec : {M : Type 1} → statement M
 back-ok-spec =

@@ -20,11 +20,13 @@ add-result c = search needs
 
 returns-3 : tie.Need-returns-3
 unfolding columnOf
-returns-3 c = simp (ne-eqb _ _ (c .before .before .if1 .left), eq-eqb _ _ (c .before .if3 .taken), lt-ltb _ _ (c .if4 .taken))
+returns-3 c =
+    simp (ne-eqb _ _ (c .before .before .if1 .left), eq-eqb _ _ (c .before .if3 .taken), lt-ltb _ _ (c .if4 .taken))
 
 returns-4 : tie.Need-returns-4
 unfolding columnOf
-returns-4 c = simp (ne-eqb _ _ (c .before .before .if1 .left), eq-eqb _ _ (c .before .if3 .taken), le-ltb _ _ (c .if4 .left))
+returns-4 c =
+    simp (ne-eqb _ _ (c .before .before .if1 .left), eq-eqb _ _ (c .before .if3 .taken), le-ltb _ _ (c .if4 .left))
 
 returns-5 : tie.Need-returns-5
 unfolding columnOf

@@ -10,7 +10,8 @@ use Rattle.plan.proofs.interfaces.found.Statement.{statement}
 use Rattle.plan.proofs.interfaces.found.Tie as tie
 
 abbrev Inv-loop : tie.InvT-loop
-Inv-loop joints n actives passives t₀ i₀ t i = (i ≤ n) × (t ≡ upTo (foundStep actives passives joints) i t₀) × (length t ≡ 33)
+Inv-loop joints n actives passives t₀ i₀ t i =
+    (i ≤ n) × (t ≡ upTo (foundStep actives passives joints) i t₀) × (length t ≡ 33)
 
 abbrev μ-loop : tie.MeasureT-loop
 μ-loop joints n actives passives t₀ i₀ t i = n - i
@@ -28,7 +29,15 @@ column-requires : tie.Need-column-requires Inv-loop μ-loop
 column-requires c κs = search needs
 
 array-read-mark : tie.Need-array-read-mark Inv-loop μ-loop
-array-read-mark c = omega (arith, c .column .ensures, column-le (c .before .before .before .before .before .args .h .actives) (c .before .before .before .before .before .args .h .passives) (getD (c .before .before .before .before .before .args .joints .now) (c .before .before .before .loop .i) 0) (c .before .before .before .before .before .pre .1))
+array-read-mark c =
+    omega (
+      arith,
+      c .column .ensures,
+      column-le (c .before .before .before .before .before .args .h .actives)
+          (c .before .before .before .before .before .args .h .passives)
+          (getD (c .before .before .before .before .before .args .joints .now) (c .before .before .before .loop .i) 0)
+          (c .before .before .before .before .before .pre .1),
+    )
 
 cast-mark : tie.Need-cast-mark Inv-loop μ-loop
 cast-mark c = search needs
@@ -37,7 +46,14 @@ mark-requires : tie.Need-mark-requires Inv-loop μ-loop
 mark-requires c κs = search needs
 
 array-write-t : tie.Need-array-write-t Inv-loop μ-loop
-array-write-t c = omega (arith, c .before .column .ensures, column-le (c .before .before .before .before .before .before .args .h .actives) (c .before .before .before .before .before .before .args .h .passives) (getD (c .before .before .before .before .before .before .args .joints .now) (c .before .before .before .before .loop .i) 0) (c .before .before .before .before .before .before .pre .1))
+array-write-t c = omega (
+  arith,
+  c .before .column .ensures,
+  column-le (c .before .before .before .before .before .before .args .h .actives)
+      (c .before .before .before .before .before .before .args .h .passives)
+      (getD (c .before .before .before .before .before .before .args .joints .now)
+      (c .before .before .before .before .loop .i) 0) (c .before .before .before .before .before .before .pre .1),
+)
 
 add-i : tie.Need-add-i Inv-loop μ-loop
 add-i c = search needs
@@ -47,7 +63,12 @@ loop-less c = search needs
 
 loop-again : tie.Need-loop-again Inv-loop μ-loop
 unfolding foundStep
-loop-again c = (omega arith, up-more _ _ _ (c .before .before .before .before .loop .inv .1) (simp (c .mark .ensures, c .before .column .ensures)), simp length-set (c .before .before .before .before .loop .inv .2))
+loop-again c = (
+  omega arith,
+  up-more _ _ _ (c .before .before .before .before .loop .inv .1) (simp
+      (c .mark .ensures, c .before .column .ensures)),
+  simp length-set (c .before .before .before .before .loop .inv .2),
+)
 
 returns : tie.Need-returns Inv-loop μ-loop
 unfolding foundOf

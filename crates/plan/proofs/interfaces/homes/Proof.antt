@@ -40,10 +40,18 @@ loop-less : tie.Need-loop-less Inv-loop μ-loop
 loop-less c = search needs
 
 loop-again : tie.Need-loop-again Inv-loop μ-loop
-loop-again c = (omega arith, up-fill _ _ _ (c .before .before .loop .inv .1) (c .port-or-0 .ensures), simp length-set (c .before .before .loop .inv .2))
+loop-again c = (
+  omega arith,
+  up-fill _ _ _ (c .before .before .loop .inv .1) (c .port-or-0 .ensures),
+  simp length-set (c .before .before .loop .inv .2),
+)
 
 returns : tie.Need-returns Inv-loop μ-loop
-returns c = up-done _ _ (c .before .loop .inv .1) (omega arith) ∙ found-homes (c .before .before .before .before .args .h) (c .before .before .before .before .args .joints .now) (c .before .before .before .before .pre .0) (c .before .before .before .before .pre .1) (c .before .before .before .before .pre .2) (c .before .before .before .found .result) (c .before .before .before .found .ensures)
+returns c =
+    up-done _ _ (c .before .loop .inv .1) (omega arith) ∙ found-homes (c .before .before .before .before .args .h)
+    (c .before .before .before .before .args .joints .now) (c .before .before .before .before .pre .0)
+    (c .before .before .before .before .pre .1) (c .before .before .before .before .pre .2)
+    (c .before .before .before .found .result) (c .before .before .before .found .ensures)
 
 pub homes-spec : {M : Type 1} → statement M
 homes-spec =

@@ -31,7 +31,12 @@ array-read-if1 : tie.Need-array-read-if1 Inv-loop μ-loop
 array-read-if1 c = search needs
 
 returns : tie.Need-returns Inv-loop μ-loop
-returns c = sym (all-fail (λ k. ltb (getD (c .before .before .before .before .found .result) k 0) 64) _ (c .before .before .loop .d) (c .before .loop-test .taken) refl (le-ltb _ _ (c .if1 .taken))) ∙ found-ok (c .before .before .before .before .before .args .h) (c .before .before .before .before .before .args .joints .now) (c .before .before .before .before .before .pre .0) (c .before .before .before .before .before .pre .1) (c .before .before .before .before .before .pre .2) (c .before .before .before .before .found .result) (c .before .before .before .before .found .ensures)
+returns c = sym (all-fail (λ k. ltb (getD (c .before .before .before .before .found .result) k 0) 64) _
+    (c .before .before .loop .d) (c .before .loop-test .taken) refl (le-ltb _ _ (c .if1 .taken)))
+    ∙ found-ok (c .before .before .before .before .before .args .h)
+    (c .before .before .before .before .before .args .joints .now) (c .before .before .before .before .before .pre .0)
+    (c .before .before .before .before .before .pre .1) (c .before .before .before .before .before .pre .2)
+    (c .before .before .before .before .found .result) (c .before .before .before .before .found .ensures)
 
 add-d : tie.Need-add-d Inv-loop μ-loop
 add-d c = search needs
@@ -43,7 +48,11 @@ loop-again : tie.Need-loop-again Inv-loop μ-loop
 loop-again c = (search needs, all-more _ _ (c .before .before .loop .inv .1) refl (lt-ltb _ _ (c .if1 .left)))
 
 returns-2 : tie.Need-returns-2 Inv-loop μ-loop
-returns-2 c = sym (all-done _ (c .before .loop .inv .1) (omega arith)) ∙ found-ok (c .before .before .before .before .args .h) (c .before .before .before .before .args .joints .now) (c .before .before .before .before .pre .0) (c .before .before .before .before .pre .1) (c .before .before .before .before .pre .2) (c .before .before .before .found .result) (c .before .before .before .found .ensures)
+returns-2 c =
+    sym (all-done _ (c .before .loop .inv .1) (omega arith)) ∙ found-ok (c .before .before .before .before .args .h)
+    (c .before .before .before .before .args .joints .now) (c .before .before .before .before .pre .0)
+    (c .before .before .before .before .pre .1) (c .before .before .before .before .pre .2)
+    (c .before .before .before .found .result) (c .before .before .before .found .ensures)
 
 pub interfaces-ok-spec : {M : Type 1} → statement M
 interfaces-ok-spec =

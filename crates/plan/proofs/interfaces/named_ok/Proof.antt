@@ -13,7 +13,8 @@ use Rattle.plan.proofs.interfaces.named_ok.Statement.{statement}
 use Rattle.plan.proofs.interfaces.named_ok.Tie as tie
 
 abbrev Inv-loop : tie.InvT-loop
-Inv-loop joints n i₀ i = (i ≤ n) × ((h : Head) → allBelow i (λ k. backOk (tablePlan h [] joints) k (jointOfPort (tablePlan h [] joints) k)) ≡ true)
+Inv-loop joints n i₀ i = (i ≤ n)
+    × ((h : Head) → allBelow i (λ k. backOk (tablePlan h [] joints) k (jointOfPort (tablePlan h [] joints) k)) ≡ true)
 
 abbrev μ-loop : tie.MeasureT-loop
 μ-loop joints n i₀ i = n - i
@@ -29,7 +30,8 @@ back-ok-requires c κs = search needs
 
 returns : tie.Need-returns Inv-loop μ-loop
 unfolding namedOk tablePlan
-returns c = sym (all-fail _ _ (c .before .before .before .loop .i) (c .before .before .loop-test .taken) (c .before .back-ok .ensures (c .before .before .before .before .before .args .h)) (not-true _ (c .if1 .taken)))
+returns c = sym (all-fail _ _ (c .before .before .before .loop .i) (c .before .before .loop-test .taken)
+    (c .before .back-ok .ensures (c .before .before .before .before .before .args .h)) (not-true _ (c .if1 .taken)))
 
 add-i : tie.Need-add-i Inv-loop μ-loop
 add-i c = search needs
@@ -38,7 +40,11 @@ loop-less : tie.Need-loop-less Inv-loop μ-loop
 loop-less c = search needs
 
 loop-again : tie.Need-loop-again Inv-loop μ-loop
-loop-again c = (search needs, λ h. all-more _ _ (c .before .before .before .loop .inv .1 h) (c .before .back-ok .ensures h) (not-false _ (c .if1 .left)))
+loop-again c = (
+  search needs,
+  λ h. all-more _ _ (c .before .before .before .loop .inv .1 h)
+      (c .before .back-ok .ensures h) (not-false _ (c .if1 .left)),
+)
 
 returns-2 : tie.Need-returns-2 Inv-loop μ-loop
 unfolding namedOk tablePlan

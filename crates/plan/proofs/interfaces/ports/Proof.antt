@@ -12,7 +12,8 @@ use Rattle.plan.proofs.interfaces.ports.Statement.{statement}
 use Rattle.plan.proofs.interfaces.ports.Tie as tie
 
 abbrev Inv-loop : tie.InvT-loop
-Inv-loop joints d n w count₀ at₀ i₀ count at i = (i ≤ n) × (count ≤ i) × (toldOf count at ≡ upTo (hitStep joints w) i Missing)
+Inv-loop joints d n w count₀ at₀ i₀ count at i =
+    (i ≤ n) × (count ≤ i) × (toldOf count at ≡ upTo (hitStep joints w) i Missing)
 
 abbrev μ-loop : tie.MeasureT-loop
 μ-loop joints d n w count₀ at₀ i₀ count at i = n - i
@@ -43,15 +44,27 @@ loop-again c = let js = c .before .before .before .before .before .before .args 
     let w = c .before .before .before .before .wanted .result in
     let l = c .before .before .before .loop in
     ⊎-elim
-    (λ k. (omega arith, omega arith, up-more _ _ _ (l .inv .2) (ap₂ toldOf (k .1) (k .2) ∙ hit js w (l .count) (l .at) (l .i) (k .0 .taken))))
-    (λ k. (omega arith, omega arith, up-more _ _ _ (l .inv .2) (ap₂ toldOf (k .1) (k .2) ∙ miss js w (l .count) (l .at) (l .i) (k .0 .left))))
+    (λ k. (
+      omega arith,
+      omega arith,
+      up-more _ _ _ (l .inv .2) (ap₂ toldOf (k .1) (k .2) ∙ hit js w (l .count) (l .at) (l .i) (k .0 .taken)),
+    ))
+    (λ k. (
+      omega arith,
+      omega arith,
+      up-more _ _ _ (l .inv .2) (ap₂ toldOf (k .1) (k .2) ∙ miss js w (l .count) (l .at) (l .i) (k .0 .left)),
+    ))
     (c .if1 .came)
 
 told-requires : tie.Need-told-requires Inv-loop μ-loop
 told-requires c κs = search needs
 
 returns : tie.Need-returns Inv-loop μ-loop
-returns c = c .told .ensures ∙ up-done _ _ (c .before .before .loop .inv .2) (omega arith) ∙ ports-hit (c .before .before .before .before .before .args .h) (c .before .before .before .before .before .args .joints .now) (c .before .before .before .before .before .pre .0) (c .before .before .before .before .before .pre .1) (c .before .before .before .before .before .pre .2) (c .before .before .before .before .before .args .d) _ (c .before .before .before .before .before .pre .3) (c .before .before .before .wanted .ensures)
+returns c = c .told .ensures ∙ up-done _ _ (c .before .before .loop .inv .2) (omega arith) ∙ ports-hit
+    (c .before .before .before .before .before .args .h) (c .before .before .before .before .before .args .joints .now)
+    (c .before .before .before .before .before .pre .0) (c .before .before .before .before .before .pre .1)
+    (c .before .before .before .before .before .pre .2) (c .before .before .before .before .before .args .d) _
+    (c .before .before .before .before .before .pre .3) (c .before .before .before .wanted .ensures)
 
 pub ports-spec : {M : Type 1} → statement M
 ports-spec =

@@ -32,7 +32,8 @@ cast-result c = omega (arith, c .before .before .shared-slice-known .given (6 + 
 
 returns : tie.Need-returns
 returns c = let a = c .before .before .before .args in
-    let low : getD (a .plan .now) (6 + a .i) 0 < 256 = omega (arith, c .before .before .shared-slice-known .given (6 + a .i)) in
+    let low : getD (a .plan .now) (6 + a .i) 0 < 256 =
+    omega (arith, c .before .before .shared-slice-known .given (6 + a .i)) in
     rw (c .before .byte-or-zero .ensures, c .byte-or-zero2 .ensures) (joint-is (a .plan .now) (a .i) low)
 
 pub joint-byte-spec : {M : Type 1} → statement M

@@ -30,7 +30,8 @@ joint-byte-ok-requires c κs = search needs
 
 returns : tie.Need-returns Inv-loop μ-loop
 unfolding jointBytesOk
-returns c = sym (all-fail _ _ (c .before .before .before .before .loop .i) (c .before .before .before .loop-test .taken) (c .before .joint-byte-ok .ensures) (not-true _ (c .if1 .taken)))
+returns c = sym (all-fail _ _ (c .before .before .before .before .loop .i)
+    (c .before .before .before .loop-test .taken) (c .before .joint-byte-ok .ensures) (not-true _ (c .if1 .taken)))
 
 add-i : tie.Need-add-i Inv-loop μ-loop
 add-i c = search needs
@@ -39,7 +40,11 @@ loop-less : tie.Need-loop-less Inv-loop μ-loop
 loop-less c = search needs
 
 loop-again : tie.Need-loop-again Inv-loop μ-loop
-loop-again c = (search needs, all-more _ _ (c .before .before .before .before .loop .inv .1) (c .before .joint-byte-ok .ensures) (not-false _ (c .if1 .left)))
+loop-again c = (
+  search needs,
+  all-more _ _ (c .before .before .before .before .loop .inv .1)
+      (c .before .joint-byte-ok .ensures) (not-false _ (c .if1 .left)),
+)
 
 returns-2 : tie.Need-returns-2 Inv-loop μ-loop
 unfolding jointBytesOk

@@ -33,7 +33,11 @@ loop-less : tie.Need-loop-less Inv-loop μ-loop
 loop-less c = search needs
 
 loop-again : tie.Need-loop-again Inv-loop μ-loop
-loop-again c = (omega arith, up-fill _ _ _ (c .before .before .loop .inv .1) (c .joint-byte .ensures), simp length-set (c .before .before .loop .inv .2))
+loop-again c = (
+  omega arith,
+  up-fill _ _ _ (c .before .before .loop .inv .1) (c .joint-byte .ensures),
+  simp length-set (c .before .before .loop .inv .2),
+)
 
 returns : tie.Need-returns Inv-loop μ-loop
 unfolding jointsOf

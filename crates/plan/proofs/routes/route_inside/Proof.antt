@@ -10,10 +10,18 @@ shared-slice-read-both : tie.Need-shared-slice-read-both
 shared-slice-read-both c = search needs
 
 cast-both : tie.Need-cast-both
-cast-both c = omega (arith, c .shared-slice-known .given (c .before .args .p / 8), c .shared-slice-known .given (c .before .args .p / 8 + 1))
+cast-both c = omega (
+  arith,
+  c .shared-slice-known .given (c .before .args .p / 8),
+  c .shared-slice-known .given (c .before .args .p / 8 + 1),
+)
 
 mul-both : tie.Need-mul-both
-mul-both c = omega (arith, c .shared-slice-known .given (c .before .args .p / 8), c .shared-slice-known .given (c .before .args .p / 8 + 1))
+mul-both c = omega (
+  arith,
+  c .shared-slice-known .given (c .before .args .p / 8),
+  c .shared-slice-known .given (c .before .args .p / 8 + 1),
+)
 
 add-both : tie.Need-add-both
 add-both c = search needs
@@ -22,10 +30,18 @@ shared-slice-read-both-2 : tie.Need-shared-slice-read-both-2
 shared-slice-read-both-2 c = search needs
 
 cast-both-2 : tie.Need-cast-both-2
-cast-both-2 c = omega (arith, c .before .shared-slice-known .given (c .before .before .args .p / 8), c .before .shared-slice-known .given (c .before .before .args .p / 8 + 1))
+cast-both-2 c = omega (
+  arith,
+  c .before .shared-slice-known .given (c .before .before .args .p / 8),
+  c .before .shared-slice-known .given (c .before .before .args .p / 8 + 1),
+)
 
 add-both-2 : tie.Need-add-both-2
-add-both-2 c = omega (arith, c .before .shared-slice-known .given (c .before .before .args .p / 8), c .before .shared-slice-known .given (c .before .before .args .p / 8 + 1))
+add-both-2 c = omega (
+  arith,
+  c .before .shared-slice-known .given (c .before .before .args .p / 8),
+  c .before .shared-slice-known .given (c .before .before .args .p / 8 + 1),
+)
 
 sub-result : tie.Need-sub-result
 sub-result c = search needs
@@ -44,7 +60,8 @@ cast-result-2 c = search needs
 
 returns : tie.Need-returns
 returns c = let a = c .before .before .args in
-    let low : getD (a .plan .now) (a .p / 8 + 1) 0 < 256 = omega (arith, c .before .shared-slice-known .given (a .p / 8 + 1)) in
+    let low : getD (a .plan .now) (a .p / 8 + 1) 0 < 256 =
+    omega (arith, c .before .shared-slice-known .given (a .p / 8 + 1)) in
     field-is (a .plan .now) (a .p) low 3 (omega arith)
 
 pub route-inside-spec : {M : Type 1} → statement M

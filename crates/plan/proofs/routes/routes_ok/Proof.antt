@@ -34,7 +34,8 @@ row-ok-requires c κs = search needs
 
 returns : tie.Need-returns Inv-loop μ-loop
 unfolding routesOk
-returns c = sym (all-fail _ _ (c .before .before .before .before .loop .r) (c .before .before .before .loop-test .taken) (c .before .row-ok .ensures) (not-true _ (c .if1 .taken)))
+returns c = sym (all-fail _ _ (c .before .before .before .before .loop .r)
+    (c .before .before .before .loop-test .taken) (c .before .row-ok .ensures) (not-true _ (c .if1 .taken)))
 
 add-r : tie.Need-add-r Inv-loop μ-loop
 add-r c = search needs
@@ -43,7 +44,11 @@ loop-less : tie.Need-loop-less Inv-loop μ-loop
 loop-less c = search needs
 
 loop-again : tie.Need-loop-again Inv-loop μ-loop
-loop-again c = (search needs, all-more _ _ (c .before .before .before .before .loop .inv .1) (c .before .row-ok .ensures) (not-false _ (c .if1 .left)))
+loop-again c = (
+  search needs,
+  all-more _ _ (c .before .before .before .before .loop .inv .1)
+      (c .before .row-ok .ensures) (not-false _ (c .if1 .left)),
+)
 
 returns-2 : tie.Need-returns-2 Inv-loop μ-loop
 unfolding routesOk

@@ -32,11 +32,16 @@ loop-less : tie.Need-loop-less Inv-loop μ-loop
 loop-less c = search needs
 
 loop-again : tie.Need-loop-again Inv-loop μ-loop
-loop-again c = (search needs, all-and _ _ (c .before .before .before .loop .inv .1) (c .route-ok .ensures ∙ route-default (c .before .before .before .before .args .row .now) (c .before .before .before .loop .d)))
+loop-again c = (
+  search needs,
+  all-and _ _ (c .before .before .before .loop .inv .1) (c .route-ok .ensures
+      ∙ route-default (c .before .before .before .before .args .row .now) (c .before .before .before .loop .d)),
+)
 
 returns : tie.Need-returns Inv-loop μ-loop
 unfolding rowOk
-returns c = c .before .loop .inv .1 ∙ ap (λ (k : ℕ). allBelow k (λ j. routeOk (getD (c .before .before .args .row .now) j 7))) (omega arith)
+returns c = c .before .loop .inv .1
+    ∙ ap (λ (k : ℕ). allBelow k (λ j. routeOk (getD (c .before .before .args .row .now) j 7))) (omega arith)
 
 pub row-ok-spec : {M : Type 1} → statement M
 row-ok-spec =

@@ -36,7 +36,7 @@ use Rattle.claims.specs.Demand1.{Decided, Demand1}
 use Rattle.claims.proofs.Tests.{Tell, tell-more, told-first, first-told, told-none, none-told, first-or-none}
 use Rattle.claims.proofs.Tell.{no, calls-tell, loadGuards, load-tells}
 use Rattle.claims.proofs.Exact.{accepted-wired, accepted-range, state-exact}
-use Rattle.claims.proofs.Refusals.{Kept, kept-call, kept-start}
+use Rattle.claims.proofs.Refusals.{Unaltered, kept-call, kept-start}
 use Rattle.claims.proofs.Run.{start-done}
 
 -- ---- Load by its guards
@@ -79,7 +79,7 @@ refusal-more (g ∷ gs) hs =
 
 -- what is refused by guards that tell of conditions, and changes bytes as every call does, is decided by these
 decided-by : (pl : Plan) (gs : List Guard) (cs : List Condition) (b : List ℕ) (a : Answer) (g : Given) → Tell gs cs
-    → g .answer ≡ answerAs (refusalOf gs) a → (refusalOf gs ≡ none → (w : Refusal) → a ≢ Refused w) → Kept pl b g
+    → g .answer ≡ answerAs (refusalOf gs) a → (refusalOf gs ≡ none → (w : Refusal) → a ≢ Refused w) → Unaltered pl b g
     → Decided pl cs b g
 decided-by pl gs cs b a g t e n k =
     record {

@@ -22,7 +22,7 @@ use Rattle.machine.specs.Ruled.{ruledAfter}
 use Rattle.machine.specs.Runs.Watch.{After, each, watching, moments, watch}
 use Rattle.machine.specs.Runs.FirstBookings.{launchInRound0}
 use Rattle.layout.specs.Offsets.{size}
-use Rattle.layout.specs.Figures.{t-parts, planT as plannedT}
+use Rattle.layout.specs.Figures.{t-parts, wiredT as plannedT}
 use Rattle.claims.specs.Calls.{Given, startOn, callOn}
 use Rattle.claims.specs.Demand3.{bytesAfter, Claim}
 use Rattle.claims.specs.FirstRun.{answersIn, allEntries, firstAnswers, FirstRun}

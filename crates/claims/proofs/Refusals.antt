@@ -31,15 +31,15 @@ pub length-encoded : (pl : Plan) (s : State) (rest : List ℕ) → length (encod
 length-encoded pl s rest = rw (encode-append pl s rest) (omega (arith, length-append (encode pl s []) rest, length-encode pl s))
 
 -- what every call does with bytes: where it refuses they are as they were, past the state they always are, and there are as many
-pub record Kept (pl : Plan) (b : List ℕ) (g : Given) : Type 0 where
+pub record Unaltered (pl : Plan) (b : List ℕ) (g : Given) : Type 0 where
   pub refused : (w : Refusal) → g .answer ≡ Refused w → g .bytes ≡ b
   pub beyond : past (size pl) (g .bytes) ≡ past (size pl) b
   pub count : length (g .bytes) ≡ length b
 
-kept-refused : (pl : Plan) (b : List ℕ) (w : Refusal) → Kept pl b (given (Refused w) b)
+kept-refused : (pl : Plan) (b : List ℕ) (w : Refusal) → Unaltered pl b (given (Refused w) b)
 kept-refused pl b w = record { refused = λ v e. refl; beyond = refl; count = refl }
 
-kept-stored : (pl : Plan) (b : List ℕ) (o : Outcome) → ((w : Refusal) → o .answer ≡ Refused w → o .state ≡ decode pl b) → isState pl b ≡ true → Kept pl b (stored pl b o)
+kept-stored : (pl : Plan) (b : List ℕ) (o : Outcome) → ((w : Refusal) → o .answer ≡ Refused w → o .state ≡ decode pl b) → isState pl b ≡ true → Unaltered pl b (stored pl b o)
 unfolding isState
 kept-stored pl b o f e =
     let same : b ≡ encode pl (decode pl b) (past (size pl) b) = encode-canonical pl b (and-both e .0) in
@@ -49,25 +49,25 @@ kept-stored pl b o f e =
       count = length-encoded pl (o .state) (past (size pl) b) ∙ sym (length-encoded pl (decode pl b) (past (size pl) b)) ∙ ap length (sym same);
     }
 
-kept-state : (pl : Plan) (c : Call) (b : List ℕ) → Kept pl b (onState (call pl c) b pl)
+kept-state : (pl : Plan) (c : Call) (b : List ℕ) → Unaltered pl b (onState (call pl c) b pl)
 unfolding onState
 kept-state pl c b = by (isState pl b) refl
   where
-    by : (t : Bool) → isState pl b ≡ t → Kept pl b (pick t (stored pl b (call pl c (decode pl b))) (given (Refused NotState) b))
+    by : (t : Bool) → isState pl b ≡ t → Unaltered pl b (pick t (stored pl b (call pl c (decode pl b))) (given (Refused NotState) b))
     by true e = kept-stored pl b (call pl c (decode pl b)) (λ w a. refused-leaves (call-does pl (decode pl b) c) a .0) e
     by false e = kept-refused pl b NotState
 
-kept-plan : (p b : List ℕ) (go : Plan → Given) → Kept (planOf p) b (go (planOf p)) → (l : Loaded) → Kept (planOf p) b (onPlan p b go l)
+kept-plan : (p b : List ℕ) (go : Plan → Given) → Unaltered (planOf p) b (go (planOf p)) → (l : Loaded) → Unaltered (planOf p) b (onPlan p b go l)
 kept-plan p b go k (Unloaded w) = kept-refused (planOf p) b w
 kept-plan p b go k (Accepted h) = k
 
 -- so does every call
-pub kept-call : (p : List ℕ) (c : Call) (b : List ℕ) → Kept (planOf p) b (callOn p c b)
+pub kept-call : (p : List ℕ) (c : Call) (b : List ℕ) → Unaltered (planOf p) b (callOn p c b)
 unfolding callOn
 kept-call p c b = kept-plan p b (λ pl. onState (call pl c) b pl) (kept-state (planOf p) c b) (loadOf p)
 
 -- ---- Start
-kept-started : (pl : Plan) (b : List ℕ) → size pl ≤ length b → Kept pl b (given Done (encode pl (start pl) (past (size pl) b)))
+kept-started : (pl : Plan) (b : List ℕ) → size pl ≤ length b → Unaltered pl b (given Done (encode pl (start pl) (past (size pl) b)))
 unfolding past
 kept-started pl b h =
     record {
@@ -77,11 +77,11 @@ kept-started pl b h =
     }
 
 -- and Start
-pub kept-start : (p b : List ℕ) → Kept (planOf p) b (startOn p b)
+pub kept-start : (p b : List ℕ) → Unaltered (planOf p) b (startOn p b)
 unfolding startOn
 kept-start p b = kept-plan p b _ (by (ltb (length b) (size (planOf p))) refl) (loadOf p)
   where
     by : (t : Bool) → ltb (length b) (size (planOf p)) ≡ t
-        → Kept (planOf p) b (pick t (given (Refused NotState) b) (given Done (encode (planOf p) (start (planOf p)) (past (size (planOf p)) b))))
+        → Unaltered (planOf p) b (pick t (given (Refused NotState) b) (given Done (encode (planOf p) (start (planOf p)) (past (size (planOf p)) b))))
     by true e = kept-refused (planOf p) b NotState
     by false e = kept-started (planOf p) b (ltb-false (length b) (size (planOf p)) e)

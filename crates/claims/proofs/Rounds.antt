@@ -13,7 +13,7 @@ use Rattle.machine.specs.Read.{doRead}
 use Rattle.machine.specs.Execute.{doExecute}
 use Rattle.machine.specs.Write.{doWrite}
 use Rattle.machine.specs.Visits.{launched, removed}
-use Rattle.machine.specs.Calls.{Visit, Call, turn, Outcome, gives, stepOf, call}
+use Rattle.machine.specs.Calls.{Visit, Call, turn, Outcome, gives, phaseStep, call}
 use Rattle.theory.specs.Does.{Visited, launches, replies, consumes, looks, Does, refuses, turns, visits}
 use Rattle.machine.specs.Progress.{turnsCall}
 use Rattle.machine.specs.Ruled.{ruledAfter, rounds}
@@ -41,15 +41,15 @@ pub record Turns (x : Phase) (reads executes writes : ℕ) (y : Phase) : Type 0 
   pub read-turn : reads + readBehind x ≡ writes + readBehind y
   pub execute-turn : executes + executeBehind x ≡ writes + executeBehind y
 
-abbrev pub Turn : Call → Phase → Outcome → Type 0
-Turn c x o = Turns x (turnsCall Read c (o .answer)) (turnsCall Execute c (o .answer)) (turnsCall Write c (o .answer)) (o .state .clock .phase)
+abbrev pub TurnsBy : Call → Phase → Outcome → Type 0
+TurnsBy c x o = Turns x (turnsCall Read c (o .answer)) (turnsCall Execute c (o .answer)) (turnsCall Write c (o .answer)) (o .state .clock .phase)
 
 -- where nothing is counted the phase is kept
 still : (x y : Phase) → y ≡ x → Turns x 0 0 0 y
 still x y e = rw e (record { read-turn = refl; execute-turn = refl })
 
 module _ (pl : Plan) (s : State) where
-  phase-turn : (x : Phase) → s .clock .phase ≡ x → Turn (turn x) (s .clock .phase) (gives Done (stepOf pl x s))
+  phase-turn : (x : Phase) → s .clock .phase ≡ x → TurnsBy (turn x) (s .clock .phase) (gives Done (phaseStep pl x s))
   unfolding doRead doExecute doWrite
   phase-turn Read e = rw e (record { read-turn = refl; execute-turn = refl })
   phase-turn Execute e = rw e (record { read-turn = refl; execute-turn = refl })
@@ -62,13 +62,13 @@ module _ (pl : Plan) (s : State) where
   visit-phase v o (consumes a x rest m) = refl
   visit-phase v o (looks r q t m) = refl
 
-  does-turn : (c : Call) (o : Outcome) → Does pl s c o → Turn c (s .clock .phase) o
+  does-turn : (c : Call) (o : Outcome) → Does pl s c o → TurnsBy c (s .clock .phase) o
   does-turn c o (refuses d w n) = rw (refused-turns Read d w, refused-turns Execute d w, refused-turns Write d w) (still (s .clock .phase) (s .clock .phase) refl)
   does-turn c o (turns x e) = phase-turn x e
   does-turn c o (visits v r d) = still (s .clock .phase) (r .state .clock .phase) (visit-phase v r d)
 
   -- every call turns the phase by what it counts, and not otherwise
-  pub call-turn : (c : Call) → Turn c (s .clock .phase) (call pl c s)
+  pub call-turn : (c : Call) → TurnsBy c (s .clock .phase) (call pl c s)
   call-turn c = does-turn c (call pl c s) (call-does pl s c)
 
 -- ---- a list of calls

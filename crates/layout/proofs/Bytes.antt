@@ -25,7 +25,7 @@ use Rattle.machine.specs.Write.{ofRank}
 use Rattle.machine.specs.Valid.{PacketOk, Lined, Drives, fed, Valid, Bounded}
 use Rattle.machine.proofs.Numbers.{exists-at}
 use Rattle.machine.proofs.OutNumbers.{drives-at}
-use Rattle.layout.specs.Rows.{span}
+use Rattle.layout.specs.Rows.{rows}
 use Rattle.layout.proofs.Numbering.{entry-named}
 use Rattle.layout.specs.Offsets.{places, entries, routerEntries, slotRoom}
 use Rattle.layout.specs.Codes.{phase-small, kind-small, flag-small, choiceCode}
@@ -51,10 +51,10 @@ bytes-append [] y h k = k
 bytes-append (a ∷ x) y (h, l) k = (h, bytes-append x y l k)
 
 -- rows of bytes
-pub bytes-span : (i n : ℕ) (g : ℕ → List ℕ) → ((j : ℕ) → i ≤ j → j < i + n → Bytes (g j)) → Bytes (span i n g)
-unfolding span
+pub bytes-span : (i n : ℕ) (g : ℕ → List ℕ) → ((j : ℕ) → i ≤ j → j < i + n → Bytes (g j)) → Bytes (rows i n g)
+unfolding rows
 bytes-span i zero g h = record {}
-bytes-span i (suc n) g h = bytes-append (g i) (span (suc i) n g) (h i (omega arith) (omega arith))
+bytes-span i (suc n) g h = bytes-append (g i) (rows (suc i) n g) (h i (omega arith) (omega arith))
     (bytes-span (suc i) n g (λ j a b. h j (omega arith) (omega arith)))
 
 no-packet-small : Bytes noPacket

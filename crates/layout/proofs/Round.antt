@@ -18,37 +18,37 @@ use Rattle.feeding.specs.Queue.{Queue, Exists}
 use Rattle.feeding.specs.Feeds.{Output}
 use Rattle.machine.specs.State.{State, blank}
 use Rattle.machine.specs.Valid.{Bounded, Drives}
-use Rattle.layout.specs.Rows.{Stands, stands-left, stands-right, stands-get, stands-byte}
+use Rattle.layout.specs.Rows.{RowStands, stands-left, stands-right, stands-get, stands-byte}
 use Rattle.layout.specs.Named.{existsTest, test-exists, exists-test, drivesTest, test-drives, drives-test}
-use Rattle.layout.specs.Named.{entryTest, test-entry, entry-test}
+use Rattle.layout.specs.Named.{isEntry, test-entry, entry-test}
 use Rattle.layout.specs.Offsets.{places, creditByte, flagByte, handledByte, lengthByte, wireByte, choiceByte}
 use Rattle.layout.specs.Offsets.{firstPlace, wirePacket, queueRow, outputRow, allowanceRow, entryRow}
 use Rattle.layout.specs.Codes.{phase-code, flagCode, flagOf, flag-code, choiceCode, choiceOf, choice-code}
-use Rattle.layout.specs.Codes.{entryOf, entry-code}
+use Rattle.layout.specs.Codes.{entryFrom, entry-code}
 use Rattle.layout.specs.Places.{packetBytes, placeBytes, packetAt, packet-read, packets-read}
 use Rattle.layout.specs.Encode.{queueBytes, wireBytes, outputBytes, allowanceBytes, entryBytes, encode}
 use Rattle.layout.specs.Encode.{length-wire}
 use Rattle.layout.proofs.Standing.{queue-stands, output-stands, allowance-stands, entry-stands}
-use Rattle.layout.specs.Decode.{creditAt, flagAt, handledAt, lengthAt, queueIn, wireOf, wireAt, choiceAt}
+use Rattle.layout.specs.Decode.{creditAt, flagAt, handledAt, lengthAt, queueIn, wireFrom, wireAt, choiceAt}
 use Rattle.layout.specs.Decode.{entryAt, decode, Small}
 
 -- ---- one row is read where it stands
 module _ (s : State) (b : List ℕ) (i : ℕ) where
   -- a queue's credit, flag, handled mark and packets
-  pub credit-read : (q : Queue) → Stands i (queueBytes s q) b → creditAt i b ≡ s .flow .credit q
+  pub credit-read : (q : Queue) → RowStands i (queueBytes s q) b → creditAt i b ≡ s .flow .credit q
   unfolding queueBytes
   credit-read q t = ap (λ (n : ℕ). record { 0 = n }) (stands-get i (queueBytes s q) b t creditByte (omega arith))
 
-  pub flag-read : (q : Queue) → Stands i (queueBytes s q) b → flagAt i b ≡ s .flow .flag q
+  pub flag-read : (q : Queue) → RowStands i (queueBytes s q) b → flagAt i b ≡ s .flow .flag q
   unfolding queueBytes
   flag-read q t = ap flagOf (stands-get i (queueBytes s q) b t flagByte (omega arith)) ∙ flag-code (s .flow .flag q)
 
-  pub handled-read : (q : Queue) → Stands i (queueBytes s q) b → handledAt i b ≡ s .lines .handled q
+  pub handled-read : (q : Queue) → RowStands i (queueBytes s q) b → handledAt i b ≡ s .lines .handled q
   unfolding queueBytes
   handled-read q t =
       ap flagOf (stands-get i (queueBytes s q) b t handledByte (omega arith)) ∙ flag-code (s .lines .handled q)
 
-  pub queue-read : (q : Queue) → length (s .lines .queue q) ≤ places → Stands i (queueBytes s q) b
+  pub queue-read : (q : Queue) → length (s .lines .queue q) ≤ places → RowStands i (queueBytes s q) b
       → queueIn i b ≡ s .lines .queue q
   unfolding queueBytes
   queue-read q h t =
@@ -59,30 +59,30 @@ module _ (s : State) (b : List ℕ) (i : ℕ) where
       (stands-right i (i + firstPlace) front (placeBytes places (s .lines .queue q)) b refl t))
 
   -- a wire; an output's wire and choice
-  pub wire-read : (w : Wire) → Stands i (wireBytes w) b → wireAt i b ≡ w
-  wire-read Empty t = ap (λ n. wireOf (flagOf n) (packetAt (i + wirePacket) b))
+  pub wire-read : (w : Wire) → RowStands i (wireBytes w) b → wireAt i b ≡ w
+  wire-read Empty t = ap (λ n. wireFrom (flagOf n) (packetAt (i + wirePacket) b))
       (stands-get i (wireBytes Empty) b t wireByte (omega arith))
   wire-read (Full x) t =
-      ap₂ (λ n y. wireOf (flagOf n) y) (stands-get i (wireBytes (Full x)) b t wireByte (omega arith))
+      ap₂ (λ n y. wireFrom (flagOf n) y) (stands-get i (wireBytes (Full x)) b t wireByte (omega arith))
       (packet-read (i + wirePacket) x b (stands-right i (i + wirePacket) (1 ∷ []) (packetBytes x) b refl t))
 
-  pub output-wire-read : (o : Output) → Stands i (outputBytes s o) b → wireAt i b ≡ s .links .wire o
+  pub output-wire-read : (o : Output) → RowStands i (outputBytes s o) b → wireAt i b ≡ s .links .wire o
   unfolding outputBytes
   output-wire-read o t = wire-read (s .links .wire o)
       (stands-left i (wireBytes (s .links .wire o)) (choiceCode (s .links .choice o) ∷ []) b t)
 
-  pub choice-read : (o : Output) → Stands i (outputBytes s o) b → choiceAt i b ≡ s .links .choice o
+  pub choice-read : (o : Output) → RowStands i (outputBytes s o) b → choiceAt i b ≡ s .links .choice o
   unfolding outputBytes
   choice-read o t =
       let e : i + choiceByte ≡ i + length (wireBytes (s .links .wire o)) = rw (length-wire (s .links .wire o)) in
-      let k : Stands (i + choiceByte) (choiceCode (s .links .choice o) ∷ []) b =
+      let k : RowStands (i + choiceByte) (choiceCode (s .links .choice o) ∷ []) b =
       stands-right i (i + choiceByte) (wireBytes (s .links .wire o)) (choiceCode (s .links .choice o) ∷ []) b e t in
       ap choiceOf (stands-byte (i + choiceByte) (choiceCode (s .links .choice o) ∷ []) b k (omega arith))
       ∙ choice-code (s .links .choice o)
 
   -- an entry
-  pub entry-read : (x : Entry) → Stands i (entryBytes x) b → entryAt i b ≡ x
-  entry-read x t = ap entryOf (stands-byte i (entryBytes x) b t (omega arith)) ∙ entry-code x
+  pub entry-read : (x : Entry) → RowStands i (entryBytes x) b → entryAt i b ≡ x
+  entry-read x t = ap entryFrom (stands-byte i (entryBytes x) b t (omega arith)) ∙ entry-code x
 
 -- ---- the whole
 -- read where the plan has it, else the default
@@ -98,14 +98,14 @@ module _ (pl : Plan) (s : State) (rest : List ℕ) (range : InRange (pl .head)) 
     (small : Small pl s) where
   -- a part of a queue's row, and of an output's
   of-queue : {X : Type 0} (q : Queue) (x d v : X)
-      → (Stands (queueRow pl q) (queueBytes s q) (encode pl s rest) → x ≡ v) → ((Exists pl q → ⊥) → v ≡ d)
+      → (RowStands (queueRow pl q) (queueBytes s q) (encode pl s rest) → x ≡ v) → ((Exists pl q → ⊥) → v ≡ d)
       → pick (existsTest pl q) x d ≡ v
   of-queue q x d v f g =
       kept (existsTest pl q) x d v (λ e. f (queue-stands pl s rest q (test-exists pl q e)))
       (λ e. g (unless (existsTest pl q) e (exists-test pl q)))
 
   of-output : {X : Type 0} (o : Output) (x d v : X)
-      → (Stands (outputRow pl o) (outputBytes s o) (encode pl s rest) → x ≡ v) → ((Drives pl o → ⊥) → v ≡ d)
+      → (RowStands (outputRow pl o) (outputBytes s o) (encode pl s rest) → x ≡ v) → ((Drives pl o → ⊥) → v ≡ d)
       → pick (drivesTest pl o) x d ≡ v
   of-output o x d v f g =
       kept (drivesTest pl o) x d v (λ e. f (output-stands pl s rest o (test-drives pl o e)))
@@ -114,11 +114,11 @@ module _ (pl : Plan) (s : State) (rest : List ℕ) (range : InRange (pl .head)) 
   same-entry : (r o t : ℕ) → decode pl (encode pl s rest) .table r o t ≡ s .table r o t
   unfolding decode
   same-entry r o t =
-      kept (entryTest pl r o t) _ (blank pl .table r o t) (s .table r o t)
+      kept (isEntry pl r o t) _ (blank pl .table r o t) (s .table r o t)
       (λ e. let h = test-entry pl r o t e in let l = range .slots .1 in
       entry-read s (encode pl s rest) (entryRow pl r o t) (s .table r o t)
       (entry-stands pl s rest r o t (h .0) (h .1) (omega arith)))
-      (λ e. out .table r o t (unless (entryTest pl r o t) e (entry-test pl r o t)))
+      (λ e. out .table r o t (unless (isEntry pl r o t) e (entry-test pl r o t)))
 
   same-allowance : (a : ℕ) → decode pl (encode pl s rest) .flow .allowance a ≡ s .flow .allowance a
   unfolding decode

@@ -12,8 +12,8 @@ use Rattle.machine.specs.Outputs.{outputs, outputAt, outputNumber}
 use Rattle.machine.specs.State.{State}
 use Rattle.machine.specs.Valid.{Drives}
 use Rattle.machine.proofs.OutNumbers.{output-at, output-below}
-use Rattle.layout.specs.Rows.{Stands, stands-whole, stands-left, stands-right, stands-row}
-use Rattle.layout.specs.Offsets.{queueWidth, outputWidth, entryWidth, routerEntries, slotRoom, entryNumber}
+use Rattle.layout.specs.Rows.{RowStands, stands-whole, stands-left, stands-right, stands-row}
+use Rattle.layout.specs.Offsets.{queueWidth, outputWidth, entryWidth, routerEntries, slotRoom, entryIndex}
 use Rattle.layout.specs.Offsets.{entries, queuesAt, outputsAt, allowancesAt, tableAt, queueRow, outputRow}
 use Rattle.layout.specs.Offsets.{allowanceRow, entryRow}
 use Rattle.layout.specs.Encode.{queueBytes, outputBytes, allowanceBytes, entryBytes, entryOfNumber, header}
@@ -24,63 +24,63 @@ module _ (pl : Plan) (s : State) (rest : List ℕ) where
   abbrev bytes : List ℕ
   bytes = encode pl s rest
 
-  from-queues : Stands queuesAt
+  from-queues : RowStands queuesAt
       (queuePart pl s ++ (outputPart pl s ++ (allowancePart pl s ++ (tablePart pl s ++ rest)))) bytes
   unfolding encode
   from-queues = stands-right 0 queuesAt (header s) (queuePart pl s
       ++ (outputPart pl s ++ (allowancePart pl s ++ (tablePart pl s ++ rest)))) bytes refl (stands-whole bytes)
 
-  from-outputs : Stands (outputsAt pl) (outputPart pl s ++ (allowancePart pl s ++ (tablePart pl s ++ rest))) bytes
+  from-outputs : RowStands (outputsAt pl) (outputPart pl s ++ (allowancePart pl s ++ (tablePart pl s ++ rest))) bytes
   from-outputs =
       stands-right queuesAt (outputsAt pl) (queuePart pl s)
       (outputPart pl s ++ (allowancePart pl s ++ (tablePart pl s ++ rest))) bytes (rw (length-queues pl s)) from-queues
 
-  from-allowances : Stands (allowancesAt pl) (allowancePart pl s ++ (tablePart pl s ++ rest)) bytes
+  from-allowances : RowStands (allowancesAt pl) (allowancePart pl s ++ (tablePart pl s ++ rest)) bytes
   from-allowances = stands-right (outputsAt pl) (allowancesAt pl) (outputPart pl s)
       (allowancePart pl s ++ (tablePart pl s ++ rest)) bytes (rw (length-outputs pl s)) from-outputs
 
-  from-table : Stands (tableAt pl) (tablePart pl s ++ rest) bytes
+  from-table : RowStands (tableAt pl) (tablePart pl s ++ rest) bytes
   from-table = stands-right (allowancesAt pl) (tableAt pl) (allowancePart pl s) (tablePart pl s ++ rest) bytes
       (let l = length-allowances pl s in omega arith) from-allowances
 
   -- a queue's row stands at the queue's offset
-  pub queue-stands : (q : Queue) → Exists pl q → Stands (queueRow pl q) (queueBytes s q) bytes
+  pub queue-stands : (q : Queue) → Exists pl q → RowStands (queueRow pl q) (queueBytes s q) bytes
   unfolding queueRow
   queue-stands q h =
-      subst (λ (x : Queue). Stands (queueRow pl q) (queueBytes s x) bytes) (queue-at pl q h)
+      subst (λ (x : Queue). RowStands (queueRow pl q) (queueBytes s x) bytes) (queue-at pl q h)
       (stands-row queueWidth (queues pl) queuesAt (λ n. queueBytes s (queueAt pl n)) bytes
       (λ n. length-queue s (queueAt pl n))
       (stands-left queuesAt (queuePart pl s) (outputPart pl s ++ (allowancePart pl s ++ (tablePart pl s ++ rest)))
       bytes from-queues) (number pl q) (number-below pl q h))
 
   -- an output's row at the output's
-  pub output-stands : (o : Output) → Drives pl o → Stands (outputRow pl o) (outputBytes s o) bytes
+  pub output-stands : (o : Output) → Drives pl o → RowStands (outputRow pl o) (outputBytes s o) bytes
   unfolding outputRow
   output-stands o h =
-      subst (λ (x : Output). Stands (outputRow pl o) (outputBytes s x) bytes) (output-at pl o h)
+      subst (λ (x : Output). RowStands (outputRow pl o) (outputBytes s x) bytes) (output-at pl o h)
       (stands-row outputWidth (outputs pl) (outputsAt pl) (λ n. outputBytes s (outputAt pl n)) bytes
       (λ n. length-output s (outputAt pl n))
       (stands-left (outputsAt pl) (outputPart pl s) (allowancePart pl s ++ (tablePart pl s ++ rest)) bytes
       from-outputs) (outputNumber pl o) (output-below pl o h))
 
   -- an active's allowance at the active's
-  pub allowance-stands : (a : ℕ) → a < A pl → Stands (allowanceRow pl a) (allowanceBytes s a) bytes
+  pub allowance-stands : (a : ℕ) → a < A pl → RowStands (allowanceRow pl a) (allowanceBytes s a) bytes
   unfolding allowanceRow
   allowance-stands a h =
       let e : allowancesAt pl + 1 * a ≡ allowancesAt pl + a = omega arith in
-      subst (λ (i : ℕ). Stands i (allowanceBytes s a) bytes) e
+      subst (λ (i : ℕ). RowStands i (allowanceBytes s a) bytes) e
       (stands-row 1 (A pl) (allowancesAt pl) (allowanceBytes s) bytes (λ n. refl)
       (stands-left (allowancesAt pl) (allowancePart pl s) (tablePart pl s ++ rest) bytes from-allowances) a h)
 
   -- an entry at the entry's, also past the plan's slots
   pub entry-stands : (r o t : ℕ) → r < R pl → o < 4 → t < slotRoom
-      → Stands (entryRow pl r o t) (entryBytes (s .table r o t)) bytes
+      → RowStands (entryRow pl r o t) (entryBytes (s .table r o t)) bytes
   unfolding entryRow
   entry-stands r o t hr ho ht =
-      let a : entryNumber r o t / routerEntries ≡ r = omega arith in
-      let c : entryNumber r o t % routerEntries / slotRoom ≡ o = omega arith in
-      let d : entryNumber r o t % slotRoom ≡ t = omega arith in
-      let e : entryOfNumber s (entryNumber r o t) ≡ s .table r o t = λ i. s .table (a i) (c i) (d i) in
-      subst (λ (x : Entry). Stands (entryRow pl r o t) (entryBytes x) bytes) e
+      let a : entryIndex r o t / routerEntries ≡ r = omega arith in
+      let c : entryIndex r o t % routerEntries / slotRoom ≡ o = omega arith in
+      let d : entryIndex r o t % slotRoom ≡ t = omega arith in
+      let e : entryOfNumber s (entryIndex r o t) ≡ s .table r o t = λ i. s .table (a i) (c i) (d i) in
+      subst (λ (x : Entry). RowStands (entryRow pl r o t) (entryBytes x) bytes) e
       (stands-row entryWidth (entries pl) (tableAt pl) (λ n. entryBytes (entryOfNumber s n)) bytes (λ n. refl)
-      (stands-left (tableAt pl) (tablePart pl s) rest bytes from-table) (entryNumber r o t) (omega arith))
+      (stands-left (tableAt pl) (tablePart pl s) rest bytes from-table) (entryIndex r o t) (omega arith))

@@ -79,11 +79,11 @@ abbrev pub entryCode : Entry → ℕ
 entryCode Free = 0
 entryCode (Booked side) = suc side
 
-abbrev pub entryOf : ℕ → Entry
-entryOf zero = Free
-entryOf (suc side) = Booked side
+abbrev pub entryFrom : ℕ → Entry
+entryFrom zero = Free
+entryFrom (suc side) = Booked side
 
-pub entry-code : (x : Entry) → entryOf (entryCode x) ≡ x
+pub entry-code : (x : Entry) → entryFrom (entryCode x) ≡ x
 entry-code Free = refl
 entry-code (Booked side) = refl
 

@@ -21,12 +21,12 @@ use Rattle.feeding.specs.Queue.{Queue, activeOut, activeIn, passiveIn, passiveO
 use Rattle.machine.specs.Capacity.{capacity}
 use Rattle.machine.specs.State.{State, Choice, blank}
 use Rattle.machine.specs.Valid.{Valid, Bounded}
-use Rattle.layout.specs.Named.{existsTest, test-exists, exists-test, drivesTest, test-drives, entryTest}
+use Rattle.layout.specs.Named.{existsTest, test-exists, exists-test, drivesTest, test-drives, isEntry}
 use Rattle.layout.specs.Named.{test-entry}
 use Rattle.layout.specs.Offsets.{phaseByte, slotByte, places, creditByte, flagByte, handledByte, lengthByte}
 use Rattle.layout.specs.Offsets.{firstPlace, wireByte, wirePacket, choiceByte, queueRow, outputRow, allowanceRow}
 use Rattle.layout.specs.Offsets.{entryRow}
-use Rattle.layout.specs.Codes.{phaseOf, flagOf, choiceOf, entryOf}
+use Rattle.layout.specs.Codes.{phaseOf, flagOf, choiceOf, entryFrom}
 use Rattle.layout.specs.Places.{packetAt, packetsAt, packets-few}
 
 -- ---- one row, at its offset
@@ -45,18 +45,18 @@ lengthAt i b = getD b (i + lengthByte) 0
 abbrev pub queueIn : ℕ → List ℕ → List Packet
 queueIn i b = packetsAt places (lengthAt i b) (i + firstPlace) b
 
-abbrev pub wireOf : Bool → Packet → Wire
-wireOf false x = Empty
-wireOf true x = Full x
+abbrev pub wireFrom : Bool → Packet → Wire
+wireFrom false x = Empty
+wireFrom true x = Full x
 
 abbrev pub wireAt : ℕ → List ℕ → Wire
-wireAt i b = wireOf (flagOf (getD b (i + wireByte) 0)) (packetAt (i + wirePacket) b)
+wireAt i b = wireFrom (flagOf (getD b (i + wireByte) 0)) (packetAt (i + wirePacket) b)
 
 abbrev pub choiceAt : ℕ → List ℕ → Choice
 choiceAt i b = choiceOf (getD b (i + choiceByte) 0)
 
 abbrev pub entryAt : ℕ → List ℕ → Entry
-entryAt i b = entryOf (getD b i 0)
+entryAt i b = entryFrom (getD b i 0)
 
 -- ---- the whole
 unfoldable pub decode : Plan → List ℕ → State
@@ -76,7 +76,7 @@ decode pl b =
         wire = λ o. pick (drivesTest pl o) (wireAt (outputRow pl o) b) (blank pl .links .wire o);
         choice = λ o. pick (drivesTest pl o) (choiceAt (outputRow pl o) b) (blank pl .links .choice o);
       };
-      table = λ r o t. pick (entryTest pl r o t) (entryAt (entryRow pl r o t) b) (blank pl .table r o t);
+      table = λ r o t. pick (isEntry pl r o t) (entryAt (entryRow pl r o t) b) (blank pl .table r o t);
     }
 
 -- ---- outside the plan's places, what is read is blank
@@ -93,7 +93,7 @@ decode-bounded pl b =
       handled = λ q h. left (existsTest pl q) _ _ (λ e. h (test-exists pl q e));
       wire = λ o h. left (drivesTest pl o) _ _ (λ e. h (test-drives pl o e));
       choice = λ o h. left (drivesTest pl o) _ _ (λ e. h (test-drives pl o e));
-      table = λ r o t h. left (entryTest pl r o t) _ _ (λ e. h (test-entry pl r o t e));
+      table = λ r o t h. left (isEntry pl r o t) _ _ (λ e. h (test-entry pl r o t e));
       allowance = λ a h. left (ltb a (A pl)) _ _ (λ e. h (ltb-true a (A pl) e));
     }
 

@@ -13,7 +13,7 @@ use Rattle.feeding.specs.Queue.{Queue, queues, queueAt}
 use Rattle.feeding.specs.Feeds.{Output}
 use Rattle.machine.specs.Outputs.{outputs, outputAt}
 use Rattle.machine.specs.State.{State}
-use Rattle.layout.specs.Rows.{span, span-length}
+use Rattle.layout.specs.Rows.{rows, rows-length}
 use Rattle.layout.specs.Offsets.{places, queueWidth, outputWidth, choiceByte, entryWidth, routerEntries}
 use Rattle.layout.specs.Offsets.{slotRoom, entries, size}
 use Rattle.layout.specs.Codes.{phaseCode, flagCode, choiceCode, entryCode}
@@ -50,16 +50,16 @@ abbrev pub header : State → List ℕ
 header s = phaseCode (s .clock .phase) ∷ s .clock .slot .0 ∷ []
 
 abbrev pub queuePart : Plan → State → List ℕ
-queuePart pl s = span 0 (queues pl) (λ n. queueBytes s (queueAt pl n))
+queuePart pl s = rows 0 (queues pl) (λ n. queueBytes s (queueAt pl n))
 
 abbrev pub outputPart : Plan → State → List ℕ
-outputPart pl s = span 0 (outputs pl) (λ n. outputBytes s (outputAt pl n))
+outputPart pl s = rows 0 (outputs pl) (λ n. outputBytes s (outputAt pl n))
 
 abbrev pub allowancePart : Plan → State → List ℕ
-allowancePart pl s = span 0 (A pl) (allowanceBytes s)
+allowancePart pl s = rows 0 (A pl) (allowanceBytes s)
 
 abbrev pub tablePart : Plan → State → List ℕ
-tablePart pl s = span 0 (entries pl) (λ n. entryBytes (entryOfNumber s n))
+tablePart pl s = rows 0 (entries pl) (λ n. entryBytes (entryOfNumber s n))
 
 -- the state's bytes, then the bytes past the state
 unfoldable pub encode : Plan → State → List ℕ → List ℕ
@@ -84,18 +84,18 @@ module _ (pl : Plan) (s : State) where
   -- and every part as many rows as it has
   pub length-queues : length (queuePart pl s) ≡ queueWidth * queues pl
   length-queues =
-      span-length queueWidth 0 (queues pl) (λ n. queueBytes s (queueAt pl n)) (λ n. length-queue s (queueAt pl n))
+      rows-length queueWidth 0 (queues pl) (λ n. queueBytes s (queueAt pl n)) (λ n. length-queue s (queueAt pl n))
 
   pub length-outputs : length (outputPart pl s) ≡ outputWidth * outputs pl
   length-outputs =
-      span-length outputWidth 0 (outputs pl) (λ n. outputBytes s (outputAt pl n))
+      rows-length outputWidth 0 (outputs pl) (λ n. outputBytes s (outputAt pl n))
       (λ n. length-output s (outputAt pl n))
 
   pub length-allowances : length (allowancePart pl s) ≡ 1 * A pl
-  length-allowances = span-length 1 0 (A pl) (allowanceBytes s) (λ n. refl)
+  length-allowances = rows-length 1 0 (A pl) (allowanceBytes s) (λ n. refl)
 
   pub length-table : length (tablePart pl s) ≡ entryWidth * entries pl
-  length-table = span-length entryWidth 0 (entries pl) (λ n. entryBytes (entryOfNumber s n)) (λ n. refl)
+  length-table = rows-length entryWidth 0 (entries pl) (λ n. entryBytes (entryOfNumber s n)) (λ n. refl)
 
   -- the bytes past the state stand behind it
   pub encode-append : (rest : List ℕ) → encode pl s rest ≡ encode pl s [] ++ rest

@@ -12,7 +12,7 @@ use Rattle.feeding.specs.Queue.{Queue, activeOut, activeIn, passiveIn, passiveO
 use Rattle.feeding.specs.Feeds.{Output, ofActive, ofPassive, ofSide, toUnit, fromUnit}
 use Rattle.machine.specs.Outputs.{outputAt, outputNumber}
 use Rattle.machine.specs.State.{blank, start}
-use Rattle.layout.specs.Rows.{span, front}
+use Rattle.layout.specs.Rows.{rows, front}
 use Rattle.layout.specs.Offsets.{outputsAt, allowancesAt, tableAt, size, queueRow, outputRow, allowanceRow}
 use Rattle.layout.specs.Offsets.{entryRow}
 use Rattle.layout.specs.Places.{placeBytes, packetAt, packetsAt}
@@ -22,57 +22,57 @@ use Rattle.layout.specs.Canonical.{sameBytes, canonical}
 use Rattle.plan.specs.Samples.{planT as bytesT}
 
 -- one router, side 0 to active 0, side 1 to passive 0, S=2, capacities 1
-unfoldable pub planT : Plan
+unfoldable pub wiredT : Plan
 unfolding bitAt fieldOf capacityAt headOf jointIn planOf
-planT = planOf bytesT
+wiredT = planOf bytesT
 
 -- ---- where the parts begin, and the size
-pub t-parts : (outputsAt planT ≡ 977) × (allowancesAt planT ≡ 1033) × (tableAt planT ≡ 1034) × (size planT ≡ 1290)
-unfolding planT queues size
+pub t-parts : (outputsAt wiredT ≡ 977) × (allowancesAt wiredT ≡ 1033) × (tableAt wiredT ≡ 1034) × (size wiredT ≡ 1290)
+unfolding wiredT queues size
 t-parts = (refl, refl, refl, refl)
 
 -- ---- where the rows stand
 abbrev pub queuesOf : List Queue → List ℕ
 queuesOf [] = []
-queuesOf (q ∷ qs) = queueRow planT q ∷ queuesOf qs
+queuesOf (q ∷ qs) = queueRow wiredT q ∷ queuesOf qs
 
 abbrev pub outputsOf : List Output → List ℕ
 outputsOf [] = []
-outputsOf (o ∷ os) = outputRow planT o ∷ outputsOf os
+outputsOf (o ∷ os) = outputRow wiredT o ∷ outputsOf os
 
 pub t-interfaces : queuesOf (activeOut 0 ∷ passiveOut 0 ∷ activeIn 0 ∷ passiveIn 0 ∷ []) ≡ 2 ∷ 41 ∷ 899 ∷ 938 ∷ []
-unfolding planT queueRow number
+unfolding wiredT queueRow number
 t-interfaces = refl
 
 pub t-unit : queuesOf (U 0 0 ∷ U 0 1 ∷ U 0 2 ∷ U 0 3 ∷ Q 0 ∷ []) ≡ 80 ∷ 119 ∷ 158 ∷ 197 ∷ 236 ∷ []
-unfolding planT queueRow number
+unfolding wiredT queueRow number
 t-unit = refl
 
 pub t-sides : queuesOf (F 0 0 ∷ K 0 1 0 ∷ K 0 2 0 ∷ K 0 3 0 ∷ F 0 1 ∷ K 0 0 1 ∷ K 0 2 1 ∷ K 0 3 1 ∷ F 0 2 ∷ K 0 0 2
     ∷ K 0 1 2 ∷ K 0 3 2 ∷ F 0 3 ∷ K 0 0 3 ∷ K 0 1 3 ∷ K 0 2 3 ∷ [])
     ≡ 275 ∷ 314 ∷ 353 ∷ 392 ∷ 431 ∷ 470 ∷ 509 ∷ 548 ∷ 587 ∷ 626 ∷ 665 ∷ 704 ∷ 743 ∷ 782 ∷ 821 ∷ 860 ∷ []
-unfolding planT queueRow number
+unfolding wiredT queueRow number
 t-sides = refl
 
 pub t-outputs : outputsOf (ofActive 0 ∷ ofPassive 0 ∷ ofSide 0 0 ∷ ofSide 0 1 ∷ ofSide 0 2 ∷ ofSide 0 3 ∷ toUnit 0
     ∷ fromUnit 0 ∷ []) ≡ 977 ∷ 984 ∷ 991 ∷ 998 ∷ 1005 ∷ 1012 ∷ 1019 ∷ 1026 ∷ []
-unfolding planT queues outputRow outputNumber
+unfolding wiredT queues outputRow outputNumber
 t-outputs = refl
 
-pub t-entries : (allowanceRow planT 0 ≡ 1033) × (entryRow planT 0 0 0 ≡ 1034) × (entryRow planT 0 1 0 ≡ 1098)
-    × (entryRow planT 0 2 0 ≡ 1162) × (entryRow planT 0 3 1 ≡ 1228)
-unfolding planT queues allowanceRow entryRow
+pub t-entries : (allowanceRow wiredT 0 ≡ 1033) × (entryRow wiredT 0 0 0 ≡ 1034) × (entryRow wiredT 0 1 0 ≡ 1098)
+    × (entryRow wiredT 0 2 0 ≡ 1162) × (entryRow wiredT 0 3 1 ≡ 1228)
+unfolding wiredT queues allowanceRow entryRow
 t-entries = (refl, refl, refl, refl, refl)
 
 -- ---- Start's bytes
 unfoldable pub startT : List ℕ
-unfolding planT span queues queueAt outputAt start blank placeBytes queueBytes outputBytes encode
-startT = encode planT (start planT) []
+unfolding wiredT rows queues queueAt outputAt start blank placeBytes queueBytes outputBytes encode
+startT = encode wiredT (start wiredT) []
 
-unfoldable pub isState : List ℕ → Bool
-unfolding planT span front size queues queueAt number queueRow outputAt outputNumber outputRow allowanceRow entryRow
+unfoldable pub isStateT : List ℕ → Bool
+unfolding wiredT rows front size queues queueAt number queueRow outputAt outputNumber outputRow allowanceRow entryRow
     start blank placeBytes packetAt packetsAt queueBytes outputBytes encode decode sameBytes canonical
-isState b = canonical planT b
+isStateT b = canonical wiredT b
 
 -- the offsets of the bytes that are not 0, from i on
 abbrev pub filled : ℕ → List ℕ → List ℕ
@@ -96,17 +96,17 @@ unfolding startT
 t-ones = refl
 
 -- Start's bytes are a state's, whatever is past them
-pub t-start : isState (startT ++ (7 ∷ [])) ≡ true
-unfolding startT isState
+pub t-start : isStateT (startT ++ (7 ∷ [])) ≡ true
+unfolding startT isStateT
 t-start = refl
 
 -- one byte too few
-pub t-short : isState (take 1289 startT) ≡ false
-unfolding startT isState
+pub t-short : isStateT (take 1289 startT) ≡ false
+unfolding startT isStateT
 t-short = refl
 
 -- a packet's byte past the length, the length 8, a flag 2, the table's second byte, an entry from S on
-pub t-others : (isState (set startT 8 1) ≡ false) × (isState (set startT 5 8) ≡ false) × (isState (set startT 3 2)
-    ≡ false) × (isState (set startT 1035 1) ≡ false) × (isState (set startT 1038 1) ≡ false)
-unfolding startT isState
+pub t-others : (isStateT (set startT 8 1) ≡ false) × (isStateT (set startT 5 8) ≡ false) × (isStateT (set startT 3 2)
+    ≡ false) × (isStateT (set startT 1035 1) ≡ false) × (isStateT (set startT 1038 1) ≡ false)
+unfolding startT isStateT
 t-others = (refl, refl, refl, refl, refl)

@@ -79,19 +79,19 @@ drives-test pl (toUnit r) h = lt-ltb r (R pl) h
 drives-test pl (fromUnit r) h = lt-ltb r (R pl) h
 
 -- ---- the plan has an entry: a router's, a side's, a slot's
-abbrev pub entryTest : Plan → ℕ → ℕ → ℕ → Bool
-entryTest pl r o t = also (ltb r (R pl)) (also (ltb o 4) (ltb t (S pl)))
+abbrev pub isEntry : Plan → ℕ → ℕ → ℕ → Bool
+isEntry pl r o t = also (ltb r (R pl)) (also (ltb o 4) (ltb t (S pl)))
 
 -- a router, a side and a slot of the plan
 abbrev pub HasEntry : Plan → ℕ → ℕ → ℕ → Type 0
 HasEntry pl r o t = (r < R pl) × (o < 4) × (t < S pl)
 
 -- the test is passed by the plan's entries alone
-pub test-entry : (pl : Plan) (r o t : ℕ) → entryTest pl r o t ≡ true → HasEntry pl r o t
+pub test-entry : (pl : Plan) (r o t : ℕ) → isEntry pl r o t ≡ true → HasEntry pl r o t
 test-entry pl r o t e =
     let p = also-true e in let q = also-true (p .1) in
     (ltb-true r (R pl) (p .0), ltb-true o 4 (q .0), ltb-true t (S pl) (q .1))
 
 -- and by each of them
-pub entry-test : (pl : Plan) (r o t : ℕ) → HasEntry pl r o t → entryTest pl r o t ≡ true
+pub entry-test : (pl : Plan) (r o t : ℕ) → HasEntry pl r o t → isEntry pl r o t ≡ true
 entry-test pl r o t (h, k, l) = also-of (lt-ltb r (R pl) h) (also-of (lt-ltb o 4 k) (lt-ltb t (S pl) l))

@@ -87,8 +87,8 @@ entryWidth = 2
 abbrev pub entries : Plan → ℕ
 entries pl = routerEntries * R pl
 
-abbrev pub entryNumber : ℕ → ℕ → ℕ → ℕ
-entryNumber r o t = routerEntries * r + slotRoom * o + t
+abbrev pub entryIndex : ℕ → ℕ → ℕ → ℕ
+entryIndex r o t = routerEntries * r + slotRoom * o + t
 
 -- ---- where each part begins
 abbrev pub outputsAt : Plan → ℕ
@@ -115,7 +115,7 @@ unfoldable pub allowanceRow : Plan → ℕ → ℕ
 allowanceRow pl a = allowancesAt pl + a
 
 unfoldable pub entryRow : Plan → ℕ → ℕ → ℕ → ℕ
-entryRow pl r o t = tableAt pl + entryWidth * entryNumber r o t
+entryRow pl r o t = tableAt pl + entryWidth * entryIndex r o t
 
 -- the size, by the plan's counts alone
 pub size-is : (pl : Plan) → size pl ≡ 2 + 39 * queues pl + 7 * outputs pl + A pl + 256 * R pl

@@ -6,7 +6,7 @@ use Prim.Native.Nat.{ℕ, zero, suc, _+_, _*_, _≤_}
 use native.Mathlib.Omega.{arith}
 use lib.ListN.{length, getD}
 use Rattle.packets.specs.declared.Packet.{Packet}
-use Rattle.layout.specs.Rows.{Stands, stands-left, stands-right, stands-get}
+use Rattle.layout.specs.Rows.{RowStands, stands-left, stands-right, stands-get}
 use Rattle.layout.specs.Offsets.{packetKind, packetActive, packetPassive, packetSlot, packetHub, packetWidth}
 use Rattle.layout.specs.Codes.{kindCode, kindOf, kind-code}
 
@@ -56,7 +56,7 @@ packets-few (suc c) zero i b = omega arith
 packets-few (suc c) (suc n) i b = let h = packets-few c n (i + packetWidth) b in omega arith
 
 -- ---- where they stand, they are read: one packet
-pub packet-read : (i : ℕ) (x : Packet) (b : List ℕ) → Stands i (packetBytes x) b → packetAt i b ≡ x
+pub packet-read : (i : ℕ) (x : Packet) (b : List ℕ) → RowStands i (packetBytes x) b → packetAt i b ≡ x
 unfolding packetAt
 packet-read i x b s =
     rw (
@@ -69,7 +69,7 @@ packet-read i x b s =
     )
 
 -- and the packets of a queue that has as many places
-pub packets-read : (c i : ℕ) (xs : List Packet) (b : List ℕ) → length xs ≤ c → Stands i (placeBytes c xs) b
+pub packets-read : (c i : ℕ) (xs : List Packet) (b : List ℕ) → length xs ≤ c → RowStands i (placeBytes c xs) b
     → packetsAt c (length xs) i b ≡ xs
 unfolding placeBytes packetsAt
 packets-read zero i [] b h s = refl

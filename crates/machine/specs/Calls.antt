@@ -125,10 +125,10 @@ guards pl (visit (ofConsume a)) s = consumeGuards pl a s
 guards pl (visit (ofEntry r o t)) s = entryGuards pl r o t
 
 -- ---- what each call gives where no refusal applies
-abbrev pub stepOf : Plan → Phase → State → State
-stepOf pl Read s = doRead pl s
-stepOf pl Execute s = doExecute pl s
-stepOf pl Write s = doWrite pl s
+abbrev pub phaseStep : Plan → Phase → State → State
+phaseStep pl Read s = doRead pl s
+phaseStep pl Execute s = doExecute pl s
+phaseStep pl Write s = doWrite pl s
 
 -- 'the packet is returned and removed'; an empty in-queue has been refused
 abbrev pub consumed : ℕ → List Packet → State → Outcome
@@ -136,7 +136,7 @@ consumed a [] s = gives (Refused QueueEmpty) s
 consumed a (x ∷ rest) s = gives (Taken x) (removed a rest s)
 
 abbrev pub accepted : Plan → Call → State → Outcome
-accepted pl (turn x) s = gives Done (stepOf pl x s)
+accepted pl (turn x) s = gives Done (phaseStep pl x s)
 accepted pl (visit (ofLaunch a p t)) s = gives Done (launched a p t s)
 accepted pl (visit (ofReply p c)) s = gives Done (replied p (replyKind c) (s .lines .queue (passiveIn p)) s)
 accepted pl (visit (ofConsume a)) s = consumed a (s .lines .queue (activeIn a)) s

@@ -31,7 +31,7 @@ use Rattle.machine.specs.Read.{deliver, settle, doRead}
 use Rattle.machine.specs.Execute.{unit, choose, undo, doExecute, hasRoom, unmarked}
 use Rattle.machine.specs.Write.{send, doWrite}
 use Rattle.machine.specs.Visits.{replyKind}
-use Rattle.machine.specs.Calls.{Visit, Call, Outcome, stepOf, call}
+use Rattle.machine.specs.Calls.{Visit, Call, Outcome, phaseStep, call}
 use Rattle.theory.specs.Does.{Visited, launches, replies, consumes, looks, Does, refuses, turns, visits}
 use Rattle.machine.specs.Valid.{Drives, Valid, Bounded}
 use Rattle.machine.specs.Ruled.{Good}
@@ -130,7 +130,7 @@ module _ {pl : Plan} (wired : Wired pl) (range : InRange (pl .head)) where
       by true = inl refl
       by false = inr refl
 
-  turn-inv : (x : Phase) (s : State) → s .clock .phase ≡ x → Inv pl s → Inv pl (stepOf pl x s)
+  turn-inv : (x : Phase) (s : State) → s .clock .phase ≡ x → Inv pl s → Inv pl (phaseStep pl x s)
   turn-inv Read s e i = record { core = read-core s (i .core); shape = read-shape pl s (read-has s e (i .shape)) }
   turn-inv Execute s e i =
       let h = execute-has s e (i .shape) in

@@ -32,7 +32,7 @@ use Rattle.machine.specs.Read.{deliver, settle, doRead}
 use Rattle.machine.specs.Execute.{unit, choose, undo, doExecute, hasRoom, unmarked}
 use Rattle.machine.specs.Write.{send, doWrite}
 use Rattle.machine.specs.Visits.{replyKind, replied}
-use Rattle.machine.specs.Calls.{Visit, ofLaunch, ofReply, ofConsume, ofEntry, Call, turn, visit, reply, entry, Outcome, gives, stepOf, call}
+use Rattle.machine.specs.Calls.{Visit, ofLaunch, ofReply, ofConsume, ofEntry, Call, turn, visit, reply, entry, Outcome, gives, phaseStep, call}
 use Rattle.theory.specs.Does.{Visited, launches, replies, consumes, looks, Does, refuses, turns, visits}
 use Rattle.machine.specs.Accepted.{Connection, accept, acceptKind, MadeBy}
 use Rattle.machine.specs.Valid.{Drives}
@@ -141,7 +141,7 @@ module _ {pl : Plan} (wired : Wired pl) (range : InRange (pl .head)) where
       none-accepted (visit (ofConsume a)) w = refl
       none-accepted (visit (ofEntry r o t)) w = refl
 
-      turn-mid-at : (x : Phase) → s .clock .phase ≡ x → M (stepOf pl x s)
+      turn-mid-at : (x : Phase) → s .clock .phase ≡ x → M (phaseStep pl x s)
       turn-mid-at Read e = read-mid s mid
       turn-mid-at Execute e = execute-mid s (execute-has s e (k .inv .shape) .2) mid
       turn-mid-at Write e = let h = write-has s e (k .inv .shape) in write-mid s (h .0) (h .1) mid
@@ -168,7 +168,7 @@ module _ {pl : Plan} (wired : Wired pl) (range : InRange (pl .head)) where
 
       told : (c : Call) (o : Outcome) → Does pl s c o → Told c o
       told c o (refuses d w n) = as-before d (gives (Refused w) s) (none-accepted d w) (k .owned) (k .counted)
-      told c o (turns x e) = let m = turn-mid-at x e in as-before (turn x) (gives Done (stepOf pl x s)) refl (m .owned) (m .counted)
+      told c o (turns x e) = let m = turn-mid-at x e in as-before (turn x) (gives Done (phaseStep pl x s)) refl (m .owned) (m .counted)
       told c o (visits v r d) = visit-told v r d
 
       pub call-tracked : (c : Call) → Tracked pl (accept pl c (call pl c s .answer) acc) (λ d. launchesCall d c (call pl c s .answer) + n d) (call pl c s .state)

@@ -18,7 +18,7 @@ use Rattle.feeding.specs.Queue.{activeOut, activeIn, passiveIn, passiveOut}
 use Rattle.machine.specs.State.{State}
 use Rattle.machine.specs.Execute.{hasRoom, unmarked}
 use Rattle.machine.specs.Visits.{launched, replyKind, replied, removed}
-use Rattle.machine.specs.Calls.{Visit, ofLaunch, ofReply, ofConsume, ofEntry, Call, turn, visit, Outcome, gives, stepOf}
+use Rattle.machine.specs.Calls.{Visit, ofLaunch, ofReply, ofConsume, ofEntry, Call, turn, visit, Outcome, gives, phaseStep}
 
 -- ---- what an accepted visit found
 pub record MayLaunch (pl : Plan) (s : State) (a p t : ℕ) : Type 0 where
@@ -62,5 +62,5 @@ pub data Visited (pl : Plan) (s : State) : Visit → Outcome → Type 0 where
 -- ---- a call: refused (7 is asked before it), a phase turned, a visit
 pub data Does (pl : Plan) (s : State) : Call → Outcome → Type 0 where
   refuses : (c : Call) (w : Refusal) → w ≢ NotState → Does pl s c (gives (Refused w) s)
-  turns : (x : Phase) → s .clock .phase ≡ x → Does pl s (turn x) (gives Done (stepOf pl x s))
+  turns : (x : Phase) → s .clock .phase ≡ x → Does pl s (turn x) (gives Done (phaseStep pl x s))
   visits : (v : Visit) (o : Outcome) → Visited pl s v o → Does pl s (visit v) o

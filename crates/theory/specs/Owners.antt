@@ -107,9 +107,9 @@ made pl r o t v (c ∷ cs) = ownsMade pl r o t v c + made pl r o t v cs
 
 -- ---- the table with holders
 -- the entry: the holder's side
-abbrev pub entryOf : Option Holder → Entry
-entryOf none = Free
-entryOf (some c) = Booked (c .side)
+abbrev pub heldEntry : Option Holder → Entry
+heldEntry none = Free
+heldEntry (some c) = Booked (c .side)
 
 -- 1 if the holder is v
 abbrev pub holds : Option Holder → Holder → ℕ
@@ -127,7 +127,7 @@ pub record Agreed (pl : Plan) (c : Connection) : Type 0 where
 pub record Owned (pl : Plan) (acc : List Connection) (s : State) : Type 0 where
   pub holders : ℕ → ℕ → ℕ → Option Holder
   -- the table has the holders' sides, and is free where there is none
-  pub entries : (r o t : ℕ) → r < R pl → o < 4 → t < S pl → s .table r o t ≡ entryOf (holders r o t)
+  pub entries : (r o t : ℕ) → r < R pl → o < 4 → t < S pl → s .table r o t ≡ heldEntry (holders r o t)
   -- packets and accepted connections together own each entry once for its holder, and never for another
   pub owners : (r o t : ℕ) → r < R pl → o < 4 → t < S pl → (v : Holder) → weighed pl (owns pl r o t v) s + made pl r o t v acc ≡ holds (holders r o t) v
   pub agreed : (c : Connection) → In c acc → Agreed pl c

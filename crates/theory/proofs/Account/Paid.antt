@@ -39,15 +39,15 @@ pub paid-of : {pl : Plan} {s : State} → Core pl s → Paid pl s
 paid-of c = record { credits = c .credits; out-credits = c .out-credits; out-capacities = c .out-capacities; out-flags = c .out-flags }
 
 -- a fed queue's account stays over a step
-abbrev pub Kept : Plan → State → State → Type 0
-Kept pl s t = (q : Queue) → fed pl q ≡ true → account pl q t ≡ account pl q s
+abbrev pub SameAccounts : Plan → State → State → Type 0
+SameAccounts pl s t = (q : Queue) → fed pl q ≡ true → account pl q t ≡ account pl q s
 
 -- the credit and flag of a queue that no wire feeds stay over a step
 abbrev pub Spared : Plan → State → State → Type 0
 Spared pl s t = (q : Queue) → fed pl q ≡ false → (t .flow .credit q ≡ s .flow .credit q) × (t .flow .flag q ≡ s .flow .flag q)
 
 -- so the step keeps the four parts, if no queue that no wire feeds is over capacity after it
-pub paid-by : {pl : Plan} (s t : State) → Paid pl s → Kept pl s t → Spared pl s t → OutCapacities pl t → Paid pl t
+pub paid-by : {pl : Plan} (s t : State) → Paid pl s → SameAccounts pl s t → Spared pl s t → OutCapacities pl t → Paid pl t
 paid-by s t c k p r =
     record {
       credits = λ q h f. k q f ∙ c .credits q h f;
@@ -81,7 +81,7 @@ module _ {pl : Plan} (s : State) (c : Paid pl s) where
   unfolding account onWires
   head-paid k x y rest wire e = paid-by s (withQueue k (y ∷ rest) s) c kept (λ q f. (refl, refl)) (out-put k (y ∷ rest) (λ f. absurd (not-both wire f)))
     where
-      kept : Kept pl s (withQueue k (y ∷ rest) s)
+      kept : SameAccounts pl s (withQueue k (y ∷ rest) s)
       kept q f = let queue = cell-sum length (s .lines .queue) k (y ∷ rest) 0 0 (rw e (omega arith)) q in omega arith
 
   -- a fed queue's head leaves and its flag rises
@@ -89,7 +89,7 @@ module _ {pl : Plan} (s : State) (c : Paid pl s) where
   unfolding account onWires
   left-paid k x rest wire e down = paid-by s (withFlag k true (withQueue k rest s)) c kept spared (out-put k rest (λ f. absurd (not-both wire f)))
     where
-      kept : Kept pl s (withFlag k true (withQueue k rest s))
+      kept : SameAccounts pl s (withFlag k true (withQueue k rest s))
       kept q f =
           let queue = cell-sum length (s .lines .queue) k rest 0 1 (rw e (omega arith)) q in
           let flag = cell-sum bit (s .flow .flag) k true 1 0 (rw down (omega arith)) q in
@@ -103,7 +103,7 @@ module _ {pl : Plan} (s : State) (c : Paid pl s) where
   unfolding account onWires
   out-paid k xs out l = paid-by s (withQueue k xs s) c kept (λ q f. (refl, refl)) (out-put k xs (λ f. l))
     where
-      kept : Kept pl s (withQueue k xs s)
+      kept : SameAccounts pl s (withQueue k xs s)
       kept q f = let same = ap length (queue-away (s .lines .queue) k xs q (λ e. fed-apart pl k q out f (sym e))) in omega arith
 
   -- a packet joins such a queue with room

@@ -23,7 +23,7 @@ use Rattle.machine.specs.Read.{arrived, joinNext, arrive, deliver, lower, settl
 use Rattle.machine.specs.Valid.{Drives, bit, goesTo, brings, onWires, fed}
 use Rattle.theory.specs.Invariant.{account, Core}
 use Rattle.theory.proofs.Ground.Cells.{queue-away, same-turn, cell-sum, fed-apart, outputs-put}
-use Rattle.theory.proofs.Account.Paid.{Paid, Kept, Spared, paid-by, paid-of, next-fed, out-put}
+use Rattle.theory.proofs.Account.Paid.{Paid, SameAccounts, Spared, paid-by, paid-of, next-fed, out-put}
 
 module _ {pl : Plan} (wired : Wired pl) where
   joined-paid : (o : Output) (x : Packet) (n : Queue) (s : State) → Drives pl o → Paid pl s → s .links .wire o ≡ Full x → nextBy pl o x ≡ some n
@@ -34,7 +34,7 @@ module _ {pl : Plan} (wired : Wired pl) where
       wire-fed : fed pl n ≡ true
       wire-fed = next-fed wired o x n d g
 
-      kept : Kept pl s (arrived n x (withWire o Empty s))
+      kept : SameAccounts pl s (arrived n x (withWire o Empty s))
       kept q f =
           let wire = outputs-put pl (brings pl q) (s .links .wire) o Empty d in
           let was : brings pl q o (s .links .wire o) ≡ bit (sameQueue q n) = ap (brings pl q o) e ∙ ap (goesTo q) g ∙ ap bit (same-turn n q) in
@@ -65,7 +65,7 @@ settle-paid {pl} p s h c = by (s .flow .flag p) refl
     by false e = paid-of c
     by true e = paid-by s (lower p true s) (paid-of c) kept spared (c .out-capacities)
       where
-        kept : Kept pl s (lower p true s)
+        kept : SameAccounts pl s (lower p true s)
         kept q f =
             let credit = cell-sum (λ (x : Credit). x .0) (s .flow .credit) p (creditUp (s .flow .credit p)) 1 0 (omega arith) q in
             let flag = cell-sum bit (s .flow .flag) p false 0 1 (rw e (omega arith)) q in

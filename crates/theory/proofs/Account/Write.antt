@@ -30,7 +30,7 @@ use Rattle.theory.specs.Invariant.{account, Core, Sendable}
 use Rattle.theory.proofs.Places.Feeders.{belongs-fed}
 use Rattle.theory.proofs.Places.Lines.{head-leaves}
 use Rattle.theory.proofs.Places.Senders.{raise-queue, raise-credit, raise-links, raise-flag, raise-none, Ready, candidate-ready}
-use Rattle.theory.proofs.Account.Paid.{Paid, Kept, Spared, paid-by, paid-of, paid-alike, next-fed, left-paid, out-paid}
+use Rattle.theory.proofs.Account.Paid.{Paid, SameAccounts, Spared, paid-by, paid-of, paid-alike, next-fed, left-paid, out-paid}
 
 module _ {pl : Plan} (wired : Wired pl) where
   -- ---- the two halves of a sending: out of the queue, and on to the wire
@@ -56,7 +56,7 @@ module _ {pl : Plan} (wired : Wired pl) where
   unfolding account onWires
   enters-paid o x n s d c e g room = paid-by s (withWire o (Full x) (withCredit n (creditDown (s .flow .credit n)) s)) c kept spared (c .out-capacities)
     where
-      kept : Kept pl s (withWire o (Full x) (withCredit n (creditDown (s .flow .credit n)) s))
+      kept : SameAccounts pl s (withWire o (Full x) (withCredit n (creditDown (s .flow .credit n)) s))
       kept q f =
           let wire = outputs-put pl (brings pl q) (s .links .wire) o (Full x) d in
           let was : brings pl q o (s .links .wire o) ≡ 0 = ap (brings pl q o) e in

@@ -22,7 +22,7 @@ use Rattle.wiring.specs.Wired.{Wired}
 use Rattle.machine.specs.Store.{put}
 use Rattle.machine.specs.Valid.{bit}
 use Rattle.theory.proofs.Places.Indices.{index-stands, index-is}
-use Rattle.theory.specs.Owners.{Holder, sameHolder, holderOf, reaches, indexOf, owning, entryOf, holds}
+use Rattle.theory.specs.Owners.{Holder, sameHolder, holderOf, reaches, indexOf, owning, heldEntry, holds}
 
 -- ---- holders
 -- A holder is itself.
@@ -52,7 +52,7 @@ held none v h = absurd (omega arith)
 held (some c) v h = ap some (same-holder c v (bit-true (sameHolder c v) h))
 
 -- A free entry has no holder.
-pub free-none : (m : Option Holder) → entryOf m ≡ Free → m ≡ none
+pub free-none : (m : Option Holder) → heldEntry m ≡ Free → m ≡ none
 free-none none e = refl
 free-none (some c) e = absurd (let z : _≡_ {A = ℕ} 0 1 = cc in omega arith)
 

@@ -36,7 +36,7 @@ use Rattle.theory.proofs.Places.Closure.{stands-below}
 use Rattle.theory.proofs.Places.CameIn.{stands-inside, stands-exit, came-in}
 use Rattle.theory.specs.Weights.{Weight, inLine, onWire, inLines, inWires, weighed}
 use Rattle.theory.proofs.Places.Indices.{index-stands, index-is}
-use Rattle.theory.specs.Owners.{Holder, sameHolder, holderOf, reaches, indexOf, owning, owns, ownsMade, made, entryOf, holds, Agreed, Owned}
+use Rattle.theory.specs.Owners.{Holder, sameHolder, holderOf, reaches, indexOf, owning, owns, ownsMade, made, heldEntry, holds, Agreed, Owned}
 use Rattle.theory.proofs.Own.Owning.{holder-same, same-holder, bit-true, held}
 
 -- ---- an empty network
@@ -163,14 +163,14 @@ owned-table {pl} wired {acc} s core k q = record { made = made′; else-free = f
         let all = made-in pl r o t (holderOf pl (c .active) (c .passive) r) c acc n in
         let sum = k .owners r o t hr ho ht (holderOf pl (c .active) (c .passive) r) in
         let is = held (k .holders r o t) (holderOf pl (c .active) (c .passive) r) (omega arith) in
-        k .entries r o t hr ho ht ∙ ap entryOf is
+        k .entries r o t hr ho ht ∙ ap heldEntry is
         ∙ ap Booked (came-in wired (c .active) (c .passive) (g .active) (g .passive) (g .serves) (m .index) r i (m .at))
 
     free′ : (r o t : ℕ) → r < R pl → o < 4 → t < S pl → ((c : Connection) (i : ℕ) → In c acc → Makes pl c r o t i → ⊥) → s .table r o t ≡ Free
     free′ r o t hr ho ht no-maker = by (k .holders r o t) refl
       where
         by : (m : Option Holder) → k .holders r o t ≡ m → s .table r o t ≡ Free
-        by none e = k .entries r o t hr ho ht ∙ ap entryOf e
+        by none e = k .entries r o t hr ho ht ∙ ap heldEntry e
         by (some v) e =
             let none = quiet-weighed pl (owns pl r o t v) s core q in
             let sum = k .owners r o t hr ho ht v in

@@ -29,7 +29,7 @@ use Rattle.theory.proofs.Cases.{exitAt, mayBookAt, unit-books, unit-dec
 use Rattle.theory.proofs.Weights.Moves.{head-belongs}
 use Rattle.theory.proofs.Weights.Changes.{booked-weighed, declined-weighed, freed-weighed, ended-weighed}
 use Rattle.theory.specs.Promises.{OwnEntry}
-use Rattle.theory.specs.Owners.{Holder, holderOf, owns, made, entryOf, holds, Owned}
+use Rattle.theory.specs.Owners.{Holder, holderOf, owns, made, heldEntry, holds, Owned}
 use Rattle.theory.proofs.Own.Owning.{holder-same, held, free-none, put3, sameEntry, put3-at, entry-same}
 use Rattle.theory.proofs.Own.Packets.{fits-as, declined-owns, oneAt, booked-owns, freed-owns, ended-owns}
 use Rattle.theory.proofs.Own.Steps.{owned-same}
@@ -51,20 +51,20 @@ at-same m r o t i j k e =
     ap (λ (n : ℕ). m n o t) (eqb-true r i (p .0)) ∙ ap (λ (n : ℕ). m i n t) (eqb-true o j (q .0)) ∙ ap (m i j) (eqb-true t k (q .1))
 
 -- One entry of the table changed: its old holder went, and a new one came.
-pub put-owned : {pl : Plan} {acc : List Connection} (s t : State) (k : Owned pl acc s) (i j n : ℕ) (m : Option Holder) → t .table ≡ put3 (s .table) i j n (entryOf m)
+pub put-owned : {pl : Plan} {acc : List Connection} (s t : State) (k : Owned pl acc s) (i j n : ℕ) (m : Option Holder) → t .table ≡ put3 (s .table) i j n (heldEntry m)
     → ((r o u : ℕ) (v : Holder)
     → weighed pl (owns pl r o u v) t + pick (sameEntry r o u i j n) (holds (k .holders i j n) v) 0 ≡ weighed pl (owns pl r o u v) s + pick (sameEntry r o u i j n) (holds m v) 0)
     → Owned pl acc t
 put-owned {pl} {acc} s t k i j n m e w = record { holders = put3 (k .holders) i j n m; entries = entries′; owners = owners′; agreed = k .agreed }
   where
-    entries′ : (r o u : ℕ) → r < R pl → o < 4 → u < S pl → t .table r o u ≡ entryOf (put3 (k .holders) i j n m r o u)
+    entries′ : (r o u : ℕ) → r < R pl → o < 4 → u < S pl → t .table r o u ≡ heldEntry (put3 (k .holders) i j n m r o u)
     entries′ r o u hr ho hu =
         ap (λ (f : ℕ → ℕ → ℕ → Entry). f r o u) e
-        ∙ put3-at (s .table) i j n (entryOf m) r o u
+        ∙ put3-at (s .table) i j n (heldEntry m) r o u
         ∙ by (sameEntry r o u i j n)
-        ∙ sym (ap entryOf (put3-at (k .holders) i j n m r o u))
+        ∙ sym (ap heldEntry (put3-at (k .holders) i j n m r o u))
       where
-        by : (b : Bool) → pick b (entryOf m) (s .table r o u) ≡ entryOf (pick b m (k .holders r o u))
+        by : (b : Bool) → pick b (heldEntry m) (s .table r o u) ≡ heldEntry (pick b m (k .holders r o u))
         by true = refl
         by false = k .entries r o u hr ho hu
 
@@ -160,7 +160,7 @@ module _ {pl : Plan} (wired : Wired pl) {acc : List Connection} (s : State) (c :
     pub tdown-entry : x .kind ≡ Tdown → s .table i (exitAt pl i x) (x .slot .0) ≡ Booked (cameIn pl (x .active) (x .passive) i)
     tdown-entry q =
         let g = fits-as Tdown q here in
-        k .entries i exit (x .slot .0) h (exit-below (g .0) (g .1)) (here .ranges .slot) ∙ ap entryOf (tdown-holder q)
+        k .entries i exit (x .slot .0) h (exit-below (g .0) (g .1)) (here .ranges .slot) ∙ ap heldEntry (tdown-holder q)
 
     -- A tear-down owns the entry that it frees: it is held for its own pair, and holds the side that the pair's walk came in by.
     pub tdown-own : x .kind ≡ Tdown → OwnEntry pl acc s k i x

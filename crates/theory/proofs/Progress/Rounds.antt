@@ -49,7 +49,7 @@ use Rattle.theory.proofs.Places.Closure.{unit-no-answer}
 use Rattle.theory.proofs.Places.Lines.{output-drives}
 use Rattle.theory.proofs.Places.Senders.{candidate-ready}
 use Rattle.theory.proofs.Shape.Arbitration.{picked-none}
-use Rattle.theory.proofs.Shape.Execute.{Quiet, quiet-start, quiet-down, unit-quiet, units-wires}
+use Rattle.theory.proofs.Shape.Execute.{FlagsBehind, quiet-start, quiet-down, unit-quiet, units-wires}
 use Rattle.theory.proofs.Shape.Calls.{execute-has, write-has}
 use Rattle.theory.proofs.Keeps.{unit-core, call-inv}
 use Rattle.theory.proofs.Progress.Stuck.{Jammed, Closed, none-waits}
@@ -187,7 +187,7 @@ module _ {pl : Plan} (wired : Wired pl) (range : InRange (pl .head)) (free : Fee
       core-p : Core pl p
       unfolding p
       core-p =
-          up-keeps-at (λ (n : ℕ) (t : State). Quiet pl n t × Core pl t) (unit pl) (R pl) e
+          up-keeps-at (λ (n : ℕ) (t : State). FlagsBehind pl n t × Core pl t) (unit pl) (R pl) e
           (λ i t h q. (unit-quiet pl i t (q .0), unit-core wired range i t h (quiet-down pl i t h (q .0)) (q .1))) (quiet-start pl e (has .2), inv .core) .1
 
       wires-p : WiresEmpty pl p

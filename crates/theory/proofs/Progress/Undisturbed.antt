@@ -11,7 +11,7 @@ use Rattle.packets.specs.declared.Answer.the-variants.{Refused, Done}
 use Rattle.plan.specs.Plan.{Plan}
 use Rattle.machine.specs.State.{State, join}
 use Rattle.machine.specs.Visits.{launched, replyKind, removed}
-use Rattle.machine.specs.Calls.{Visit, Call, turn, visit, execute, Outcome, gives, isPhase, stepOf, call}
+use Rattle.machine.specs.Calls.{Visit, Call, turn, visit, execute, Outcome, gives, isPhase, phaseStep, call}
 use Rattle.theory.specs.Does.{Visited, launches, replies, consumes, looks, Does, refuses, turns, visits}
 use Rattle.machine.specs.Progress.{isTimed, endsRound}
 use Rattle.machine.proofs.Apart.{phase-of, phase-is, read-execute, execute-write}
@@ -20,7 +20,7 @@ use Rattle.theory.proofs.Progress.Still.{Same, launch-same, reply-same,
 
 -- ---- the three timed calls, in their phase and outside it
 module _ (pl : Plan) (s : State) (x : Phase) where
-  pub turn-now : s .clock .phase ≡ x → call pl (turn x) s ≡ gives Done (stepOf pl x s)
+  pub turn-now : s .clock .phase ≡ x → call pl (turn x) s ≡ gives Done (phaseStep pl x s)
   unfolding call
   turn-now e = rw (phase-is (s .clock .phase) x e)
 

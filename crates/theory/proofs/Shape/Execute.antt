@@ -32,34 +32,34 @@ use Rattle.theory.proofs.Shape.Spared.{Spares, spared-sendable, spares-
 
 -- ---- (1) units
 -- while the units below n have had their turn: a flag that is up is that of such a unit's Q, and its mark is down
-abbrev pub Quiet : Plan → ℕ → State → Type 0
-Quiet pl n s = (q : Queue) → Exists pl q → s .flow .flag q ≡ true → (r : ℕ) × (r < n) × (q ≡ Q r) × (s .lines .handled q ≡ false)
+abbrev pub FlagsBehind : Plan → ℕ → State → Type 0
+FlagsBehind pl n s = (q : Queue) → Exists pl q → s .flow .flag q ≡ true → (r : ℕ) × (r < n) × (q ≡ Q r) × (s .lines .handled q ≡ false)
 
 module _ (pl : Plan) where
   -- before the first unit's turn
-  pub quiet-start : (s : State) → FlagsDown pl s → Quiet pl 0 s
+  pub quiet-start : (s : State) → FlagsDown pl s → FlagsBehind pl 0 s
   quiet-start s f q h up = absurd (not-both up (f q h))
 
   -- the flag of the unit whose turn it is is down
-  pub quiet-down : (n : ℕ) (s : State) → n < R pl → Quiet pl n s → s .flow .flag (Q n) ≡ false
+  pub quiet-down : (n : ℕ) (s : State) → n < R pl → FlagsBehind pl n s → s .flow .flag (Q n) ≡ false
   quiet-down n s h g = refuted (s .flow .flag (Q n)) (λ up. by (g (Q n) h up))
     where
       by : (r : ℕ) × (r < n) × (Q n ≡ Q r) × (s .lines .handled (Q n) ≡ false) → ⊥
       by (r, l, e, m) = let z : n ≡ r = unit-same e in omega arith
 
-  quiet-same : (n : ℕ) (s t : State) → t .flow .flag ≡ s .flow .flag → t .lines .handled ≡ s .lines .handled → Quiet pl n s → Quiet pl n t
+  quiet-same : (n : ℕ) (s t : State) → t .flow .flag ≡ s .flow .flag → t .lines .handled ≡ s .lines .handled → FlagsBehind pl n s → FlagsBehind pl n t
   quiet-same n s t f m g q h up =
       let d = g q h (sym (ap (λ (m : Queue → Bool). m q) f) ∙ up) in
       (d .0, d .1, d .2, ap (λ (m : Queue → Bool). m q) m ∙ d .3)
 
-  quiet-more : (n : ℕ) (s : State) → Quiet pl n s → Quiet pl (suc n) s
+  quiet-more : (n : ℕ) (s : State) → FlagsBehind pl n s → FlagsBehind pl (suc n) s
   quiet-more n s g q h up = by (g q h up)
     where
       by : (r : ℕ) × (r < n) × (q ≡ Q r) × (s .lines .handled q ≡ false) → (r : ℕ) × (r < suc n) × (q ≡ Q r) × (s .lines .handled q ≡ false)
       by (r, l, e, m) = (r, omega arith, e, m)
 
   -- the head of Q n is handled
-  quiet-handled : (n : ℕ) (s t : State) → t .flow .flag ≡ s .flow .flag → t .lines .handled ≡ put sameQueue (s .lines .handled) (Q n) true → Quiet pl n s → Quiet pl (suc n) t
+  quiet-handled : (n : ℕ) (s t : State) → t .flow .flag ≡ s .flow .flag → t .lines .handled ≡ put sameQueue (s .lines .handled) (Q n) true → FlagsBehind pl n s → FlagsBehind pl (suc n) t
   quiet-handled n s t f m g q h up = by (g q h (sym (ap (λ (m : Queue → Bool). m q) f) ∙ up))
     where
       by : (r : ℕ) × (r < n) × (q ≡ Q r) × (s .lines .handled q ≡ false) → (r : ℕ) × (r < suc n) × (q ≡ Q r) × (t .lines .handled q ≡ false)
@@ -68,7 +68,7 @@ module _ (pl : Plan) where
           (r, omega arith, e, ap (λ (m : Queue → Bool). m q) m ∙ queue-away (s .lines .handled) (Q n) true q ne ∙ d)
 
   -- the head of Q n ended
-  quiet-ended : (n : ℕ) (s t : State) → t .flow .flag ≡ put sameQueue (s .flow .flag) (Q n) true → t .lines .handled ≡ s .lines .handled → s .lines .handled (Q n) ≡ false → Quiet pl n s → Quiet pl (suc n) t
+  quiet-ended : (n : ℕ) (s t : State) → t .flow .flag ≡ put sameQueue (s .flow .flag) (Q n) true → t .lines .handled ≡ s .lines .handled → s .lines .handled (Q n) ≡ false → FlagsBehind pl n s → FlagsBehind pl (suc n) t
   quiet-ended n s t f m d g q h up = by (queue-or q (Q n))
     where
       by : (q ≡ Q n) ⊎ (q ≢ Q n) → (r : ℕ) × (r < suc n) × (q ≡ Q r) × (t .lines .handled q ≡ false)
@@ -79,9 +79,9 @@ module _ (pl : Plan) where
           last (r, l, e, d) = (r, omega arith, e, ap (λ (m : Queue → Bool). m q) m ∙ d)
 
   -- a unit's turn
-  pub unit-quiet : (n : ℕ) (s : State) → Quiet pl n s → Quiet pl (suc n) (unit pl n s)
+  pub unit-quiet : (n : ℕ) (s : State) → FlagsBehind pl n s → FlagsBehind pl (suc n) (unit pl n s)
   unit-quiet n s g =
-      unit-by pl s (Quiet pl (suc n)) n (quiet-more n s g) (λ x y rest e m. quiet-handled n s (handledAs n y rest s) refl refl g)
+      unit-by pl s (FlagsBehind pl (suc n)) n (quiet-more n s g) (λ x y rest e m. quiet-handled n s (handledAs n y rest s) refl refl g)
       (λ x y rest o t b e m. quiet-handled n s (handledAs n y rest (withEntry n o t b s)) refl refl g)
       (λ x rest o t b e m. quiet-ended n s (withFlag (Q n) true (withQueue (Q n) rest (withEntry n o t b s))) refl refl m g)
 
@@ -90,8 +90,8 @@ module _ (pl : Plan) where
   unit-wire n s = unit-by pl s (λ (t : State). t .links .wire ≡ s .links .wire) n refl (λ x y rest e m. refl) (λ x y rest o t b e m. refl) (λ x rest o t b e m. refl)
 
   -- after all units
-  pub units-quiet : (s : State) → FlagsDown pl s → Quiet pl (R pl) (upTo (unit pl) (R pl) s)
-  units-quiet s f = up-keeps-at (Quiet pl) (unit pl) (R pl) s (λ i t h g. unit-quiet i t g) (quiet-start s f)
+  pub units-quiet : (s : State) → FlagsDown pl s → FlagsBehind pl (R pl) (upTo (unit pl) (R pl) s)
+  units-quiet s f = up-keeps-at (FlagsBehind pl) (unit pl) (R pl) s (λ i t h g. unit-quiet i t g) (quiet-start s f)
 
   -- after all units wires are still empty
   pub units-wires : (s : State) → WiresEmpty pl s → WiresEmpty pl (upTo (unit pl) (R pl) s)
@@ -99,7 +99,7 @@ module _ (pl : Plan) where
 
   -- ---- (2) picks
   -- what an output picks can be sent
-  pub picked-sendable : (s : State) → Quiet pl (R pl) s → (o : Output) (k : ℕ) → Drives pl o → picked pl s o ≡ sender k → Sendable pl s o k
+  pub picked-sendable : (s : State) → FlagsBehind pl (R pl) s → (o : Output) (k : ℕ) → Drives pl o → picked pl s o ≡ sender k → Sendable pl s o k
   picked-sendable s g o k d e =
       let c = picked-candidate pl s o k e .1 in
       record { queue = c .0; rank = c .1; ready = c .2; down = refuted (s .flow .flag (c .0)) (λ up. not-both (leaves (c .0) (g (c .0) (sender-exists pl o k (c .0) d (c .1)) up) (candidate-ready pl s o (c .0) (c .2) .leaves)) (g (c .0) (sender-exists pl o k (c .0) d (c .1)) up .3)) }
@@ -109,7 +109,7 @@ module _ (pl : Plan) where
 
   -- the outputs below n have picked
   abbrev pub Picked : ℕ → State → Type 0
-  Picked n s = Quiet pl (R pl) s × ((j : ℕ) → j < n → (k : ℕ) → s .links .choice (outputAt pl j) ≡ sender k → Sendable pl s (outputAt pl j) k)
+  Picked n s = FlagsBehind pl (R pl) s × ((j : ℕ) → j < n → (k : ℕ) → s .links .choice (outputAt pl j) ≡ sender k → Sendable pl s (outputAt pl j) k)
 
   choose-spares : (o u : Output) (s : State) → Spares pl s (choose pl o s) u
   unfolding choose
@@ -135,7 +135,7 @@ module _ (pl : Plan) where
   chooses n = choose pl (outputAt pl n)
 
   -- after all picks
-  pub picks-sendable : (s : State) → Quiet pl (R pl) s → ChoicesSendable pl (upTo chooses (outputs pl) s)
+  pub picks-sendable : (s : State) → FlagsBehind pl (R pl) s → ChoicesSendable pl (upTo chooses (outputs pl) s)
   picks-sendable s g o k d e =
       let all = up-keeps-at Picked chooses (outputs pl) s (λ i t h p. choose-picked i t h p) (g, λ j l. absurd (not-suc-le-zero l)) in
       subst (λ (u : Output). Sendable pl (upTo chooses (outputs pl) s) u k) (output-at pl o d) (all .1 (outputNumber pl o) (output-below pl o d) k (rw (output-at pl o d) e))

@@ -19,7 +19,7 @@ use Rattle.machine.specs.Valid.{Drives}
 use Rattle.machine.proofs.Numbers.{exists-at}
 use Rattle.machine.proofs.OutNumbers.{drives-at}
 use Rattle.theory.specs.Invariant.{WiresEmpty, FlagsDown, Sendable, ChoicesSendable}
-use Rattle.theory.proofs.Shape.Execute.{Quiet, quiet-start, quiet-down, unit-quiet}
+use Rattle.theory.proofs.Shape.Execute.{FlagsBehind, quiet-start, quiet-down, unit-quiet}
 use Rattle.theory.proofs.Shape.Write.{Pending, pending-start, pending-now, send-pending}
 
 module _ (pl : Plan) (P : State → Type 0) (s : State) where
@@ -45,7 +45,7 @@ module _ (pl : Plan) (P : State → Type 0) (s : State) where
       ends (upTo (undo pl) (A pl) (upTo (λ n. choose pl (outputAt pl n)) (outputs pl) (upTo (unit pl) (R pl) s)))
       (up-keeps P (undo pl) (A pl) (upTo (λ n. choose pl (outputAt pl n)) (outputs pl) (upTo (unit pl) (R pl) s)) (λ i t h q. undoes i t h q)
       (up-keeps P (λ n. choose pl (outputAt pl n)) (outputs pl) (upTo (unit pl) (R pl) s) (λ i t h q. chooses (outputAt pl i) t (drives-at pl i h) q)
-      (up-keeps-at (λ (n : ℕ) (t : State). Quiet pl n t × P t) (unit pl) (R pl) s
+      (up-keeps-at (λ (n : ℕ) (t : State). FlagsBehind pl n t × P t) (unit pl) (R pl) s
       (λ i t h q. (unit-quiet pl i t (q .0), units i t h (quiet-down pl i t h (q .0)) (q .1))) (quiet-start pl s f, p) .1)))
 
   -- WRITE: sendings, each with an empty wire and a choice that can be sent at its turn

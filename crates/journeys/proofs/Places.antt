@@ -165,13 +165,15 @@ module _ {pl : Plan} (wired : Wired pl) where
         (i .0, i .1, exit-inside (active a) z w y n, meets-turns (active a) z w first y n)
 
     -- ---- a packet comes in to a router by a joined side
-    pub walk-joined : (x : Port) → Meets pl (passive p) (home pl (active a)) x → pl .joint (x .router) (x .side) ≢ Nothing
+    pub walk-joined : (x : Port) → Meets pl (passive p) (home pl (active a)) x
+        → pl .joint (x .router) (x .side) ≢ Nothing
     walk-joined x m = meets-joined (passive p) (home pl (active a)) (s .ahead) (home-joined (active a) ha) x m
 
     pub returns-joined : (y : Port) → Comes pl a p y → pl .joint (y .router) (y .side) ≢ Nothing
     returns-joined y (inl m) = meets-joined (active a) (home pl (passive p)) back-walk (home-joined (passive p) hp) y m
     returns-joined y (inr (x, z, m, q, n)) =
-        meets-joined (active a) z (next-walk x z m q) (λ j. router-not (sym (joined-back wired (active a) x z q) ∙ j)) y n
+        let b = joined-back wired (active a) x z q in
+        meets-joined (active a) z (next-walk x z m q) (λ j. router-not (sym b ∙ j)) y n
 
     -- ---- the queues where a packet may be exist
     pub may-exist : (h : Heading) (x : Queue) → Visits pl h a p x → Exists pl x

@@ -154,7 +154,7 @@ pub record Valid (pl : Plan) (s : State) : Type 0 where
   pub marks : (q : Queue) → Exists pl q → s .lines .handled q ≡ true → (r : ℕ) × (q ≡ Q r) × (s .lines .queue q ≢ [])
   -- 'a side with no free entry'
   pub free-entry : (r o : ℕ) → r < R pl → o < 4 → (t : ℕ) × (t < S pl) × (s .table r o t ≡ Free)
-  -- 'credit + queued + wire + raised flag ≠ capacity of a queue fed by a wire'; the credit of a queue that no wire feeds
+  -- 'credit + queued + wire + raised flag ≠ capacity of a queue fed by a wire'; where no wire feeds a queue its credit
   -- is not used: it is as Start left it
   pub credits : (q : Queue) → Exists pl q → fed pl q ≡ true
       → s .flow .credit q .0 + length (s .lines .queue q) + onWires pl q s + bit (s .flow .flag q) ≡ capacity (pl .head) q

@@ -208,7 +208,7 @@ marksTest pl s = everyQueue pl (λ q. not (s .lines .handled q) || also (isUnit 
 unfoldable pub freeEntryTest : Plan → State → Bool
 freeEntryTest pl s = allBelow (R pl) (λ r. allBelow 4 (λ o. anyBelow (S pl) (λ t. isFree (s .table r o t))))
 
--- 'credit + queued + wire + raised flag ≠ capacity of a queue fed by a wire'; any other queue's credit is as Start left it
+-- 'credit + queued + wire + raised flag ≠ capacity of a queue fed by a wire'; any other's credit is as Start left it
 unfoldable pub creditsTest : Plan → State → Bool
 creditsTest pl s =
     everyQueue pl

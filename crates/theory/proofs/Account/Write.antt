@@ -34,8 +34,8 @@ use Rattle.theory.proofs.Account.Paid.{Paid, SameAccounts, Spared, paid
 
 module _ {pl : Plan} (wired : Wired pl) where
   -- ---- the two halves of a sending: out of the queue, and on to the wire
-  leaves-paid : (q : Queue) (x : Packet) (rest : List Packet) (s : State) → Exists pl q → Paid pl s → fed pl q ≡ not (isOutQueue q)
-      → s .lines .queue q ≡ x ∷ rest → s .flow .flag q ≡ false → Paid pl (raise q (withQueue q rest s))
+  leaves-paid : (q : Queue) (x : Packet) (rest : List Packet) (s : State) → Exists pl q → Paid pl s
+      → fed pl q ≡ not (isOutQueue q) → s .lines .queue q ≡ x ∷ rest → s .flow .flag q ≡ false → Paid pl (raise q (withQueue q rest s))
   leaves-paid q x rest s h c kind e down = by (test (isOutQueue q))
     where
       u : State
@@ -77,7 +77,9 @@ module _ {pl : Plan} (wired : Wired pl) where
     where
       -- what has a head is fed by a wire, or it is an out-queue
       sends : fed pl q ≡ not (isOutQueue q)
-      sends = belongs-fed wired q (r .head) (rw (head-leaves s q (r .leaves)) at ((rw (r .queue) at (c .places q h)) .0))
+      sends =
+          let head = (rw (r .queue) at (c .places q h)) .0 in
+          belongs-fed wired q (r .head) (rw (head-leaves s q (r .leaves)) at head)
 
   -- an output sends what it picked
   pub send-paid : (o : Output) (s : State) → Drives pl o → Core pl s → s .links .wire o ≡ Empty → ((k : ℕ) → s .links .choice o ≡ sender k → Sendable pl s o k) → Paid pl (send pl o s)

@@ -17,14 +17,14 @@ twoRouters = 16 ∷ 130 ∷ 33 ∷ 36 ∷ 146 ∷ 76 ∷ 2 ∷ 32 ∷ 0 ∷ 2 �
 abbrev pub widerT : List ℕ
 widerT = 8 ∷ 66 ∷ 66 ∷ 105 ∷ 36 ∷ 148 ∷ 6 ∷ 0 ∷ 0 ∷ 0 ∷ 32 ∷ []
 
--- one router, S=16: side 0 to passive 0, side 1 to active 0, side 2 to active 1, side 3 to passive 1. The capacities
--- fall on the way to a passive: active out 6, U 4, Q 3, F 2, passive in 1. Passive out 4, K 5, active in 7.
--- 08 84 86 F1 AA 66 04 04 26 21 41 80
+-- one router, S=16: side 0 to passive 0, sides 1 to 3 to actives 0 to 2. The capacities fall on the way to the passive:
+-- active out 6, U 4, Q 3, F 2, passive in 1. Passive out 4, K 5, active in 7.
+-- 08 C2 86 F1 AA 66 04 04 24 41 4C 00
 abbrev pub narrowThere : List ℕ
-narrowThere = 8 ∷ 132 ∷ 134 ∷ 241 ∷ 170 ∷ 102 ∷ 4 ∷ 4 ∷ 38 ∷ 33 ∷ 65 ∷ 128 ∷ []
+narrowThere = 8 ∷ 194 ∷ 134 ∷ 241 ∷ 170 ∷ 102 ∷ 4 ∷ 4 ∷ 36 ∷ 65 ∷ 76 ∷ 0 ∷ []
 
--- the same joints and routes, and little room on the way back: passive in 4, passive out 2, K 1, active in 5. Active
--- out 6, U 7, Q 3, F 3.
+-- one router, S=16: side 0 to passive 0, side 1 to active 0, side 2 to active 1, side 3 to passive 1. Little room on the
+-- way back: passive in 4, passive out 2, K 1, active in 5. Active out 6, U 7, Q 3, F 3.
 -- 08 84 86 BD B3 16 04 04 26 21 41 80
 abbrev pub narrowBack : List ℕ
 narrowBack = 8 ∷ 132 ∷ 134 ∷ 189 ∷ 179 ∷ 22 ∷ 4 ∷ 4 ∷ 38 ∷ 33 ∷ 65 ∷ 128 ∷ []

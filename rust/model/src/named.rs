@@ -39,22 +39,20 @@ pub fn wider_t() -> Draft {
     draft
 }
 
-/// One router with all its sides in use, S=16: passive 0, active 0, active 1, passive 1.
-fn four_sides(capacities: [usize; 8]) -> Draft {
+/// One router with three actives, S=16; the capacities fall on the way to the passive.
+pub fn narrow_there() -> Draft {
     let mut draft = Draft::new(1, 16, 1);
-    draft.capacities(capacities);
-    draft.active(0, 1).active(0, 2).passive(0, 0).passive(0, 3).shortest_routes();
+    draft.capacities([6, 7, 4, 3, 2, 5, 1, 4]);
+    draft.active(0, 1).active(0, 2).active(0, 3).passive(0, 0).shortest_routes();
     draft
 }
 
-/// Four sides in use; the capacities fall on the way to a passive.
-pub fn narrow_there() -> Draft {
-    four_sides([6, 7, 4, 3, 2, 5, 1, 4])
-}
-
-/// Four sides in use; little room on the way back.
+/// One router with two actives and two passives, S=16; little room on the way back.
 pub fn narrow_back() -> Draft {
-    four_sides([6, 5, 7, 3, 3, 1, 4, 2])
+    let mut draft = Draft::new(1, 16, 1);
+    draft.capacities([6, 5, 7, 3, 3, 1, 4, 2]);
+    draft.active(0, 1).active(0, 2).passive(0, 0).passive(0, 3).shortest_routes();
+    draft
 }
 
 /// Two routers where set-ups come in by each of the sides 0 to 3; actives 0 and 1 are not served

@@ -248,7 +248,7 @@ fn plans_of_the_proved_runs() {
     let plans = [
         (named::declining(), "10822124924C022000020E0420002422"),
         (named::wider_t(), "0842426924940600000020"),
-        (named::narrow_there(), "088486F1AA66040426214180"),
+        (named::narrow_there(), "08C286F1AA66040424414C00"),
         (named::narrow_back(), "088486BDB316040426214180"),
         (named::all_sides(), "10C42124924C0426023E200442182D76D300"),
         (named::row_of_four(), "20821924924C022000020A4420022A6000024E0000002422010080"),
@@ -328,20 +328,26 @@ fn a_passives_decline_over_three_routers() {
 
 #[test]
 fn the_lower_side_goes_first_to_the_unit() {
-    let mut run = Run::new(&named::narrow_back().encode());
-    assert_eq!((run.launch(0, 0, 5), run.launch(1, 0, 5)), (Ok(()), Ok(())));
-    let sides = [1, 2].map(|from| Queue::U { router: 0, from });
+    let mut run = Run::new(&named::narrow_there().encode());
+    for active in 0..3 {
+        assert_eq!(run.launch(active, 0, 5), Ok(()));
+    }
+    let sides = [1, 2, 3].map(|from| Queue::U { router: 0, from });
     run.read_of(1);
-    assert_eq!(sides.map(|side| run.len(side)), [1, 1]);
+    assert_eq!(sides.map(|side| run.len(side)), [1, 1, 1]);
     run.execute();
     run.end();
-    assert_eq!(sides.map(|side| run.len(side)), [0, 1]);
-    // Active 0 gets the entry, active 1 is declined.
-    run.run_to_write();
-    assert_eq!(run.queue(Queue::Q { router: 0 }), [packet(Kind::Setup, 6, 1)]);
-    run.end();
-    run.run_to_write();
-    assert_eq!(run.queue(Queue::Q { router: 0 }), [packet_of((1, 0), Kind::Nack, 5, 0)]);
+    assert_eq!(sides.map(|side| run.len(side)), [0, 1, 1]);
+    // Active 0 gets the entry, active 1 and then active 2 are declined.
+    let nacks = [1, 2].map(|active| packet_of((active, 0), Kind::Nack, 5, 0));
+    for (handled, left) in
+        [(packet(Kind::Setup, 6, 1), [0, 0, 1]), (nacks[0], [0; 3]), (nacks[1], [0; 3])]
+    {
+        run.run_to_write();
+        assert_eq!(run.queue(Queue::Q { router: 0 }), [handled]);
+        run.end();
+        assert_eq!(sides.map(|side| run.len(side)), left);
+    }
 }
 
 #[test]

@@ -9,16 +9,19 @@ use Rattle.feeding.specs.Queue.{activeIn, U, Q, F, K}
 use Rattle.machine.specs.State.{State}
 use Rattle.machine.specs.Calls.{Call, read, execute, write, launch, reply}
 use Rattle.machine.specs.Runs.Watch.{round, rounds, packet, entryIn, after, moments}
-use Rattle.plan.specs.Samples.{narrowBack}
+use Rattle.plan.specs.Samples.{narrowThere, narrowBack}
 use Rattle.packets.specs.Answers.{done}
 
--- ---- U[1] and U[2]: both actives launch with slot 5 in round 0, and their set-ups come to the router in round 1
-abbrev pub bothLaunch : List (List Call)
-bothLaunch =
-    (launch 0 0 5 ∷ launch 1 0 5 ∷ round ++ read ∷ [])
+-- ---- U[1], U[2] and U[3]: three actives launch with slot 5 in round 0, and their set-ups come to the router in round 1.
+-- (U[0] before U[1] is seen in Entries.)
+abbrev pub threeLaunch : List (List Call)
+threeLaunch =
+    (launch 0 0 5 ∷ launch 1 0 5 ∷ launch 2 0 5 ∷ round ++ read ∷ [])
     -- round 1: its WRITE
     ∷ (execute ∷ write ∷ [])
-    -- rounds 2 and 3: after EXECUTE and WRITE of each
+    -- rounds 2, 3 and 4: after EXECUTE, and after the WRITE of 2 and 3
+    ∷ (read ∷ execute ∷ [])
+    ∷ (write ∷ [])
     ∷ (read ∷ execute ∷ [])
     ∷ (write ∷ [])
     ∷ (read ∷ execute ∷ [])
@@ -34,26 +37,26 @@ free = 4 ∷ []
 abbrev pub booked : List ℕ
 booked = 1 ∷ []
 
--- U[1], U[2], Q
-abbrev pub seen : List Packet → List Packet → List Packet → List (List Packet)
-seen u1 u2 q = u1 ∷ u2 ∷ q ∷ []
+-- U[1], U[2], U[3], Q
+abbrev pub seen : List Packet → List Packet → List Packet → List Packet → List (List Packet)
+seen u1 u2 u3 q = u1 ∷ u2 ∷ u3 ∷ q ∷ []
 
--- the set-up of each active
-abbrev pub of0 : Packet
-of0 = packet Setup 0 0 5 0
+-- an active's set-up
+abbrev pub of : ℕ → List Packet
+of a = packet Setup a 0 5 0 ∷ []
 
-abbrev pub of1 : Packet
-of1 = packet Setup 1 0 5 0
-
-pub lower-side-first : moments narrowBack slot5 (U 0 1 ∷ U 0 2 ∷ Q 0 ∷ []) bothLaunch
-    -- round 1: both wait; U[1] goes first
-    ≡ after done free (seen (of0 ∷ []) (of1 ∷ []) [])
-    ∷ after done free (seen [] (of1 ∷ []) [])
+pub lower-side-first : moments narrowThere slot5 (U 0 1 ∷ U 0 2 ∷ U 0 3 ∷ Q 0 ∷ []) threeLaunch
+    -- round 1: all wait; U[1] goes first
+    ≡ after done free (seen (of 0) (of 1) (of 2) [])
+    ∷ after done free (seen [] (of 1) (of 2) [])
     -- round 2: active 0 gets the entry; U[2] goes
-    ∷ after done booked (seen [] (of1 ∷ []) (packet Setup 0 0 6 1 ∷ []))
-    ∷ after done booked (seen [] [] [])
-    -- round 3: active 1 comes too late
-    ∷ after done booked (seen [] [] (packet Nack 1 0 5 0 ∷ []))
+    ∷ after done booked (seen [] (of 1) (of 2) (packet Setup 0 0 6 1 ∷ []))
+    ∷ after done booked (seen [] [] (of 2) [])
+    -- round 3: active 1 comes too late; U[3] goes
+    ∷ after done booked (seen [] [] (of 2) (packet Nack 1 0 5 0 ∷ []))
+    ∷ after done booked (seen [] [] [] [])
+    -- round 4: and so does active 2
+    ∷ after done booked (seen [] [] [] (packet Nack 2 0 5 0 ∷ []))
     ∷ []
 unfolding moments
 lower-side-first = refl

@@ -1,5 +1,5 @@
 -- A choice between two values by a test, and what it tells.
-use mathlib.Core.Path.{_≡_, refl, sym, ap, _∙_}
+use mathlib.Core.Path.{_≡_, refl, sym, _∙_}
 use mathlib.Core.Logic.{_⊎_, inl, inr}
 use mathlib.Core.Bool.{Bool, true, false, true≢false, false≢true}
 
@@ -25,10 +25,6 @@ pub refuted : (b : Bool) → (b ≡ true → ⊥) → b ≡ false
 refuted true h = absurd (h refl)
 refuted false h = refl
 
-pub affirmed : (b : Bool) → (b ≡ false → ⊥) → b ≡ true
-affirmed true h = refl
-affirmed false h = absurd (h refl)
-
 -- two tests that hold together are one value
 pub same-test : (a b : Bool) → (a ≡ true → b ≡ true) → (b ≡ true → a ≡ true) → a ≡ b
 same-test true b f g = sym (f refl)
@@ -42,18 +38,9 @@ also-true {a = false} {b = b} e = absurd (false≢true e)
 pub also-of : {a b : Bool} → a ≡ true → b ≡ true → also a b ≡ true
 also-of p q = rw (p, q)
 
-pub also-no : (a : Bool) {b : Bool} → b ≡ false → also a b ≡ false
-also-no true e = e
-also-no false e = refl
-
 pub pick-same : {A : Type 0} (b : Bool) (x : A) → pick b x x ≡ x
 pick-same true x = refl
 pick-same false x = refl
-
--- a choice that is not its first case had a false test
-pub pick-not : {A : Type 0} (b : Bool) (x y : A) {z : A} → z ≡ pick b x y → (z ≡ x → ⊥) → b ≡ false
-pick-not true x y e h = absurd (h e)
-pick-not false x y e h = refl
 
 -- a function of a choice is a choice
 pub pick-out : {A B : Type 0} (f : A → B) (b : Bool) (x y : A) → pick b (f x) (f y) ≡ f (pick b x y)

@@ -17,9 +17,9 @@ use Rattle.plan.specs.declared.Head.{Head}
 use Rattle.plan.specs.declared.Joint.{Joint}
 use Rattle.plan.specs.declared.Joint.the-variants.{Nothing, Router, Active, Passive}
 use Rattle.plan.specs.Head.{InRange, headOf, destinations, routesAt}
-use Rattle.plan.specs.Plan.{Interface, noSide, jointAt, routeAt, jointFrom, jointIn, planOf}
+use Rattle.plan.specs.Plan.{noSide, jointAt, routeAt, jointFrom, jointIn, planOf}
 use Rattle.plan.specs.Rules.{jointOk, routeOk, jointThere, routeThere, fieldsOk, jointOfPort, backOk, namedOk, portsOf}
-use Rattle.plan.specs.Rules.{home, interfacesOk}
+use Rattle.plan.specs.Rules.{interfacesOk}
 use Rattle.plan.specs.Tables.{jointByte, jointOfByte, jointByteOk, jointsOf, rowOf, routesOf, tablePlan, jointBytesOk}
 use Rattle.plan.specs.Tables.{rowOk, routesOk}
 use Rattle.wiring.proofs.Heads.{counts-most}
@@ -175,16 +175,6 @@ module _ (h : Head) (routes other : List (List ℕ)) (joints : List ℕ) where
       alike i (Router n t) = refl
       alike i (Active n) = refl
       alike i (Passive n) = refl
-
-  -- An interface's ports do not depend on the routes.
-  pub ports-alike : (e : Interface) → portsOf (tablePlan h routes joints) e ≡ portsOf (tablePlan h other joints) e
-  unfolding portsOf tablePlan
-  ports-alike e = refl
-
-  -- An interface's home does not depend on the routes.
-  pub home-alike : (e : Interface) → home (tablePlan h routes joints) e ≡ home (tablePlan h other joints) e
-  unfolding home portsOf tablePlan
-  home-alike e = refl
 
   -- Whether each interface has one port does not depend on the routes.
   pub interfaces-alike : interfacesOk (tablePlan h routes joints) ≡ interfacesOk (tablePlan h other joints)

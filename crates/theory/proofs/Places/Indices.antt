@@ -16,7 +16,7 @@ use Rattle.paths.specs.declared.Index.the-variants.{At, Off}
 use Rattle.paths.specs.Walk.{walked}
 use Rattle.paths.specs.Served.{Served}
 use Rattle.paths.specs.Steps.{standsOn, indexIn, indexOn}
-use Rattle.feeding.specs.Feeds.{Stands, span}
+use Rattle.feeding.specs.Feeds.{Stands}
 use Rattle.wiring.specs.Wired.{Wired}
 use Rattle.theory.proofs.Places.Closure.{stands-below, span-short}
 use Rattle.theory.proofs.Places.CameIn.{stands-once}
@@ -81,7 +81,3 @@ module _ {pl : Plan} (wired : Wired pl) (a p : ℕ) (ha : a < A pl) (hp : p < P 
           let g = index-stands pl a p r k q in
           q ∙ ap At (stands-once wired a p ha hp s k n (record { router = r; side = g .0 }) (record { router = r; side = i }) (g .1) f refl)
       by Off q = absurd (true≢false (sym here ∙ found-not pl (passive p) (home pl (active a)) r (R pl) q n short))
-
-  -- A router's index is below the walk's length.
-  pub index-below : (r k : ℕ) → indexOn pl (passive p) (home pl (active a)) r ≡ At k → k < span pl a p
-  index-below r k q = let g = index-stands pl a p r k q in stands-below wired a p ha hp s k (record { router = r; side = g .0 }) (g .1)

@@ -1,8 +1,7 @@
 -- What a unit, an active and a passive do to the sum of weights: the head's old weight goes, the weight of what it becomes comes, at its place.
 use mathlib.Core.Path.{_≡_, refl, ap, ap₂, _∙_}
-use mathlib.Core.Logic.{_⊎_, inl, inr}
 use mathlib.Core.Bool.{true, false}
-use mathlib.Core.List.{List, [], _∷_}
+use mathlib.Core.List.{List, _∷_}
 use Prim.Native.Nat.{ℕ, _+_, _<_}
 use native.Mathlib.Omega.{arith}
 use lib.Dec.{eqb}
@@ -19,7 +18,7 @@ use Rattle.machine.specs.Valid.{inAll}
 use Rattle.theory.specs.Invariant.{Core}
 use Rattle.theory.specs.Weights.{Weight, inLine, weighed}
 use Rattle.theory.proofs.Weights.Total.{weighed-line, weighed-join}
-use Rattle.theory.proofs.Cases.{mayBookAt, unit-empty, unit-handled, unit-books, unit-declines, unit-ends, unit-frees, undo-tears}
+use Rattle.theory.proofs.Cases.{mayBookAt, unit-books, unit-declines, unit-ends, unit-frees, undo-tears}
 use Rattle.theory.proofs.Weights.Moves.{queue-weighed}
 
 module _ (pl : Plan) (w : Weight) where
@@ -49,15 +48,6 @@ module _ (pl : Plan) (w : Weight) where
         let all = weighed-line pl w (Q r) h true (y ∷ rest) s in
         let old = ap₂ (inLine w (Q r)) f e in
         omega arith
-
-    -- A unit without a packet, or with a handled head, changes nothing.
-    pub idle-weighed : (s .lines .queue (Q r) ≡ []) ⊎ (s .lines .handled (Q r) ≡ true) → weighed pl w (unit pl r s) ≡ weighed pl w s
-    idle-weighed (inl e) = ap (weighed pl w) (unit-empty pl r s e)
-    idle-weighed (inr t) = ap (weighed pl w) (by (s .lines .queue (Q r)) refl)
-      where
-        by : (l : List Packet) → s .lines .queue (Q r) ≡ l → unit pl r s ≡ s
-        by [] e = unit-empty pl r s e
-        by (x ∷ rest) e = unit-handled pl r s x rest e t
 
     module _ (x : Packet) (rest : List Packet) (e : s .lines .queue (Q r) ≡ x ∷ rest) (f : s .lines .handled (Q r) ≡ false) where
       -- A set-up is booked.

@@ -4,27 +4,25 @@ use mathlib.Core.Path.{_≡_, refl, ap, subst, _∙_}
 use mathlib.Core.Bool.{Bool, true, false}
 use mathlib.Core.List.{List, _∷_}
 use mathlib.Core.Option.{some}
-use Prim.Native.Nat.{ℕ, suc, _+_, _<_}
+use Prim.Native.Nat.{ℕ, _+_}
 use native.Mathlib.Omega.{arith}
-use Rattle.basis.specs.Fold.{upTo, up-keeps-at}
 use Rattle.packets.specs.declared.Packet.{Packet}
 use Rattle.kinds.specs.declared.Slot.{Slot}
 use Rattle.packets.specs.declared.Phase.{Phase}
 use Rattle.packets.specs.declared.Wire.{Wire}
 use Rattle.packets.specs.declared.Wire.the-variants.{Empty, Full}
 use Rattle.plan.specs.Plan.{Plan}
-use Rattle.feeding.specs.Queue.{Queue, Exists, queueAt, queues}
+use Rattle.feeding.specs.Queue.{Queue, Exists}
 use Rattle.feeding.specs.Role.{Role, sending, receiving, handling, passing, role}
 use Rattle.feeding.specs.Feeds.{Output, Place, inQueue, leavesFrom, headPlace}
 use Rattle.wiring.specs.Wired.{Wired}
-use Rattle.machine.specs.Outputs.{nextBy, senders, outputs, outputAt}
+use Rattle.machine.specs.Outputs.{nextBy, senders}
 use Rattle.machine.specs.State.{State, Links, sender, withPhase, withSlot, withQueue, withWire}
-use Rattle.machine.specs.Read.{deliver, lower, settle, doRead}
+use Rattle.machine.specs.Read.{deliver, lower, settle}
 use Rattle.machine.specs.Execute.{mayLeave, choose}
-use Rattle.machine.specs.Write.{ofRank, raiseAs, raise, spend, send, doWrite}
+use Rattle.machine.specs.Write.{ofRank, raiseAs, raise, spend, send}
 use Rattle.machine.specs.Valid.{Belongs, Lined, Drives, Carries, inAll}
 use Rattle.machine.proofs.Numbers.{sender-exists}
-use Rattle.machine.proofs.OutNumbers.{drives-at}
 use Rattle.theory.specs.Invariant.{Core, Sendable}
 use Rattle.theory.proofs.Places.Lines.{head-leaves, belongs-exists}
 use Rattle.theory.proofs.Places.Senders.{raise-links}
@@ -142,36 +140,4 @@ module _ (pl : Plan) (w : Weight) where
             let same = steady o k q (g .onto) (g .packet) d r (g .next) belongs in
             let all = sent-weighed s o q (g .onto) (g .packet) (g .rest) d h z (g .line) (g .leaves) (g .next) in
             ap (weighed pl w) (send-one pl o s k q e r g) ∙ omega arith
-
-  -- ---- folds
-  -- Steps that keep the weight, each where a fact holds that they hand on, keep it together.
-  pub fold-weighed : (P : ℕ → State → Type 0) (step : ℕ → State → State) (n : ℕ) (s : State)
-      → ((i : ℕ) (t : State) → i < n → P i t → P (suc i) (step i t) × (weighed pl w (step i t) ≡ weighed pl w t)) → P 0 s
-      → P n (upTo step n s) × (weighed pl w (upTo step n s) ≡ weighed pl w s)
-  fold-weighed P step n s keeps p =
-      up-keeps-at (λ (i : ℕ) (t : State). P i t × (weighed pl w t ≡ weighed pl w s)) step n s
-      (λ i t l g. let k = keeps i t l (g .0) in (k .0, k .1 ∙ g .1)) (p, refl)
-
-  -- The settling of all flags keeps every weight.
-  pub settles-weighed : (n : ℕ) (s : State) → weighed pl w (upTo (λ i. settle (queueAt pl i)) n s) ≡ weighed pl w s
-  settles-weighed n s = fold-weighed (λ (i : ℕ) (t : State). record {}) (λ i. settle (queueAt pl i)) n s (λ i t l p. (record {}, settle-weighed (queueAt pl i) t)) (record {}) .1
-
-  -- All choices keep every weight.
-  pub chooses-weighed : (n : ℕ) (s : State) → weighed pl w (upTo (λ i. choose pl (outputAt pl i)) n s) ≡ weighed pl w s
-  chooses-weighed n s = fold-weighed (λ (i : ℕ) (t : State). record {}) (λ i. choose pl (outputAt pl i)) n s (λ i t l p. (record {}, choose-weighed (outputAt pl i) t)) (record {}) .1
-
-  -- READ keeps every weight, if a delivery keeps the core.
-  pub read-weighed : Wired pl → ((o : Output) (t : State) → Drives pl o → Core pl t → Core pl (deliver pl o t)) → (s : State) → Core pl s → weighed pl w (doRead pl s) ≡ weighed pl w s
-  unfolding doRead weighed
-  read-weighed wired keeps s c =
-      settles-weighed (queues pl) (upTo (λ i. deliver pl (outputAt pl i)) (outputs pl) s)
-      ∙ fold-weighed (λ (i : ℕ) (t : State). Core pl t) (λ i. deliver pl (outputAt pl i)) (outputs pl) s
-      (λ i t l g. (keeps (outputAt pl i) t (drives-at pl i l) g, deliver-weighed wired g (outputAt pl i) (drives-at pl i l))) c .1
-
-  -- WRITE keeps a steady weight, where a fact gives what each sending needs and each sending hands it on.
-  pub write-weighed : Wired pl → Steady pl w → (P : ℕ → State → Type 0) (s : State)
-      → ((i : ℕ) (t : State) → i < outputs pl → P i t → P (suc i) (send pl (outputAt pl i) t) × Sends pl (outputAt pl i) t) → P 0 s → weighed pl w (doWrite pl s) ≡ weighed pl w s
-  unfolding doWrite weighed
-  write-weighed wired steady P s keeps p =
-      fold-weighed P (λ i. send pl (outputAt pl i)) (outputs pl) s
-      (λ i t l g. let k = keeps i t l g in (k .0, send-weighed wired (k .1 .core) (outputAt pl i) (drives-at pl i l) steady (k .1 .ready) (k .1 .clear))) p .1
+        -- ---- folds

@@ -116,11 +116,6 @@ module _ (pl : Plan) (w : Weight) where
       let line = line-joins w q (s .lines .handled q) (s .lines .queue q) x m in
       omega arith
 
-  -- What has the same queues, handled marks and wires weighs the same.
-  pub weighed-same : (s t : State) → t .lines .queue ≡ s .lines .queue → t .lines .handled ≡ s .lines .handled → t .links .wire ≡ s .links .wire → weighed pl w t ≡ weighed pl w s
-  unfolding weighed
-  weighed-same s t e f g = ap₂ (λ (a b : ℕ). a + b) (ap₂ (inLines pl w) f e) (ap (inWires pl w) g)
-
   -- Start has no packet.
   pub start-weighed : weighed pl w (start pl) ≡ 0
   unfolding weighed inLines inWires inLine onWire start blank

@@ -31,7 +31,8 @@ use Rattle.layout.specs.Encode.{encode}
 use Rattle.layout.specs.Decode.{decode}
 use Rattle.valid.proofs.Decides.{Decides, less}
 use Rattle.claims.specs.Calls.{Given, given, isState, onPlan, stored, onState, startIn, startOn, callOn}
-use Rattle.claims.specs.Conditions.{loadConditions, StateBytes, bufferConditions, startConditions, stateConditions, callConditions}
+use Rattle.claims.specs.Conditions.{loadConditions, StateBytes, bufferConditions, startConditions}
+use Rattle.claims.specs.Conditions.{stateConditions, callConditions}
 use Rattle.claims.specs.Demand1.{Decided, Demand1}
 use Rattle.claims.proofs.Tests.{Tell, tell-more, told-first, first-told, told-none, none-told, first-or-none}
 use Rattle.claims.proofs.Tell.{no, calls-tell, loadGuards, load-tells}
@@ -94,7 +95,8 @@ decided-by pl gs cs b a g t e n k =
       length-same = k .count;
     }
   where
-    by : (o : Option Refusal) → refusalOf gs ≡ o → (w : Refusal) → answerAs (refusalOf gs) a ≡ Refused w → refusalOf gs ≡ some w
+    by : (o : Option Refusal) → refusalOf gs ≡ o → (w : Refusal) → answerAs (refusalOf gs) a ≡ Refused w
+        → refusalOf gs ≡ some w
     by none h w f = absurd (n h w (sym (ap (λ (o : Option Refusal). answerAs o a) h) ∙ f))
     by (some v) h w f =
         let r : _≡_ {A = Answer} (Refused v) (Refused w) = sym (ap (λ (o : Option Refusal). answerAs o a) h) ∙ f in
@@ -102,10 +104,12 @@ decided-by pl gs cs b a g t e n k =
 
 -- where Load's conditions do not hold the plan loads
 loaded : (p : List ℕ) → NoneHolds (loadConditions p) → loadOf p ≡ Accepted (headOf p)
-loaded p n = load-first p ∙ ap (λ (o : Option Refusal). loadedAs o (headOf p)) (none-told (loadGuards p) (loadConditions p) (load-tells p) n)
+loaded p n = load-first p
+    ∙ ap (λ (o : Option Refusal). loadedAs o (headOf p)) (none-told (loadGuards p) (loadConditions p) (load-tells p) n)
 
 -- a call's answer, Load's guards before what its own give
-load-answer : (p b : List ℕ) (go : Plan → Given) (hs : List Guard) (a : Answer) → go (planOf p) .answer ≡ answerAs (refusalOf hs) a
+load-answer : (p b : List ℕ) (go : Plan → Given) (hs : List Guard) (a : Answer)
+    → go (planOf p) .answer ≡ answerAs (refusalOf hs) a
     → onPlan p b go (loadOf p) .answer ≡ answerAs (refusalOf (loadGuards p ++ hs)) a
 load-answer p b go hs a e =
     ap (λ (l : Loaded). onPlan p b go l .answer) (load-first p) ∙ by (refusalOf (loadGuards p))
@@ -120,14 +124,16 @@ start-decided : (p b : List ℕ) → Decided (planOf p) (startConditions p b) b 
 unfolding startOn
 start-decided p b =
     decided-by (planOf p) (loadGuards p ++ short) (startConditions p b) b Done (startOn p b)
-    (tell-more (loadGuards p) short (loadConditions p) (bufferConditions p b) (load-tells p) (λ n. (refl, less (length b) (size (planOf p)), λ m. record {})))
+    (tell-more (loadGuards p) short (loadConditions p) (bufferConditions p b) (load-tells p)
+    (λ n. (refl, less (length b) (size (planOf p)), λ m. record {})))
     (load-answer p b (startIn b) short Done (by (ltb (length b) (size (planOf p)))))
     (λ e w f. let z : _≡_ {A = ℕ} 0 1 = cc in omega arith) (kept-start p b)
   where
     short : List Guard
     short = guard NotState (ltb (length b) (size (planOf p))) ∷ []
 
-    by : (t : Bool) → pick t (given (Refused NotState) b) (given Done (encode (planOf p) (start (planOf p)) (past (size (planOf p)) b))) .answer
+    by : (t : Bool) → pick t (given (Refused NotState) b)
+        (given Done (encode (planOf p) (start (planOf p)) (past (size (planOf p)) b))) .answer
         ≡ answerAs (pick t (some NotState) none) Done
     by true = refl
     by false = refl
@@ -150,7 +156,8 @@ unfolding onState call
 state-answer p c b = by (isState (planOf p) b) (refusalOf (guards (planOf p) c (decode (planOf p) b)))
   where
     by : (t : Bool) (o : Option Refusal)
-        → pick t (stored (planOf p) b (decided o (decode (planOf p) b) (accepted (planOf p) c (decode (planOf p) b)))) (given (Refused NotState) b) .answer
+        → pick t (stored (planOf p) b (decided o (decode (planOf p) b) (accepted (planOf p) c (decode (planOf p) b))))
+        (given (Refused NotState) b) .answer
         ≡ answerAs (pick (not t) (some NotState) o) (accepted (planOf p) c (decode (planOf p) b) .answer)
     by true none = refl
     by true (some w) = refl
@@ -162,9 +169,13 @@ call-decided p c b =
     decided-by (planOf p) (loadGuards p ++ stateGuards p c b) (callConditions p c b) b
     (accepted (planOf p) c (decode (planOf p) b) .answer) (callOn p c b)
     (tell-more (loadGuards p) (stateGuards p c b) (loadConditions p) (stateConditions p c b) (load-tells p) (λ n.
-      let l = loaded p n in
-      (refl, not-state p (headOf p) l b, λ m. calls-tell (planOf p) (accepted-wired p (headOf p) l) (decode (planOf p) b) c)))
-    (load-answer p b (λ pl. onState (call pl c) b pl) (stateGuards p c b) _ (state-answer p c b)) passed (kept-call p c b)
+    let l = loaded p n in (
+      refl,
+      not-state p (headOf p) l b,
+      λ m. calls-tell (planOf p) (accepted-wired p (headOf p) l) (decode (planOf p) b) c,
+    )))
+    (load-answer p b (λ pl. onState (call pl c) b pl) (stateGuards p c b) _ (state-answer p c b)) passed
+    (kept-call p c b)
   where
     -- the last guards are passed where all are
     last : (gs hs : List Guard) → refusalOf (gs ++ hs) ≡ none → refusalOf hs ≡ none
@@ -185,18 +196,22 @@ call-decided p c b =
 pub demand1 : Demand1
 demand1 =
     record {
-      load-only = λ p w e. told-first (loadGuards p) (loadConditions p) (load-tells p) w (by p (refusalOf (loadGuards p)) refl w e);
+      load-only = λ p w e. told-first (loadGuards p) (loadConditions p) (load-tells p) w
+          (by p (refusalOf (loadGuards p)) refl w e);
       load-always = λ p w f.
-          load-first p ∙ ap (λ (o : Option Refusal). loadedAs o (headOf p)) (first-told (loadGuards p) (loadConditions p) (load-tells p) w f);
+          load-first p ∙ ap (λ (o : Option Refusal). loadedAs o (headOf p))
+          (first-told (loadGuards p) (loadConditions p) (load-tells p) w f);
       load-accepted = loaded;
       start = start-decided;
       start-done = λ p b h e l. start-done p h e b l;
       calls = call-decided;
     }
   where
-    by : (p : List ℕ) (o : Option Refusal) → refusalOf (loadGuards p) ≡ o → (w : Refusal) → loadOf p ≡ Unloaded w → refusalOf (loadGuards p) ≡ some w
+    by : (p : List ℕ) (o : Option Refusal) → refusalOf (loadGuards p) ≡ o → (w : Refusal) → loadOf p ≡ Unloaded w
+        → refusalOf (loadGuards p) ≡ some w
     by p none h w e =
-        let f : Accepted (headOf p) ≡ Unloaded w = sym (load-first p ∙ ap (λ (o : Option Refusal). loadedAs o (headOf p)) h) ∙ e in
+        let f : Accepted (headOf p) ≡ Unloaded w =
+        sym (load-first p ∙ ap (λ (o : Option Refusal). loadedAs o (headOf p)) h) ∙ e in
         let z : _≡_ {A = ℕ} 0 1 = cc in absurd (omega arith)
     by p (some v) h w e =
         h ∙ ap some (unloaded-same (sym (load-first p ∙ ap (λ (o : Option Refusal). loadedAs o (headOf p)) h) ∙ e))

@@ -68,7 +68,8 @@ module _ (p : List ℕ) (c : Call) (b : List ℕ) (accepts : (w : Refusal) → c
             absurd
             (accepts w
             (ap (λ (x : Given). x .answer) stores
-            ∙ ap (λ (o : Option Refusal). decided o (decode (planOf p) b) (accepted (planOf p) c (decode (planOf p) b)) .answer) e))
+            ∙ ap (λ (o : Option Refusal).
+            decided o (decode (planOf p) b) (accepted (planOf p) c (decode (planOf p) b)) .answer) e))
 
     follows : Follows p c b
     follows =

@@ -1,4 +1,5 @@
--- Demand 3, proved: for every byte string that Load accepts, every buffer in which Start is accepted, and every list of calls. No axiom, no hypothesis more.
+-- Demand 3, proved: for every byte string that Load accepts, every buffer in which Start is accepted, and every list
+-- of calls. No axiom, no hypothesis more.
 use Rattle.load.specs.Rules.{accepted-obeys}
 use Rattle.theory.proofs.Tracked.{ruled}
 use Rattle.claims.specs.Demand3.{Demand3}

@@ -1,4 +1,5 @@
--- Refusal 7's test on bytes is exact: it is passed by the bytes of good states, whatever is past them, and by no others.
+-- Refusal 7's test on bytes is exact: it is passed by the bytes of good states, whatever is past them, and by no
+-- others.
 use mathlib.Core.Path.{_≡_, subst⁻¹}
 use mathlib.Core.Bool.{true}
 use mathlib.Core.List.{List}
@@ -46,14 +47,18 @@ module _ (pl : Plan) (wired : Wired pl) (range : InRange (pl .head)) where
   pub state-encode : (s : State) (rest : List ℕ) → Good pl s → isState pl (encode pl s rest) ≡ true
   unfolding isState
   state-encode s rest g =
-      and-of (canonical-encode pl range s rest (g .bounded) (valid-small pl s range (g .valid))) (rw (read-back s rest g) (valid-test pl wired s (g .valid)))
+      and-of (canonical-encode pl range s rest (g .bounded) (valid-small pl s range (g .valid)))
+      (rw (read-back s rest g) (valid-test pl wired s (g .valid)))
 
   -- bytes that pass the test tell a good state, and are its bytes and those past them
-  pub is-state : (b : List ℕ) → isState pl b ≡ true → Good pl (decode pl b) × (b ≡ encode pl (decode pl b) (past (size pl) b))
+  pub is-state : (b : List ℕ) → isState pl b ≡ true
+      → Good pl (decode pl b) × (b ≡ encode pl (decode pl b) (past (size pl) b))
   unfolding isState
   is-state b e =
-      let p = and-both e in
-      (record { valid = test-valid pl wired (decode pl b) (p .1); bounded = decode-bounded pl b }, encode-canonical pl b (p .0))
+      let p = and-both e in (
+        record { valid = test-valid pl wired (decode pl b) (p .1); bounded = decode-bounded pl b },
+        encode-canonical pl b (p .0),
+      )
 
   -- the test is passed exactly by the bytes of good states
   pub state-exact : (b : List ℕ) → (isState pl b ≡ true → StateBytes pl b) × (StateBytes pl b → isState pl b ≡ true)
@@ -63,5 +68,6 @@ module _ (pl : Plan) (wired : Wired pl) (range : InRange (pl .head)) where
   )
 
   -- what holds of the bytes of every good state holds of all bytes that pass the test
-  pub of-states {ℓ} : (P : List ℕ → Type ℓ) → ((s : State) (rest : List ℕ) → Good pl s → P (encode pl s rest)) → (b : List ℕ) → isState pl b ≡ true → P b
+  pub of-states {ℓ} : (P : List ℕ → Type ℓ) → ((s : State) (rest : List ℕ) → Good pl s → P (encode pl s rest))
+      → (b : List ℕ) → isState pl b ≡ true → P b
   of-states P k b e = let g = is-state b e in subst⁻¹ P (g .1) (k (decode pl b) (past (size pl) b) (g .0))

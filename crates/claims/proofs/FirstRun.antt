@@ -1,4 +1,5 @@
--- The first starred run by the calls on bytes: demand 3 says that their answers are the rules', and these are evaluated.
+-- The first starred run by the calls on bytes: demand 3 says that their answers are the rules', and these are
+-- evaluated.
 use mathlib.Core.Path.{_≡_, refl, sym, ap, ap₂, _∙_}
 use mathlib.Core.List.{List, [], _∷_, _++_, append-assoc}
 use Prim.Native.Nat.{ℕ, _≤_}
@@ -6,7 +7,9 @@ use native.Mathlib.Omega.{arith}
 use lib.ListN.{length}
 use Rattle.kinds.specs.declared.Refusal.{Refusal}
 use Rattle.kinds.specs.Refusals.{refusalNumber}
-use Rattle.kinds.specs.declared.Refusal.the-variants.{TooShort, OutOfRange, WrongLength, BadField, BadJoint, HasRing, NotState, WrongPhase, BadNumber, NotServed, NoAllowance, QueueFull, QueueEmpty, FlagUp, Unmarked}
+use Rattle.kinds.specs.declared.Refusal.the-variants.{TooShort, OutOfRange, WrongLength, BadField, BadJoint, HasRing}
+use Rattle.kinds.specs.declared.Refusal.the-variants.{NotState, WrongPhase, BadNumber, NotServed, NoAllowance}
+use Rattle.kinds.specs.declared.Refusal.the-variants.{QueueFull, QueueEmpty, FlagUp, Unmarked}
 use Rattle.packets.specs.declared.Answer.the-variants.{Done}
 use Rattle.packets.specs.Answers.{Value, valueOf}
 use Rattle.plan.specs.declared.Head.{Head}
@@ -38,11 +41,14 @@ abbrev values : List After → List Value
 values [] = []
 values (x ∷ xs) = x .answer ∷ values xs
 
-values-watching : (pl : Plan) (cs : List Call) (s : State) → values (watching pl (λ s. []) [] (each (λ c. c ∷ []) cs) s) ≡ ruledAnswers pl cs s
+values-watching : (pl : Plan) (cs : List Call) (s : State)
+    → values (watching pl (λ s. []) [] (each (λ c. c ∷ []) cs) s) ≡ ruledAnswers pl cs s
 values-watching pl [] s = refl
-values-watching pl (c ∷ cs) s = ap (λ (l : List Value). valueOf (call pl c s .answer) ∷ l) (values-watching pl cs (call pl c s .state))
+values-watching pl (c ∷ cs) s =
+    ap (λ (l : List Value). valueOf (call pl c s .answer) ∷ l) (values-watching pl cs (call pl c s .state))
 
-watched : (cs : List Call) → ruledAnswers (planOf planT) cs (start (planOf planT)) ≡ values (watch planT (λ s. []) [] cs)
+watched : (cs : List Call)
+    → ruledAnswers (planOf planT) cs (start (planOf planT)) ≡ values (watch planT (λ s. []) [] cs)
 unfolding watch moments
 watched cs = sym (values-watching (planOf planT) cs (start (planOf planT)))
 
@@ -51,17 +57,20 @@ unfolding watch
 evaluated = refl
 
 -- ---- one call more
-bytes-more : (p : List ℕ) (cs : List Call) (c : Call) (b : List ℕ) → bytesAfter p (cs ++ (c ∷ [])) b ≡ callOn p c (bytesAfter p cs b) .bytes
+bytes-more : (p : List ℕ) (cs : List Call) (c : Call) (b : List ℕ)
+    → bytesAfter p (cs ++ (c ∷ [])) b ≡ callOn p c (bytesAfter p cs b) .bytes
 bytes-more p [] c b = refl
 bytes-more p (d ∷ cs) c b = bytes-more p cs c (callOn p d b .bytes)
 
-ruled-more : (pl : Plan) (cs : List Call) (c : Call) (s : State) → ruledAfter pl (cs ++ (c ∷ [])) s ≡ call pl c (ruledAfter pl cs s) .state
+ruled-more : (pl : Plan) (cs : List Call) (c : Call) (s : State)
+    → ruledAfter pl (cs ++ (c ∷ [])) s ≡ call pl c (ruledAfter pl cs s) .state
 ruled-more pl [] c s = refl
 ruled-more pl (d ∷ cs) c s = ruled-more pl cs c (call pl d s .state)
 
 -- ---- the answers on bytes are the rules'
 along : (p b : List ℕ) (all : List Call) → Claim p b all → (before cs : List Call) → all ≡ before ++ cs
-    → answersIn p cs (bytesAfter p before b) ≡ ruledAnswers (planOf p) cs (ruledAfter (planOf p) before (start (planOf p)))
+    → answersIn p cs (bytesAfter p before b)
+    ≡ ruledAnswers (planOf p) cs (ruledAfter (planOf p) before (start (planOf p)))
 along p b all k before [] e = refl
 along p b all k before (c ∷ cs) e =
     let more = along p b all k (before ++ (c ∷ [])) cs (e ∙ sym (append-assoc before (c ∷ []) cs)) in
@@ -102,8 +111,10 @@ t-size = t-parts .3
 pub first-run : FirstRun
 first-run buffer long =
     let t = t-accepted in
-    let done : startOn planT buffer .answer ≡ Done = start-done planT (t .0) (t .1) buffer (omega (arith, t-size)) in
-    (done,
-    along planT (startOn planT buffer .bytes) (launchInRound0 ++ allEntries)
-    (demand3 planT buffer (t .0) (t .1) done (launchInRound0 ++ allEntries)) [] (launchInRound0 ++ allEntries) refl
-    ∙ watched (launchInRound0 ++ allEntries) ∙ evaluated)
+    let done : startOn planT buffer .answer ≡ Done = start-done planT (t .0) (t .1) buffer (omega (arith, t-size)) in (
+      done,
+      along planT (startOn planT buffer .bytes) (launchInRound0 ++ allEntries)
+          (demand3 planT buffer (t .0) (t .1) done (launchInRound0 ++ allEntries)) [] (launchInRound0 ++ allEntries)
+          refl
+          ∙ watched (launchInRound0 ++ allEntries) ∙ evaluated,
+    )

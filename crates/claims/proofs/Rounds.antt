@@ -1,5 +1,6 @@
--- 'A whole round is one accepted Read, Execute and Write': to count the accepted Writes is to count whole rounds. An accepted Read goes from READ to
--- EXECUTE, an accepted Execute on to WRITE, an accepted Write back to READ, and every other call keeps the phase.
+-- 'A whole round is one accepted Read, Execute and Write': to count the accepted Writes is to count whole rounds. An
+-- accepted Read goes from READ to EXECUTE, an accepted Execute on to WRITE, an accepted Write back to READ, and every
+-- other call keeps the phase.
 use mathlib.Core.Path.{_≡_, refl, subst}
 use mathlib.Core.List.{List, [], _∷_}
 use Prim.Native.Nat.{ℕ, _+_, _≤_}
@@ -42,7 +43,8 @@ pub record Turns (x : Phase) (reads executes writes : ℕ) (y : Phase) : Type 0 
   pub execute-turn : executes + executeBehind x ≡ writes + executeBehind y
 
 abbrev pub TurnsBy : Call → Phase → Outcome → Type 0
-TurnsBy c x o = Turns x (turnsCall Read c (o .answer)) (turnsCall Execute c (o .answer)) (turnsCall Write c (o .answer)) (o .state .clock .phase)
+TurnsBy c x o = Turns x (turnsCall Read c (o .answer)) (turnsCall Execute c (o .answer))
+    (turnsCall Write c (o .answer)) (o .state .clock .phase)
 
 -- where nothing is counted the phase is kept
 still : (x y : Phase) → y ≡ x → Turns x 0 0 0 y
@@ -63,7 +65,8 @@ module _ (pl : Plan) (s : State) where
   visit-phase v o (looks r q t m) = refl
 
   does-turn : (c : Call) (o : Outcome) → Does pl s c o → TurnsBy c (s .clock .phase) o
-  does-turn c o (refuses d w n) = rw (refused-turns Read d w, refused-turns Execute d w, refused-turns Write d w) (still (s .clock .phase) (s .clock .phase) refl)
+  does-turn c o (refuses d w n) = rw (refused-turns Read d w, refused-turns Execute d w, refused-turns Write d w)
+      (still (s .clock .phase) (s .clock .phase) refl)
   does-turn c o (turns x e) = phase-turn x e
   does-turn c o (visits v r d) = still (s .clock .phase) (r .state .clock .phase) (visit-phase v r d)
 
@@ -72,8 +75,10 @@ module _ (pl : Plan) (s : State) where
   call-turn c = does-turn c (call pl c s) (call-does pl s c)
 
 -- ---- a list of calls
--- from any state: what is counted is as many rounds, but for the part of a round behind the first phase and behind the last
-pub list-turn : (pl : Plan) (cs : List Call) (s : State) → Turns (s .clock .phase) (turnsIn pl Read cs s) (turnsIn pl Execute cs s) (rounds pl cs s) (ruledAfter pl cs s .clock .phase)
+-- from any state: what is counted is as many rounds, but for the part of a round behind the first phase and behind the
+-- last
+pub list-turn : (pl : Plan) (cs : List Call) (s : State) → Turns (s .clock .phase) (turnsIn pl Read cs s)
+    (turnsIn pl Execute cs s) (rounds pl cs s) (ruledAfter pl cs s .clock .phase)
 list-turn pl [] s = still (s .clock .phase) (s .clock .phase) refl
 list-turn pl (c ∷ cs) s =
     let a = call-turn pl s c in
@@ -87,18 +92,28 @@ behind-few Execute = (omega arith, omega arith)
 behind-few Write = (omega arith, omega arith)
 
 -- a list from READ has no part of a round behind it
-from-read : (pl : Plan) (cs : List Call) (s : State) → s .clock .phase ≡ Read → Turns Read (turnsIn pl Read cs s) (turnsIn pl Execute cs s) (rounds pl cs s) (ruledAfter pl cs s .clock .phase)
-from-read pl cs s e = subst (λ (x : Phase). Turns x (turnsIn pl Read cs s) (turnsIn pl Execute cs s) (rounds pl cs s) (ruledAfter pl cs s .clock .phase)) e (list-turn pl cs s)
+from-read : (pl : Plan) (cs : List Call) (s : State) → s .clock .phase ≡ Read
+    → Turns Read (turnsIn pl Read cs s) (turnsIn pl Execute cs s) (rounds pl cs s) (ruledAfter pl cs s .clock .phase)
+from-read pl cs s e = subst (λ (x : Phase). Turns x (turnsIn pl Read cs s) (turnsIn pl Execute cs s) (rounds pl cs s)
+    (ruledAfter pl cs s .clock .phase)) e (list-turn pl cs s)
 
--- from READ there are never fewer Executes than Writes, nor fewer Reads than Executes, and at most one Read more than Writes
+-- from READ there are never fewer Executes than Writes, nor fewer Reads than Executes, and at most one Read more than
+-- Writes
 pub rounds-between : (pl : Plan) (cs : List Call) (s : State) → s .clock .phase ≡ Read
-    → (rounds pl cs s ≤ turnsIn pl Execute cs s) × (turnsIn pl Execute cs s ≤ turnsIn pl Read cs s) × (turnsIn pl Read cs s ≤ rounds pl cs s + 1)
+    → (rounds pl cs s ≤ turnsIn pl Execute cs s) × (turnsIn pl Execute cs s ≤ turnsIn pl Read cs s)
+    × (turnsIn pl Read cs s ≤ rounds pl cs s + 1)
 rounds-between pl cs s e =
-    let t = from-read pl cs s e in let r = t .read-turn in let x = t .execute-turn in let f = behind-few (ruledAfter pl cs s .clock .phase) in let f0 = f .0 in let f1 = f .1 in
+    let t = from-read pl cs s e in
+    let r = t .read-turn in
+    let x = t .execute-turn in
+    let f = behind-few (ruledAfter pl cs s .clock .phase) in
+    let f0 = f .0 in
+    let f1 = f .1 in
     (omega arith, omega arith, omega arith)
 
 -- from READ to READ there are as many Reads, Executes and Writes: whole rounds
-pub rounds-whole : (pl : Plan) (cs : List Call) (s : State) → s .clock .phase ≡ Read → ruledAfter pl cs s .clock .phase ≡ Read
+pub rounds-whole : (pl : Plan) (cs : List Call) (s : State) → s .clock .phase ≡ Read
+    → ruledAfter pl cs s .clock .phase ≡ Read
     → (turnsIn pl Read cs s ≡ rounds pl cs s) × (turnsIn pl Execute cs s ≡ rounds pl cs s)
 rounds-whole pl cs s e f =
     let t = from-read pl cs s e in let r = t .read-turn in let x = t .execute-turn in

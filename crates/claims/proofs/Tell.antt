@@ -63,7 +63,8 @@ not-less m n = record { holds = λ e. ltb-false m n (not-true _ e); passes = λ 
 
 -- three numbers, one of which is out of range
 not-three : (a b c m n k : ℕ) → Decides (not (ltb a m && ltb b n && ltb c k)) ((m ≤ a) ⊎ (n ≤ b) ⊎ (k ≤ c))
-not-three a b c m n k = like (not-each (ltb a m && ltb b n) (ltb c k) (not-each (ltb a m) (ltb b n) (not-less a m) (not-less b n)) (not-less c k)) to from
+not-three a b c m n k = like (not-each (ltb a m && ltb b n) (ltb c k)
+    (not-each (ltb a m) (ltb b n) (not-less a m) (not-less b n)) (not-less c k)) to from
   where
     to : ((m ≤ a) ⊎ (n ≤ b)) ⊎ (k ≤ c) → (m ≤ a) ⊎ (n ≤ b) ⊎ (k ≤ c)
     to (inl (inl x)) = inl x
@@ -81,7 +82,8 @@ other-phase x y = no (record { holds = λ e. phase-of x y (rw e); passes = phase
 
 no-choice : (c : ℕ) → Decides (not (leb c 1)) ((c ≢ 0) × (c ≢ 1))
 no-choice c =
-    like (no (record { holds = leb-true c 1; passes = le-leb c 1 })) (λ n. (λ e. n (omega arith), λ e. n (omega arith)))
+    like (no (record { holds = leb-true c 1; passes = le-leb c 1 }))
+    (λ n. (λ e. n (omega arith), λ e. n (omega arith)))
     (λ n l. by c n l)
   where
     by : (c : ℕ) → (c ≢ 0) × (c ≢ 1) → c ≤ 1 → ⊥
@@ -93,7 +95,8 @@ none-queued : (l : List Packet) → Decides (isEmpty l) (l ≡ [])
 none-queued [] = record { holds = λ e. refl; passes = λ e. refl }
 none-queued (x ∷ l) = record { holds = λ e. absurd (false≢true e); passes = λ e. ap isEmpty e }
 
-full : (pl : Plan) (q : Queue) (s : State) → Decides (not (ltb (length (s .lines .queue q)) (capacity (pl .head) q))) (QueueIsFull pl q s)
+full : (pl : Plan) (q : Queue) (s : State)
+    → Decides (not (ltb (length (s .lines .queue q)) (capacity (pl .head) q))) (QueueIsFull pl q s)
 full pl q s = not-less (length (s .lines .queue q)) (capacity (pl .head) q)
 
 head-unmarked : (q : Queue) (s : State) → Decides (headUnmarked (s .lines .queue q)) (UnmarkedHead q s)
@@ -116,11 +119,15 @@ module _ (pl : Plan) (wired : Wired pl) (s : State) where
   calls-tell (visit (ofLaunch a p t)) = (
     refl,
     other-phase (s .clock .phase) Read,
-    λ n. (refl, not-three a p t (A pl) (P pl) (S pl), λ k. (
+    λ n. (
       refl,
-      no (record { holds = served-of wired a p (below k); passes = serves-of wired a p (below k) }),
-      λ m. (refl, same (s .flow .allowance a) 0, λ u. (refl, full pl (activeOut a) s, λ v. record {})),
-    )),
+      not-three a p t (A pl) (P pl) (S pl),
+      λ k. (
+        refl,
+        no (record { holds = served-of wired a p (below k); passes = serves-of wired a p (below k) }),
+        λ m. (refl, same (s .flow .allowance a) 0, λ u. (refl, full pl (activeOut a) s, λ v. record {})),
+      ),
+    ),
   )
     where
       below : ((A pl ≤ a) ⊎ (P pl ≤ p) ⊎ (S pl ≤ t) → ⊥) → a < A pl
@@ -131,20 +138,36 @@ module _ (pl : Plan) (wired : Wired pl) (s : State) where
   calls-tell (visit (ofReply p c)) = (
     refl,
     other-phase (s .clock .phase) Write,
-    λ n. (refl, not-each (ltb p (P pl)) (leb c 1) (not-less p (P pl)) (no-choice c), λ k. (
+    λ n. (
       refl,
-      so (s .flow .flag (passiveIn p)),
-      λ m. (refl, none-queued (s .lines .queue (passiveIn p)), λ u. (refl, full pl (passiveOut p) s, λ v. record {})),
-    )),
+      not-each (ltb p (P pl)) (leb c 1) (not-less p (P pl)) (no-choice c),
+      λ k. (
+        refl,
+        so (s .flow .flag (passiveIn p)),
+        λ m. (
+          refl,
+          none-queued (s .lines .queue (passiveIn p)),
+          λ u. (refl, full pl (passiveOut p) s, λ v. record {}),
+        ),
+      ),
+    ),
   )
   calls-tell (visit (ofConsume a)) = (
     refl,
     other-phase (s .clock .phase) Write,
-    λ n. (refl, not-less a (A pl), λ k. (
+    λ n. (
       refl,
-      so (s .flow .flag (activeIn a)),
-      λ m. (refl, none-queued (s .lines .queue (activeIn a)), λ u. (refl, head-unmarked (activeIn a) s, λ v. record {})),
-    )),
+      not-less a (A pl),
+      λ k. (
+        refl,
+        so (s .flow .flag (activeIn a)),
+        λ m. (
+          refl,
+          none-queued (s .lines .queue (activeIn a)),
+          λ u. (refl, head-unmarked (activeIn a) s, λ v. record {}),
+        ),
+      ),
+    ),
   )
   calls-tell (visit (ofEntry r o t)) = (refl, not-three r o t (R pl) 4 (S pl), λ n. record {})
 
@@ -177,17 +200,34 @@ module _ (p : List ℕ) where
   unfolding jointsOk
   joined =
       record {
-        holds = λ e. let j : (namedOk (planOf p) ≡ true) × (interfacesOk (planOf p) ≡ true) = and-both e in plan-match p (j .0) (j .1);
+        holds = λ e. let j : (namedOk (planOf p) ≡ true) × (interfacesOk (planOf p) ≡ true) = and-both e in
+            plan-match p (j .0) (j .1);
         passes = λ m. let j = match-plan p m in and-of (j .0) (j .1);
       }
 
   -- they tell of Load's conditions
   pub load-tells : Tell (loadGuards p) (loadConditions p)
-  load-tells = (refl, less (length p) 6, λ a. (refl, no ranged, λ b. (refl, long, λ c. (refl, no fielded, λ d. (
+  load-tells = (
     refl,
-    no joined,
-    λ e. (refl, rings (sure ranged b) (sure fielded d) (match-plan p (sure joined e)), λ f. record {}),
-  )))))
+    less (length p) 6,
+    λ a. (
+      refl,
+      no ranged,
+      λ b. (
+        refl,
+        long,
+        λ c. (
+          refl,
+          no fielded,
+          λ d. (
+            refl,
+            no joined,
+            λ e. (refl, rings (sure ranged b) (sure fielded d) (match-plan p (sure joined e)), λ f. record {}),
+          ),
+        ),
+      ),
+    ),
+  )
     where
       rings : InRange (headOf p) → FieldsFit p → (namedOk (planOf p) ≡ true) × (interfacesOk (planOf p) ≡ true)
           → Decides (hasRing (planOf p)) (FeedRing (planOf p))

@@ -36,7 +36,8 @@ tell-more (g ∷ gs) hs [] ds t more = absurd t
 tell-more (g ∷ gs) hs (c ∷ cs) ds (e, d, t) more = (e, d, λ n. tell-more gs hs cs ds (t n) (λ m. more (n, m)))
 
 -- ---- the first of both
-pub told-first : (gs : List Guard) (cs : List Condition) → Tell gs cs → (w : Refusal) → refusalOf gs ≡ some w → First w cs
+pub told-first : (gs : List Guard) (cs : List Condition) → Tell gs cs → (w : Refusal) → refusalOf gs ≡ some w
+    → First w cs
 told-first [] [] t w e = absurd (some-not-none e)
 told-first [] (c ∷ cs) t w e = absurd t
 told-first (g ∷ gs) [] t w e = absurd t
@@ -46,7 +47,8 @@ told-first (g ∷ gs) (c ∷ cs) (q, d, t) w e = by (λ n f. told-first gs cs (t
     by more true h = inl (sym q ∙ some-same (rw h at e), d .holds h)
     by more false h = let n = fails d h in inr (n, more n (rw h at e))
 
-pub first-told : (gs : List Guard) (cs : List Condition) → Tell gs cs → (w : Refusal) → First w cs → refusalOf gs ≡ some w
+pub first-told : (gs : List Guard) (cs : List Condition) → Tell gs cs → (w : Refusal) → First w cs
+    → refusalOf gs ≡ some w
 first-told [] [] t w f = absurd f
 first-told [] (c ∷ cs) t w f = absurd t
 first-told (g ∷ gs) [] t w f = absurd t

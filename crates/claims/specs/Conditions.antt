@@ -4,7 +4,8 @@ use mathlib.Core.Logic.{_≢_, _⊎_}
 use mathlib.Core.List.{List, [], _∷_, _++_}
 use Prim.Native.Nat.{ℕ, _<_}
 use lib.ListN.{length}
-use Rattle.kinds.specs.declared.Refusal.the-variants.{TooShort, OutOfRange, WrongLength, BadField, BadJoint, HasRing, NotState}
+use Rattle.kinds.specs.declared.Refusal.the-variants.{TooShort, OutOfRange, WrongLength, BadField, BadJoint, HasRing}
+use Rattle.kinds.specs.declared.Refusal.the-variants.{NotState}
 use Rattle.kinds.specs.Conditions.{Condition, condition}
 use Rattle.plan.specs.Head.{headOf, InRange, byteCount}
 use Rattle.plan.specs.Plan.{Plan, planOf}
@@ -18,9 +19,9 @@ use Rattle.layout.specs.Offsets.{size}
 use Rattle.layout.specs.Encode.{encode}
 use Rattle.layout.specs.Decode.{decode}
 
--- '**Load**: 1 fewer than six bytes; 2 R, A, P, S or a capacity outside its range; 3 wrong length or a fill bit set; 4 a
--- later field outside its range; 5 a router joint not named back, a joint to the same router, or an interface without
--- exactly one joint; 6 a ring'
+-- '**Load**: 1 fewer than six bytes; 2 R, A, P, S or a capacity outside its range; 3 wrong length or a fill bit set; 4
+-- a later field outside its range; 5 a router joint not named back, a joint to the same router, or an interface
+-- without exactly one joint; 6 a ring'
 abbrev pub loadConditions : List ℕ → List Condition
 loadConditions p =
     condition TooShort (length p < 6)

@@ -1,5 +1,5 @@
--- Demand 1: 'Refused first: every input that meets a condition in document 01's list .. Each has its number, comes only
--- under its stated condition, and alters no byte. Then accepted: everything else, whatever bytes are lent'.
+-- Demand 1: 'Refused first: every input that meets a condition in document 01's list .. Each has its number, comes
+-- only under its stated condition, and alters no byte. Then accepted: everything else, whatever bytes are lent'.
 use mathlib.Core.Path.{_≡_}
 use mathlib.Core.Logic.{_≢_, _⊎_}
 use mathlib.Core.List.{List}

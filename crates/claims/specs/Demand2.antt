@@ -21,7 +21,8 @@ use Rattle.layout.specs.Encode.{encode}
 use Rattle.claims.specs.Calls.{startOn, callOn}
 use Rattle.claims.specs.Conditions.{StateBytes}
 
--- the call found the bytes of a state, and has left those of the state that the rule gives of it, with the rule's answer
+-- the call found the bytes of a state, and has left those of the state that the rule gives of it, with the rule's
+-- answer
 pub record Follows (p : List ℕ) (c : Call) (b : List ℕ) : Type 0 where
   pub found : StateBytes (planOf p) b
   pub answer : callOn p c b .answer ≡ accepted (planOf p) c (found .state) .answer
@@ -35,4 +36,5 @@ pub record Demand2 : Type 0 where
   pub started : (p b : List ℕ) → startOn p b .answer ≡ Done
       → startOn p b .bytes ≡ encode (planOf p) (start (planOf p)) (past (size (planOf p)) b)
   -- every other accepted call follows its rule
-  pub follows : (p : List ℕ) (c : Call) (b : List ℕ) → ((w : Refusal) → callOn p c b .answer ≢ Refused w) → Follows p c b
+  pub follows : (p : List ℕ) (c : Call) (b : List ℕ) → ((w : Refusal) → callOn p c b .answer ≢ Refused w)
+      → Follows p c b

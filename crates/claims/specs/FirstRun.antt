@@ -1,5 +1,6 @@
--- Demand 3 used: document 01's first starred run on plan T, 'Launch (0,0,0) in round 0 .. consumed in round 7 with slot 1,
--- hub 1', by the calls on 1,290 bytes that an accepted Start left, and then an Entry for each entry of the table.
+-- Demand 3 used: document 01's first starred run on plan T, 'Launch (0,0,0) in round 0 .. consumed in round 7 with
+-- slot 1, hub 1', by the calls on 1,290 bytes that an accepted Start left, and then an Entry for each entry of the
+-- table.
 use mathlib.Core.Path.{_≡_}
 use mathlib.Core.List.{List, [], _∷_, _++_}
 use Prim.Native.Nat.{ℕ}

@@ -78,8 +78,8 @@ stands-right at to x y b e s =
     }
 
 -- row q of n rows of w bytes each stands w * q bytes behind the first
-pub stands-row : (w n at : ℕ) (g : ℕ → List ℕ) (b : List ℕ) → ((j : ℕ) → length (g j) ≡ w) → RowStands at (rows 0 n g) b
-    → (q : ℕ) → q < n → RowStands (at + w * q) (g q) b
+pub stands-row : (w n at : ℕ) (g : ℕ → List ℕ) (b : List ℕ) → ((j : ℕ) → length (g j) ≡ w)
+    → RowStands at (rows 0 n g) b → (q : ℕ) → q < n → RowStands (at + w * q) (g q) b
 stands-row w n at g b l s q h =
     let t : RowStands at (rows 0 q g ++ (g q ++ rows (suc q) (n - suc q) g)) b =
     record {

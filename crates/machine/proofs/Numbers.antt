@@ -1,4 +1,5 @@
--- Every number below the count of queues names a queue of the plan, which has that number; so do the senders of an output.
+-- Every number below the count of queues names a queue of the plan, which has that number; so do the senders of an
+-- output.
 use mathlib.Core.Path.{_≡_, refl, sym, subst}
 use mathlib.Core.Logic.{_⊎_, inl, inr}
 use mathlib.Core.Bool.{Bool, true, false}
@@ -10,7 +11,8 @@ use borrow.Author.Tests.{ltb-true, ltb-false, lt-ltb, le-ltb, eqb-true, eqb-fals
 use Rattle.basis.specs.Choice.{pick}
 use Rattle.basis.specs.Bounded.{lt-or-ge}
 use Rattle.plan.specs.Plan.{Plan, R, A}
-use Rattle.feeding.specs.Queue.{Queue, K, Exists, outs, routerBase, inBase, sender, number, queues, senderAt, inRouter, queueAt}
+use Rattle.feeding.specs.Queue.{Queue, K, Exists, outs, routerBase, inBase, sender, number, queues, senderAt, inRouter}
+use Rattle.feeding.specs.Queue.{queueAt}
 use Rattle.feeding.specs.Feeds.{Output, ofActive, ofPassive, ofSide, toUnit, fromUnit}
 use Rattle.journeys.proofs.Places.{some-same, some-not-none}
 use Rattle.machine.specs.Outputs.{senders}
@@ -33,7 +35,9 @@ module _ (pl : Plan) where
     where
       by : (k < o) ⊎ (o ≤ k) → IsQueue n (K r (pick (ltb k o) k (suc k)) o)
       by (inl l) = rw (lt-ltb k o l, lt-ltb k o l) ((hr, omega arith, ho, λ z. omega arith), sym e)
-      by (inr g) = let h : o ≤ suc k = omega arith in rw (le-ltb k o g, le-ltb (suc k) o h) ((hr, omega arith, ho, λ z. omega arith), sym e)
+      by (inr g) =
+          let h : o ≤ suc k = omega arith in
+          rw (le-ltb k o g, le-ltb (suc k) o h) ((hr, omega arith, ho, λ z. omega arith), sym e)
 
   router-named : (r k n : ℕ) → r < R pl → k < 21 → n ≡ routerBase pl r + k → IsQueue n (inRouter r k)
   unfolding number
@@ -41,7 +45,8 @@ module _ (pl : Plan) where
       picked (IsQueue n) (ltb k 4) _ _ (λ t. ((hr, ltb-true k 4 t), sym e))
       (λ t. let g = ltb-false k 4 t in
       picked (IsQueue n) (eqb k 4) _ _ (λ u. let z = eqb-true k 4 u in (hr, omega arith))
-      (λ u. let z = eqb-false k 4 u in sender-named r ((k - 5) / 4) ((k - 5) % 4) n hr (omega arith) (omega arith) (omega arith)))
+      (λ u. let z = eqb-false k 4 u in
+      sender-named r ((k - 5) / 4) ((k - 5) % 4) n hr (omega arith) (omega arith) (omega arith)))
 
   queue-named : (n : ℕ) → n < queues pl → IsQueue n (queueAt pl n)
   unfolding queueAt queues number
@@ -51,9 +56,11 @@ module _ (pl : Plan) where
       picked (IsQueue n) (ltb n (outs pl)) _ _ (λ u. let b = ltb-true n (outs pl) u in (omega arith, omega arith))
       (λ u. let b = ltb-false n (outs pl) u in
       picked (IsQueue n) (ltb n (inBase pl)) _ _
-      (λ v. let c = ltb-true n (inBase pl) v in router-named ((n - outs pl) / 21) ((n - outs pl) % 21) n (omega arith) (omega arith) (omega arith))
+      (λ v. let c = ltb-true n (inBase pl) v in
+      router-named ((n - outs pl) / 21) ((n - outs pl) % 21) n (omega arith) (omega arith) (omega arith))
       (λ v. let c = ltb-false n (inBase pl) v in
-      picked (IsQueue n) (ltb n (inBase pl + A pl)) _ _ (λ w. let d = ltb-true n (inBase pl + A pl) w in (omega arith, omega arith))
+      picked (IsQueue n) (ltb n (inBase pl + A pl)) _ _ (λ w. let d = ltb-true n (inBase pl + A pl) w in
+      (omega arith, omega arith))
       (λ w. let d = ltb-false n (inBase pl + A pl) w in (omega arith, omega arith)))))
 
   -- the queue of a number is one of the plan's
@@ -74,9 +81,12 @@ module _ (pl : Plan) where
   sender-exists (ofPassive p) zero q d e = subst (Exists pl) (some-same e) d
   sender-exists (ofPassive p) (suc k) q d e = absurd (some-not-none e)
   sender-exists (ofSide r o) zero q (h, l) e = subst (Exists pl) (some-same e) (side-exists r o 0 h l (omega arith))
-  sender-exists (ofSide r o) (suc zero) q (h, l) e = subst (Exists pl) (some-same e) (side-exists r o 1 h l (omega arith))
-  sender-exists (ofSide r o) (suc (suc zero)) q (h, l) e = subst (Exists pl) (some-same e) (side-exists r o 2 h l (omega arith))
-  sender-exists (ofSide r o) (suc (suc (suc zero))) q (h, l) e = subst (Exists pl) (some-same e) (side-exists r o 3 h l (omega arith))
+  sender-exists (ofSide r o) (suc zero) q (h, l) e =
+      subst (Exists pl) (some-same e) (side-exists r o 1 h l (omega arith))
+  sender-exists (ofSide r o) (suc (suc zero)) q (h, l) e =
+      subst (Exists pl) (some-same e) (side-exists r o 2 h l (omega arith))
+  sender-exists (ofSide r o) (suc (suc (suc zero))) q (h, l) e =
+      subst (Exists pl) (some-same e) (side-exists r o 3 h l (omega arith))
   sender-exists (ofSide r o) (suc (suc (suc (suc k)))) q d e = absurd (some-not-none e)
   sender-exists (toUnit r) zero q d e = subst (Exists pl) (some-same e) (d, omega arith)
   sender-exists (toUnit r) (suc zero) q d e = subst (Exists pl) (some-same e) (d, omega arith)

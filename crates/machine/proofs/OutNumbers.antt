@@ -1,4 +1,5 @@
--- Each output of a plan has one number below the count of outputs, and each of these numbers is that of one output of the plan.
+-- Each output of a plan has one number below the count of outputs, and each of these numbers is that of one output of
+-- the plan.
 use mathlib.Core.Path.{_≡_, refl, sym, ap, _∙_}
 use mathlib.Core.Logic.{_≢_}
 use Prim.Native.Nat.{ℕ, _+_, _-_, _*_, _/_, _%_, _<_}
@@ -18,14 +19,20 @@ module _ (pl : Plan) where
   router-output r k l =
       let d : (A pl + P pl + 6 * r + k - (A pl + P pl)) / 6 ≡ r = omega arith in
       let m : (A pl + P pl + 6 * r + k - (A pl + P pl)) % 6 ≡ k = omega arith in
-      rw (le-ltb (A pl + P pl + 6 * r + k) (A pl) (omega arith), le-ltb (A pl + P pl + 6 * r + k) (A pl + P pl) (omega arith), d, m)
+      rw (
+        le-ltb (A pl + P pl + 6 * r + k) (A pl) (omega arith),
+        le-ltb (A pl + P pl + 6 * r + k) (A pl + P pl) (omega arith),
+        d,
+        m,
+      )
 
   -- the output of an output's number is that output
   pub output-at : (o : Output) → Drives pl o → outputAt pl (outputNumber pl o) ≡ o
   unfolding outputNumber outputAt
   output-at (ofActive a) h = rw (lt-ltb a (A pl) h, outputAt)
   output-at (ofPassive p) h =
-      rw (le-ltb (A pl + p) (A pl) (omega arith), lt-ltb (A pl + p) (A pl + P pl) (omega arith), outputAt) (ap ofPassive (omega arith))
+      rw (le-ltb (A pl + p) (A pl) (omega arith), lt-ltb (A pl + p) (A pl + P pl) (omega arith), outputAt)
+      (ap ofPassive (omega arith))
   output-at (ofSide r o) (h, l) = router-output r o (omega arith) ∙ rw (lt-ltb o 4 l)
   output-at (toUnit r) h = router-output r 4 (omega arith)
   output-at (fromUnit r) h = router-output r 5 (omega arith)
@@ -47,12 +54,15 @@ module _ (pl : Plan) where
   output-named n h =
       picked (IsOutput n) (ltb n (A pl)) _ _ (λ t. (ltb-true n (A pl) t, refl))
       (λ t. let a = ltb-false n (A pl) t in
-      picked (IsOutput n) (ltb n (A pl + P pl)) _ _ (λ u. let b = ltb-true n (A pl + P pl) u in (omega arith, omega arith))
+      picked (IsOutput n) (ltb n (A pl + P pl)) _ _ (λ u. let b = ltb-true n (A pl + P pl) u in
+      (omega arith, omega arith))
       (λ u. let b = ltb-false n (A pl + P pl) u in
       let r : (n - (A pl + P pl)) / 6 < R pl = omega arith in
-      picked (IsOutput n) (ltb ((n - (A pl + P pl)) % 6) 4) _ _ (λ v. let c = ltb-true ((n - (A pl + P pl)) % 6) 4 v in ((r, c), omega arith))
+      picked (IsOutput n) (ltb ((n - (A pl + P pl)) % 6) 4) _ _ (λ v. let c = ltb-true ((n - (A pl + P pl)) % 6) 4 v in
+      ((r, c), omega arith))
       (λ v. let c = ltb-false ((n - (A pl + P pl)) % 6) 4 v in
-      picked (IsOutput n) (eqb ((n - (A pl + P pl)) % 6) 4) _ _ (λ w. let d = eqb-true ((n - (A pl + P pl)) % 6) 4 w in (r, omega arith))
+      picked (IsOutput n) (eqb ((n - (A pl + P pl)) % 6) 4) _ _ (λ w. let d = eqb-true ((n - (A pl + P pl)) % 6) 4 w in
+      (r, omega arith))
       (λ w. let d = eqb-false ((n - (A pl + P pl)) % 6) 4 w in (r, omega arith)))))
 
   -- the output of a number is one of the plan's

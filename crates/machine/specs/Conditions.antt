@@ -1,12 +1,13 @@
--- The conditions of the refusals 8 to 15, call by call, in document 01's words and order. claims/proofs/Tests shows that
--- the tests of specs/Calls hold exactly where these do.
+-- The conditions of the refusals 8 to 15, call by call, in document 01's words and order. claims/proofs/Tests shows
+-- that the tests of specs/Calls hold exactly where these do.
 use mathlib.Core.Path.{_≡_}
 use mathlib.Core.Logic.{_⊎_, _≢_}
 use mathlib.Core.Bool.{true}
 use mathlib.Core.List.{List, [], _∷_}
 use Prim.Native.Nat.{ℕ, _≤_}
 use lib.ListN.{length}
-use Rattle.kinds.specs.declared.Refusal.the-variants.{WrongPhase, BadNumber, NotServed, NoAllowance, QueueFull, QueueEmpty, FlagUp, Unmarked}
+use Rattle.kinds.specs.declared.Refusal.the-variants.{WrongPhase, BadNumber, NotServed, NoAllowance, QueueFull}
+use Rattle.kinds.specs.declared.Refusal.the-variants.{QueueEmpty, FlagUp, Unmarked}
 use Rattle.kinds.specs.Conditions.{Condition, condition}
 use Rattle.packets.specs.declared.Kind.the-variants.{Nack}
 use Rattle.packets.specs.declared.Packet.{Packet}

@@ -27,7 +27,8 @@ use Rattle.feeding.specs.Role.{Role, sending, receiving, handling, passing, rol
 use Rattle.feeding.specs.Feeds.{Output, ofActive, ofPassive, ofSide, toUnit, fromUnit}
 use Rattle.machine.specs.Capacity.{capacity}
 use Rattle.machine.specs.Outputs.{nextBy, senders, outputs, outputAt}
-use Rattle.machine.specs.State.{State, Choice, nobody, sender, withPhase, withQueue, withFlag, withHandled, withChoice, withEntry, join, isFree}
+use Rattle.machine.specs.State.{State, Choice, nobody, sender, withPhase, withQueue, withFlag, withHandled}
+use Rattle.machine.specs.State.{withChoice, withEntry, join, isFree}
 
 -- ---- (1) 'Each unit handles Q's head once, if not yet handled, and no second head in that round'
 -- the side by which the walk of a pair comes in to router r; a packet at a unit is on its walk
@@ -166,7 +167,13 @@ marked x = record { kind = x .kind; active = x .active; passive = x .passive; sl
 
 abbrev pub tdownOf : ℕ → Packet → Packet
 tdownOf n x =
-    record { kind = Tdown; active = x .active; passive = x .passive; slot = startSlot (x .slot) (x .hub) n; hub = x .hub }
+    record {
+      kind = Tdown;
+      active = x .active;
+      passive = x .passive;
+      slot = startSlot (x .slot) (x .hub) n;
+      hub = x .hub;
+    }
 
 abbrev pub hasRoom : Plan → Queue → State → Bool
 hasRoom pl q s = ltb (length (s .lines .queue q)) (capacity (pl .head) q)

@@ -33,7 +33,8 @@ routerOutput r k = pick (ltb k 4) (ofSide r k) (pick (eqb k 4) (toUnit r) (fromU
 unfoldable pub outputAt : Plan → ℕ → Output
 outputAt pl n =
     pick (ltb n (A pl)) (ofActive n)
-    (pick (ltb n (A pl + P pl)) (ofPassive (n - A pl)) (routerOutput ((n - (A pl + P pl)) / 6) ((n - (A pl + P pl)) % 6)))
+    (pick (ltb n (A pl + P pl)) (ofPassive (n - A pl))
+    (routerOutput ((n - (A pl + P pl)) / 6) ((n - (A pl + P pl)) % 6)))
 
 unfoldable pub outputNumber : Plan → Output → ℕ
 outputNumber pl (ofActive a) = a

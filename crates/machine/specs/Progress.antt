@@ -55,7 +55,8 @@ isInQueue q = isInQueueAs (role q)
 abbrev pub UnderWay : Plan → State → Type 0
 UnderWay pl s =
     ((o : Output) × (x : Packet) × Drives pl o × (s .links .wire o ≡ Full x))
-    ⊎ ((q : Queue) × (x : Packet) × (rest : List Packet) × Exists pl q × (isInQueue q ≡ false) × (s .lines .queue q ≡ x ∷ rest))
+    ⊎ ((q : Queue) × (x : Packet) × (rest : List Packet) × Exists pl q × (isInQueue q ≡ false)
+    × (s .lines .queue q ≡ x ∷ rest))
 
 -- 'no passive in-queue is full'
 abbrev pub PassiveRoom : Plan → State → Type 0

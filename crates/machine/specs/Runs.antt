@@ -1,4 +1,5 @@
--- 'Runs to compare' of document 01, and more of the same kind: each is one list of calls and one theorem that evaluates it.
+-- 'Runs to compare' of document 01, and more of the same kind: each is one list of calls and one theorem that
+-- evaluates it.
 pub mod Watch
 pub mod FirstBookings
 pub mod LastFree

@@ -84,8 +84,10 @@ queue-of (K r i o) = refl
 
 pub same-queue : (x y : Queue) → sameQueue x y ≡ true → x ≡ y
 same-queue x y e =
-    let p = also-true {a = eqb (kindOf x) (kindOf y)} {b = also (eqb (first x) (first y)) (also (eqb (second x) (second y)) (eqb (third x) (third y)))} e in
-    let q = also-true {a = eqb (first x) (first y)} {b = also (eqb (second x) (second y)) (eqb (third x) (third y))} (p .1) in
+    let p = also-true {a = eqb (kindOf x) (kindOf y)}
+    {b = also (eqb (first x) (first y)) (also (eqb (second x) (second y)) (eqb (third x) (third y)))} e in
+    let q = also-true {a = eqb (first x) (first y)} {b = also (eqb (second x) (second y)) (eqb (third x) (third y))}
+    (p .1) in
     let r = also-true {a = eqb (second x) (second y)} {b = eqb (third x) (third y)} (q .1) in
     let a : kindOf x ≡ kindOf y = eqb-true (kindOf x) (kindOf y) (p .0) in
     let b : first x ≡ first y = eqb-true (first x) (first y) (q .0) in
@@ -99,7 +101,8 @@ same-queue x y e =
 pub queue-same : (x : Queue) → sameQueue x x ≡ true
 queue-same x =
     also-of (eq-eqb (kindOf x) (kindOf x) refl)
-    (also-of (eq-eqb (first x) (first x) refl) (also-of (eq-eqb (second x) (second x) refl) (eq-eqb (third x) (third x) refl)))
+    (also-of (eq-eqb (first x) (first x) refl)
+    (also-of (eq-eqb (second x) (second x) refl) (eq-eqb (third x) (third x) refl)))
 
 -- ---- when two outputs are one
 abbrev outKind : Output → ℕ
@@ -144,7 +147,8 @@ output-from (fromUnit r) = refl
 
 pub same-output : (x y : Output) → sameOutput x y ≡ true → x ≡ y
 same-output x y e =
-    let p = also-true {a = eqb (outKind x) (outKind y)} {b = also (eqb (outFirst x) (outFirst y)) (eqb (outSecond x) (outSecond y))} e in
+    let p = also-true {a = eqb (outKind x) (outKind y)}
+    {b = also (eqb (outFirst x) (outFirst y)) (eqb (outSecond x) (outSecond y))} e in
     let q = also-true {a = eqb (outFirst x) (outFirst y)} {b = eqb (outSecond x) (outSecond y)} (p .1) in
     let a : outKind x ≡ outKind y = eqb-true (outKind x) (outKind y) (p .0) in
     let b : outFirst x ≡ outFirst y = eqb-true (outFirst x) (outFirst y) (q .0) in
@@ -159,7 +163,8 @@ output-same x =
     (also-of (eq-eqb (outFirst x) (outFirst x) refl) (eq-eqb (outSecond x) (outSecond x) refl))
 
 -- ---- what a store holds after a change
-module _ {X A : Type 0} (same : X → X → Bool) (one : (x : X) → same x x ≡ true) (same-one : (x y : X) → same x y ≡ true → x ≡ y) where
+module _ {X A : Type 0} (same : X → X → Bool) (one : (x : X) → same x x ≡ true)
+    (same-one : (x y : X) → same x y ≡ true → x ≡ y) where
   pub put-here : (m : X → A) (k : X) (a : A) → put same m k a k ≡ a
   put-here m k a = rw (one k, pick)
 

@@ -110,8 +110,9 @@ spendsKind Nack = 1
 abbrev pub spends : ℕ → Packet → ℕ
 spends a x = pick (eqb (x .active) a) (spendsKind (x .kind)) 0
 
--- 'a queue fed by a wire': 'A wire enters each joined side and each interface from its neighbour; one leads from router
--- to unit, one back.' So U[i] and K[i,o] are fed where side i is joined, in-queues, Q and F always, out-queues never.
+-- 'a queue fed by a wire': 'A wire enters each joined side and each interface from its neighbour; one leads from
+-- router to unit, one back.' So U[i] and K[i,o] are fed where side i is joined, in-queues, Q and F always, out-queues
+-- never.
 abbrev pub isJoined : Joint → Bool
 isJoined Nothing = false
 isJoined (Router n t) = true
@@ -157,7 +158,8 @@ pub record Valid (pl : Plan) (s : State) : Type 0 where
   -- 'credit + queued + wire + raised flag ≠ capacity of a queue fed by a wire'; where no wire feeds a queue its credit
   -- is not used: it is as Start left it
   pub credits : (q : Queue) → Exists pl q → fed pl q ≡ true
-      → s .flow .credit q .0 + length (s .lines .queue q) + onWires pl q s + bit (s .flow .flag q) ≡ capacity (pl .head) q
+      → s .flow .credit q .0 + length (s .lines .queue q) + onWires pl q s + bit (s .flow .flag q)
+      ≡ capacity (pl .head) q
   pub out-credits : (q : Queue) → Exists pl q → fed pl q ≡ false → s .flow .credit q .0 ≡ capacity (pl .head) q
   -- 'an active's allowance + its SETUPs, ACKs and NACKs ≠ its start allowance'
   pub allowances : (a : ℕ) → a < A pl → s .flow .allowance a + total pl (spends a) s ≡ startAllowance pl

@@ -35,7 +35,8 @@ replied p k (x ∷ rest) s =
 
 -- ---- 'the packet is returned and removed, the flag rises, the allowance grows by one': its removal
 unfoldable pub removed : ℕ → List Packet → State → State
-removed a rest s = withAllowance a (s .flow .allowance a + 1) (withFlag (activeIn a) true (withQueue (activeIn a) rest s))
+removed a rest s =
+    withAllowance a (s .flow .allowance a + 1) (withFlag (activeIn a) true (withQueue (activeIn a) rest s))
 
 -- ---- the head of a queue
 abbrev pub isEmpty : List Packet → Bool

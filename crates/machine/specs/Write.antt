@@ -15,7 +15,8 @@ use Rattle.feeding.specs.Queue.{Queue}
 use Rattle.feeding.specs.Role.{Role, sending, receiving, handling, passing, role}
 use Rattle.feeding.specs.Feeds.{Output}
 use Rattle.machine.specs.Outputs.{nextBy, senders, outputs, outputAt}
-use Rattle.machine.specs.State.{State, Choice, nobody, sender, withPhase, withSlot, withQueue, withWire, withCredit, withFlag, withHandled, withChoice}
+use Rattle.machine.specs.State.{State, Choice, nobody, sender, withPhase, withSlot, withQueue, withWire}
+use Rattle.machine.specs.State.{withCredit, withFlag, withHandled, withChoice}
 
 -- the sender of a rank
 abbrev pub ofRank : List Queue → ℕ → Option Queue

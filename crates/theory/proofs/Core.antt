@@ -66,7 +66,8 @@ shape-of pl s v = by (phases (s .clock .phase))
         (v .wires-empty (λ r. read-execute (sym r ∙ e))) (v .flags-down e)
     by (inr (inr e)) =
         in-write e (v .wires-empty (λ r. read-write (sym r ∙ e)))
-        (λ o k h c. let d = v .choices o k h c .1 in record { queue = d .0; rank = d .1; ready = d .2; down = v .picked-down o k (d .0) h c (d .1) })
+        (λ o k h c. let d = v .choices o k h c .1 in
+        record { queue = d .0; rank = d .1; ready = d .2; down = v .picked-down o k (d .0) h c (d .1) })
 
 pub valid-of : (pl : Plan) (s : State) → Core pl s → Shape pl s → Valid pl s
 unfolding account
@@ -89,7 +90,8 @@ valid-of pl s c t =
       allowances = c .allowances;
     }
   where
-    within : (q : Queue) → Exists pl q → (fed pl q ≡ true) ⊎ (fed pl q ≡ false) → length (s .lines .queue q) ≤ capacity (pl .head) q
+    within : (q : Queue) → Exists pl q → (fed pl q ≡ true) ⊎ (fed pl q ≡ false)
+        → length (s .lines .queue q) ≤ capacity (pl .head) q
     within q h (inl f) = omega (arith, c .credits q h f)
     within q h (inr f) = c .out-capacities q h f
 
@@ -101,7 +103,8 @@ valid-of pl s c t =
     wires′ (in-execute e n w f) ne = w
     wires′ (in-write e w d) ne = w
 
-    choices′ : Shape pl s → (o : Output) (k : ℕ) → Drives pl o → s .links .choice o ≡ sender k → (s .clock .phase ≡ Write) × ((q : Queue) × (ofRank (senders o) k ≡ some q) × (candidate pl s o q ≡ true))
+    choices′ : Shape pl s → (o : Output) (k : ℕ) → Drives pl o → s .links .choice o ≡ sender k
+        → (s .clock .phase ≡ Write) × ((q : Queue) × (ofRank (senders o) k ≡ some q) × (candidate pl s o q ≡ true))
     choices′ (in-read e n) o k h q = absurd (nobody-not (sym (n o h) ∙ q))
     choices′ (in-execute e n w f) o k h q = absurd (nobody-not (sym (n o h) ∙ q))
     choices′ (in-write e w d) o k h q = let g = d o k h q in (e, (g .queue, g .rank, g .ready))
@@ -111,22 +114,24 @@ valid-of pl s c t =
     flags′ (in-execute e n w f) p = f
     flags′ (in-write e w d) p = absurd (execute-write (sym p ∙ e))
 
-    picked′ : Shape pl s → (o : Output) (k : ℕ) (q : Queue) → Drives pl o → s .links .choice o ≡ sender k → ofRank (senders o) k ≡ some q → s .flow .flag q ≡ false
+    picked′ : Shape pl s → (o : Output) (k : ℕ) (q : Queue) → Drives pl o → s .links .choice o ≡ sender k
+        → ofRank (senders o) k ≡ some q → s .flow .flag q ≡ false
     picked′ (in-read e n) o k q h d r = absurd (nobody-not (sym (n o h) ∙ d))
     picked′ (in-execute e n w f) o k q h d r = absurd (nobody-not (sym (n o h) ∙ d))
     picked′ (in-write e w c′) o k q h d r = let g = c′ o k h d in rw (some-same (sym (g .rank) ∙ r)) at (g .down)
 
 -- ---- wires
 -- A full wire is one that there is: from a side that is not joined nothing goes on.
-pub full-wire : (pl : Plan) (s : State) → Core pl s → (o : Output) → Drives pl o → (x : Packet) → s .links .wire o ≡ Full x
-    → HasWire pl o
+pub full-wire : (pl : Plan) (s : State) → Core pl s → (o : Output) → Drives pl o → (x : Packet)
+    → s .links .wire o ≡ Full x → HasWire pl o
 full-wire pl s c (ofActive a) d x e = d
 full-wire pl s c (ofPassive p) d x e = d
 full-wire pl s c (ofSide r o) (hr, ho) x e = (
   hr,
   ho,
   λ z. some-not-none
-      (sym (ap (across pl (headingOf (x .kind)) (x .active) (x .passive)) z) ∙ c .wires (ofSide r o) (hr, ho) x e .next),
+      (sym (ap (across pl (headingOf (x .kind)) (x .active) (x .passive)) z)
+      ∙ c .wires (ofSide r o) (hr, ho) x e .next),
 )
 full-wire pl s c (toUnit r) d x e = d
 full-wire pl s c (fromUnit r) d x e = d

@@ -24,8 +24,11 @@ use Rattle.journeys.proofs.Places.{some-not-none}
 use Rattle.machine.specs.State.{State}
 use Rattle.machine.specs.Visits.{isEmpty, headUnmarked, replyKind, replied}
 use Rattle.machine.specs.Guards.{Guard, refusalOf, Passed}
-use Rattle.machine.specs.Calls.{Visit, ofLaunch, ofReply, ofConsume, ofEntry, Call, turn, visit, Outcome, isPhase, launchGuards, replyGuards, consumeGuards, entryGuards, guards, consumed, accepted, decided, call}
-use Rattle.theory.specs.Does.{MayLaunch, MayReply, MayConsume, MayLook, Visited, launches, replies, consumes, looks, Does, refuses, turns, visits}
+use Rattle.machine.specs.Calls.{Visit, ofLaunch, ofReply, ofConsume, ofEntry, Call, turn, visit, Outcome, isPhase}
+use Rattle.machine.specs.Calls.{launchGuards, replyGuards, consumeGuards, entryGuards, guards, consumed, accepted}
+use Rattle.machine.specs.Calls.{decided, call}
+use Rattle.theory.specs.Does.{MayLaunch, MayReply, MayConsume, MayLook, Visited, launches, replies, consumes}
+use Rattle.theory.specs.Does.{looks, Does, refuses, turns, visits}
 use Rattle.machine.specs.Progress.{turnsCall}
 use Rattle.machine.proofs.Apart.{phase-of}
 
@@ -40,8 +43,8 @@ not-so {b = true} h = absurd (false≢true h)
 not-so {b = false} h = refl
 
 -- what follows from the list's first refusal, or from none
-by-guards : (F : Option Refusal → Type 0) (gs : List Guard) → no7 gs ≡ true → ((w : Refusal) → w ≢ NotState → F (some w))
-    → (Passed gs → F none) → F (refusalOf gs)
+by-guards : (F : Option Refusal → Type 0) (gs : List Guard) → no7 gs ≡ true
+    → ((w : Refusal) → w ≢ NotState → F (some w)) → (Passed gs → F none) → F (refusalOf gs)
 by-guards F [] n r a = a (record {})
 by-guards F (g ∷ gs) n r a = by (λ e. by-guards F gs (both .1) r (λ p. a (e, p))) (g .holds) refl
   where

@@ -36,10 +36,14 @@ use Rattle.theory.specs.Does.{Visited, launches, replies, consumes, look
 use Rattle.machine.specs.Valid.{Drives, Valid, Bounded}
 use Rattle.machine.specs.Ruled.{Good}
 use Rattle.theory.proofs.Does.{call-does}
-use Rattle.theory.specs.Invariant.{Inv, Core, Shape, in-read, in-execute, in-write, Sendable, NoChoices, WiresEmpty, FlagsDown, ChoicesSendable, Allowances}
+use Rattle.theory.specs.Invariant.{Inv, Core, Shape, in-read, in-execute, in-write, Sendable, NoChoices}
+use Rattle.theory.specs.Invariant.{WiresEmpty, FlagsDown, ChoicesSendable, Allowances}
 use Rattle.theory.proofs.Core.{core-of, shape-of, valid-of}
 use Rattle.theory.proofs.Weights.Spending.{reply-spends}
-use Rattle.theory.proofs.Weights.Allowance.{start-allowances, phase-allowances, slot-allowances, deliver-allowances, settle-allowances, unit-allowances, choose-allowances, undo-allowances, send-allowances, launched-allowances, replied-allowances, removed-allowances}
+use Rattle.theory.proofs.Weights.Allowance.{start-allowances, phase-allowances, slot-allowances}
+use Rattle.theory.proofs.Weights.Allowance.{deliver-allowances, settle-allowances, unit-allowances}
+use Rattle.theory.proofs.Weights.Allowance.{choose-allowances, undo-allowances, send-allowances}
+use Rattle.theory.proofs.Weights.Allowance.{launched-allowances, replied-allowances, removed-allowances}
 use Rattle.theory.proofs.Kept.Parts.{Kept, kept-of, start-kept, phase-kept, slot-kept}
 use Rattle.theory.proofs.Kept.Read.{deliver-kept, settle-kept}
 use Rattle.theory.proofs.Kept.Execute.{unit-kept, choose-kept, undo-kept}
@@ -53,7 +57,8 @@ use Rattle.theory.proofs.Account.Calls.{launched-paid, replied-paid, re
 use Rattle.theory.proofs.Shape.Read.{read-shape}
 use Rattle.theory.proofs.Shape.Execute.{execute-shape}
 use Rattle.theory.proofs.Shape.Write.{write-shape}
-use Rattle.theory.proofs.Shape.Calls.{read-has, execute-has, write-has, launched-shape, replied-shape, removed-shape}
+use Rattle.theory.proofs.Shape.Calls.{read-has, execute-has, write-has, launched-shape, replied-shape}
+use Rattle.theory.proofs.Shape.Calls.{removed-shape}
 use Rattle.theory.proofs.Shape.Phases.{read-keeps, execute-keeps, write-keeps}
 
 -- the core from its parts
@@ -89,35 +94,45 @@ module _ {pl : Plan} (wired : Wired pl) (range : InRange (pl .head)) where
   phase-core x s c = core-by (phase-kept (kept-of pl s c) x) (phase-paid x c) (phase-allowances c x)
 
   pub deliver-core : (o : Output) (s : State) → Drives pl o → Core pl s → Core pl (deliver pl o s)
-  deliver-core o s d c = core-by (deliver-kept wired range o s d (kept-of pl s c)) (deliver-paid wired o s d c) (deliver-allowances c wired o d)
+  deliver-core o s d c = core-by (deliver-kept wired range o s d (kept-of pl s c)) (deliver-paid wired o s d c)
+      (deliver-allowances c wired o d)
 
   pub settle-core : (q : Queue) (s : State) → Exists pl q → Core pl s → Core pl (settle q s)
-  settle-core q s h c = core-by (settle-kept wired range q s h (kept-of pl s c)) (settle-paid q s h c) (settle-allowances c q)
+  settle-core q s h c =
+      core-by (settle-kept wired range q s h (kept-of pl s c)) (settle-paid q s h c) (settle-allowances c q)
 
   pub unit-core : (r : ℕ) (s : State) → r < R pl → s .flow .flag (Q r) ≡ false → Core pl s → Core pl (unit pl r s)
-  unit-core r s h f c = core-by (unit-kept wired range r s h (kept-of pl s c)) (unit-paid s c r f) (unit-allowances c r h)
+  unit-core r s h f c =
+      core-by (unit-kept wired range r s h (kept-of pl s c)) (unit-paid s c r f) (unit-allowances c r h)
 
   pub choose-core : (o : Output) (s : State) → Core pl s → Core pl (choose pl o s)
-  choose-core o s c = core-by (choose-kept wired range o s (kept-of pl s c)) (choose-paid s c o) (choose-allowances c o)
+  choose-core o s c =
+      core-by (choose-kept wired range o s (kept-of pl s c)) (choose-paid s c o) (choose-allowances c o)
 
   pub undo-core : (a : ℕ) (s : State) → a < A pl → Core pl s → Core pl (undo pl a s)
   undo-core a s h c = core-by (undo-kept wired range a s h (kept-of pl s c)) (undo-paid s c a) (undo-allowances c a h)
 
-  pub send-core : (o : Output) (s : State) → Drives pl o → s .links .wire o ≡ Empty → ((k : ℕ) → s .links .choice o ≡ sender k → Sendable pl s o k) → Core pl s → Core pl (send pl o s)
-  send-core o s d w r c = core-by (send-kept wired range o s d r (kept-of pl s c)) (send-paid wired o s d c w r) (send-allowances c wired o d r w)
+  pub send-core : (o : Output) (s : State) → Drives pl o → s .links .wire o ≡ Empty
+      → ((k : ℕ) → s .links .choice o ≡ sender k → Sendable pl s o k) → Core pl s → Core pl (send pl o s)
+  send-core o s d w r c = core-by (send-kept wired range o s d r (kept-of pl s c)) (send-paid wired o s d c w r)
+      (send-allowances c wired o d r w)
 
   -- the end of a round: the next slot, and READ
-  pub turn-core : (x : State) (s : State) → Core pl x → Core pl s → Core pl (withPhase Read (withSlot (slotNext (x .clock .slot) (S pl)) s))
+  pub turn-core : (x : State) (s : State) → Core pl x → Core pl s
+      → Core pl (withPhase Read (withSlot (slotNext (x .clock .slot) (S pl)) s))
   turn-core x s b c =
-      let k = slot-kept (kept-of pl s c) (slotNext (x .clock .slot) (S pl)) (turn-kept wired range x (kept-of pl x b) .slot) in
-      phase-core Read (withSlot (slotNext (x .clock .slot) (S pl)) s) (core-by k (slot-paid (slotNext (x .clock .slot) (S pl)) c) (slot-allowances c (slotNext (x .clock .slot) (S pl))))
+      let k = slot-kept (kept-of pl s c) (slotNext (x .clock .slot) (S pl))
+      (turn-kept wired range x (kept-of pl x b) .slot) in
+      phase-core Read (withSlot (slotNext (x .clock .slot) (S pl)) s) (core-by k
+      (slot-paid (slotNext (x .clock .slot) (S pl)) c) (slot-allowances c (slotNext (x .clock .slot) (S pl))))
 
   -- ---- and so by each phase
   pub read-core : (s : State) → Core pl s → Core pl (doRead pl s)
   read-core s c = read-keeps pl (Core pl) s deliver-core settle-core (phase-core Execute) c
 
   pub execute-core : (s : State) → Core pl s → FlagsDown pl s → Core pl (doExecute pl s)
-  execute-core s c f = execute-keeps pl (Core pl) s unit-core (λ o t d. choose-core o t) undo-core (phase-core Write) f c
+  execute-core s c f =
+      execute-keeps pl (Core pl) s unit-core (λ o t d. choose-core o t) undo-core (phase-core Write) f c
 
   pub write-core : (s : State) → Core pl s → WiresEmpty pl s → ChoicesSendable pl s → Core pl (doWrite pl s)
   write-core s c w d = write-keeps pl (Core pl) s wired send-core (λ t. turn-core s t c) w d c
@@ -145,13 +160,15 @@ module _ {pl : Plan} (wired : Wired pl) (range : InRange (pl .head)) where
         core = core-by
             (launched-kept wired range a p t s (m .active) (m .passive) (m .slot)
             (served-of wired a p (m .active) (m .serves)) (kept-of pl s (i .core)))
-            (launched-paid s (i .core) a p t (m .room)) (launched-allowances (i .core) a p t (m .active) (m .allowance));
+            (launched-paid s (i .core) a p t (m .room))
+            (launched-allowances (i .core) a p t (m .active) (m .allowance));
         shape = launched-shape s a p t (m .phase) (i .shape);
       }
   visit-inv v o s (replies p c x rest m) i =
       record {
         core = core-by
-            (replied-kept wired range p (replyKind c) x rest s (m .passive) (reply-kind c) (m .line) (kept-of pl s (i .core)))
+            (replied-kept wired range p (replyKind c) x rest s (m .passive) (reply-kind c) (m .line)
+            (kept-of pl s (i .core)))
             (replied-paid s (i .core) p (replyKind c) x rest (m .line) (m .down) (m .room))
             (replied-allowances (i .core) wired p (m .passive) (replyKind c) (reply-spends c) x rest (m .line));
         shape = replied-shape s p (replyKind c) x rest (m .phase) (i .shape);

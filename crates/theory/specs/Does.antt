@@ -18,7 +18,8 @@ use Rattle.feeding.specs.Queue.{activeOut, activeIn, passiveIn, passiveOut}
 use Rattle.machine.specs.State.{State}
 use Rattle.machine.specs.Execute.{hasRoom, unmarked}
 use Rattle.machine.specs.Visits.{launched, replyKind, replied, removed}
-use Rattle.machine.specs.Calls.{Visit, ofLaunch, ofReply, ofConsume, ofEntry, Call, turn, visit, Outcome, gives, phaseStep}
+use Rattle.machine.specs.Calls.{Visit, ofLaunch, ofReply, ofConsume, ofEntry, Call, turn, visit, Outcome, gives}
+use Rattle.machine.specs.Calls.{phaseStep}
 
 -- ---- what an accepted visit found
 pub record MayLaunch (pl : Plan) (s : State) (a p t : ℕ) : Type 0 where

@@ -1,6 +1,6 @@
--- What every state along a list has, in two parts. The core holds at every moment, also inside a phase: ranges, places,
--- credits, allowances, one free entry a side. The shape depends on the phase: empty wires, choices and flags. Together
--- they are what refusal 7 asks (proofs/Core), and every call keeps them (proofs/Keeps).
+-- What every state along a list has, in two parts. The core holds at every moment, also inside a phase: ranges,
+-- places, credits, allowances, one free entry a side. The shape depends on the phase: empty wires, choices and flags.
+-- Together they are what refusal 7 asks (proofs/Core), and every call keeps them (proofs/Keeps).
 use mathlib.Core.Path.{_≡_}
 use mathlib.Core.Logic.{_≢_}
 use mathlib.Core.Bool.{true, false}
@@ -95,7 +95,8 @@ pub record Sendable (pl : Plan) (s : State) (o : Output) (k : ℕ) : Type 0 wher
 abbrev pub ChoicesSendable : Plan → State → Type 0
 ChoicesSendable pl s = (o : Output) (k : ℕ) → Drives pl o → s .links .choice o ≡ sender k → Sendable pl s o k
 
--- by phase: in READ no choices; in EXECUTE no choices, wires empty, flags down; in WRITE wires empty, choices of candidates with flags down
+-- by phase: in READ no choices; in EXECUTE no choices, wires empty, flags down; in WRITE wires empty, choices of
+-- candidates with flags down
 pub data Shape (pl : Plan) (s : State) : Type 0 where
   in-read : s .clock .phase ≡ Read → NoChoices pl s → Shape pl s
   in-execute : s .clock .phase ≡ Execute → NoChoices pl s → WiresEmpty pl s → FlagsDown pl s → Shape pl s

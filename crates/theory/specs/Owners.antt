@@ -1,5 +1,6 @@
--- Who owns a booked entry. A packet owns the entries that were booked for it and not yet freed, an accepted connection all those of its walk. A
--- state is owned if each booked entry has one owner, with the side and the pair that it should have, and no other entry has any.
+-- Who owns a booked entry. A packet owns the entries that were booked for it and not yet freed, an accepted connection
+-- all those of its walk. A state is owned if each booked entry has one owner, with the side and the pair that it
+-- should have, and no other entry has any.
 use mathlib.Core.Path.{_≡_}
 use mathlib.Core.Bool.{Bool, false}
 use mathlib.Core.List.{List, [], _∷_}
@@ -47,18 +48,20 @@ holderOf pl a p r = record { side = cameIn pl a p r; active = a; passive = p }
 -- ---- the entries of a piece of a walk
 -- the k-th router is on the piece from the first to before the past one, and t is the slot k rounds after the start
 abbrev pub reaches : ℕ → ℕ → Slot → ℕ → ℕ → Index → Bool
-reaches slots t start first past (At k) = pick (ltb k first) false (pick (ltb k past) (eqb t (slotAfter start (record { 0 = k }) slots .0)) false)
+reaches slots t start first past (At k) =
+    pick (ltb k first) false (pick (ltb k past) (eqb t (slotAfter start (record { 0 = k }) slots .0)) false)
 reaches slots t start first past Off = false
 
 -- where router r stands on the walk of a pair
 abbrev pub indexOf : Plan → ℕ → ℕ → ℕ → Index
 indexOf pl a p r = indexOn pl (passive p) (home pl (active a)) r
 
--- 1 if the entry (r, o, t), held by v, is one of those that the pair (a, p) books from a start slot on, at its routers from the first to
--- before the past one; else 0
+-- 1 if the entry (r, o, t), held by v, is one of those that the pair (a, p) books from a start slot on, at its routers
+-- from the first to before the past one; else 0
 unfoldable pub owning : Plan → ℕ → ℕ → ℕ → Holder → ℕ → ℕ → Slot → ℕ → ℕ → ℕ
 owning pl r o t v a p start first past =
-    pick (also (eqb o (routeTo pl (passive p) r)) (reaches (S pl) t start first past (indexOf pl a p r))) (bit (sameHolder (holderOf pl a p r) v)) 0
+    pick (also (eqb o (routeTo pl (passive p) r)) (reaches (S pl) t start first past (indexOf pl a p r)))
+    (bit (sameHolder (holderOf pl a p r) v)) 0
 
 -- ---- packets
 abbrev pub indexNumber : Index → ℕ
@@ -83,7 +86,8 @@ ownsUp pl r o t v x = owning pl r o t v (x .active) (x .passive) (startSlot (x .
 
 -- TDOWN with n routers behind it: the hub routers ahead of it, with its slot at the next of them
 abbrev pub ownsDown : Plan → ℕ → ℕ → ℕ → Holder → ℕ → Packet → ℕ
-ownsDown pl r o t v n x = owning pl r o t v (x .active) (x .passive) (startSlot (x .slot) (record { 0 = n }) (S pl)) n (n + x .hub .0)
+ownsDown pl r o t v n x =
+    owning pl r o t v (x .active) (x .passive) (startSlot (x .slot) (record { 0 = n }) (S pl)) n (n + x .hub .0)
 
 -- what a packet of a kind owns at a place
 abbrev pub ownsKind : Plan → ℕ → ℕ → ℕ → Holder → Place → Kind → Packet → ℕ
@@ -129,5 +133,6 @@ pub record Owned (pl : Plan) (acc : List Connection) (s : State) : Type 0 where
   -- the table has the holders' sides, and is free where there is none
   pub entries : (r o t : ℕ) → r < R pl → o < 4 → t < S pl → s .table r o t ≡ heldEntry (holders r o t)
   -- packets and accepted connections together own each entry once for its holder, and never for another
-  pub owners : (r o t : ℕ) → r < R pl → o < 4 → t < S pl → (v : Holder) → weighed pl (owns pl r o t v) s + made pl r o t v acc ≡ holds (holders r o t) v
+  pub owners : (r o t : ℕ) → r < R pl → o < 4 → t < S pl → (v : Holder)
+      → weighed pl (owns pl r o t v) s + made pl r o t v acc ≡ holds (holders r o t) v
   pub agreed : (c : Connection) → In c acc → Agreed pl c

@@ -101,9 +101,11 @@ module _ (pl : Plan) (s : State) where
       (λ f o k q h e g. f o h k q e g)
       (λ f o h k q e g. f o k q h e g)
 
-  out-flags-decide : Decides (outFlagsTest pl s) ((q : Queue) → Exists pl q → fed pl q ≡ false → s .flow .flag q ≡ false)
+  out-flags-decide : Decides (outFlagsTest pl s)
+      ((q : Queue) → Exists pl q → fed pl q ≡ false → s .flow .flag q ≡ false)
   unfolding outFlagsTest
-  out-flags-decide = every-queue pl _ (λ q. fed pl q ≡ false → s .flow .flag q ≡ false) (λ q h. unless (fed pl q) (not-so (s .flow .flag q)))
+  out-flags-decide = every-queue pl _ (λ q. fed pl q ≡ false → s .flow .flag q ≡ false)
+      (λ q h. unless (fed pl q) (not-so (s .flow .flag q)))
 
   marks-decide : Decides (marksTest pl s)
       ((q : Queue) → Exists pl q → s .lines .handled q ≡ true → (r : ℕ) × (q ≡ Q r) × (s .lines .queue q ≢ []))
@@ -123,16 +125,21 @@ module _ (pl : Plan) (s : State) where
       (λ f r h o k. f r o h k)
 
   credits-decide : Decides (creditsTest pl s)
-      ((q : Queue) → Exists pl q → fed pl q ≡ true → s .flow .credit q .0 + length (s .lines .queue q) + onWires pl q s + bit (s .flow .flag q) ≡ capacity (pl .head) q)
+      ((q : Queue) → Exists pl q → fed pl q ≡ true → s .flow .credit q .0 + length (s .lines .queue q) + onWires pl q s
+      + bit (s .flow .flag q) ≡ capacity (pl .head) q)
   unfolding creditsTest
   credits-decide =
-      every-queue pl _ (λ q. fed pl q ≡ true → s .flow .credit q .0 + length (s .lines .queue q) + onWires pl q s + bit (s .flow .flag q) ≡ capacity (pl .head) q)
-      (λ q h. given (fed pl q) (same (s .flow .credit q .0 + length (s .lines .queue q) + onWires pl q s + bit (s .flow .flag q)) (capacity (pl .head) q)))
+      every-queue pl _ (λ q. fed pl q ≡ true → s .flow .credit q .0 + length (s .lines .queue q) + onWires pl q s
+      + bit (s .flow .flag q) ≡ capacity (pl .head) q)
+      (λ q h. given (fed pl q) (same (s .flow .credit q .0 + length (s .lines .queue q) + onWires pl q s
+      + bit (s .flow .flag q)) (capacity (pl .head) q)))
 
-  out-credits-decide : Decides (outCreditsTest pl s) ((q : Queue) → Exists pl q → fed pl q ≡ false → s .flow .credit q .0 ≡ capacity (pl .head) q)
+  out-credits-decide : Decides (outCreditsTest pl s)
+      ((q : Queue) → Exists pl q → fed pl q ≡ false → s .flow .credit q .0 ≡ capacity (pl .head) q)
   unfolding outCreditsTest
   out-credits-decide =
-      every-queue pl _ (λ q. fed pl q ≡ false → s .flow .credit q .0 ≡ capacity (pl .head) q) (λ q h. unless (fed pl q) (same (s .flow .credit q .0) (capacity (pl .head) q)))
+      every-queue pl _ (λ q. fed pl q ≡ false → s .flow .credit q .0 ≡ capacity (pl .head) q)
+      (λ q h. unless (fed pl q) (same (s .flow .credit q .0) (capacity (pl .head) q)))
 
   allowances-decide : Decides (allowancesTest pl s)
       ((a : ℕ) → a < A pl → s .flow .allowance a + total pl (spends a) s ≡ startAllowance pl)

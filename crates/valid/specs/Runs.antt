@@ -62,11 +62,17 @@ allValid pl (c ∷ cs) s =
 
 -- from Start on plan T
 unfoldable pub valid : List Call → Bool
-unfolding anyBelow allBelow upTo spot onCount bitAt fieldOf capacityAt headOf jointIn planOf portsOf home onward arrives walkSize backsArrive servedFrom indexIn indexOn queues queueAt outputAt launched removed call arrive deliver lower settle doRead start blank join cameIn otherFree mayBook setUp tearOne tearDown handle atUnit unit candidate firstOf picked choose answer atActive undo doExecute sendHead sendBy send doWrite sum onWires total meetsTest aheadTest returnsTest backTest fitsTest packetTest belongsTest slotTest entriesTest capacitiesTest placesTest wiresTest wiresEmptyTest choicesTest flagsDownTest pickedDownTest outFlagsTest marksTest freeEntryTest creditsTest outCreditsTest allowancesTest validTest allValid
+unfolding anyBelow allBelow upTo spot onCount bitAt fieldOf capacityAt headOf jointIn planOf portsOf home onward
+    arrives walkSize backsArrive servedFrom indexIn indexOn queues queueAt outputAt launched removed call arrive
+    deliver lower settle doRead start blank join cameIn otherFree mayBook setUp tearOne tearDown handle atUnit unit
+    candidate firstOf picked choose answer atActive undo doExecute sendHead sendBy send doWrite sum onWires total
+    meetsTest aheadTest returnsTest backTest fitsTest packetTest belongsTest slotTest entriesTest capacitiesTest
+    placesTest wiresTest wiresEmptyTest choicesTest flagsDownTest pickedDownTest outFlagsTest marksTest freeEntryTest
+    creditsTest outCreditsTest allowancesTest validTest allValid
 valid cs = allValid planT cs (start planT)
 
--- 'Launch (0,0,0) in round 0: booked in round 2, waits at the passive from round 4; isAccepted there, consumed in round
--- 7'
+-- 'Launch (0,0,0) in round 0: booked in round 2, waits at the passive from round 4; isAccepted there, consumed in
+-- round 7'
 pub t-connects : valid (launch 0 0 0 ∷ round ++ round ++ round ++ round ++ (read ∷ execute ∷ reply 0 1 ∷ write ∷ round)
     ++ round ++ (read ∷ execute ∷ consume 0 ∷ write ∷ [])) ≡ true
 unfolding valid

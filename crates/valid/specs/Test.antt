@@ -212,7 +212,8 @@ freeEntryTest pl s = allBelow (R pl) (λ r. allBelow 4 (λ o. anyBelow (S pl) (�
 unfoldable pub creditsTest : Plan → State → Bool
 creditsTest pl s =
     everyQueue pl
-    (λ q. not (fed pl q) || eqb (s .flow .credit q .0 + length (s .lines .queue q) + onWires pl q s + bit (s .flow .flag q)) (capacity (pl .head) q))
+    (λ q. not (fed pl q) || eqb (s .flow .credit q .0 + length (s .lines .queue q) + onWires pl q s
+    + bit (s .flow .flag q)) (capacity (pl .head) q))
 
 unfoldable pub outCreditsTest : Plan → State → Bool
 outCreditsTest pl s = everyQueue pl (λ q. fed pl q || eqb (s .flow .credit q .0) (capacity (pl .head) q))

@@ -1,5 +1,6 @@
 -- Different capacities: each kind of queue is filled to its own, and beyond it a call is refused or the sender waits
--- with credit 0. 'Each active's allowance = the smaller of its two capacities.' One list of calls and one theorem each.
+-- with credit 0. 'Each active's allowance = the smaller of its two capacities.' One list of calls and one theorem
+-- each.
 use mathlib.Core.Path.{_≡_, refl}
 use mathlib.Core.List.{List, [], _∷_, _++_}
 use Prim.Native.Nat.{ℕ}
@@ -8,7 +9,8 @@ use Rattle.packets.specs.declared.Packet.{Packet}
 use Rattle.feeding.specs.Queue.{Queue, activeOut, activeIn, passiveIn, passiveOut, U, Q, F, K}
 use Rattle.machine.specs.State.{State}
 use Rattle.machine.specs.Calls.{Call, read, execute, write, launch, reply, consume}
-use Rattle.machine.specs.Runs.Watch.{round, rounds, inWrite, packet, allowanceIn, countIn, creditIn, flagIn, each, after, moments}
+use Rattle.machine.specs.Runs.Watch.{round, rounds, inWrite, packet, allowanceIn, countIn, creditIn, flagIn}
+use Rattle.machine.specs.Runs.Watch.{each, after, moments}
 use Rattle.plan.specs.Samples.{widerT, narrowThere, narrowBack}
 use Rattle.packets.specs.Answers.{refused, done, taken}
 
@@ -34,8 +36,8 @@ fillThere =
 abbrev pub ahead : List Queue
 ahead = U 0 2 ∷ Q 0 ∷ F 0 0 ∷ passiveIn 0 ∷ []
 
--- the allowances of actives 0 and 1, the packets in their out-queues, then in the four; the credits of the four, and the
--- flag of the last
+-- the allowances of actives 0 and 1, the packets in their out-queues, then in the four; the credits of the four, and
+-- the flag of the last
 abbrev pub there : State → List ℕ
 there s =
     allowanceIn s 0 ∷ allowanceIn s 1 ∷ countIn s (activeOut 0) ∷ countIn s (activeOut 1) ∷ each (countIn s) ahead

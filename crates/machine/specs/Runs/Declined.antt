@@ -1,6 +1,6 @@
--- 'Runs to compare' of document 01: 'S=4, two routers, start 3, second declines: NACK slot 0 hub 1, TDOWN slot 3 hub 1;
--- the second router keeps its entry.' One list of calls and one theorem that evaluates it. Rounds are counted from 0:
--- round n begins with the current slot n modulo 4.
+-- 'Runs to compare' of document 01: 'S=4, two routers, start 3, second declines: NACK slot 0 hub 1, TDOWN slot 3 hub
+-- 1; the second router keeps its entry.' One list of calls and one theorem that evaluates it. Rounds are counted from
+-- 0: round n begins with the current slot n modulo 4.
 use mathlib.Core.Path.{_≡_, refl}
 use mathlib.Core.List.{List, [], _∷_, _++_}
 use Prim.Native.Nat.{ℕ}
@@ -150,8 +150,8 @@ pub second-declines : watch twoRouters bothSides (activeOut 0 ∷ Q 0 ∷ Q 1 �
     -- rounds 15 and 16
     ++ steady both quiet
     ++ steady both quiet
-    -- round 17: the NACK has come, slot 0, hub 1; Execute puts a TDOWN, slot 3, hub 1, into the out-queue and marks the
-    -- NACK, which is consumed
+    -- round 17: the NACK has come, slot 0, hub 1; Execute puts a TDOWN, slot 3, hub 1, into the out-queue and marks
+    -- the NACK, which is consumed
     ++ after done both (inIn nack) ∷ after done both (seen (tdown ∷ []) [] [] (marked ∷ [])) ∷ []
     ++ after (taken marked) both (inOut tdown) ∷ after done both (inOut tdown) ∷ []
     -- round 18: the TDOWN is sent

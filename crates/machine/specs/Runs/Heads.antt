@@ -1,6 +1,6 @@
 -- 'Each unit handles Q's head once, if not yet handled, and no second head in that round; the handled mark goes when
--- that head leaves or ends.' One list of calls and one theorem that evaluates it: a handled set-up that must wait, behind
--- it a TDOWN that ends at this unit, behind it another set-up.
+-- that head leaves or ends.' One list of calls and one theorem that evaluates it: a handled set-up that must wait,
+-- behind it a TDOWN that ends at this unit, behind it another set-up.
 use mathlib.Core.Path.{_≡_, refl}
 use mathlib.Core.List.{List, [], _∷_, _++_}
 use Prim.Native.Nat.{ℕ}

@@ -1,5 +1,5 @@
--- 'Runs to compare' of document 01: 'After that ACK is consumed, launch (0,0,1): last free entry, NACK with hub 0.' One
--- list of calls and one theorem that evaluates it. Plan T; that ACK is the one of the launch in round 0.
+-- 'Runs to compare' of document 01: 'After that ACK is consumed, launch (0,0,1): last free entry, NACK with hub 0.'
+-- One list of calls and one theorem that evaluates it. Plan T; that ACK is the one of the launch in round 0.
 use mathlib.Core.Path.{_≡_, refl}
 use mathlib.Core.List.{List, [], _∷_, _++_}
 use Rattle.packets.specs.declared.Kind.the-variants.{Setup, Nack}

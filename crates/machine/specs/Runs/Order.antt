@@ -12,8 +12,8 @@ use Rattle.machine.specs.Runs.Watch.{round, rounds, packet, entryIn, aft
 use Rattle.plan.specs.Samples.{narrowThere, narrowBack}
 use Rattle.packets.specs.Answers.{done}
 
--- ---- U[1], U[2] and U[3]: three actives launch with slot 5 in round 0, and their set-ups come to the router in round 1.
--- (U[0] before U[1] is seen in Entries.)
+-- ---- U[1], U[2] and U[3]: three actives launch with slot 5 in round 0, and their set-ups come to the router in round
+-- 1. (U[0] before U[1] is seen in Entries.)
 abbrev pub threeLaunch : List (List Call)
 threeLaunch =
     (launch 0 0 5 ∷ launch 1 0 5 ∷ launch 2 0 5 ∷ round ++ read ∷ [])

@@ -22,7 +22,8 @@ use Rattle.feeding.specs.Queue.{Queue, queueAt, queues}
 use Rattle.machine.specs.Outputs.{outputAt}
 use Rattle.machine.specs.State.{State, blank, start, join}
 use Rattle.machine.specs.Read.{arrive, deliver, lower, settle, doRead}
-use Rattle.machine.specs.Execute.{cameIn, otherFree, mayBook, setUp, tearOne, tearDown, handle, atUnit, unit, candidate, firstOf, picked, choose, answer, atActive, undo, doExecute}
+use Rattle.machine.specs.Execute.{cameIn, otherFree, mayBook, setUp, tearOne, tearDown, handle, atUnit, unit}
+use Rattle.machine.specs.Execute.{candidate, firstOf, picked, choose, answer, atActive, undo, doExecute}
 use Rattle.machine.specs.Write.{sendHead, sendBy, send, doWrite}
 use Rattle.machine.specs.Visits.{launched, removed}
 use Rattle.machine.specs.Calls.{Outcome, Call, read, execute, write, call}
@@ -119,7 +120,10 @@ watching pl look qs (cs ∷ more) s =
 -- a run from Start of the plan that the bytes give: what numbers and what queues are looked at, and the calls, up to
 -- each moment at which they are looked at
 unfoldable pub moments : List ℕ → (State → List ℕ) → List Queue → List (List Call) → List After
-unfolding anyBelow allBelow upTo spot bitAt fieldOf capacityAt headOf jointIn planOf portsOf home onward arrives backsArrive servedFrom indexIn indexOn queueAt queues outputAt start blank join arrive deliver lower settle doRead cameIn otherFree mayBook setUp tearOne tearDown handle atUnit unit candidate firstOf picked choose answer atActive undo doExecute sendHead sendBy send doWrite launched removed call
+unfolding anyBelow allBelow upTo spot bitAt fieldOf capacityAt headOf jointIn planOf portsOf home onward arrives
+    backsArrive servedFrom indexIn indexOn queueAt queues outputAt start blank join arrive deliver lower settle doRead
+    cameIn otherFree mayBook setUp tearOne tearDown handle atUnit unit candidate firstOf picked choose answer atActive
+    undo doExecute sendHead sendBy send doWrite launched removed call
 moments b look qs css = let pl : Plan = planOf b in watching pl look qs css (start pl)
 
 -- the same, looked at after each call

@@ -1,5 +1,5 @@
--- A walk of four routers with S=3: the slots that it books go round past 0 more than once, and the ACK's slot minus hub
--- modulo S is the start slot. One list of calls; a theorem that evaluates it, and one for the connection accepted.
+-- A walk of four routers with S=3: the slots that it books go round past 0 more than once, and the ACK's slot minus
+-- hub modulo S is the start slot. One list of calls; a theorem that evaluates it, and one for the connection accepted.
 use mathlib.Core.Path.{_≡_, refl}
 use mathlib.Core.List.{List, [], _∷_, _++_}
 use Prim.Native.Nat.{ℕ}

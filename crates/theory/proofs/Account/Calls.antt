@@ -24,20 +24,24 @@ module _ {pl : Plan} (s : State) (c : Core pl s) where
   unfolding launched join
   launched-paid a p t room =
       paid-alike (join (activeOut a) (setupOf a p t) s) (launched a p t s) refl refl refl refl
-      (join-paid s (paid-of c) (activeOut a) (setupOf a p t) refl (ltb-true (length (s .lines .queue (activeOut a))) (capacity (pl .head) (activeOut a)) room))
+      (join-paid s (paid-of c) (activeOut a) (setupOf a p t) refl
+      (ltb-true (length (s .lines .queue (activeOut a))) (capacity (pl .head) (activeOut a)) room))
 
   -- a passive answers: the head leaves its in-queue and joins its out-queue
   pub replied-paid : (p : ℕ) (k : Kind) (x : Packet) (rest : List Packet) → s .lines .queue (passiveIn p) ≡ x ∷ rest
       → s .flow .flag (passiveIn p) ≡ false → hasRoom pl (passiveOut p) s ≡ true → Paid pl (replied p k (x ∷ rest) s)
   replied-paid p k x rest e down room =
       let same : put sameQueue (s .lines .queue) (passiveIn p) rest (passiveOut p) ≡ s .lines .queue (passiveOut p)
-      = queue-away (s .lines .queue) (passiveIn p) rest (passiveOut p) (fed-apart pl (passiveOut p) (passiveIn p) refl refl) in
+      = queue-away (s .lines .queue) (passiveIn p) rest (passiveOut p)
+      (fed-apart pl (passiveOut p) (passiveIn p) refl refl) in
       let l = ltb-true (length (s .lines .queue (passiveOut p))) (capacity (pl .head) (passiveOut p)) room in
       join-paid (withFlag (passiveIn p) true (withQueue (passiveIn p) rest s))
       (left-paid s (paid-of c) (passiveIn p) x rest refl e down) (passiveOut p) (repliedAs k x) refl (rw same l)
 
   -- an active takes its in-queue's head
-  pub removed-paid : (a : ℕ) (x : Packet) (rest : List Packet) → s .lines .queue (activeIn a) ≡ x ∷ rest → s .flow .flag (activeIn a) ≡ false → Paid pl (removed a rest s)
+  pub removed-paid : (a : ℕ) (x : Packet) (rest : List Packet) → s .lines .queue (activeIn a) ≡ x ∷ rest
+      → s .flow .flag (activeIn a) ≡ false → Paid pl (removed a rest s)
   unfolding removed
   removed-paid a x rest e down =
-      paid-alike (withFlag (activeIn a) true (withQueue (activeIn a) rest s)) (removed a rest s) refl refl refl refl (left-paid s (paid-of c) (activeIn a) x rest refl e down)
+      paid-alike (withFlag (activeIn a) true (withQueue (activeIn a) rest s)) (removed a rest s) refl refl refl refl
+      (left-paid s (paid-of c) (activeIn a) x rest refl e down)

@@ -1,4 +1,5 @@
--- EXECUTE keeps the credits' part of the core: a TDOWN that ends leaves room and a raised flag, and a tear-down joins an out-queue with room.
+-- EXECUTE keeps the credits' part of the core: a TDOWN that ends leaves room and a raised flag, and a tear-down joins
+-- an out-queue with room.
 use mathlib.Core.Path.{_≡_, refl}
 use mathlib.Core.Bool.{true, false}
 use mathlib.Core.List.{List, _∷_}
@@ -21,8 +22,10 @@ use Rattle.theory.proofs.Account.Units.{unit-by, undo-by}
 
 module _ {pl : Plan} (s : State) (c : Core pl s) where
   -- ---- a unit: Q's head changes, or ends; the table may change
-  handled-paid : (r : ℕ) (x y : Packet) (rest : List Packet) → s .lines .queue (Q r) ≡ x ∷ rest → Paid pl (handledAs r y rest s)
-  handled-paid r x y rest e = paid-alike (withQueue (Q r) (y ∷ rest) s) (handledAs r y rest s) refl refl refl refl (head-paid s (paid-of c) (Q r) x y rest refl e)
+  handled-paid : (r : ℕ) (x y : Packet) (rest : List Packet) → s .lines .queue (Q r) ≡ x ∷ rest
+      → Paid pl (handledAs r y rest s)
+  handled-paid r x y rest e = paid-alike (withQueue (Q r) (y ∷ rest) s) (handledAs r y rest s) refl refl refl refl
+      (head-paid s (paid-of c) (Q r) x y rest refl e)
 
   entry-paid : (t : State) (r o k : ℕ) (e : Entry) → Paid pl t → Paid pl (withEntry r o k e t)
   entry-paid t r o k e p = paid-alike t (withEntry r o k e t) refl refl refl refl p
@@ -32,7 +35,8 @@ module _ {pl : Plan} (s : State) (c : Core pl s) where
   unit-paid r down =
       unit-by pl s (Paid pl) r (paid-of c) (λ x y rest e m. handled-paid r x y rest e)
       (λ x y rest o t b e m. entry-paid (handledAs r y rest s) r o t b (handled-paid r x y rest e))
-      (λ x rest o t b e m. entry-paid (withFlag (Q r) true (withQueue (Q r) rest s)) r o t b (left-paid s (paid-of c) (Q r) x rest refl e down))
+      (λ x rest o t b e m. entry-paid (withFlag (Q r) true (withQueue (Q r) rest s)) r o t b
+      (left-paid s (paid-of c) (Q r) x rest refl e down))
 
   -- an output picks
   pub choose-paid : (o : Output) → Paid pl (choose pl o s)
@@ -40,17 +44,21 @@ module _ {pl : Plan} (s : State) (c : Core pl s) where
   choose-paid o = paid-alike s (choose pl o s) refl refl refl refl (paid-of c)
 
   -- ---- an active tears down: the in-queue's head changes, and a packet joins the out-queue
-  answered-paid : (a : ℕ) (x y z : Packet) (rest : List Packet) → s .lines .queue (activeIn a) ≡ x ∷ rest → hasRoom pl (activeOut a) s ≡ true
-      → Paid pl (join (activeOut a) z (withQueue (activeIn a) (y ∷ rest) s))
+  answered-paid : (a : ℕ) (x y z : Packet) (rest : List Packet) → s .lines .queue (activeIn a) ≡ x ∷ rest
+      → hasRoom pl (activeOut a) s ≡ true → Paid pl (join (activeOut a) z (withQueue (activeIn a) (y ∷ rest) s))
   answered-paid a x y z rest e room =
-      let same : put sameQueue (s .lines .queue) (activeIn a) (y ∷ rest) (activeOut a) ≡ s .lines .queue (activeOut a) =
-      queue-away (s .lines .queue) (activeIn a) (y ∷ rest) (activeOut a) (fed-apart pl (activeOut a) (activeIn a) refl refl) in
+      let same : put sameQueue (s .lines .queue) (activeIn a) (y ∷ rest) (activeOut a)
+      ≡ s .lines .queue (activeOut a) =
+      queue-away (s .lines .queue) (activeIn a) (y ∷ rest) (activeOut a)
+      (fed-apart pl (activeOut a) (activeIn a) refl refl) in
       let l = ltb-true (length (s .lines .queue (activeOut a))) (capacity (pl .head) (activeOut a)) room in
-      join-paid (withQueue (activeIn a) (y ∷ rest) s) (head-paid s (paid-of c) (activeIn a) x y rest refl e) (activeOut a) z refl (rw same l)
+      join-paid (withQueue (activeIn a) (y ∷ rest) s) (head-paid s (paid-of c) (activeIn a) x y rest refl e)
+      (activeOut a) z refl (rw same l)
 
   -- an active undoes what was declined
   pub undo-paid : (a : ℕ) → Paid pl (undo pl a s)
   undo-paid a =
       undo-by pl s (Paid pl) a (paid-of c)
-      (λ x rest e u room. paid-alike (join (activeOut a) (tdownOf (S pl) x) (withQueue (activeIn a) (marked x ∷ rest) s)) (torn pl a x rest s) refl refl refl refl
+      (λ x rest e u room. paid-alike (join (activeOut a) (tdownOf (S pl) x)
+      (withQueue (activeIn a) (marked x ∷ rest) s)) (torn pl a x rest s) refl refl refl refl
       (answered-paid a x (marked x) (tdownOf (S pl) x) rest e room))

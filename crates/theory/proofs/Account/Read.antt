@@ -1,4 +1,5 @@
--- READ keeps the credits' part of the core: a packet that joins its queue leaves its wire, and a flag that is lowered becomes a credit.
+-- READ keeps the credits' part of the core: a packet that joins its queue leaves its wire, and a flag that is lowered
+-- becomes a credit.
 use mathlib.Core.Path.{_≡_, refl, sym, ap, subst, _∙_}
 use mathlib.Core.Logic.{_⊎_, inl, inr}
 use mathlib.Core.Bool.{Bool, true, false}
@@ -26,10 +27,11 @@ use Rattle.theory.proofs.Ground.Cells.{queue-away, same-turn, cell-sum,
 use Rattle.theory.proofs.Account.Paid.{Paid, SameAccounts, Spared, paid-by, paid-of, next-fed, out-put}
 
 module _ {pl : Plan} (wired : Wired pl) where
-  joined-paid : (o : Output) (x : Packet) (n : Queue) (s : State) → Drives pl o → Paid pl s → s .links .wire o ≡ Full x → nextBy pl o x ≡ some n
-      → Paid pl (arrived n x (withWire o Empty s))
+  joined-paid : (o : Output) (x : Packet) (n : Queue) (s : State) → Drives pl o → Paid pl s → s .links .wire o ≡ Full x
+      → nextBy pl o x ≡ some n → Paid pl (arrived n x (withWire o Empty s))
   unfolding join account onWires
-  joined-paid o x n s d c e g = paid-by s (arrived n x (withWire o Empty s)) c kept (λ q f. (refl, refl)) (out-put s c n (s .lines .queue n ++ (x ∷ [])) (λ f. absurd (not-both wire-fed f)))
+  joined-paid o x n s d c e g = paid-by s (arrived n x (withWire o Empty s)) c kept (λ q f. (refl, refl))
+      (out-put s c n (s .lines .queue n ++ (x ∷ [])) (λ f. absurd (not-both wire-fed f)))
     where
       wire-fed : fed pl n ≡ true
       wire-fed = next-fed wired o x n d g
@@ -37,8 +39,10 @@ module _ {pl : Plan} (wired : Wired pl) where
       kept : SameAccounts pl s (arrived n x (withWire o Empty s))
       kept q f =
           let wire = outputs-put pl (brings pl q) (s .links .wire) o Empty d in
-          let was : brings pl q o (s .links .wire o) ≡ bit (sameQueue q n) = ap (brings pl q o) e ∙ ap (goesTo q) g ∙ ap bit (same-turn n q) in
-          let queue = cell-sum length (s .lines .queue) n (s .lines .queue n ++ (x ∷ [])) 1 0 (rw length-append (omega arith)) q in
+          let was : brings pl q o (s .links .wire o) ≡ bit (sameQueue q n) = ap (brings pl q o) e ∙ ap (goesTo q) g
+          ∙ ap bit (same-turn n q) in
+          let queue = cell-sum length (s .lines .queue) n (s .lines .queue n ++ (x ∷ [])) 1 0
+          (rw length-append (omega arith)) q in
           omega arith
 
   -- a wire's packet joins its queue
@@ -50,7 +54,8 @@ module _ {pl : Plan} (wired : Wired pl) where
       by Empty e = paid-of c
       by (Full x) e =
           let g = c .wires o d x e in
-          subst (λ (y : Option Queue). Paid pl (joinNext y x (withWire o Empty s))) (sym (g .next)) (joined-paid o x (g .queue) s d (paid-of c) e (g .next))
+          subst (λ (y : Option Queue). Paid pl (joinNext y x (withWire o Empty s))) (sym (g .next))
+          (joined-paid o x (g .queue) s d (paid-of c) e (g .next))
 
 -- a raised flag is a credit
 pub settle-paid : {pl : Plan} (p : Queue) (s : State) → Exists pl p → Core pl s → Paid pl (settle p s)
@@ -67,11 +72,14 @@ settle-paid {pl} p s h c = by (s .flow .flag p) refl
       where
         kept : SameAccounts pl s (lower p true s)
         kept q f =
-            let credit = cell-sum (λ (x : Credit). x .0) (s .flow .credit) p (creditUp (s .flow .credit p)) 1 0 (omega arith) q in
+            let credit = cell-sum (λ (x : Credit). x .0) (s .flow .credit) p (creditUp (s .flow .credit p)) 1 0
+            (omega arith) q in
             let flag = cell-sum bit (s .flow .flag) p false 0 1 (rw e (omega arith)) q in
             omega arith
 
         spared : Spared pl s (lower p true s)
         spared q f =
-            let ne = fed-apart pl q p f (flagged e (test (fed pl p))) in
-            (queue-away (s .flow .credit) p (creditUp (s .flow .credit p)) q ne, queue-away (s .flow .flag) p false q ne)
+            let ne = fed-apart pl q p f (flagged e (test (fed pl p))) in (
+              queue-away (s .flow .credit) p (creditUp (s .flow .credit p)) q ne,
+              queue-away (s .flow .flag) p false q ne,
+            )

@@ -1,4 +1,5 @@
--- Sums over the numbers below n: of equal terms, of terms that differ at one number, of nothing; one and two of the terms.
+-- Sums over the numbers below n: of equal terms, of terms that differ at one number, of nothing; one and two of the
+-- terms.
 use mathlib.Core.Path.{_≡_, refl, ap, ap₂, sym, _∙_}
 use mathlib.Core.Logic.{_⊎_, inl, inr, _≢_}
 use Prim.Native.Nat.{ℕ, zero, suc, _+_, _<_, _≤_}
@@ -21,7 +22,11 @@ sum-but (suc n) k f g h e = by (λ l. sum-but n k f g l (λ i m ne. e i (omega a
   where
     by : (k < n → sum n f + g k ≡ sum n g + f k) → (k < n) ⊎ (k ≡ n) → sum n f + f n + g k ≡ sum n g + g n + f k
     by rec (inl l) = let a = rec l in let b = e n (omega arith) (λ q. omega arith) in omega arith
-    by rec (inr q) = let a = sum-same n f g (λ i m. e i (omega arith) (λ p. omega arith)) in let b = ap f q in let c = ap g q in omega arith
+    by rec (inr q) =
+        let a = sum-same n f g (λ i m. e i (omega arith) (λ p. omega arith)) in
+        let b = ap f q in
+        let c = ap g q in
+        omega arith
 
 -- A sum of noughts is nought.
 pub sum-nought : (n : ℕ) (f : ℕ → ℕ) → ((i : ℕ) → i < n → f i ≡ 0) → sum n f ≡ 0

@@ -1,4 +1,5 @@
--- Launch, Reply and Consume keep the places: a SETUP belongs in its active's out-queue, an answer in its passive's, and what is consumed goes.
+-- Launch, Reply and Consume keep the places: a SETUP belongs in its active's out-queue, an answer in its passive's,
+-- and what is consumed goes.
 use mathlib.Core.Path.{_≡_, refl}
 use mathlib.Core.Logic.{_⊎_}
 use mathlib.Core.Bool.{true, false}
@@ -22,24 +23,31 @@ use Rattle.theory.proofs.Kept.Parts.{Kept, flag-kept, allowance-kept}
 use Rattle.theory.proofs.Kept.Lines.{head-belongs, join-kept, gone-kept}
 
 -- the head of an in-queue is taken, and its flag rises
-pub taken-kept : (pl : Plan) (q : Queue) (x : Packet) (rest : List Packet) (s : State) → Exists pl q → isUnit q ≡ false → s .lines .queue q ≡ x ∷ rest → Kept pl s → Kept pl (withFlag q true (withQueue q rest s))
+pub taken-kept : (pl : Plan) (q : Queue) (x : Packet) (rest : List Packet) (s : State) → Exists pl q → isUnit q ≡ false
+    → s .lines .queue q ≡ x ∷ rest → Kept pl s → Kept pl (withFlag q true (withQueue q rest s))
 taken-kept pl q x rest s h n e k = flag-kept (gone-kept k q x rest h e (no-mark pl s (k .marks) q h n)) q true h
 
 module _ {pl : Plan} (wired : Wired pl) (range : InRange (pl .head)) where
   -- Launch: a SETUP joins its active's out-queue
-  pub launched-kept : (a p t : ℕ) (s : State) → a < A pl → p < P pl → t < S pl → Served pl a p → Kept pl s → Kept pl (launched a p t s)
+  pub launched-kept : (a p t : ℕ) (s : State) → a < A pl → p < P pl → t < S pl → Served pl a p → Kept pl s
+      → Kept pl (launched a p t s)
   unfolding launched
   launched-kept a p t s ha hp ht served k =
-      allowance-kept (join-kept k (activeOut a) (setupOf a p t) ha (setup-belongs wired range a p t ha hp ht served)) a (s .flow .allowance a - 1) ha
+      allowance-kept (join-kept k (activeOut a) (setupOf a p t) ha (setup-belongs wired range a p t ha hp ht served)) a
+      (s .flow .allowance a - 1) ha
 
   -- Reply: the head of a passive's in-queue becomes an answer in its out-queue
   pub replied-kept : (p : ℕ) (kind : Kind) (x : Packet) (rest : List Packet) (s : State) → p < P pl
-      → (kind ≡ Ack) ⊎ (kind ≡ Nack) → s .lines .queue (passiveIn p) ≡ x ∷ rest → Kept pl s → Kept pl (replied p kind (x ∷ rest) s)
+      → (kind ≡ Ack) ⊎ (kind ≡ Nack) → s .lines .queue (passiveIn p) ≡ x ∷ rest → Kept pl s
+      → Kept pl (replied p kind (x ∷ rest) s)
   replied-kept p kind x rest s hp answer e k =
       join-kept (taken-kept pl (passiveIn p) x rest s hp refl e k) (passiveOut p) (repliedAs kind x) hp
-      (replied-belongs wired range x (inQueue (passiveIn p)) (head-belongs k (passiveIn p) x rest hp e) p kind refl answer)
+      (replied-belongs wired range x (inQueue (passiveIn p)) (head-belongs k (passiveIn p) x rest hp e) p kind refl
+      answer)
 
   -- Consume: the head of an active's in-queue goes
-  pub removed-kept : (a : ℕ) (x : Packet) (rest : List Packet) (s : State) → a < A pl → s .lines .queue (activeIn a) ≡ x ∷ rest → Kept pl s → Kept pl (removed a rest s)
+  pub removed-kept : (a : ℕ) (x : Packet) (rest : List Packet) (s : State) → a < A pl
+      → s .lines .queue (activeIn a) ≡ x ∷ rest → Kept pl s → Kept pl (removed a rest s)
   unfolding removed
-  removed-kept a x rest s ha e k = allowance-kept (taken-kept pl (activeIn a) x rest s ha refl e k) a (s .flow .allowance a + 1) ha
+  removed-kept a x rest s ha e k =
+      allowance-kept (taken-kept pl (activeIn a) x rest s ha refl e k) a (s .flow .allowance a + 1) ha

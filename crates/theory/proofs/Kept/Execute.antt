@@ -1,5 +1,5 @@
--- EXECUTE keeps the places: a unit's head, handled, belongs there, and the table keeps a free entry a side; an active's NACK and its TDOWN belong
--- in the active's queues.
+-- EXECUTE keeps the places: a unit's head, handled, belongs there, and the table keeps a free entry a side; an
+-- active's NACK and its TDOWN belong in the active's queues.
 use mathlib.Core.Path.{_≡_, refl, sym, _∙_}
 use mathlib.Core.Logic.{_≢_}
 use mathlib.Core.Bool.{Bool, true, false, not, _&&_, false≢true, and-eq-true-iff}
@@ -23,14 +23,17 @@ use Rattle.wiring.specs.Wired.{Wired}
 use Rattle.machine.specs.Store.{put-here, put-away}
 use Rattle.machine.specs.Outputs.{senders}
 use Rattle.machine.specs.State.{State, Choice, sender, nobody, blank, withEntry, isFree}
-use Rattle.machine.specs.Execute.{cameIn, declined, booked, freed, otherFree, mayBook, handledAs, setUp, tearOne, tearDown, handle, atUnit, unit, candidate, isOpen, firstOf, picked, choose, unmarked, marked, tdownOf, hasRoom, answer, atActive, undo}
+use Rattle.machine.specs.Execute.{cameIn, declined, booked, freed, otherFree, mayBook, handledAs, setUp, tearOne}
+use Rattle.machine.specs.Execute.{tearDown, handle, atUnit, unit, candidate, isOpen, firstOf, picked, choose, unmarked}
+use Rattle.machine.specs.Execute.{marked, tdownOf, hasRoom, answer, atActive, undo}
 use Rattle.machine.specs.Write.{ofRank}
 use Rattle.machine.specs.Valid.{Belongs, Drives, Bounded}
 use Rattle.machine.proofs.Apart.{booked-not, booked-same}
 use Rattle.theory.proofs.Ground.Puts.{number-one}
 use Rattle.theory.proofs.Places.Feeders.{sender-leaves}
 use Rattle.theory.proofs.Places.Lines.{head-some, output-drives}
-use Rattle.theory.proofs.Places.Makes.{side-out, side-in, booked-belongs, declined-belongs, freed-belongs, marked-belongs, tdown-belongs}
+use Rattle.theory.proofs.Places.Makes.{side-out, side-in, booked-belongs, declined-belongs, freed-belongs}
+use Rattle.theory.proofs.Places.Makes.{marked-belongs, tdown-belongs}
 use Rattle.theory.proofs.Cases.{unmarked-kind}
 use Rattle.theory.proofs.Kept.Parts.{Kept, choice-kept, flag-kept, entry-kept}
 use Rattle.theory.proofs.Kept.Lines.{head-belongs, behind-belong, line-kept, mark-kept, join-kept, gone-kept}
@@ -42,9 +45,11 @@ free-of Free t = refl
 free-of (Booked i) t = absurd (false≢true t)
 
 -- an entry that may be booked leaves its side another free one
-pub other-free : (slots : ℕ) (entries : ℕ → Entry) (t : ℕ) → mayBook slots entries t ≡ true → (u : ℕ) × (u < slots) × (u ≢ t) × (entries u ≡ Free)
+pub other-free : (slots : ℕ) (entries : ℕ → Entry) (t : ℕ) → mayBook slots entries t ≡ true
+    → (u : ℕ) × (u < slots) × (u ≢ t) × (entries u ≡ Free)
 unfolding mayBook otherFree
-other-free slots entries t m = by (any-true slots (λ u. not (eqb u t) && isFree (entries u)) (and-eq-true-iff (isFree (entries t)) (otherFree slots entries t) .0 m .1))
+other-free slots entries t m = by (any-true slots (λ u. not (eqb u t) && isFree (entries u))
+    (and-eq-true-iff (isFree (entries t)) (otherFree slots entries t) .0 m .1))
   where
     by : Found slots (λ u. not (eqb u t) && isFree (entries u)) → (u : ℕ) × (u < slots) × (u ≢ t) × (entries u ≡ Free)
     by (u, h, e) =
@@ -65,7 +70,8 @@ picks-nobody pl s b o out = by (picked pl s o) refl
 
 module _ {pl : Plan} (wired : Wired pl) (range : InRange (pl .head)) where
   -- ---- a unit's unhandled head x
-  module _ (r : ℕ) (hr : r < R pl) (s : State) (k : Kept pl s) (x : Packet) (rest : List Packet) (e : s .lines .queue (Q r) ≡ x ∷ rest) (f : s .lines .handled (Q r) ≡ false) where
+  module _ (r : ℕ) (hr : r < R pl) (s : State) (k : Kept pl s) (x : Packet) (rest : List Packet)
+      (e : s .lines .queue (Q r) ≡ x ∷ rest) (f : s .lines .handled (Q r) ≡ false) where
     abbrev side : ℕ
     side = routeTo pl (passive (x .passive)) r
 
@@ -78,17 +84,23 @@ module _ {pl : Plan} (wired : Wired pl) (range : InRange (pl .head)) where
 
     -- it is handled as y, perhaps with an entry changed
     handled-as : {t : State} → Kept pl t → (y : Packet) → Belongs pl (handledAt r) y → Kept pl (handledAs r y rest t)
-    handled-as kt y b = mark-kept kt (Q r) true (y ∷ rest) hr (b, behind-belong k (Q r) x rest hr e) (λ d. (r, refl, head-some y rest))
+    handled-as kt y b =
+        mark-kept kt (Q r) true (y ∷ rest) hr (b, behind-belong k (Q r) x rest hr e) (λ d. (r, refl, head-some y rest))
 
-    set-up : (m : Bool) → mayBook (S pl) (s .table r side) (x .slot .0) ≡ m → x .kind ≡ Setup → Kept pl (setUp pl r side x rest m s)
+    set-up : (m : Bool) → mayBook (S pl) (s .table r side) (x .slot .0) ≡ m → x .kind ≡ Setup
+        → Kept pl (setUp pl r side x rest m s)
     unfolding setUp
-    set-up true m q = handled-as (by (other-free (S pl) (s .table r side) (x .slot .0) m)) (booked (S pl) x) (booked-belongs wired range x (inQueue (Q r)) here r refl q)
+    set-up true m q = handled-as (by (other-free (S pl) (s .table r side) (x .slot .0) m)) (booked (S pl) x)
+        (booked-belongs wired range x (inQueue (Q r)) here r refl q)
       where
-        by : (u : ℕ) × (u < S pl) × (u ≢ x .slot .0) × (s .table r side u ≡ Free) → Kept pl (withEntry r side (x .slot .0) (Booked (cameIn pl (x .active) (x .passive) r)) s)
+        by : (u : ℕ) × (u < S pl) × (u ≢ x .slot .0) × (s .table r side u ≡ Free)
+            → Kept pl (withEntry r side (x .slot .0) (Booked (cameIn pl (x .active) (x .passive) r)) s)
         by (u, hu, ne, free) =
-            entry-kept k r side (x .slot .0) (Booked (cameIn pl (x .active) (x .passive) r)) hr out (here .ranges .slot)
+            entry-kept k r side (x .slot .0) (Booked (cameIn pl (x .active) (x .passive) r)) hr out
+            (here .ranges .slot)
             (λ j c. rw (← booked-same c) (side-in wired range x (inQueue (Q r)) here r refl)) u hu
-            (put-away eqb number-one eqb-true (s .table r side) (x .slot .0) (Booked (cameIn pl (x .active) (x .passive) r)) u ne ∙ free)
+            (put-away eqb number-one eqb-true (s .table r side) (x .slot .0)
+            (Booked (cameIn pl (x .active) (x .passive) r)) u ne ∙ free)
     set-up false m q = handled-as k (declined x) (declined-belongs wired range x (inQueue (Q r)) here r refl q)
 
     tear-down : x .kind ≡ Tdown → Kept pl (tearDown pl r side x rest s)
@@ -97,12 +109,15 @@ module _ {pl : Plan} (wired : Wired pl) (range : InRange (pl .head)) where
       where
         entry : Kept pl (withEntry r side (x .slot .0) Free s)
         entry =
-            entry-kept k r side (x .slot .0) Free hr out (here .ranges .slot) (λ j c. absurd (booked-not c)) (x .slot .0) (here .ranges .slot)
+            entry-kept k r side (x .slot .0) Free hr out (here .ranges .slot) (λ j c. absurd (booked-not c))
+            (x .slot .0) (here .ranges .slot)
             (put-here eqb number-one eqb-true (s .table r side) (x .slot .0) Free)
 
-        by : (one : Bool) → eqb (x .hub .0) 1 ≡ one → Kept pl (tearOne pl r x rest one (withEntry r side (x .slot .0) Free s))
+        by : (one : Bool) → eqb (x .hub .0) 1 ≡ one
+            → Kept pl (tearOne pl r x rest one (withEntry r side (x .slot .0) Free s))
         by true o = flag-kept (gone-kept entry (Q r) x rest hr e f) (Q r) true hr
-        by false o = handled-as entry (freed (S pl) x) (freed-belongs wired range x (inQueue (Q r)) here r refl q (eqb-false (x .hub .0) 1 o))
+        by false o = handled-as entry (freed (S pl) x)
+            (freed-belongs wired range x (inQueue (Q r)) here r refl q (eqb-false (x .hub .0) 1 o))
 
     handled : (kind : Kind) → x .kind ≡ kind → Kept pl (handle pl r side kind x rest s)
     unfolding handle
@@ -116,7 +131,8 @@ module _ {pl : Plan} (wired : Wired pl) (range : InRange (pl .head)) where
   unfolding unit atUnit
   unit-kept r s hr k = by (s .lines .queue (Q r)) refl (s .lines .handled (Q r)) refl
     where
-      by : (l : List Packet) → s .lines .queue (Q r) ≡ l → (done : Bool) → s .lines .handled (Q r) ≡ done → Kept pl (atUnit pl r l done s)
+      by : (l : List Packet) → s .lines .queue (Q r) ≡ l → (done : Bool) → s .lines .handled (Q r) ≡ done
+          → Kept pl (atUnit pl r l done s)
       by [] e done f = k
       by (x ∷ rest) e true f = k
       by (x ∷ rest) e false f = handled r hr s k x rest e f (x .kind) refl
@@ -131,13 +147,18 @@ module _ {pl : Plan} (wired : Wired pl) (range : InRange (pl .head)) where
   unfolding undo atActive answer
   undo-kept a s ha k = by (s .lines .queue (activeIn a)) refl
     where
-      answered : (x : Packet) (rest : List Packet) → s .lines .queue (activeIn a) ≡ x ∷ rest → (t : Bool) → (unmarked x && hasRoom pl (activeOut a) s) ≡ t → Kept pl (answer pl a x rest t s)
+      answered : (x : Packet) (rest : List Packet) → s .lines .queue (activeIn a) ≡ x ∷ rest → (t : Bool)
+          → (unmarked x && hasRoom pl (activeOut a) s) ≡ t → Kept pl (answer pl a x rest t s)
       answered x rest e true t =
-          let nack = unmarked-kind (x .kind) (x .hub .0) (and-eq-true-iff (unmarked x) (hasRoom pl (activeOut a) s) .0 t .0) in
+          let nack =
+          unmarked-kind (x .kind) (x .hub .0) (and-eq-true-iff (unmarked x) (hasRoom pl (activeOut a) s) .0 t .0) in
           let here : Belongs pl (inQueue (activeIn a)) x = head-belongs k (activeIn a) x rest ha e in
-          let mark : Belongs pl (inQueue (activeIn a)) (marked x) = marked-belongs wired range x (inQueue (activeIn a)) here a refl (nack .0) in
-          join-kept (line-kept k (activeIn a) (marked x ∷ rest) ha (mark, behind-belong k (activeIn a) x rest ha e) (λ d. head-some (marked x) rest))
-          (activeOut a) (tdownOf (S pl) x) ha (tdown-belongs wired range x (inQueue (activeIn a)) here a refl (nack .1))
+          let mark : Belongs pl (inQueue (activeIn a)) (marked x) =
+          marked-belongs wired range x (inQueue (activeIn a)) here a refl (nack .0) in
+          join-kept (line-kept k (activeIn a) (marked x ∷ rest) ha (mark, behind-belong k (activeIn a) x rest ha e)
+          (λ d. head-some (marked x) rest))
+          (activeOut a) (tdownOf (S pl) x) ha
+          (tdown-belongs wired range x (inQueue (activeIn a)) here a refl (nack .1))
       answered x rest e false t = k
 
       by : (l : List Packet) → s .lines .queue (activeIn a) ≡ l → Kept pl (atActive pl a l s)

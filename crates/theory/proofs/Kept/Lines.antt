@@ -1,4 +1,5 @@
--- Kept by a change of one queue's line: another line that fits, with its mark or without, a packet that joins, a head that goes.
+-- Kept by a change of one queue's line: another line that fits, with its mark or without, a packet that joins, a head
+-- that goes.
 use mathlib.Core.Path.{_≡_}
 use mathlib.Core.Logic.{_≢_}
 use mathlib.Core.Bool.{Bool, true, false}
@@ -23,38 +24,53 @@ module _ {pl : Plan} {s : State} (k : Kept pl s) where
 
   -- ---- where the packets of a line belong
   -- its head where the mark says
-  pub head-belongs : (q : Queue) (x : Packet) (rest : List Packet) → Exists pl q → s .lines .queue q ≡ x ∷ rest → Belongs pl (headPlace (s .lines .handled q) q) x
+  pub head-belongs : (q : Queue) (x : Packet) (rest : List Packet) → Exists pl q → s .lines .queue q ≡ x ∷ rest
+      → Belongs pl (headPlace (s .lines .handled q) q) x
   head-belongs q x rest h e = let l : Lined pl q (s .lines .handled q) (x ∷ rest) = rw e at (k .places q h) in l .0
 
   -- those behind it in the queue
-  pub behind-belong : (q : Queue) (x : Packet) (rest : List Packet) → Exists pl q → s .lines .queue q ≡ x ∷ rest → (y : Packet) → In y rest → Belongs pl (inQueue q) y
+  pub behind-belong : (q : Queue) (x : Packet) (rest : List Packet) → Exists pl q → s .lines .queue q ≡ x ∷ rest
+      → (y : Packet) → In y rest → Belongs pl (inQueue q) y
   behind-belong q x rest h e = let l : Lined pl q (s .lines .handled q) (x ∷ rest) = rw e at (k .places q h) in l .1
 
   -- ---- changes
   -- a line replaced by one that fits, where a marked queue does not become empty
-  pub line-kept : (q : Queue) (l : List Packet) → Exists pl q → Lined pl q (s .lines .handled q) l → (s .lines .handled q ≡ true → l ≢ []) → Kept pl (withQueue q l s)
+  pub line-kept : (q : Queue) (l : List Packet) → Exists pl q → Lined pl q (s .lines .handled q) l
+      → (s .lines .handled q ≡ true → l ≢ []) → Kept pl (withQueue q l s)
   line-kept q l h f n =
-      lines-kept k (withQueue q l s .lines) (put-cases sameQueue queue-same same-queue (λ (x : Queue) (v : List Packet). Exists pl x → Lined pl x (s .lines .handled x) v) (s .lines .queue) q l (λ e. f) (λ x ne. k .places x))
-      (put-cases sameQueue queue-same same-queue (λ (x : Queue) (v : List Packet). Exists pl x → s .lines .handled x ≡ true → (r : ℕ) × (x ≡ Q r) × (v ≢ [])) (s .lines .queue) q l
+      lines-kept k (withQueue q l s .lines) (put-cases sameQueue queue-same same-queue
+      (λ (x : Queue) (v : List Packet). Exists pl x → Lined pl x (s .lines .handled x) v) (s .lines .queue) q l
+      (λ e. f) (λ x ne. k .places x))
+      (put-cases sameQueue queue-same same-queue (λ (x : Queue) (v : List Packet). Exists pl x → s .lines .handled x
+      ≡ true → (r : ℕ) × (x ≡ Q r) × (v ≢ [])) (s .lines .queue) q l
       (λ e t. let m = k .marks q e t in (m .0, m .1, n t)) (λ x ne. k .marks x))
-      (put-outside sameQueue queue-same same-queue (Exists pl) (s .lines .queue) (blank pl .lines .queue) q l h (b .queue)) (b .handled)
+      (put-outside sameQueue queue-same same-queue (Exists pl) (s .lines .queue) (blank pl .lines .queue) q l h
+      (b .queue)) (b .handled)
 
   -- the line and the mark of a queue replaced together
-  pub mark-kept : (q : Queue) (done : Bool) (l : List Packet) → Exists pl q → Lined pl q done l → (done ≡ true → (r : ℕ) × (q ≡ Q r) × (l ≢ [])) → Kept pl (withHandled q done (withQueue q l s))
+  pub mark-kept : (q : Queue) (done : Bool) (l : List Packet) → Exists pl q → Lined pl q done l
+      → (done ≡ true → (r : ℕ) × (q ≡ Q r) × (l ≢ [])) → Kept pl (withHandled q done (withQueue q l s))
   mark-kept q done l h f n =
       lines-kept k (withHandled q done (withQueue q l s) .lines)
-      (put-both sameQueue queue-same same-queue (λ (x : Queue) (d : Bool) (v : List Packet). Exists pl x → Lined pl x d v) (s .lines .handled) (s .lines .queue) q done l (λ e. f) (λ x ne. k .places x))
-      (put-both sameQueue queue-same same-queue (λ (x : Queue) (d : Bool) (v : List Packet). Exists pl x → d ≡ true → (r : ℕ) × (x ≡ Q r) × (v ≢ [])) (s .lines .handled) (s .lines .queue) q done l
+      (put-both sameQueue queue-same same-queue (λ (x : Queue) (d : Bool) (v : List Packet). Exists pl x
+      → Lined pl x d v) (s .lines .handled) (s .lines .queue) q done l (λ e. f) (λ x ne. k .places x))
+      (put-both sameQueue queue-same same-queue (λ (x : Queue) (d : Bool) (v : List Packet). Exists pl x → d ≡ true
+      → (r : ℕ) × (x ≡ Q r) × (v ≢ [])) (s .lines .handled) (s .lines .queue) q done l
       (λ e. n) (λ x ne. k .marks x))
-      (put-outside sameQueue queue-same same-queue (Exists pl) (s .lines .queue) (blank pl .lines .queue) q l h (b .queue))
-      (put-outside sameQueue queue-same same-queue (Exists pl) (s .lines .handled) (blank pl .lines .handled) q done h (b .handled))
+      (put-outside sameQueue queue-same same-queue (Exists pl) (s .lines .queue) (blank pl .lines .queue) q l h
+      (b .queue))
+      (put-outside sameQueue queue-same same-queue (Exists pl) (s .lines .handled) (blank pl .lines .handled) q done h
+      (b .handled))
 
   -- a packet joins the queue in which it belongs
   pub join-kept : (q : Queue) (x : Packet) → Exists pl q → Belongs pl (inQueue q) x → Kept pl (join q x s)
   unfolding join
   join-kept q x h f =
-      line-kept q (s .lines .queue q ++ (x ∷ [])) h (line-joined pl q (s .lines .handled q) (s .lines .queue q) x (empty-mark pl s (k .marks) q h) f (k .places q h)) (λ t. joined-some (s .lines .queue q) x)
+      line-kept q (s .lines .queue q ++ (x ∷ [])) h (line-joined pl q (s .lines .handled q) (s .lines .queue q) x
+      (empty-mark pl s (k .marks) q h) f (k .places q h)) (λ t. joined-some (s .lines .queue q) x)
 
   -- an unhandled head goes
-  pub gone-kept : (q : Queue) (x : Packet) (rest : List Packet) → Exists pl q → s .lines .queue q ≡ x ∷ rest → s .lines .handled q ≡ false → Kept pl (withQueue q rest s)
-  gone-kept q x rest h e f = line-kept q rest h (rw f (line-of pl q rest (behind-belong q x rest h e))) (λ t. absurd (not-both t f))
+  pub gone-kept : (q : Queue) (x : Packet) (rest : List Packet) → Exists pl q → s .lines .queue q ≡ x ∷ rest
+      → s .lines .handled q ≡ false → Kept pl (withQueue q rest s)
+  gone-kept q x rest h e f =
+      line-kept q rest h (rw f (line-of pl q rest (behind-belong q x rest h e))) (λ t. absurd (not-both t f))

@@ -1,5 +1,5 @@
--- The core's parts that speak of places: slot, entries, packets, marks, one free entry a side, and nothing outside the plan. Start has them, and a
--- change of one part of a state keeps them under its condition.
+-- The core's parts that speak of places: slot, entries, packets, marks, one free entry a side, and nothing outside the
+-- plan. Start has them, and a change of one part of a state keeps them under its condition.
 use mathlib.Core.Path.{_≡_, refl}
 use mathlib.Core.Bool.{Bool, true, false≢true}
 use mathlib.Core.List.{List, []}
@@ -21,7 +21,8 @@ use Rattle.plan.specs.Plan.{Plan, R, A, S}
 use Rattle.feeding.specs.Queue.{Queue, Exists, Q}
 use Rattle.feeding.specs.Feeds.{Output}
 use Rattle.machine.specs.Store.{put, sameQueue, same-queue, queue-same, sameOutput, same-output, output-same}
-use Rattle.machine.specs.State.{State, Lines, Choice, blank, start, withPhase, withSlot, withWire, withCredit, withFlag, withChoice, withEntry, withAllowance, withLines}
+use Rattle.machine.specs.State.{State, Lines, Choice, blank, start, withPhase, withSlot, withWire, withCredit}
+use Rattle.machine.specs.State.{withFlag, withChoice, withEntry, withAllowance, withLines}
 use Rattle.machine.specs.Valid.{Drives, Carries, Bounded, Lined}
 use Rattle.machine.proofs.Apart.{full-not, booked-not}
 use Rattle.theory.proofs.Ground.Puts.{put-cases, put-outside, number-one, entry-cases}
@@ -40,7 +41,15 @@ pub record Kept (pl : Plan) (s : State) : Type 0 where
 -- a core has these parts
 pub kept-of : (pl : Plan) (s : State) → Core pl s → Kept pl s
 kept-of pl s c =
-    record { slot = c .slot; entries = c .entries; places = c .places; wires = c .wires; marks = c .marks; free-entry = c .free-entry; bounded = c .bounded }
+    record {
+      slot = c .slot;
+      entries = c .entries;
+      places = c .places;
+      wires = c .wires;
+      marks = c .marks;
+      free-entry = c .free-entry;
+      bounded = c .bounded;
+    }
 
 -- Start has them
 pub start-kept : (pl : Plan) → InRange (pl .head) → Kept pl (start pl)
@@ -72,21 +81,26 @@ Outside {X} E m n = (x : X) → (E x → ⊥) → m x ≡ n x
 
 abbrev LinesKept : Plan → State → Type 0
 LinesKept pl s =
-    Places pl s × Marks pl s × Outside (Exists pl) (s .lines .queue) (blank pl .lines .queue) × Outside (Exists pl) (s .lines .handled) (blank pl .lines .handled)
+    Places pl s × Marks pl s × Outside (Exists pl) (s .lines .queue) (blank pl .lines .queue)
+    × Outside (Exists pl) (s .lines .handled) (blank pl .lines .handled)
 
 abbrev FlowKept : Plan → State → Type 0
 FlowKept pl s =
-    Outside (Exists pl) (s .flow .credit) (blank pl .flow .credit) × Outside (Exists pl) (s .flow .flag) (blank pl .flow .flag)
+    Outside (Exists pl) (s .flow .credit) (blank pl .flow .credit)
+    × Outside (Exists pl) (s .flow .flag) (blank pl .flow .flag)
     × Outside (λ a. a < A pl) (s .flow .allowance) (blank pl .flow .allowance)
 
 abbrev LinksKept : Plan → State → Type 0
-LinksKept pl s = Wires pl s × Outside (Drives pl) (s .links .wire) (blank pl .links .wire) × Outside (Drives pl) (s .links .choice) (blank pl .links .choice)
+LinksKept pl s = Wires pl s × Outside (Drives pl) (s .links .wire) (blank pl .links .wire)
+    × Outside (Drives pl) (s .links .choice) (blank pl .links .choice)
 
 abbrev TableKept : Plan → State → Type 0
-TableKept pl s = EntriesIn pl s × FreeEntry pl s × ((r o t : ℕ) → ((r < R pl) × (o < 4) × (t < S pl) → ⊥) → s .table r o t ≡ blank pl .table r o t)
+TableKept pl s = EntriesIn pl s × FreeEntry pl s
+    × ((r o t : ℕ) → ((r < R pl) × (o < 4) × (t < S pl) → ⊥) → s .table r o t ≡ blank pl .table r o t)
 
 -- a state is kept as its groups are
-by-groups : (pl : Plan) (s : State) → SlotIn pl s → LinesKept pl s → FlowKept pl s → LinksKept pl s → TableKept pl s → Kept pl s
+by-groups : (pl : Plan) (s : State) → SlotIn pl s → LinesKept pl s → FlowKept pl s → LinksKept pl s → TableKept pl s
+    → Kept pl s
 by-groups pl s slot lines flow links table =
     record {
       slot = slot;
@@ -95,7 +109,17 @@ by-groups pl s slot lines flow links table =
       wires = links .0;
       marks = lines .1;
       free-entry = table .1;
-      bounded = record { queue = lines .2; credit = flow .0; flag = flow .1; handled = lines .3; wire = links .1; choice = links .2; table = table .2; allowance = flow .2 };
+      bounded =
+          record {
+            queue = lines .2;
+            credit = flow .0;
+            flag = flow .1;
+            handled = lines .3;
+            wire = links .1;
+            choice = links .2;
+            table = table .2;
+            allowance = flow .2;
+          };
     }
 
 module _ {pl : Plan} {s : State} (k : Kept pl s) where
@@ -126,54 +150,79 @@ module _ {pl : Plan} {s : State} (k : Kept pl s) where
   -- the lines, and the marks of their heads
   pub lines-kept : (l : Lines) → ((q : Queue) → Exists pl q → Lined pl q (l .handled q) (l .queue q))
       → ((q : Queue) → Exists pl q → l .handled q ≡ true → (r : ℕ) × (q ≡ Q r) × (l .queue q ≢ []))
-      → Outside (Exists pl) (l .queue) (blank pl .lines .queue) → Outside (Exists pl) (l .handled) (blank pl .lines .handled) → Kept pl (withLines l s)
-  lines-kept l places marks lines heads = by-groups pl (withLines l s) (k .slot) (places, marks, lines, heads) flow-of links-of table-of
+      → Outside (Exists pl) (l .queue) (blank pl .lines .queue)
+      → Outside (Exists pl) (l .handled) (blank pl .lines .handled) → Kept pl (withLines l s)
+  lines-kept l places marks lines heads =
+      by-groups pl (withLines l s) (k .slot) (places, marks, lines, heads) flow-of links-of table-of
 
   -- a wire of the plan, what it carries being on its way
-  pub wire-kept : (o : Output) (x : Wire) → Drives pl o → ((y : Packet) → x ≡ Full y → Carries pl o y) → Kept pl (withWire o x s)
+  pub wire-kept : (o : Output) (x : Wire) → Drives pl o → ((y : Packet) → x ≡ Full y → Carries pl o y)
+      → Kept pl (withWire o x s)
   wire-kept o x h c =
       by-groups pl (withWire o x s) (k .slot) lines-of flow-of (
-        put-cases sameOutput output-same same-output (λ (u : Output) (v : Wire). Drives pl u → (y : Packet) → v ≡ Full y → Carries pl u y) (s .links .wire) o x (λ d. c) (λ u ne. k .wires u),
-        put-outside sameOutput output-same same-output (Drives pl) (s .links .wire) (blank pl .links .wire) o x h (b .wire),
+        put-cases sameOutput output-same same-output (λ (u : Output) (v : Wire). Drives pl u → (y : Packet)
+            → v ≡ Full y → Carries pl u y) (s .links .wire) o x (λ d. c) (λ u ne. k .wires u),
+        put-outside sameOutput output-same same-output (Drives pl) (s .links .wire) (blank pl .links .wire) o x h
+            (b .wire),
         b .choice,
       )
       table-of
 
   -- a choice of an output, blank if the output is not the plan's
-  pub choice-kept : (o : Output) (x : Choice) → ((Drives pl o → ⊥) → x ≡ blank pl .links .choice o) → Kept pl (withChoice o x s)
+  pub choice-kept : (o : Output) (x : Choice) → ((Drives pl o → ⊥) → x ≡ blank pl .links .choice o)
+      → Kept pl (withChoice o x s)
   choice-kept o x h =
       by-groups pl (withChoice o x s) (k .slot) lines-of flow-of (
         k .wires,
         b .wire,
-        put-cases sameOutput output-same same-output (λ (u : Output) (v : Choice). (Drives pl u → ⊥) → v ≡ blank pl .links .choice u) (s .links .choice) o x h (λ u ne. b .choice u),
+        put-cases sameOutput output-same same-output (λ (u : Output) (v : Choice). (Drives pl u → ⊥)
+            → v ≡ blank pl .links .choice u) (s .links .choice) o x h (λ u ne. b .choice u),
       ) table-of
 
   -- a credit of a queue of the plan
   pub credit-kept : (q : Queue) (x : Credit) → Exists pl q → Kept pl (withCredit q x s)
   credit-kept q x h =
-      by-groups pl (withCredit q x s) (k .slot) lines-of
-      (put-outside sameQueue queue-same same-queue (Exists pl) (s .flow .credit) (blank pl .flow .credit) q x h (b .credit), b .flag, b .allowance) links-of table-of
+      by-groups pl (withCredit q x s) (k .slot) lines-of (
+        put-outside sameQueue queue-same same-queue (Exists pl) (s .flow .credit) (blank pl .flow .credit) q x h
+            (b .credit),
+        b .flag,
+        b .allowance,
+      ) links-of table-of
 
   -- its flag
   pub flag-kept : (q : Queue) (x : Bool) → Exists pl q → Kept pl (withFlag q x s)
   flag-kept q x h =
-      by-groups pl (withFlag q x s) (k .slot) lines-of
-      (b .credit, put-outside sameQueue queue-same same-queue (Exists pl) (s .flow .flag) (blank pl .flow .flag) q x h (b .flag), b .allowance) links-of table-of
+      by-groups pl (withFlag q x s) (k .slot) lines-of (
+        b .credit,
+        put-outside sameQueue queue-same same-queue (Exists pl) (s .flow .flag) (blank pl .flow .flag) q x h
+            (b .flag),
+        b .allowance,
+      ) links-of table-of
 
   -- an allowance of an active of the plan
   pub allowance-kept : (a x : ℕ) → a < A pl → Kept pl (withAllowance a x s)
   allowance-kept a x h =
-      by-groups pl (withAllowance a x s) (k .slot) lines-of
-      (b .credit, b .flag, put-outside eqb number-one eqb-true (λ (c : ℕ). c < A pl) (s .flow .allowance) (blank pl .flow .allowance) a x h (b .allowance)) links-of table-of
+      by-groups pl (withAllowance a x s) (k .slot) lines-of (
+        b .credit,
+        b .flag,
+        put-outside eqb number-one eqb-true (λ (c : ℕ). c < A pl) (s .flow .allowance)
+            (blank pl .flow .allowance) a x h (b .allowance),
+      ) links-of table-of
 
   -- an entry of the plan, booked if at all with one of the four sides, where its side keeps a free entry u
-  pub entry-kept : (r o t : ℕ) (x : Entry) → r < R pl → o < 4 → t < S pl → ((i : ℕ) → x ≡ Booked i → i < 4) → (u : ℕ) → u < S pl → put eqb (s .table r o) t x u ≡ Free → Kept pl (withEntry r o t x s)
+  pub entry-kept : (r o t : ℕ) (x : Entry) → r < R pl → o < 4 → t < S pl → ((i : ℕ) → x ≡ Booked i → i < 4) → (u : ℕ)
+      → u < S pl → put eqb (s .table r o) t x u ≡ Free → Kept pl (withEntry r o t x s)
   entry-kept r o t x hr ho ht side u hu free =
       by-groups pl (withEntry r o t x s) (k .slot) lines-of flow-of links-of (
-        λ r′ o′ t′ i. entry-cases (λ (r′ o′ t′ : ℕ) (v : Entry). (i : ℕ) → r′ < R pl → o′ < 4 → t′ < S pl → v ≡ Booked i → i < 4) (s .table) r o t x (λ i a c d. side i) (λ r′ o′ t′ i. k .entries r′ o′ t′ i) r′ o′ t′ i,
-        put-cases eqb number-one eqb-true (λ (r′ : ℕ) (v : ℕ → ℕ → Entry). (o′ : ℕ) → r′ < R pl → o′ < 4 → (t : ℕ) × (t < S pl) × (v o′ t ≡ Free)) (s .table) r (put eqb (s .table r) o (put eqb (s .table r o) t x))
-            (put-cases eqb number-one eqb-true (λ (o′ : ℕ) (v : ℕ → Entry). r < R pl → o′ < 4 → (t : ℕ) × (t < S pl) × (v t ≡ Free)) (s .table r) o (put eqb (s .table r o) t x)
+        λ r′ o′ t′ i. entry-cases (λ (r′ o′ t′ : ℕ) (v : Entry). (i : ℕ) → r′ < R pl → o′ < 4 → t′ < S pl → v
+            ≡ Booked i → i < 4) (s .table) r o t x (λ i a c d. side i) (λ r′ o′ t′ i. k .entries r′ o′ t′ i) r′ o′ t′
+            i,
+        put-cases eqb number-one eqb-true (λ (r′ : ℕ) (v : ℕ → ℕ → Entry). (o′ : ℕ) → r′ < R pl → o′ < 4 → (t : ℕ)
+            × (t < S pl) × (v o′ t ≡ Free)) (s .table) r (put eqb (s .table r) o (put eqb (s .table r o) t x))
+            (put-cases eqb number-one eqb-true (λ (o′ : ℕ) (v : ℕ → Entry). r < R pl → o′ < 4 → (t : ℕ) × (t < S pl)
+            × (v t ≡ Free)) (s .table r) o (put eqb (s .table r o) t x)
             (λ a c. (u, hu, free)) (λ o′ ne. k .free-entry r o′))
             (λ r′ ne o′. k .free-entry r′ o′),
-        entry-cases (λ (r′ o′ t′ : ℕ) (v : Entry). ((r′ < R pl) × (o′ < 4) × (t′ < S pl) → ⊥) → v ≡ blank pl .table r′ o′ t′) (s .table) r o t x (λ out. absurd (out (hr, ho, ht))) (b .table),
+        entry-cases (λ (r′ o′ t′ : ℕ) (v : Entry). ((r′ < R pl) × (o′ < 4) × (t′ < S pl) → ⊥)
+            → v ≡ blank pl .table r′ o′ t′) (s .table) r o t x (λ out. absurd (out (hr, ho, ht))) (b .table),
       )

@@ -1,4 +1,5 @@
--- The entries of pieces of walks: none of an empty piece, two pieces put together, the one entry of one router. Holders and stores by entry.
+-- The entries of pieces of walks: none of an empty piece, two pieces put together, the one entry of one router.
+-- Holders and stores by entry.
 use mathlib.Core.Path.{_≡_, refl, sym, ap, ap₂, _∙_}
 use mathlib.Core.Logic.{_⊎_, inl, inr}
 use mathlib.Core.Bool.{Bool, true, false, true≢false}
@@ -27,12 +28,14 @@ use Rattle.theory.specs.Owners.{Holder, sameHolder, holderOf, reaches, i
 -- ---- holders
 -- A holder is itself.
 pub holder-same : (c : Holder) → sameHolder c c ≡ true
-holder-same c = also-of (eq-eqb (c .side) (c .side) refl) (also-of (eq-eqb (c .active) (c .active) refl) (eq-eqb (c .passive) (c .passive) refl))
+holder-same c = also-of (eq-eqb (c .side) (c .side) refl)
+    (also-of (eq-eqb (c .active) (c .active) refl) (eq-eqb (c .passive) (c .passive) refl))
 
 -- Holders that the test finds one are one.
 pub same-holder : (c v : Holder) → sameHolder c v ≡ true → c ≡ v
 same-holder c v e =
-    let p = also-true {a = eqb (c .side) (v .side)} {b = also (eqb (c .active) (v .active)) (eqb (c .passive) (v .passive))} e in
+    let p = also-true {a = eqb (c .side) (v .side)}
+    {b = also (eqb (c .active) (v .active)) (eqb (c .passive) (v .passive))} e in
     let q = also-true {a = eqb (c .active) (v .active)} {b = eqb (c .passive) (v .passive)} (p .1) in
     let a : c .side ≡ v .side = eqb-true (c .side) (v .side) (p .0) in
     let b : c .active ≡ v .active = eqb-true (c .active) (v .active) (q .0) in
@@ -66,13 +69,18 @@ abbrev pub sameEntry : ℕ → ℕ → ℕ → ℕ → ℕ → ℕ → Bool
 sameEntry r o t i j k = also (eqb r i) (also (eqb o j) (eqb t k))
 
 -- What a store holds after a change: the new at that entry, the old at every other.
-pub put3-at : {X : Type 0} (m : ℕ → ℕ → ℕ → X) (i j k : ℕ) (x : X) (r o t : ℕ) → put3 m i j k x r o t ≡ pick (sameEntry r o t i j k) x (m r o t)
+pub put3-at : {X : Type 0} (m : ℕ → ℕ → ℕ → X) (i j k : ℕ) (x : X) (r o t : ℕ)
+    → put3 m i j k x r o t ≡ pick (sameEntry r o t i j k) x (m r o t)
 put3-at m i j k x r o t = by (test (eqb r i)) (test (eqb o j)) (test (eqb t k))
   where
-    by : (eqb r i ≡ true) ⊎ (eqb r i ≡ false) → (eqb o j ≡ true) ⊎ (eqb o j ≡ false) → (eqb t k ≡ true) ⊎ (eqb t k ≡ false) → put3 m i j k x r o t ≡ pick (sameEntry r o t i j k) x (m r o t)
+    by : (eqb r i ≡ true) ⊎ (eqb r i ≡ false) → (eqb o j ≡ true) ⊎ (eqb o j ≡ false)
+        → (eqb t k ≡ true) ⊎ (eqb t k ≡ false) → put3 m i j k x r o t ≡ pick (sameEntry r o t i j k) x (m r o t)
     by (inr f) c d = rw f
     by (inl e) (inr f) d = let a : r ≡ i = eqb-true r i e in rw (e, f) (ap (λ (n : ℕ). m n o t) (sym a))
-    by (inl e) (inl f) (inr g) = let a : r ≡ i = eqb-true r i e in let b : o ≡ j = eqb-true o j f in rw (e, f, g) (ap₂ (λ (n l : ℕ). m n l t) (sym a) (sym b))
+    by (inl e) (inl f) (inr g) =
+        let a : r ≡ i = eqb-true r i e in
+        let b : o ≡ j = eqb-true o j f in
+        rw (e, f, g) (ap₂ (λ (n l : ℕ). m n l t) (sym a) (sym b))
     by (inl e) (inl f) (inl g) = rw (e, f, g)
 
 -- An entry is itself.
@@ -92,7 +100,8 @@ module _ (slots t : ℕ) (start : Slot) (e : Bool) (n : ℕ) where
       by false = refl
 
   -- a router outside the piece
-  not-reached : (first past : ℕ) (i : Index) → ((k : ℕ) → i ≡ At k → first ≤ k → k < past → ⊥) → reaches slots t start first past i ≡ false
+  not-reached : (first past : ℕ) (i : Index) → ((k : ℕ) → i ≡ At k → first ≤ k → k < past → ⊥)
+      → reaches slots t start first past i ≡ false
   not-reached first past Off h = refl
   not-reached first past (At k) h = by (lt-or-ge k first) (lt-or-ge k past)
     where
@@ -104,34 +113,46 @@ module _ (slots t : ℕ) (start : Slot) (e : Bool) (n : ℕ) where
   piece-none : (first past : ℕ) (i : Index) → ((k : ℕ) → i ≡ At k → first ≤ k → k < past → ⊥) → piece first past i ≡ 0
   piece-none first past i h = rw (not-reached first past i h) (none-reached i)
 
-  piece-sum : (first mid past : ℕ) → first ≤ mid → mid ≤ past → (i : Index) → piece first mid i + piece mid past i ≡ piece first past i
+  piece-sum : (first mid past : ℕ) → first ≤ mid → mid ≤ past → (i : Index)
+      → piece first mid i + piece mid past i ≡ piece first past i
   piece-sum first mid past l m Off = let z = none-reached Off in omega arith
   piece-sum first mid past l m (At k) = by (lt-or-ge k first) (lt-or-ge k mid) (lt-or-ge k past)
     where
-      by : (k < first) ⊎ (first ≤ k) → (k < mid) ⊎ (mid ≤ k) → (k < past) ⊎ (past ≤ k) → piece first mid (At k) + piece mid past (At k) ≡ piece first past (At k)
+      by : (k < first) ⊎ (first ≤ k) → (k < mid) ⊎ (mid ≤ k) → (k < past) ⊎ (past ≤ k)
+          → piece first mid (At k) + piece mid past (At k) ≡ piece first past (At k)
       by (inl f) c d = let z = none-reached Off in rw (lt-ltb k first f, lt-ltb k mid (omega arith)) (omega arith)
-      by (inr f) (inl c) d = let z = none-reached Off in rw (le-ltb k first f, lt-ltb k mid c, lt-ltb k past (omega arith)) (omega arith)
-      by (inr f) (inr c) (inl d) = let z = none-reached Off in rw (le-ltb k first f, le-ltb k mid c, lt-ltb k past d) (omega arith)
-      by (inr f) (inr c) (inr d) = let z = none-reached Off in rw (le-ltb k first f, le-ltb k mid c, le-ltb k past d) (omega arith)
+      by (inr f) (inl c) d =
+          let z = none-reached Off in
+          rw (le-ltb k first f, lt-ltb k mid c, lt-ltb k past (omega arith)) (omega arith)
+      by (inr f) (inr c) (inl d) =
+          let z = none-reached Off in
+          rw (le-ltb k first f, le-ltb k mid c, lt-ltb k past d) (omega arith)
+      by (inr f) (inr c) (inr d) =
+          let z = none-reached Off in
+          rw (le-ltb k first f, le-ltb k mid c, le-ltb k past d) (omega arith)
 
 module _ (pl : Plan) (r o t : ℕ) (v : Holder) (a p : ℕ) (start : Slot) where
   -- A piece without routers owns nothing.
   pub owning-none : (first past : ℕ) → past ≤ first → owning pl r o t v a p start first past ≡ 0
   unfolding owning
   owning-none first past h =
-      piece-none (S pl) t start (eqb o (routeTo pl (passive p) r)) (bit (sameHolder (holderOf pl a p r) v)) first past (indexOf pl a p r) (λ k e l m. omega arith)
+      piece-none (S pl) t start (eqb o (routeTo pl (passive p) r)) (bit (sameHolder (holderOf pl a p r) v)) first past
+      (indexOf pl a p r) (λ k e l m. omega arith)
 
   -- Two pieces put together own what both own.
   pub owning-sum : (first mid past : ℕ) → first ≤ mid → mid ≤ past
-      → owning pl r o t v a p start first mid + owning pl r o t v a p start mid past ≡ owning pl r o t v a p start first past
+      → owning pl r o t v a p start first mid + owning pl r o t v a p start mid past
+      ≡ owning pl r o t v a p start first past
   unfolding owning
   owning-sum first mid past l m =
-      piece-sum (S pl) t start (eqb o (routeTo pl (passive p) r)) (bit (sameHolder (holderOf pl a p r) v)) first mid past l m (indexOf pl a p r)
+      piece-sum (S pl) t start (eqb o (routeTo pl (passive p) r)) (bit (sameHolder (holderOf pl a p r) v)) first mid
+      past l m (indexOf pl a p r)
 
 module _ {pl : Plan} (wired : Wired pl) (a p : ℕ) (ha : a < A pl) (hp : p < P pl) (s : Served pl a p) where
   -- The piece of one router owns one entry: that router's, by the walk's side out, so many rounds after the start.
   pub owning-one : (k i j : ℕ) → Stands pl a p k i j → (start : Slot) (r o t : ℕ) (v : Holder)
-      → owning pl r o t v a p start k (k + 1) ≡ pick (sameEntry r o t i (routeTo pl (passive p) i) (slotAfter start (record { 0 = k }) (S pl) .0)) (bit (sameHolder (holderOf pl a p i) v)) 0
+      → owning pl r o t v a p start k (k + 1) ≡ pick (sameEntry r o t i (routeTo pl (passive p) i)
+      (slotAfter start (record { 0 = k }) (S pl) .0)) (bit (sameHolder (holderOf pl a p i) v)) 0
   unfolding owning
   owning-one k i j f start r o t v = by (test (eqb r i))
     where
@@ -139,14 +160,17 @@ module _ {pl : Plan} (wired : Wired pl) (a p : ℕ) (ha : a < A pl) (hp : p < P 
       there g m q l h =
           let same : m ≡ k = omega arith in
           let d = index-stands pl a p r k (q ∙ ap At same) in
-          let z : _≡_ {A = Port} (record { router = r; side = d .0 }) (record { router = i; side = j }) = on-same (sym (d .1) ∙ f) in
+          let z : _≡_ {A = Port} (record { router = r; side = d .0 }) (record { router = i; side = j }) =
+          on-same (sym (d .1) ∙ f) in
           true≢false (sym (eq-eqb r i (ap (λ (x : Port). x .router) z)) ∙ g)
 
       by : (eqb r i ≡ true) ⊎ (eqb r i ≡ false)
-          → owning pl r o t v a p start k (k + 1) ≡ pick (sameEntry r o t i (routeTo pl (passive p) i) (slotAfter start (record { 0 = k }) (S pl) .0)) (bit (sameHolder (holderOf pl a p i) v)) 0
+          → owning pl r o t v a p start k (k + 1) ≡ pick (sameEntry r o t i (routeTo pl (passive p) i)
+          (slotAfter start (record { 0 = k }) (S pl) .0)) (bit (sameHolder (holderOf pl a p i) v)) 0
       by (inl e) =
           let q : r ≡ i = eqb-true r i e in
           ap (λ (n : ℕ). owning pl n o t v a p start k (k + 1)) q
           ∙ rw (index-is wired a p ha hp s k i j f, le-ltb k k (omega arith), lt-ltb k (k + 1) (omega arith), e)
       by (inr g) =
-          rw g (piece-none (S pl) t start (eqb o (routeTo pl (passive p) r)) (bit (sameHolder (holderOf pl a p r) v)) k (k + 1) (indexOf pl a p r) (there g))
+          rw g (piece-none (S pl) t start (eqb o (routeTo pl (passive p) r)) (bit (sameHolder (holderOf pl a p r) v)) k
+          (k + 1) (indexOf pl a p r) (there g))

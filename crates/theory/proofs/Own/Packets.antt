@@ -1,5 +1,5 @@
--- What a packet owns at the places that it comes to: on the way from queue to queue the same; booked, one entry more; at each router that tears
--- down, one less; declined, answered and torn down at the active, the same.
+-- What a packet owns at the places that it comes to: on the way from queue to queue the same; booked, one entry more;
+-- at each router that tears down, one less; declined, answered and torn down at the active, the same.
 use mathlib.Core.Path.{_≡_, refl, sym, ap, ap₂, subst, _∙_}
 use mathlib.Core.Logic.{_⊎_, inl, inr}
 use mathlib.Core.Option.{some}
@@ -14,7 +14,8 @@ use Rattle.packets.specs.Counters.{slotNext, startSlot}
 use Rattle.plan.specs.Plan.{Plan, active, passive, A, P, S}
 use Rattle.paths.specs.Served.{Served}
 use Rattle.feeding.specs.Queue.{Queue, activeOut, activeIn, passiveIn, passiveOut, U, Q, F, K}
-use Rattle.feeding.specs.Feeds.{Place, inQueue, handledAt, headingOf, ahead, leaving, next, Stands, Ahead, Fits, leavesFrom}
+use Rattle.feeding.specs.Feeds.{Place, inQueue, handledAt, headingOf, ahead, leaving, next, Stands, Ahead, Fits}
+use Rattle.feeding.specs.Feeds.{leavesFrom}
 use Rattle.wiring.specs.Wired.{Wired}
 use Rattle.machine.specs.Execute.{declined, booked, freed, marked, tdownOf}
 use Rattle.machine.specs.Visits.{setupOf, repliedAs}
@@ -25,7 +26,8 @@ use Rattle.theory.proofs.Cases.{exitAt}
 use Rattle.theory.proofs.Weights.Moves.{Steady}
 use Rattle.theory.proofs.Places.Slots.{start-below, after-start, start-next, start-none}
 use Rattle.theory.proofs.Places.Indices.{index-is}
-use Rattle.theory.specs.Owners.{Holder, sameHolder, holderOf, indexOf, indexNumber, owning, behind, ownsUp, ownsDown, ownsKind, owns}
+use Rattle.theory.specs.Owners.{Holder, sameHolder, holderOf, indexOf, indexNumber, owning, behind, ownsUp}
+use Rattle.theory.specs.Owners.{ownsDown, ownsKind, owns}
 use Rattle.theory.proofs.Own.Owning.{sameEntry, owning-none, owning-sum, owning-one}
 
 -- ---- the routers behind a packet
@@ -47,11 +49,14 @@ module _ {pl : Plan} (wired : Wired pl) (a p : ℕ) (ha : a < A pl) (hp : p < P 
   ahead-behind (inQueue (K r i o)) n f = absurd f
 
   -- It keeps that number on the way from queue to queue.
-  pub behind-next : (n : ℕ) (q y : Queue) → Ahead pl a p (leavesFrom q) n → next pl ahead a p q ≡ some y → behind pl a p (leavesFrom q) ≡ behind pl a p (inQueue y)
-  behind-next n q y f e = ahead-behind (leavesFrom q) n f ∙ sym (ahead-behind (inQueue y) n (fits-next wired a p ha hp s Setup n q y f e))
+  pub behind-next : (n : ℕ) (q y : Queue) → Ahead pl a p (leavesFrom q) n → next pl ahead a p q ≡ some y
+      → behind pl a p (leavesFrom q) ≡ behind pl a p (inQueue y)
+  behind-next n q y f e =
+      ahead-behind (leavesFrom q) n f ∙ sym (ahead-behind (inQueue y) n (fits-next wired a p ha hp s Setup n q y f e))
 
 -- A packet that fits as one of its kind.
-pub fits-as : {pl : Plan} {at : Place} {x : Packet} (k : Kind) → x .kind ≡ k → Belongs pl at x → Fits pl k (x .active) (x .passive) (x .hub .0) at
+pub fits-as : {pl : Plan} {at : Place} {x : Packet} (k : Kind) → x .kind ≡ k → Belongs pl at x
+    → Fits pl k (x .active) (x .passive) (x .hub .0) at
 fits-as {pl} {at} {x} k e b = subst (λ (k : Kind). Fits pl k (x .active) (x .passive) (x .hub .0) at) e (b .fits)
 
 module _ (pl : Plan) (r o t : ℕ) (v : Holder) where
@@ -63,37 +68,45 @@ module _ (pl : Plan) (r o t : ℕ) (v : Holder) where
 
   -- A packet other than a tear-down owns nothing with hub 0.
   pub up-none : (x : Packet) → x .hub .0 ≡ 0 → ownsUp pl r o t v x ≡ 0
-  up-none x e = owning-none pl r o t v (x .active) (x .passive) (startSlot (x .slot) (x .hub) (S pl)) 0 (x .hub .0) (omega arith)
+  up-none x e =
+      owning-none pl r o t v (x .active) (x .passive) (startSlot (x .slot) (x .hub) (S pl)) 0 (x .hub .0) (omega arith)
 
   -- A launched set-up owns nothing.
   pub launched-owns : (at : Place) (a p u : ℕ) → owns pl r o t v at (setupOf a p u) ≡ 0
   launched-owns at a p u = owns-of Setup at (setupOf a p u) refl ∙ up-none (setupOf a p u) refl
 
   -- A declined set-up owns what it owned.
-  pub declined-owns : (from at : Place) (x : Packet) → x .kind ≡ Setup → owns pl r o t v at (declined x) ≡ owns pl r o t v from x
+  pub declined-owns : (from at : Place) (x : Packet) → x .kind ≡ Setup
+      → owns pl r o t v at (declined x) ≡ owns pl r o t v from x
   declined-owns from at x e = owns-of Nack at (declined x) refl ∙ sym (owns-of Setup from x e)
 
   -- So does an answered one.
-  pub replied-owns : (from at : Place) (k : Kind) (x : Packet) → (k ≡ Ack) ⊎ (k ≡ Nack) → x .kind ≡ Setup → owns pl r o t v at (repliedAs k x) ≡ owns pl r o t v from x
+  pub replied-owns : (from at : Place) (k : Kind) (x : Packet) → (k ≡ Ack) ⊎ (k ≡ Nack) → x .kind ≡ Setup
+      → owns pl r o t v at (repliedAs k x) ≡ owns pl r o t v from x
   replied-owns from at k x (inl q) e = owns-of Ack at (repliedAs k x) q ∙ sym (owns-of Setup from x e)
   replied-owns from at k x (inr q) e = owns-of Nack at (repliedAs k x) q ∙ sym (owns-of Setup from x e)
 
   -- A NACK marked owns nothing, and the tear-down made of it owns what it owned.
   pub torn-owns : (a : ℕ) (from at : Place) (x : Packet) → x .kind ≡ Nack → x .slot .0 < S pl
-      → owns pl r o t v at (marked x) + owns pl r o t v (inQueue (activeOut a)) (tdownOf (S pl) x) ≡ owns pl r o t v from x
+      → owns pl r o t v at (marked x) + owns pl r o t v (inQueue (activeOut a)) (tdownOf (S pl) x)
+      ≡ owns pl r o t v from x
   unfolding behind
   torn-owns a from at x e h =
       let none = owns-of Nack at (marked x) e ∙ up-none (marked x) refl in
-      let down : owns pl r o t v (inQueue (activeOut a)) (tdownOf (S pl) x) ≡ ownsDown pl r o t v 0 (tdownOf (S pl) x) = owns-of Tdown (inQueue (activeOut a)) (tdownOf (S pl) x) refl in
-      let first : startSlot (tdownOf (S pl) x .slot) (record { 0 = 0 }) (S pl) ≡ startSlot (x .slot) (x .hub) (S pl) = start-none (S pl) (startSlot (x .slot) (x .hub) (S pl)) (start-below (S pl) (x .slot) (x .hub) (omega arith)) in
+      let down : owns pl r o t v (inQueue (activeOut a)) (tdownOf (S pl) x)
+      ≡ ownsDown pl r o t v 0 (tdownOf (S pl) x) = owns-of Tdown (inQueue (activeOut a)) (tdownOf (S pl) x) refl in
+      let first : startSlot (tdownOf (S pl) x .slot) (record { 0 = 0 }) (S pl) ≡ startSlot (x .slot) (x .hub) (S pl) =
+      start-none (S pl) (startSlot (x .slot) (x .hub) (S pl)) (start-below (S pl) (x .slot) (x .hub) (omega arith)) in
       let size : 0 + x .hub .0 ≡ x .hub .0 = omega arith in
-      let same : ownsDown pl r o t v 0 (tdownOf (S pl) x) ≡ ownsUp pl r o t v x = ap₂ (λ (b : Slot) (n : ℕ). owning pl r o t v (x .active) (x .passive) b 0 n) first size in
+      let same : ownsDown pl r o t v 0 (tdownOf (S pl) x) ≡ ownsUp pl r o t v x =
+      ap₂ (λ (b : Slot) (n : ℕ). owning pl r o t v (x .active) (x .passive) b 0 n) first size in
       let was = owns-of Nack from x e in
       omega arith
 
   -- 1 if the entry is the one of router i that a packet books or frees there, and the holder its pair's; else 0
   abbrev pub oneAt : ℕ → Packet → ℕ
-  oneAt i x = pick (sameEntry r o t i (exitAt pl i x) (x .slot .0)) (bit (sameHolder (holderOf pl (x .active) (x .passive) i) v)) 0
+  oneAt i x = pick (sameEntry r o t i (exitAt pl i x) (x .slot .0))
+      (bit (sameHolder (holderOf pl (x .active) (x .passive) i) v)) 0
 
   module _ (wired : Wired pl) where
     -- ---- on the way
@@ -102,35 +115,45 @@ module _ (pl : Plan) (r o t : ℕ) (v : Holder) where
     unfolding next
     owns-steady w k q y x d e n b = by (x .kind) refl
       where
-        far : x .kind ≡ Tdown → behind pl (x .active) (x .passive) (leavesFrom q) ≡ behind pl (x .active) (x .passive) (inQueue y)
+        far : x .kind ≡ Tdown
+            → behind pl (x .active) (x .passive) (leavesFrom q) ≡ behind pl (x .active) (x .passive) (inQueue y)
         far c =
             let f = fits-as Tdown c b in
-            let go : next pl (headingOf (x .kind)) (x .active) (x .passive) q ≡ some y = ap (leaving pl (headingOf (x .kind)) (x .active) (x .passive)) (sender-leaves w k q e) ∙ n in
-            behind-next wired (x .active) (x .passive) (b .ranges .active) (b .ranges .passive) (b .serves) (f .0) q y (f .1) (rw c at go)
+            let go : next pl (headingOf (x .kind)) (x .active) (x .passive) q ≡ some y =
+            ap (leaving pl (headingOf (x .kind)) (x .active) (x .passive)) (sender-leaves w k q e) ∙ n in
+            behind-next wired (x .active) (x .passive) (b .ranges .active) (b .ranges .passive) (b .serves) (f .0) q y
+            (f .1) (rw c at go)
 
         by : (k : Kind) → x .kind ≡ k → owns pl r o t v (leavesFrom q) x ≡ owns pl r o t v (inQueue y) x
         by Setup c = owns-of Setup (leavesFrom q) x c ∙ sym (owns-of Setup (inQueue y) x c)
-        by Tdown c = owns-of Tdown (leavesFrom q) x c ∙ ap (λ (m : ℕ). ownsDown pl r o t v m x) (far c) ∙ sym (owns-of Tdown (inQueue y) x c)
+        by Tdown c = owns-of Tdown (leavesFrom q) x c ∙ ap (λ (m : ℕ). ownsDown pl r o t v m x) (far c)
+            ∙ sym (owns-of Tdown (inQueue y) x c)
         by Ack c = owns-of Ack (leavesFrom q) x c ∙ sym (owns-of Ack (inQueue y) x c)
         by Nack c = owns-of Nack (leavesFrom q) x c ∙ sym (owns-of Nack (inQueue y) x c)
 
     -- ---- at a unit
     -- the piece of one router, with the slot that comes there
     one-at : (i : ℕ) (x : Packet) (at : Place) → Belongs pl at x → (n j : ℕ) → Stands pl (x .active) (x .passive) n i j
-        → owning pl r o t v (x .active) (x .passive) (startSlot (x .slot) (record { 0 = n }) (S pl)) n (n + 1) ≡ oneAt i x
+        → owning pl r o t v (x .active) (x .passive) (startSlot (x .slot) (record { 0 = n }) (S pl)) n (n + 1)
+        ≡ oneAt i x
     one-at i x at b n j f =
-        owning-one wired (x .active) (x .passive) (b .ranges .active) (b .ranges .passive) (b .serves) n i j f (startSlot (x .slot) (record { 0 = n }) (S pl)) r o t v
-        ∙ ap (λ (u : Slot). pick (sameEntry r o t i (exitAt pl i x) (u .0)) (bit (sameHolder (holderOf pl (x .active) (x .passive) i) v)) 0)
+        owning-one wired (x .active) (x .passive) (b .ranges .active) (b .ranges .passive) (b .serves) n i j f
+        (startSlot (x .slot) (record { 0 = n }) (S pl)) r o t v
+        ∙ ap (λ (u : Slot). pick (sameEntry r o t i (exitAt pl i x) (u .0))
+        (bit (sameHolder (holderOf pl (x .active) (x .passive) i) v)) 0)
         (after-start (S pl) (x .slot) (record { 0 = n }) (b .ranges .slot))
 
     -- A set-up that is booked owns that entry more.
     pub booked-owns : (i : ℕ) (x : Packet) → x .kind ≡ Setup → Belongs pl (inQueue (Q i)) x
         → owns pl r o t v (handledAt i) (booked (S pl) x) ≡ owns pl r o t v (inQueue (Q i)) x + oneAt i x
     booked-owns i x e b =
-        let f = unit-setup wired (x .active) (x .passive) (b .ranges .active) (b .ranges .passive) (b .serves) i (x .hub .0) (fits-as Setup e b) in
+        let f = unit-setup wired (x .active) (x .passive) (b .ranges .active) (b .ranges .passive) (b .serves) i
+        (x .hub .0) (fits-as Setup e b) in
         let new = owns-of Setup (handledAt i) (booked (S pl) x) e in
-        let start = ap (λ (u : Slot). owning pl r o t v (x .active) (x .passive) u 0 (x .hub .0 + 1)) (start-next (S pl) (x .slot) (x .hub) (b .ranges .slot)) in
-        let all = owning-sum pl r o t v (x .active) (x .passive) (startSlot (x .slot) (x .hub) (S pl)) 0 (x .hub .0) (x .hub .0 + 1) (omega arith) (omega arith) in
+        let start = ap (λ (u : Slot). owning pl r o t v (x .active) (x .passive) u 0 (x .hub .0 + 1))
+        (start-next (S pl) (x .slot) (x .hub) (b .ranges .slot)) in
+        let all = owning-sum pl r o t v (x .active) (x .passive) (startSlot (x .slot) (x .hub) (S pl)) 0 (x .hub .0)
+        (x .hub .0 + 1) (omega arith) (omega arith) in
         let one = one-at i x (inQueue (Q i)) b (x .hub .0) (f .0) (f .1) in
         let old = owns-of Setup (inQueue (Q i)) x e in
         omega arith
@@ -144,21 +167,28 @@ module _ (pl : Plan) (r o t : ℕ) (v : Holder) where
         by : Fits pl Tdown (x .active) (x .passive) (x .hub .0) (inQueue (Q i))
             → owns pl r o t v (inQueue (Q i)) x ≡ owns pl r o t v (handledAt i) (freed (S pl) x) + oneAt i x
         by (n, (j, f), l, g) =
-            let here = ahead-behind wired (x .active) (x .passive) (b .ranges .active) (b .ranges .passive) (b .serves) (inQueue (Q i)) n (j, f) in
-            let there = ahead-behind wired (x .active) (x .passive) (b .ranges .active) (b .ranges .passive) (b .serves) (handledAt i) (n + 1) (j, n, f, omega arith) in
+            let here = ahead-behind wired (x .active) (x .passive) (b .ranges .active) (b .ranges .passive) (b .serves)
+            (inQueue (Q i)) n (j, f) in
+            let there = ahead-behind wired (x .active) (x .passive) (b .ranges .active) (b .ranges .passive)
+            (b .serves) (handledAt i) (n + 1) (j, n, f, omega arith) in
             let old = owns-of Tdown (inQueue (Q i)) x e ∙ ap (λ (m : ℕ). ownsDown pl r o t v m x) here in
-            let new = owns-of Tdown (handledAt i) (freed (S pl) x) e ∙ ap (λ (m : ℕ). ownsDown pl r o t v m (freed (S pl) x)) there in
+            let new = owns-of Tdown (handledAt i) (freed (S pl) x) e
+            ∙ ap (λ (m : ℕ). ownsDown pl r o t v m (freed (S pl) x)) there in
             let size : n + 1 + (x .hub .0 - 1) ≡ n + x .hub .0 = omega arith in
-            let start = ap₂ (λ (u : Slot) (m : ℕ). owning pl r o t v (x .active) (x .passive) u (n + 1) m) (start-next (S pl) (x .slot) (record { 0 = n }) (b .ranges .slot)) size in
-            let all = owning-sum pl r o t v (x .active) (x .passive) (startSlot (x .slot) (record { 0 = n }) (S pl)) n (n + 1) (n + x .hub .0) (omega arith) (omega arith) in
+            let start = ap₂ (λ (u : Slot) (m : ℕ). owning pl r o t v (x .active) (x .passive) u (n + 1) m)
+            (start-next (S pl) (x .slot) (record { 0 = n }) (b .ranges .slot)) size in
+            let all = owning-sum pl r o t v (x .active) (x .passive) (startSlot (x .slot) (record { 0 = n }) (S pl)) n
+            (n + 1) (n + x .hub .0) (omega arith) (omega arith) in
             let one = one-at i x (inQueue (Q i)) b n j f in
             omega arith
 
     -- With hub 1 that entry is all that it owns.
-    pub ended-owns : (i : ℕ) (x : Packet) → x .kind ≡ Tdown → x .hub .0 ≡ 1 → Belongs pl (inQueue (Q i)) x → owns pl r o t v (inQueue (Q i)) x ≡ oneAt i x
+    pub ended-owns : (i : ℕ) (x : Packet) → x .kind ≡ Tdown → x .hub .0 ≡ 1 → Belongs pl (inQueue (Q i)) x
+        → owns pl r o t v (inQueue (Q i)) x ≡ oneAt i x
     ended-owns i x e h b =
         let n : ℕ = behind pl (x .active) (x .passive) (handledAt i) in
-        let none = owning-none pl r o t v (x .active) (x .passive) (startSlot (slotNext (x .slot) (S pl)) (record { 0 = n }) (S pl)) n (n + (x .hub .0 - 1)) (omega arith) in
+        let none = owning-none pl r o t v (x .active) (x .passive)
+        (startSlot (slotNext (x .slot) (S pl)) (record { 0 = n }) (S pl)) n (n + (x .hub .0 - 1)) (omega arith) in
         let new = owns-of Tdown (handledAt i) (freed (S pl) x) e in
         let all = freed-owns i x e b in
         omega arith

@@ -59,7 +59,8 @@ module _ (pl : Plan) (s : State) where
     where
       head : (q : Queue) (l : List Packet) → sendHead pl o q l s .table ≡ s .table
       head q [] = refl
-      head q (x ∷ rest) = spend-table (nextBy pl o x) (raise q (withQueue q rest s)) ∙ raise-table q (withQueue q rest s)
+      head q (x ∷ rest) =
+          spend-table (nextBy pl o x) (raise q (withQueue q rest s)) ∙ raise-table q (withQueue q rest s)
 
       from : (y : Option Queue) → sendFrom pl o y s .table ≡ s .table
       from none = refl

@@ -33,12 +33,14 @@ use Rattle.theory.specs.Invariant.{Core, Sendable}
 use Rattle.theory.specs.Weights.{weighed}
 use Rattle.theory.proofs.Weights.Total.{start-weighed}
 use Rattle.theory.proofs.Cases.{unmarked-nack, ActiveDoes, waits, tears, undo-does}
-use Rattle.theory.proofs.Weights.Moves.{head-belongs, phase-weighed, slot-weighed, settle-weighed, choose-weighed, deliver-weighed, send-weighed}
+use Rattle.theory.proofs.Weights.Moves.{head-belongs, phase-weighed, slot-weighed, settle-weighed}
+use Rattle.theory.proofs.Weights.Moves.{choose-weighed, deliver-weighed, send-weighed}
 use Rattle.theory.proofs.Weights.Changes.{torn-weighed, launched-weighed, replied-weighed, removed-weighed}
 use Rattle.theory.proofs.Places.Slots.{start-below}
 use Rattle.theory.specs.Owners.{Holder, owning, ownsUp, owns, ownsMade, made, holds, Agreed, Owned}
 use Rattle.theory.proofs.Own.Same.{deliver-table, settle-table, choose-table, send-table, undo-table}
-use Rattle.theory.proofs.Own.Packets.{fits-as, owns-of, up-none, launched-owns, replied-owns, torn-owns, owns-steady}
+use Rattle.theory.proofs.Own.Packets.{fits-as, owns-of, up-none, launched-owns, replied-owns, torn-owns}
+use Rattle.theory.proofs.Own.Packets.{owns-steady}
 
 -- A state with the same table and the same weights is owned alike.
 pub owned-same : {pl : Plan} {acc : List Connection} (s t : State) → Owned pl acc s → t .table ≡ s .table
@@ -73,31 +75,38 @@ module _ {pl : Plan} {acc : List Connection} (s : State) (k : Owned pl acc s) wh
 
   -- So does the settling of a flag.
   pub settle-owned : (q : Queue) → Owned pl acc (settle q s)
-  settle-owned q = owned-same s (settle q s) k (settle-table pl s q) (λ r o u v. settle-weighed pl (owns pl r o u v) q s)
+  settle-owned q =
+      owned-same s (settle q s) k (settle-table pl s q) (λ r o u v. settle-weighed pl (owns pl r o u v) q s)
 
   -- So does a choice.
   pub choose-owned : (o : Output) → Owned pl acc (choose pl o s)
-  choose-owned w = owned-same s (choose pl w s) k (choose-table pl s w) (λ r o u v. choose-weighed pl (owns pl r o u v) w s)
+  choose-owned w =
+      owned-same s (choose pl w s) k (choose-table pl s w) (λ r o u v. choose-weighed pl (owns pl r o u v) w s)
 
 module _ {pl : Plan} (wired : Wired pl) {acc : List Connection} (s : State) (c : Core pl s) (k : Owned pl acc s) where
   -- A delivery keeps the ownership.
   pub deliver-owned : (w : Output) → Drives pl w → Owned pl acc (deliver pl w s)
-  deliver-owned w d = owned-same s (deliver pl w s) k (deliver-table pl s w) (λ r o u v. deliver-weighed pl (owns pl r o u v) wired c w d)
+  deliver-owned w d = owned-same s (deliver pl w s) k (deliver-table pl s w)
+      (λ r o u v. deliver-weighed pl (owns pl r o u v) wired c w d)
 
   -- So does a sending.
-  pub send-owned : (w : Output) → Drives pl w → ((n : ℕ) → s .links .choice w ≡ sender n → Sendable pl s w n) → s .links .wire w ≡ Empty → Owned pl acc (send pl w s)
-  send-owned w d ready z = owned-same s (send pl w s) k (send-table pl s w) (λ r o u v. send-weighed pl (owns pl r o u v) wired c w d (owns-steady pl r o u v wired) ready z)
+  pub send-owned : (w : Output) → Drives pl w → ((n : ℕ) → s .links .choice w ≡ sender n → Sendable pl s w n)
+      → s .links .wire w ≡ Empty → Owned pl acc (send pl w s)
+  send-owned w d ready z = owned-same s (send pl w s) k (send-table pl s w)
+      (λ r o u v. send-weighed pl (owns pl r o u v) wired c w d (owns-steady pl r o u v wired) ready z)
 
   -- So does an active that tears down: the tear-down owns what the NACK owned.
   pub undo-owned : (a : ℕ) → a < A pl → Owned pl acc (undo pl a s)
   undo-owned a h = owned-same s (undo pl a s) k (undo-table pl s a) (λ r o u v. by r o u v (undo-does pl a s))
     where
-      by : (r o u : ℕ) (v : Holder) → ActiveDoes pl a s → weighed pl (owns pl r o u v) (undo pl a s) ≡ weighed pl (owns pl r o u v) s
+      by : (r o u : ℕ) (v : Holder) → ActiveDoes pl a s
+          → weighed pl (owns pl r o u v) (undo pl a s) ≡ weighed pl (owns pl r o u v) s
       by r o u v (waits e) = ap (weighed pl (owns pl r o u v)) e
       by r o u v (tears x rest e m g) =
           let b = head-belongs c (activeIn a) h x rest e in
           let all = torn-weighed pl (owns pl r o u v) c a h x rest e m g in
-          let one = torn-owns pl r o u v a (inQueue (activeIn a)) (inQueue (activeIn a)) x (unmarked-nack x m) (b .ranges .slot) in
+          let one = torn-owns pl r o u v a (inQueue (activeIn a)) (inQueue (activeIn a)) x (unmarked-nack x m)
+          (b .ranges .slot) in
           omega arith
 
   -- So does a Launch: with hub 0 the set-up owns nothing.
@@ -121,18 +130,22 @@ module _ {pl : Plan} (wired : Wired pl) {acc : List Connection} (s : State) (c :
       b = head-belongs c (passiveIn p) h x rest e
 
       setup : x .kind ≡ Setup
-      setup = passive-setup wired (x .active) (x .passive) (b .ranges .active) (b .ranges .passive) (b .serves) (x .kind) (x .hub .0) p (b .fits) .0
+      setup = passive-setup wired (x .active) (x .passive) (b .ranges .active) (b .ranges .passive) (b .serves)
+          (x .kind) (x .hub .0) p (b .fits) .0
 
-      same : (r o u : ℕ) (v : Holder) → weighed pl (owns pl r o u v) (replied p kind (x ∷ rest) s) ≡ weighed pl (owns pl r o u v) s
+      same : (r o u : ℕ) (v : Holder)
+          → weighed pl (owns pl r o u v) (replied p kind (x ∷ rest) s) ≡ weighed pl (owns pl r o u v) s
       same r o u v =
           let all = replied-weighed pl (owns pl r o u v) c p h kind x rest e in
           let one = replied-owns pl r o u v (inQueue (passiveIn p)) (inQueue (passiveOut p)) kind x q setup in
           omega arith
 
   -- So does a Consume: what an ACK owned the accepted connection owns, and a marked NACK owned nothing.
-  pub removed-owned : (a : ℕ) (x : Packet) (rest : List Packet) → a < A pl → s .lines .queue (activeIn a) ≡ x ∷ rest → unmarked x ≡ false → Owned pl (acceptKind pl (x .kind) x acc) (removed a rest s)
+  pub removed-owned : (a : ℕ) (x : Packet) (rest : List Packet) → a < A pl → s .lines .queue (activeIn a) ≡ x ∷ rest
+      → unmarked x ≡ false → Owned pl (acceptKind pl (x .kind) x acc) (removed a rest s)
   unfolding removed made ownsMade
-  removed-owned a x rest h e m = by (active-answer wired (x .active) (x .passive) (b .ranges .active) (b .ranges .passive) (b .serves) (x .kind) (x .hub .0) a (b .fits) .2)
+  removed-owned a x rest h e m = by (active-answer wired (x .active) (x .passive) (b .ranges .active)
+      (b .ranges .passive) (b .serves) (x .kind) (x .hub .0) a (b .fits) .2)
     where
       b : Belongs pl (inQueue (activeIn a)) x
       b = head-belongs c (activeIn a) h x rest e
@@ -154,12 +167,14 @@ module _ {pl : Plan} (wired : Wired pl) {acc : List Connection} (s : State) (c :
       accepted q = record { holders = k .holders; entries = k .entries; owners = owners′; agreed = known }
         where
           owners′ : (r o u : ℕ) → r < R pl → o < 4 → u < S pl → (v : Holder)
-              → weighed pl (owns pl r o u v) (removed a rest s) + (ownsMade pl r o u v (connectionOf pl x) + made pl r o u v acc) ≡ holds (k .holders r o u) v
+              → weighed pl (owns pl r o u v) (removed a rest s)
+              + (ownsMade pl r o u v (connectionOf pl x) + made pl r o u v acc) ≡ holds (k .holders r o u) v
           owners′ r o u hr ho hu v =
               let all = removed-weighed pl (owns pl r o u v) s a h x rest e in
               let was = owns-of pl r o u v Ack (inQueue (activeIn a)) x q in
               let is : ownsUp pl r o u v x ≡ ownsMade pl r o u v (connectionOf pl x) =
-              ap (λ (n : ℕ). owning pl r o u v (x .active) (x .passive) (startSlot (x .slot) (x .hub) (S pl)) 0 n) (fits-as Ack q b .1)
+              ap (λ (n : ℕ). owning pl r o u v (x .active) (x .passive) (startSlot (x .slot) (x .hub) (S pl)) 0 n)
+              (fits-as Ack q b .1)
               in
               let old = k .owners r o u hr ho hu v in
               omega arith
@@ -170,7 +185,8 @@ module _ {pl : Plan} (wired : Wired pl) {acc : List Connection} (s : State) (c :
           none : x .hub .0 ≡ 0
           none = eqb-true (x .hub .0) 0 (not-false (eqb (x .hub .0) 0) (rw q at m))
 
-          same : (r o u : ℕ) (v : Holder) → weighed pl (owns pl r o u v) (removed a rest s) ≡ weighed pl (owns pl r o u v) s
+          same : (r o u : ℕ) (v : Holder)
+              → weighed pl (owns pl r o u v) (removed a rest s) ≡ weighed pl (owns pl r o u v) s
           same r o u v =
               let all = removed-weighed pl (owns pl r o u v) s a h x rest e in
               let was = owns-of pl r o u v Nack (inQueue (activeIn a)) x q ∙ up-none pl r o u v x none in

@@ -36,12 +36,14 @@ use Rattle.theory.proofs.Places.Closure.{stands-below}
 use Rattle.theory.proofs.Places.CameIn.{stands-inside, stands-exit, came-in}
 use Rattle.theory.specs.Weights.{Weight, inLine, onWire, inLines, inWires, weighed}
 use Rattle.theory.proofs.Places.Indices.{index-stands, index-is}
-use Rattle.theory.specs.Owners.{Holder, sameHolder, holderOf, reaches, indexOf, owning, owns, ownsMade, made, heldEntry, holds, Agreed, Owned}
+use Rattle.theory.specs.Owners.{Holder, sameHolder, holderOf, reaches, indexOf, owning, owns, ownsMade, made}
+use Rattle.theory.specs.Owners.{heldEntry, holds, Agreed, Owned}
 use Rattle.theory.proofs.Own.Owning.{holder-same, same-holder, bit-true, held}
 
 -- ---- an empty network
 -- Where every wire that there is is empty, every output's is.
-pub quiet-wires : (pl : Plan) (s : State) → Core pl s → Quiet pl s → (o : Output) → Drives pl o → s .links .wire o ≡ Empty
+pub quiet-wires : (pl : Plan) (s : State) → Core pl s → Quiet pl s → (o : Output) → Drives pl o
+    → s .links .wire o ≡ Empty
 quiet-wires pl s c q o d = by (s .links .wire o) refl
   where
     by : (w : Wire) → s .links .wire o ≡ w → w ≡ Empty
@@ -52,8 +54,10 @@ quiet-wires pl s c q o d = by (s .links .wire o) refl
 pub quiet-weighed : (pl : Plan) (w : Weight) (s : State) → Core pl s → Quiet pl s → weighed pl w s ≡ 0
 unfolding weighed inLines inWires inLine onWire
 quiet-weighed pl w s c q =
-    let lines = sum-nought (queues pl) (λ n. inLine w (queueAt pl n) (s .lines .handled (queueAt pl n)) (s .lines .queue (queueAt pl n)))
-    (λ n l. ap (inLine w (queueAt pl n) (s .lines .handled (queueAt pl n))) (q .queues (queueAt pl n) (exists-at pl n l))) in
+    let lines = sum-nought (queues pl)
+    (λ n. inLine w (queueAt pl n) (s .lines .handled (queueAt pl n)) (s .lines .queue (queueAt pl n)))
+    (λ n l. ap (inLine w (queueAt pl n) (s .lines .handled (queueAt pl n)))
+    (q .queues (queueAt pl n) (exists-at pl n l))) in
     let wires = sum-nought (outputs pl) (λ n. onWire pl w (outputAt pl n) (s .links .wire (outputAt pl n)))
     (λ n l. ap (onWire pl w (outputAt pl n)) (quiet-wires pl s c q (outputAt pl n) (drives-at pl n l))) in
     omega arith
@@ -68,15 +72,19 @@ module _ (pl : Plan) (r o t : ℕ) (v : Holder) where
   made-in c (d ∷ cs) (inr i) = let h = made-in c cs i in omega arith
 
   -- what all own one owns
-  made-some : (cs : List Connection) → 0 < made pl r o t v cs → (c : Connection) × In c cs × (0 < ownsMade pl r o t v c)
+  made-some : (cs : List Connection) → 0 < made pl r o t v cs
+      → (c : Connection) × In c cs × (0 < ownsMade pl r o t v c)
   unfolding made
   made-some [] h = absurd (omega arith)
   made-some (c ∷ cs) h = by (ownsMade pl r o t v c) refl (λ g. made-some cs g)
     where
-      up : (d : Connection) × In d cs × (0 < ownsMade pl r o t v d) → (d : Connection) × In d (c ∷ cs) × (0 < ownsMade pl r o t v d)
+      up : (d : Connection) × In d cs × (0 < ownsMade pl r o t v d)
+          → (d : Connection) × In d (c ∷ cs) × (0 < ownsMade pl r o t v d)
       up (d, i, g) = (d, inr i, g)
 
-      by : (n : ℕ) → ownsMade pl r o t v c ≡ n → (0 < made pl r o t v cs → (d : Connection) × In d cs × (0 < ownsMade pl r o t v d)) → (d : Connection) × In d (c ∷ cs) × (0 < ownsMade pl r o t v d)
+      by : (n : ℕ) → ownsMade pl r o t v c ≡ n
+          → (0 < made pl r o t v cs → (d : Connection) × In d cs × (0 < ownsMade pl r o t v d))
+          → (d : Connection) × In d (c ∷ cs) × (0 < ownsMade pl r o t v d)
       by zero e rec = up (rec (omega arith))
       by (suc n) e rec = (c, inl refl, omega arith)
 
@@ -85,11 +93,13 @@ picked-some : (b : Bool) (n : ℕ) → 0 < pick b n 0 → (b ≡ true) × (0 < n
 picked-some true n h = (refl, h)
 picked-some false n h = absurd (omega arith)
 
-reached : (slots t : ℕ) (start : Slot) (first past : ℕ) (i : Index) → reaches slots t start first past i ≡ true → (k : ℕ) × (i ≡ At k) × (t ≡ slotAfter start (record { 0 = k }) slots .0)
+reached : (slots t : ℕ) (start : Slot) (first past : ℕ) (i : Index) → reaches slots t start first past i ≡ true
+    → (k : ℕ) × (i ≡ At k) × (t ≡ slotAfter start (record { 0 = k }) slots .0)
 reached slots t start first past Off e = absurd (false≢true e)
 reached slots t start first past (At k) e = (k, refl, by (ltb k first) (ltb k past) e)
   where
-    by : (b d : Bool) → pick b false (pick d (eqb t (slotAfter start (record { 0 = k }) slots .0)) false) ≡ true → t ≡ slotAfter start (record { 0 = k }) slots .0
+    by : (b d : Bool) → pick b false (pick d (eqb t (slotAfter start (record { 0 = k }) slots .0)) false) ≡ true
+        → t ≡ slotAfter start (record { 0 = k }) slots .0
     by true d f = absurd (false≢true f)
     by false true f = eqb-true t (slotAfter start (record { 0 = k }) slots .0) f
     by false false f = absurd (false≢true f)
@@ -102,11 +112,14 @@ record Owning (pl : Plan) (r o t : ℕ) (v : Holder) (a p : ℕ) (start : Slot) 
   pub slot : t ≡ slotAfter start (record { 0 = index }) (S pl) .0
   pub holder : holderOf pl a p r ≡ v
 
-owning-tells : (pl : Plan) (r o t : ℕ) (v : Holder) (a p : ℕ) (start : Slot) (first past : ℕ) → 0 < owning pl r o t v a p start first past → Owning pl r o t v a p start
+owning-tells : (pl : Plan) (r o t : ℕ) (v : Holder) (a p : ℕ) (start : Slot) (first past : ℕ)
+    → 0 < owning pl r o t v a p start first past → Owning pl r o t v a p start
 unfolding owning
 owning-tells pl r o t v a p start first past h =
-    let b = picked-some (also (eqb o (routeTo pl (passive p) r)) (reaches (S pl) t start first past (indexOf pl a p r))) (bit (sameHolder (holderOf pl a p r) v)) h in
-    let d = also-true {a = eqb o (routeTo pl (passive p) r)} {b = reaches (S pl) t start first past (indexOf pl a p r)} (b .0) in
+    let b = picked-some (also (eqb o (routeTo pl (passive p) r))
+    (reaches (S pl) t start first past (indexOf pl a p r))) (bit (sameHolder (holderOf pl a p r) v)) h in
+    let d = also-true {a = eqb o (routeTo pl (passive p) r)} {b = reaches (S pl) t start first past (indexOf pl a p r)}
+    (b .0) in
     let g = reached (S pl) t start first past (indexOf pl a p r) (d .1) in
     record {
       index = g .0;
@@ -123,9 +136,15 @@ module _ {pl : Plan} (wired : Wired pl) (c : Connection) (g : Agreed pl c) (r o 
   owns-makes v h =
       let w = owning-tells pl r o t v (c .active) (c .passive) (c .start) 0 (span pl (c .active) (c .passive)) h in
       let f = index-stands pl (c .active) (c .passive) r (w .index) (w .at) in
-      let came : cameOf ≡ f .0 = came-in wired (c .active) (c .passive) (g .active) (g .passive) (g .serves) (w .index) r (f .0) (f .1) in
+      let came : cameOf ≡ f .0 = came-in wired (c .active) (c .passive) (g .active) (g .passive) (g .serves) (w .index)
+      r (f .0) (f .1) in
       let side : f .0 ≡ v .side = sym came ∙ ap (λ (d : Holder). d .side) (w .holder) in
-      record { index = w .index; at = subst (λ (n : ℕ). Stands pl (c .active) (c .passive) (w .index) r n) side (f .1); side = w .side; slot = w .slot }
+      record {
+        index = w .index;
+        at = subst (λ (n : ℕ). Stands pl (c .active) (c .passive) (w .index) r n) side (f .1);
+        side = w .side;
+        slot = w .slot;
+      }
     where
       cameOf : ℕ
       cameOf = holderOf pl (c .active) (c .passive) r .side
@@ -134,7 +153,8 @@ module _ {pl : Plan} (wired : Wired pl) (c : Connection) (g : Agreed pl c) (r o 
   pub makes-owns : (i : ℕ) → Makes pl c r o t i → ownsMade pl r o t (holderOf pl (c .active) (c .passive) r) c ≡ 1
   unfolding ownsMade owning
   makes-owns i m =
-      let short = stands-below wired (c .active) (c .passive) (g .active) (g .passive) (g .serves) (m .index) (record { router = r; side = i }) (m .at) in
+      let short = stands-below wired (c .active) (c .passive) (g .active) (g .passive) (g .serves) (m .index)
+      (record { router = r; side = i }) (m .at) in
       rw (
         eq-eqb o (routeTo pl (passive (c .passive)) r) (m .side),
         index-is wired (c .active) (c .passive) (g .active) (g .passive) (g .serves) (m .index) r i (m .at),
@@ -145,17 +165,21 @@ module _ {pl : Plan} (wired : Wired pl) (c : Connection) (g : Agreed pl c) (r o 
       )
 
 -- In an owned state with every queue and wire empty, the table is the one that the accepted connections make.
-pub owned-table : {pl : Plan} → Wired pl → {acc : List Connection} (s : State) → Core pl s → Owned pl acc s → Quiet pl s → MadeBy pl acc (s .table)
+pub owned-table : {pl : Plan} → Wired pl → {acc : List Connection} (s : State) → Core pl s → Owned pl acc s
+    → Quiet pl s → MadeBy pl acc (s .table)
 owned-table {pl} wired {acc} s core k q = record { made = made′; else-free = free′ }
   where
     made′ : (c : Connection) → In c acc → (r o t i : ℕ) → Makes pl c r o t i → s .table r o t ≡ Booked i
     made′ c n r o t i m =
         let g = k .agreed c n in
-        let hr = stands-inside wired (c .active) (c .passive) (g .active) (g .passive) (g .serves) (m .index) r i (m .at) .0 in
-        let out = stands-exit wired (c .active) (c .passive) (g .active) (g .passive) (g .serves) (m .index) r i (m .at) in
+        let hr = stands-inside wired (c .active) (c .passive) (g .active) (g .passive) (g .serves) (m .index) r i
+        (m .at) .0 in
+        let out = stands-exit wired (c .active) (c .passive) (g .active) (g .passive) (g .serves) (m .index) r i
+        (m .at) in
         let side = m .side in
         let ho : o < 4 = omega arith in
-        let below : slotAfter (c .start) (record { 0 = m .index }) (S pl) .0 < S pl = mod-lt (c .start .0 + m .index) (let l = g .start in omega arith) in
+        let below : slotAfter (c .start) (record { 0 = m .index }) (S pl) .0 < S pl =
+        mod-lt (c .start .0 + m .index) (let l = g .start in omega arith) in
         let slot = m .slot in
         let ht : t < S pl = omega arith in
         let none = quiet-weighed pl (owns pl r o t (holderOf pl (c .active) (c .passive) r)) s core q in
@@ -164,9 +188,11 @@ owned-table {pl} wired {acc} s core k q = record { made = made′; else-free = f
         let sum = k .owners r o t hr ho ht (holderOf pl (c .active) (c .passive) r) in
         let is = held (k .holders r o t) (holderOf pl (c .active) (c .passive) r) (omega arith) in
         k .entries r o t hr ho ht ∙ ap heldEntry is
-        ∙ ap Booked (came-in wired (c .active) (c .passive) (g .active) (g .passive) (g .serves) (m .index) r i (m .at))
+        ∙ ap Booked
+        (came-in wired (c .active) (c .passive) (g .active) (g .passive) (g .serves) (m .index) r i (m .at))
 
-    free′ : (r o t : ℕ) → r < R pl → o < 4 → t < S pl → ((c : Connection) (i : ℕ) → In c acc → Makes pl c r o t i → ⊥) → s .table r o t ≡ Free
+    free′ : (r o t : ℕ) → r < R pl → o < 4 → t < S pl → ((c : Connection) (i : ℕ) → In c acc → Makes pl c r o t i → ⊥)
+        → s .table r o t ≡ Free
     free′ r o t hr ho ht no-maker = by (k .holders r o t) refl
       where
         by : (m : Option Holder) → k .holders r o t ≡ m → s .table r o t ≡ Free
@@ -176,4 +202,5 @@ owned-table {pl} wired {acc} s core k q = record { made = made′; else-free = f
             let sum = k .owners r o t hr ho ht v in
             let one : holds (k .holders r o t) v ≡ 1 = rw (e, holder-same v) in
             let d = made-some pl r o t v acc (omega arith) in
-            absurd (no-maker (d .0) (v .side) (d .1) (owns-makes wired (d .0) (k .agreed (d .0) (d .1)) r o t v (d .2)))
+            absurd (no-maker (d .0) (v .side) (d .1)
+            (owns-makes wired (d .0) (k .agreed (d .0) (d .1)) r o t v (d .2)))

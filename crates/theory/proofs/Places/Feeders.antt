@@ -1,5 +1,5 @@
--- Each queue is fed by one output, and is a sender of one output: so two outputs never meet in a credit, a wire or a queue.
--- And a queue in which a packet may be is fed by a wire, or it is an interface's out-queue.
+-- Each queue is fed by one output, and is a sender of one output: so two outputs never meet in a credit, a wire or a
+-- queue. And a queue in which a packet may be is fed by a wire, or it is an interface's out-queue.
 use mathlib.Core.Path.{_≡_, refl, sym, ap, _∙_}
 use mathlib.Core.Logic.{_⊎_, inl, inr, _≢_}
 use mathlib.Core.Bool.{true, not}
@@ -16,7 +16,8 @@ use Rattle.plan.specs.Rules.{home}
 use Rattle.paths.specs.Served.{Served}
 use Rattle.feeding.specs.Queue.{Queue, activeOut, activeIn, passiveIn, passiveOut, U, Q, F, K}
 use Rattle.feeding.specs.Role.{isOutQueue}
-use Rattle.feeding.specs.Feeds.{Heading, ahead, back, headingOf, Output, ofActive, ofPassive, ofSide, toUnit, fromUnit, enters, across, beyond, outputOf, leavesFrom}
+use Rattle.feeding.specs.Feeds.{Heading, ahead, back, headingOf, Output, ofActive, ofPassive, ofSide, toUnit, fromUnit}
+use Rattle.feeding.specs.Feeds.{enters, across, beyond, outputOf, leavesFrom}
 use Rattle.wiring.specs.Wired.{Wired}
 use Rattle.journeys.specs.Visits.{Visits}
 use Rattle.journeys.proofs.Places.{some-same, some-not-none, walk-joined, returns-joined}
@@ -44,11 +45,13 @@ feeder pl (F r o) = some (fromUnit r)
 feeder pl (K r i o) = leadsIn (pl .joint r i)
 
 module _ {pl : Plan} (wired : Wired pl) where
-  entered : (h : Heading) (a p : ℕ) (x : Port) → feeder pl (enters pl h a p x) ≡ leadsIn (pl .joint (x .router) (x .side))
+  entered : (h : Heading) (a p : ℕ) (x : Port)
+      → feeder pl (enters pl h a p x) ≡ leadsIn (pl .joint (x .router) (x .side))
   entered ahead a p x = refl
   entered back a p x = refl
 
-  across-fed : (h : Heading) (a p r o : ℕ) (j : Joint) → pl .joint r o ≡ j → (y : Queue) → across pl h a p j ≡ some y → feeder pl y ≡ some (ofSide r o)
+  across-fed : (h : Heading) (a p r o : ℕ) (j : Joint) → pl .joint r o ≡ j → (y : Queue) → across pl h a p j ≡ some y
+      → feeder pl y ≡ some (ofSide r o)
   across-fed h a p r o Nothing e y q = absurd (some-not-none q)
   across-fed h a p r o (Router n t) e y q =
       rw (← some-same q) (entered h a p (record { router = n; side = t }) ∙ ap leadsIn (wired .named r o n t e .1))
@@ -60,15 +63,19 @@ module _ {pl : Plan} (wired : Wired pl) where
       rw (← some-same q, ← b .0, ← b .1)
 
   -- the queue beyond an output is fed by that output
-  pub fed-by : (h : Heading) (a p : ℕ) (o : Output) → Drives pl o → (y : Queue) → beyond pl h a p o ≡ some y → feeder pl y ≡ some o
-  fed-by h a p (ofActive x) d y q = rw (← some-same q) (entered h a p (home pl (active x)) ∙ ap leadsIn (wired .joined (active x) d .there))
-  fed-by h a p (ofPassive x) d y q = rw (← some-same q) (entered h a p (home pl (passive x)) ∙ ap leadsIn (wired .joined (passive x) d .there))
+  pub fed-by : (h : Heading) (a p : ℕ) (o : Output) → Drives pl o → (y : Queue) → beyond pl h a p o ≡ some y
+      → feeder pl y ≡ some o
+  fed-by h a p (ofActive x) d y q =
+      rw (← some-same q) (entered h a p (home pl (active x)) ∙ ap leadsIn (wired .joined (active x) d .there))
+  fed-by h a p (ofPassive x) d y q =
+      rw (← some-same q) (entered h a p (home pl (passive x)) ∙ ap leadsIn (wired .joined (passive x) d .there))
   fed-by h a p (ofSide r o) d y q = across-fed h a p r o (pl .joint r o) refl y q
   fed-by h a p (toUnit r) d y q = rw (← some-same q)
   fed-by h a p (fromUnit r) d y q = rw (← some-same q)
 
   -- so two outputs with one next queue are one
-  pub one-feeder : (g h : Heading) (a p b q : ℕ) (o u : Output) → Drives pl o → Drives pl u → (y : Queue) → beyond pl g a p o ≡ some y → beyond pl h b q u ≡ some y → o ≡ u
+  pub one-feeder : (g h : Heading) (a p b q : ℕ) (o u : Output) → Drives pl o → Drives pl u → (y : Queue)
+      → beyond pl g a p o ≡ some y → beyond pl h b q u ≡ some y → o ≡ u
   one-feeder g h a p b q o u d e y m n = some-same (sym (fed-by g a p o d y m) ∙ fed-by h b q u e y n)
 
 -- ---- queues that a wire feeds
@@ -140,5 +147,6 @@ sender-leaves (fromUnit r) zero q e = rw (← some-same e)
 sender-leaves (fromUnit r) (suc k) q e = absurd (some-not-none e)
 
 -- so two outputs with one sender are one
-pub one-output : (o u : Output) (k m : ℕ) (q : Queue) → ofRank (senders o) k ≡ some q → ofRank (senders u) m ≡ some q → o ≡ u
+pub one-output : (o u : Output) (k m : ℕ) (q : Queue) → ofRank (senders o) k ≡ some q → ofRank (senders u) m ≡ some q
+    → o ≡ u
 one-output o u k m q e f = some-same (sym (sender-leaves o k q e) ∙ sender-leaves u m q f)

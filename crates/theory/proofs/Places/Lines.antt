@@ -1,4 +1,5 @@
--- The line of a queue: what a packet that joins it or leaves it keeps of Lined. And where a packet belongs, its queue exists.
+-- The line of a queue: what a packet that joins it or leaves it keeps of Lined. And where a packet belongs, its queue
+-- exists.
 use mathlib.Core.Path.{_≡_, refl, sym, ap, _∙_}
 use mathlib.Core.Logic.{_⊎_, inl, inr, _≢_}
 use mathlib.Core.Bool.{Bool, true, false, false≢true}
@@ -15,7 +16,8 @@ use Rattle.plan.specs.Plan.{Plan, R, A, P}
 use Rattle.paths.specs.Served.{Served}
 use Rattle.feeding.specs.Queue.{Queue, activeOut, activeIn, passiveIn, passiveOut, U, Q, F, K, Exists}
 use Rattle.feeding.specs.Role.{Role, sending, receiving, handling, passing, role, isUnitAs, isUnit, unit-or}
-use Rattle.feeding.specs.Feeds.{Output, headingOf, outputOf, inQueue, Ahead, Back, Fits, headPlaceAs, headPlace, leavesFrom}
+use Rattle.feeding.specs.Feeds.{Output, headingOf, outputOf, inQueue, Ahead, Back, Fits, headPlaceAs, headPlace}
+use Rattle.feeding.specs.Feeds.{leavesFrom}
 use Rattle.wiring.specs.Wired.{Wired}
 use Rattle.journeys.proofs.Places.{may-exist, some-same, some-not-none}
 use Rattle.journeys.proofs.Fitting.{fits-visits}
@@ -27,11 +29,13 @@ use Rattle.theory.proofs.Places.CameIn.{stands-inside}
 
 -- ---- marks
 -- only a unit's queue has a mark
-pub no-mark : (pl : Plan) (s : State) → Marks pl s → (q : Queue) → Exists pl q → isUnit q ≡ false → s .lines .handled q ≡ false
+pub no-mark : (pl : Plan) (s : State) → Marks pl s → (q : Queue) → Exists pl q → isUnit q ≡ false
+    → s .lines .handled q ≡ false
 no-mark pl s m q h f = refuted (s .lines .handled q) (λ t. let g = m q h t in false≢true (sym f ∙ ap isUnit (g .1)))
 
 -- an empty queue has none
-pub empty-mark : (pl : Plan) (s : State) → Marks pl s → (q : Queue) → Exists pl q → s .lines .queue q ≡ [] → s .lines .handled q ≡ false
+pub empty-mark : (pl : Plan) (s : State) → Marks pl s → (q : Queue) → Exists pl q → s .lines .queue q ≡ []
+    → s .lines .handled q ≡ false
 empty-mark pl s m q h e = refuted (s .lines .handled q) (λ t. m q h t .2 e)
 
 -- the place of an unhandled head is its queue
@@ -48,7 +52,8 @@ head-unhandled q = by (role q)
 pub head-leaves : (s : State) (q : Queue) → mayLeave s q ≡ true → headPlace (s .lines .handled q) q ≡ leavesFrom q
 head-leaves s q t = by (role q) t
   where
-    by : (k : Role) → mayLeaveAs k (s .lines .handled q) ≡ true → headPlaceAs k (s .lines .handled q) q ≡ headPlaceAs k true q
+    by : (k : Role) → mayLeaveAs k (s .lines .handled q) ≡ true
+        → headPlaceAs k (s .lines .handled q) q ≡ headPlaceAs k true q
     by sending t = refl
     by receiving t = refl
     by (handling r) t = rw t
@@ -70,12 +75,14 @@ may-leave s q f = at (unit-or q)
 
 -- ---- lines
 -- packets that belong in a queue are a line with an unhandled head
-pub line-of : (pl : Plan) (q : Queue) (l : List Packet) → ((y : Packet) → In y l → Belongs pl (inQueue q) y) → Lined pl q false l
+pub line-of : (pl : Plan) (q : Queue) (l : List Packet) → ((y : Packet) → In y l → Belongs pl (inQueue q) y)
+    → Lined pl q false l
 line-of pl q [] f = record {}
 line-of pl q (x ∷ rest) f = (rw (head-unhandled q) (f x (inl refl)), λ y i. f y (inr i))
 
 -- a packet that belongs in the queue joins its line; an empty line has no handled head
-pub line-joined : (pl : Plan) (q : Queue) (done : Bool) (l : List Packet) (x : Packet) → (l ≡ [] → done ≡ false) → Belongs pl (inQueue q) x → Lined pl q done l → Lined pl q done (l ++ (x ∷ []))
+pub line-joined : (pl : Plan) (q : Queue) (done : Bool) (l : List Packet) (x : Packet) → (l ≡ [] → done ≡ false)
+    → Belongs pl (inQueue q) x → Lined pl q done l → Lined pl q done (l ++ (x ∷ []))
 line-joined pl q done [] x n b f = (rw (n refl) (rw (head-unhandled q) b), λ y i. absurd i)
 line-joined pl q done (z ∷ rest) x n b f = (f .0, λ y i. by y (in-either y rest (x ∷ []) i))
   where
@@ -106,7 +113,8 @@ output-drives pl (F r i) o h e = rw (← some-same e) h
 output-drives pl (K r i j) o h e = rw (← some-same e) (h .0, h .2)
 
 module _ {pl : Plan} (wired : Wired pl) where
-  unit-exists : (k : Kind) (a p hub r : ℕ) → a < A pl → p < P pl → Served pl a p → Fits pl k a p hub (inQueue (Q r)) → r < R pl
+  unit-exists : (k : Kind) (a p hub r : ℕ) → a < A pl → p < P pl → Served pl a p → Fits pl k a p hub (inQueue (Q r))
+      → r < R pl
   unfolding Ahead Back
   unit-exists Setup a p hub r ha hp s (i, f) = stands-inside wired a p ha hp s hub r i f .0
   unit-exists Tdown a p hub r ha hp s (n, (i, f), h, l) = stands-inside wired a p ha hp s n r i f .0
@@ -118,7 +126,8 @@ module _ {pl : Plan} (wired : Wired pl) where
   belongs-exists q x b = by q (b .fits)
     where
       at : (q : Queue) → Fits pl (x .kind) (x .active) (x .passive) (x .hub .0) (leavesFrom q) → Exists pl q
-      at q f = may-exist wired (x .active) (x .passive) (b .ranges .active) (b .ranges .passive) (b .serves) (headingOf (x .kind)) q (fits-visits pl (x .active) (x .passive) (x .kind) (x .hub .0) q f)
+      at q f = may-exist wired (x .active) (x .passive) (b .ranges .active) (b .ranges .passive) (b .serves)
+          (headingOf (x .kind)) q (fits-visits pl (x .active) (x .passive) (x .kind) (x .hub .0) q f)
 
       by : (q : Queue) → Fits pl (x .kind) (x .active) (x .passive) (x .hub .0) (inQueue q) → Exists pl q
       by (activeOut y) f = at (activeOut y) f
@@ -126,6 +135,7 @@ module _ {pl : Plan} (wired : Wired pl) where
       by (passiveIn y) f = at (passiveIn y) f
       by (passiveOut y) f = at (passiveOut y) f
       by (U r i) f = at (U r i) f
-      by (Q r) f = unit-exists (x .kind) (x .active) (x .passive) (x .hub .0) r (b .ranges .active) (b .ranges .passive) (b .serves) f
+      by (Q r) f = unit-exists (x .kind) (x .active) (x .passive) (x .hub .0) r (b .ranges .active)
+          (b .ranges .passive) (b .serves) f
       by (F r o) f = at (F r o) f
       by (K r i o) f = at (K r i o) f

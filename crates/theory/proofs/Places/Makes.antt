@@ -1,4 +1,5 @@
--- What a rule makes of a packet belongs where the rule puts it: at a unit, at a passive, at an active, and from a queue to the next.
+-- What a rule makes of a packet belongs where the rule puts it: at a unit, at a passive, at an active, and from a
+-- queue to the next.
 use mathlib.Core.Path.{_≡_}
 use mathlib.Core.Logic.{_⊎_, inl, inr}
 use mathlib.Core.Option.{some}
@@ -21,7 +22,9 @@ use Rattle.machine.specs.Outputs.{nextBy}
 use Rattle.machine.specs.Execute.{cameIn, declined, booked, freed, marked, tdownOf}
 use Rattle.machine.specs.Visits.{setupOf, repliedAs}
 use Rattle.machine.specs.Valid.{Belongs}
-use Rattle.theory.proofs.Places.Closure.{stands-below, span-short, fits-next, unit-setup, unit-booked, unit-declined, unit-freed, unit-no-answer, passive-setup, passive-ack, passive-nack, active-answer, active-tdown, active-marked, active-setup}
+use Rattle.theory.proofs.Places.Closure.{stands-below, span-short, fits-next, unit-setup, unit-booked}
+use Rattle.theory.proofs.Places.Closure.{unit-declined, unit-freed, unit-no-answer, passive-setup, passive-ack}
+use Rattle.theory.proofs.Places.Closure.{passive-nack, active-answer, active-tdown, active-marked, active-setup}
 use Rattle.theory.proofs.Places.CameIn.{stands-inside, stands-exit, came-in}
 
 -- what keeps a packet's pair belongs where its kind and hub fit
@@ -29,7 +32,11 @@ belongs-as : (pl : Plan) (from at : Place) (x : Packet) (kind : Kind) (slot : Sl
     → Fits pl kind (x .active) (x .passive) (hub .0) at → slot .0 < S pl → hub .0 ≤ 16
     → Belongs pl at (record { kind = kind; active = x .active; passive = x .passive; slot = slot; hub = hub })
 belongs-as pl from at x kind slot hub b f t h =
-    record { ranges = record { active = b .ranges .active; passive = b .ranges .passive; slot = t; hub = h }; serves = b .serves; fits = f }
+    record {
+      ranges = record { active = b .ranges .active; passive = b .ranges .passive; slot = t; hub = h };
+      serves = b .serves;
+      fits = f;
+    }
 
 module _ {pl : Plan} (wired : Wired pl) (range : InRange (pl .head)) where
   -- a number modulo S is a slot of the plan
@@ -37,9 +44,14 @@ module _ {pl : Plan} (wired : Wired pl) (range : InRange (pl .head)) where
   slot-in n = mod-lt n (omega (arith, range .slots))
 
   -- a launched SETUP belongs in its active's out-queue
-  pub setup-belongs : (a p t : ℕ) → a < A pl → p < P pl → t < S pl → Served pl a p → Belongs pl (inQueue (activeOut a)) (setupOf a p t)
+  pub setup-belongs : (a p t : ℕ) → a < A pl → p < P pl → t < S pl → Served pl a p
+      → Belongs pl (inQueue (activeOut a)) (setupOf a p t)
   setup-belongs a p t ha hp ht s =
-      record { ranges = record { active = ha; passive = hp; slot = ht; hub = omega arith }; serves = s; fits = active-setup wired a p ha hp s }
+      record {
+        ranges = record { active = ha; passive = hp; slot = ht; hub = omega arith };
+        serves = s;
+        fits = active-setup wired a p ha hp s;
+      }
 
   module _ (x : Packet) (from : Place) (here : Belongs pl from x) where
     abbrev a : ℕ
@@ -58,7 +70,8 @@ module _ {pl : Plan} (wired : Wired pl) (range : InRange (pl .head)) where
     served = here .serves
 
     -- a packet that belongs where it leaves a queue from belongs in the queue that it goes to by that queue's output
-    pub next-belongs : (q y : Queue) (o : Output) → from ≡ leavesFrom q → outputOf q ≡ some o → nextBy pl o x ≡ some y → Belongs pl (inQueue y) x
+    pub next-belongs : (q y : Queue) (o : Output) → from ≡ leavesFrom q → outputOf q ≡ some o → nextBy pl o x ≡ some y
+        → Belongs pl (inQueue y) x
     unfolding next
     next-belongs q y o f e n =
         record {
@@ -85,7 +98,10 @@ module _ {pl : Plan} (wired : Wired pl) (range : InRange (pl .head)) where
 
       -- and so is the side by which its walk came in
       pub side-in : cameIn pl a p r < 4
-      side-in = let s = unit-stands in rw (came-in wired a p ha hp served (s .0) r (s .1) (s .2)) (stands-inside wired a p ha hp served (s .0) r (s .1) (s .2) .1)
+      side-in =
+          let s = unit-stands in
+          rw (came-in wired a p ha hp served (s .0) r (s .1) (s .2))
+          (stands-inside wired a p ha hp served (s .0) r (s .1) (s .2) .1)
 
       -- a booked SETUP belongs there as handled
       pub booked-belongs : x .kind ≡ Setup → Belongs pl (handledAt r) (booked (S pl) x)
@@ -95,25 +111,30 @@ module _ {pl : Plan} (wired : Wired pl) (range : InRange (pl .head)) where
           let before = stands-below wired a p ha hp served (x .hub .0) (record { router = r; side = s .0 }) (s .1) in
           let short = span-short wired a p ha hp served in
           belongs-as pl from (handledAt r) x (x .kind) (booked (S pl) x .slot) (booked (S pl) x .hub) here
-          (rw q (unit-booked wired a p ha hp served r (x .hub .0) f)) (slot-in (x .slot .0 + 1)) (omega (arith, range .routers))
+          (rw q (unit-booked wired a p ha hp served r (x .hub .0) f)) (slot-in (x .slot .0 + 1))
+          (omega (arith, range .routers))
 
       -- so does the NACK that a SETUP becomes
       pub declined-belongs : x .kind ≡ Setup → Belongs pl (handledAt r) (declined x)
       declined-belongs q =
           belongs-as pl from (handledAt r) x Nack (declined x .slot) (declined x .hub) here
-          (unit-declined wired a p ha hp served r (x .hub .0) (rw (unit, q) at (here .fits))) (here .ranges .slot) (here .ranges .hub)
+          (unit-declined wired a p ha hp served r (x .hub .0) (rw (unit, q) at (here .fits))) (here .ranges .slot)
+          (here .ranges .hub)
 
       -- and a TDOWN that has more to free
       pub freed-belongs : x .kind ≡ Tdown → (x .hub .0 ≡ 1 → ⊥) → Belongs pl (handledAt r) (freed (S pl) x)
       freed-belongs q more =
           let f : Fits pl Tdown a p (x .hub .0) (inQueue (Q r)) = rw (unit, q) at (here .fits) in
           belongs-as pl from (handledAt r) x (x .kind) (freed (S pl) x .slot) (freed (S pl) x .hub) here
-          (rw q (unit-freed wired a p ha hp served r (x .hub .0) (omega (arith, f .2)) f)) (slot-in (x .slot .0 + 1)) (omega (arith, here .ranges .hub))
+          (rw q (unit-freed wired a p ha hp served r (x .hub .0) (omega (arith, f .2)) f)) (slot-in (x .slot .0 + 1))
+          (omega (arith, here .ranges .hub))
 
     -- ---- at a passive
     -- the answer to a SETUP belongs in the out-queue
-    pub replied-belongs : (y : ℕ) (kind : Kind) → from ≡ inQueue (passiveIn y) → (kind ≡ Ack) ⊎ (kind ≡ Nack) → Belongs pl (inQueue (passiveOut y)) (repliedAs kind x)
-    replied-belongs y kind there answer = belongs-as pl from (inQueue (passiveOut y)) x kind (x .slot) (x .hub) here (fits answer) (here .ranges .slot) (here .ranges .hub)
+    pub replied-belongs : (y : ℕ) (kind : Kind) → from ≡ inQueue (passiveIn y) → (kind ≡ Ack) ⊎ (kind ≡ Nack)
+        → Belongs pl (inQueue (passiveOut y)) (repliedAs kind x)
+    replied-belongs y kind there answer = belongs-as pl from (inQueue (passiveOut y)) x kind (x .slot) (x .hub) here
+        (fits answer) (here .ranges .slot) (here .ranges .hub)
       where
         own : (x .kind ≡ Setup) × (y ≡ p) × (x .hub .0 ≡ span pl a p)
         own = passive-setup wired a p ha hp served (x .kind) (x .hub .0) y (rw there at (here .fits))
@@ -130,7 +151,8 @@ module _ {pl : Plan} (wired : Wired pl) (range : InRange (pl .head)) where
       -- a NACK that is marked belongs where it was
       pub marked-belongs : x .kind ≡ Nack → Belongs pl (inQueue (activeIn y)) (marked x)
       marked-belongs q =
-          belongs-as pl from (inQueue (activeIn y)) x (x .kind) (x .slot) (marked x .hub) here (rw (q, own .0) (active-marked wired a p ha hp served))
+          belongs-as pl from (inQueue (activeIn y)) x (x .kind) (x .slot) (marked x .hub) here
+          (rw (q, own .0) (active-marked wired a p ha hp served))
           (here .ranges .slot) (omega arith)
 
       -- its TDOWN belongs in the out-queue
@@ -138,4 +160,5 @@ module _ {pl : Plan} (wired : Wired pl) (range : InRange (pl .head)) where
       tdown-belongs h =
           let slot = slot-in (x .slot .0 + (S pl - x .hub .0 % S pl)) in
           belongs-as pl from (inQueue (activeOut y)) x Tdown (tdownOf (S pl) x .slot) (tdownOf (S pl) x .hub) here
-          (rw (own .0) (active-tdown wired a p ha hp served (x .hub .0) h (own .1))) (omega (arith, here .ranges .slot)) (here .ranges .hub)
+          (rw (own .0) (active-tdown wired a p ha hp served (x .hub .0) h (own .1)))
+          (omega (arith, here .ranges .slot)) (here .ranges .hub)

@@ -22,7 +22,8 @@ use Rattle.theory.proofs.Ground.Cells.{queue-away}
 -- ---- what raising a flag leaves
 -- what neither a flag nor a mark changes stays as a flag is raised
 pub raise-leaves : {X : Type 0} (f : State → X) → ((q : Queue) (b : Bool) (s : State) → f (withFlag q b s) ≡ f s)
-    → ((q : Queue) (b : Bool) (s : State) → f (withHandled q b s) ≡ f s) → (q : Queue) (s : State) → f (raise q s) ≡ f s
+    → ((q : Queue) (b : Bool) (s : State) → f (withHandled q b s) ≡ f s) → (q : Queue) (s : State)
+    → f (raise q s) ≡ f s
 raise-leaves f flags marks q s = by (role q)
   where
     by : (k : Role) → f (raiseAs k q s) ≡ f s
@@ -55,7 +56,8 @@ raise-handled q s p ne = by (role q)
     by passing = refl
 
 -- the flag of a queue that is no out-queue rises
-pub raise-flag : (q : Queue) (s : State) → isOutQueue q ≡ false → raise q s .flow .flag ≡ put sameQueue (s .flow .flag) q true
+pub raise-flag : (q : Queue) (s : State) → isOutQueue q ≡ false
+    → raise q s .flow .flag ≡ put sameQueue (s .flow .flag) q true
 raise-flag q s f = by (role q) f
   where
     by : (k : Role) → isOutQueueAs k ≡ false → raiseAs k q s .flow .flag ≡ put sameQueue (s .flow .flag) q true
@@ -98,7 +100,8 @@ pub candidate-ready : (pl : Plan) (s : State) (o : Output) (q : Queue) → candi
 unfolding candidate
 candidate-ready pl s o q t = by (s .lines .queue q) refl t
   where
-    credit : (x : Packet) (n : Option Queue) → nextBy pl o x ≡ n → hasCredit s n ≡ true → (y : Queue) × (nextBy pl o x ≡ some y) × (0 < s .flow .credit y .0)
+    credit : (x : Packet) (n : Option Queue) → nextBy pl o x ≡ n → hasCredit s n ≡ true
+        → (y : Queue) × (nextBy pl o x ≡ some y) × (0 < s .flow .credit y .0)
     credit x none e h = absurd (not-both h refl)
     credit x (some y) e h = (y, e, ltb-true 0 (s .flow .credit y .0) h)
 

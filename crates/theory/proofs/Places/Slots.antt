@@ -40,13 +40,15 @@ unfolding back
 on-back s x h hx =
     let p : h % s < s = mod-lt h (omega arith) in
     let e : x + (s - h % s) + h % s ≡ x + s = omega arith in
-    mod-add-mod (x + (s - h % s)) s h ∙ sym (add-mod-mod (x + (s - h % s)) h s) ∙ rw e (wrap s (x + s) (omega arith) (omega arith) ∙ omega arith)
+    mod-add-mod (x + (s - h % s)) s h ∙ sym (add-mod-mod (x + (s - h % s)) h s)
+    ∙ rw e (wrap s (x + s) (omega arith) (omega arith) ∙ omega arith)
 
 -- one slot on and one hub more: the same start
 back-step : (s x h : ℕ) → x < s → back s ((x + 1) % s) (h + 1) ≡ back s x h
 back-step s x h hx =
     let b : back s x h < s = back-lt s x h (omega arith) in
-    let e : (x + 1) % s ≡ (back s x h + (h + 1)) % s = rw (← add-assoc) (rw (← mod-add-mod (back s x h + h) s 1, on-back s x h hx)) in
+    let e : (x + 1) % s ≡ (back s x h + (h + 1)) % s =
+    rw (← add-assoc) (rw (← mod-add-mod (back s x h + h) s 1, on-back s x h hx)) in
     rw e (back-on s (back s x h) (h + 1) b)
 
 abbrev slot : ℕ → Slot

@@ -1,4 +1,5 @@
--- The units' turn in EXECUTE: a tear-down ends, which is a move, or every head is handled afterwards and no queue has lost a packet.
+-- The units' turn in EXECUTE: a tear-down ends, which is a move, or every head is handled afterwards and no queue has
+-- lost a packet.
 use mathlib.Core.Path.{_≡_, refl, sym, ap, _∙_}
 use mathlib.Core.Logic.{_⊎_, inl, inr, _≢_}
 use mathlib.Core.Bool.{Bool, true, false, true≢false, false≢true}
@@ -24,7 +25,9 @@ use Rattle.machine.specs.Progress.{Moved}
 use Rattle.machine.proofs.Apart.{unit-same}
 use Rattle.theory.proofs.Ground.Cells.{queue-here, queue-away}
 use Rattle.theory.specs.Invariant.{Core}
-use Rattle.theory.proofs.Cases.{UnitDoes, rests, books, declines, ends, frees, unit-does, unit-books, unit-declines, unit-ends, unit-frees, unit-handled, mayBookAt, afterBooked, afterFreed, afterEnded, ActiveDoes, waits, tears, undo-does, undo-tears}
+use Rattle.theory.proofs.Cases.{UnitDoes, rests, books, declines, ends, frees, unit-does, unit-books}
+use Rattle.theory.proofs.Cases.{unit-declines, unit-ends, unit-frees, unit-handled, mayBookAt, afterBooked}
+use Rattle.theory.proofs.Cases.{afterFreed, afterEnded, ActiveDoes, waits, tears, undo-does, undo-tears}
 use Rattle.theory.proofs.Progress.Still.{all-chosen}
 
 -- a tear-down with hub 1 is at router r's unit, not yet handled
@@ -52,10 +55,18 @@ pub record Handled (pl : Plan) (r : ℕ) (s : State) : Type 0 where
 
 module _ (pl : Plan) (r : ℕ) (s : State) where
   -- a head put back as x, handled
-  as-turned : (t : State) → unit pl r s ≡ t → ((q : Queue) → q ≢ Q r → t .lines .queue q ≡ s .lines .queue q) → ((q : Queue) → q ≢ Q r → t .lines .handled q ≡ s .lines .handled q)
-      → t .links .wire ≡ s .links .wire → t .clock .slot ≡ s .clock .slot → t .flow .credit ≡ s .flow .credit → Turned pl r s
+  as-turned : (t : State) → unit pl r s ≡ t → ((q : Queue) → q ≢ Q r → t .lines .queue q ≡ s .lines .queue q)
+      → ((q : Queue) → q ≢ Q r → t .lines .handled q ≡ s .lines .handled q)
+      → t .links .wire ≡ s .links .wire → t .clock .slot ≡ s .clock .slot → t .flow .credit ≡ s .flow .credit
+      → Turned pl r s
   as-turned t e a b c d f =
-      record { queue = λ q n. rw e (a q n); handled = λ q n. rw e (b q n); wire = rw e c; slot = rw e d; credit = rw e f }
+      record {
+        queue = λ q n. rw e (a q n);
+        handled = λ q n. rw e (b q n);
+        wire = rw e c;
+        slot = rw e d;
+        credit = rw e f;
+      }
 
   pub turned : Turned pl r s
   turned = by (unit-does pl r s)
@@ -63,29 +74,38 @@ module _ (pl : Plan) (r : ℕ) (s : State) where
       by : UnitDoes pl r s → Turned pl r s
       by (rests e) = as-turned s e (λ q n. refl) (λ q n. refl) refl refl refl
       by (books x l e f k t) =
-          as-turned (afterBooked pl r x l s) (unit-books pl r s x l e f k t) (λ q n. queue-away (s .lines .queue) (Q r) (booked (S pl) x ∷ l) q n) (λ q n. queue-away (s .lines .handled) (Q r) true q n) refl refl refl
+          as-turned (afterBooked pl r x l s) (unit-books pl r s x l e f k t) (λ q n. queue-away (s .lines .queue) (Q r)
+          (booked (S pl) x ∷ l) q n) (λ q n. queue-away (s .lines .handled) (Q r) true q n) refl refl refl
       by (declines x l e f k t) =
-          as-turned _ (unit-declines pl r s x l e f k t) (λ q n. queue-away (s .lines .queue) (Q r) (declined x ∷ l) q n) (λ q n. queue-away (s .lines .handled) (Q r) true q n) refl refl refl
-      by (ends x l e f k t) = as-turned (afterEnded pl r x l s) (unit-ends pl r s x l e f k t) (λ q n. queue-away (s .lines .queue) (Q r) l q n) (λ q n. refl) refl refl refl
+          as-turned _ (unit-declines pl r s x l e f k t) (λ q n. queue-away (s .lines .queue) (Q r) (declined x ∷ l) q
+          n) (λ q n. queue-away (s .lines .handled) (Q r) true q n) refl refl refl
+      by (ends x l e f k t) = as-turned (afterEnded pl r x l s) (unit-ends pl r s x l e f k t)
+          (λ q n. queue-away (s .lines .queue) (Q r) l q n) (λ q n. refl) refl refl refl
       by (frees x l e f k t) =
-          as-turned (afterFreed pl r x l s) (unit-frees pl r s x l e f k t) (λ q n. queue-away (s .lines .queue) (Q r) (freed (S pl) x ∷ l) q n) (λ q n. queue-away (s .lines .handled) (Q r) true q n) refl refl refl
+          as-turned (afterFreed pl r x l s) (unit-frees pl r s x l e f k t) (λ q n. queue-away (s .lines .queue) (Q r)
+          (freed (S pl) x ∷ l) q n) (λ q n. queue-away (s .lines .handled) (Q r) true q n) refl refl refl
 
   -- a head replaced and marked
-  as-handled : (t : State) (x y : Packet) (l : List Packet) → unit pl r s ≡ t → s .lines .queue (Q r) ≡ x ∷ l → t .lines .queue ≡ put sameQueue (s .lines .queue) (Q r) (y ∷ l)
-      → t .lines .handled ≡ put sameQueue (s .lines .handled) (Q r) true → t .flow .flag ≡ s .flow .flag → Handled pl r s
+  as-handled : (t : State) (x y : Packet) (l : List Packet) → unit pl r s ≡ t → s .lines .queue (Q r) ≡ x ∷ l
+      → t .lines .queue ≡ put sameQueue (s .lines .queue) (Q r) (y ∷ l)
+      → t .lines .handled ≡ put sameQueue (s .lines .handled) (Q r) true → t .flow .flag ≡ s .flow .flag
+      → Handled pl r s
   as-handled t x y l e q a b c =
       record {
         done = inr (rw e (ap (λ (m : Queue → Bool). m (Q r)) b ∙ queue-here (s .lines .handled) (Q r) true));
-        long = rw e (ap (λ (m : Queue → List Packet). length (m (Q r))) a ∙ ap length (queue-here (s .lines .queue) (Q r) (y ∷ l)) ∙ sym (ap length q));
+        long = rw e (ap (λ (m : Queue → List Packet). length (m (Q r))) a
+            ∙ ap length (queue-here (s .lines .queue) (Q r) (y ∷ l)) ∙ sym (ap length q));
         flag = rw e c;
       }
 
   -- an unhandled head is a set-up or a tear-down
-  pub turn : ((x : Packet) (l : List Packet) → s .lines .queue (Q r) ≡ x ∷ l → s .lines .handled (Q r) ≡ false → (x .kind ≡ Setup) ⊎ (x .kind ≡ Tdown)) → Ends s r ⊎ Handled pl r s
+  pub turn : ((x : Packet) (l : List Packet) → s .lines .queue (Q r) ≡ x ∷ l → s .lines .handled (Q r) ≡ false
+      → (x .kind ≡ Setup) ⊎ (x .kind ≡ Tdown)) → Ends s r ⊎ Handled pl r s
   turn own = by (unit-does pl r s)
     where
       -- a unit that rests has nothing unhandled
-      at-rest : unit pl r s ≡ s → (l : List Packet) → s .lines .queue (Q r) ≡ l → (s .lines .handled (Q r) ≡ true) ⊎ (s .lines .handled (Q r) ≡ false) → Handled pl r s
+      at-rest : unit pl r s ≡ s → (l : List Packet) → s .lines .queue (Q r) ≡ l
+          → (s .lines .handled (Q r) ≡ true) ⊎ (s .lines .handled (Q r) ≡ false) → Handled pl r s
       at-rest e [] q h = record { done = inl (rw e q); long = rw e; flag = rw e }
       at-rest e (x ∷ l) q (inl h) = record { done = inr (rw e h); long = rw e; flag = rw e }
       at-rest e (x ∷ l) q (inr h) = kinds (own x l q h)
@@ -94,30 +114,39 @@ module _ (pl : Plan) (r : ℕ) (s : State) where
           kinds (inl k) = books-it (test (mayBookAt pl r s x))
             where
               books-it : (mayBookAt pl r s x ≡ true) ⊎ (mayBookAt pl r s x ≡ false) → Handled pl r s
-              books-it (inl t) = as-handled (afterBooked pl r x l s) x (booked (S pl) x) l (unit-books pl r s x l q h k t) q refl refl refl
+              books-it (inl t) = as-handled (afterBooked pl r x l s) x (booked (S pl) x) l
+                  (unit-books pl r s x l q h k t) q refl refl refl
               books-it (inr t) = as-handled _ x (declined x) l (unit-declines pl r s x l q h k t) q refl refl refl
           kinds (inr k) = frees-it (test (eqb (x .hub .0) 1))
             where
               frees-it : (eqb (x .hub .0) 1 ≡ true) ⊎ (eqb (x .hub .0) 1 ≡ false) → Handled pl r s
               frees-it (inl t) =
-                  let g : s .lines .queue (Q r) ≡ l = sym (ap (λ (u : State). u .lines .queue (Q r)) e) ∙ ap (λ (u : State). u .lines .queue (Q r)) (unit-ends pl r s x l q h k t) ∙ queue-here (s .lines .queue) (Q r) l in
+                  let g : s .lines .queue (Q r) ≡ l = sym (ap (λ (u : State). u .lines .queue (Q r)) e)
+                  ∙ ap (λ (u : State). u .lines .queue (Q r)) (unit-ends pl r s x l q h k t)
+                  ∙ queue-here (s .lines .queue) (Q r) l in
                   let n : length (x ∷ l) ≡ length l = ap length (sym q ∙ g) in
                   absurd (omega arith)
-              frees-it (inr t) = as-handled (afterFreed pl r x l s) x (freed (S pl) x) l (unit-frees pl r s x l q h k t) q refl refl refl
+              frees-it (inr t) = as-handled (afterFreed pl r x l s) x (freed (S pl) x) l
+                  (unit-frees pl r s x l q h k t) q refl refl refl
 
       by : UnitDoes pl r s → Ends s r ⊎ Handled pl r s
       by (rests e) = inr (at-rest e (s .lines .queue (Q r)) refl (test (s .lines .handled (Q r))))
-      by (books x l e f k t) = inr (as-handled (afterBooked pl r x l s) x (booked (S pl) x) l (unit-books pl r s x l e f k t) e refl refl refl)
-      by (declines x l e f k t) = inr (as-handled _ x (declined x) l (unit-declines pl r s x l e f k t) e refl refl refl)
+      by (books x l e f k t) = inr
+          (as-handled (afterBooked pl r x l s) x (booked (S pl) x) l (unit-books pl r s x l e f k t) e refl refl refl)
+      by (declines x l e f k t) =
+          inr (as-handled _ x (declined x) l (unit-declines pl r s x l e f k t) e refl refl refl)
       by (ends x l e f k t) = inl (record { packet = x; rest = l; queue = e; fresh = f; kind = k; last = t })
-      by (frees x l e f k t) = inr (as-handled (afterFreed pl r x l s) x (freed (S pl) x) l (unit-frees pl r s x l e f k t) e refl refl refl)
+      by (frees x l e f k t) = inr
+          (as-handled (afterFreed pl r x l s) x (freed (S pl) x) l (unit-frees pl r s x l e f k t) e refl refl refl)
 
 -- ---- all units, one after the other, from the state e
-module _ (pl : Plan) (e : State) (own : (r : ℕ) (x : Packet) (l : List Packet) → r < R pl → e .lines .queue (Q r) ≡ x ∷ l → e .lines .handled (Q r) ≡ false → (x .kind ≡ Setup) ⊎ (x .kind ≡ Tdown)) where
+module _ (pl : Plan) (e : State) (own : (r : ℕ) (x : Packet) (l : List Packet) → r < R pl → e .lines .queue (Q r) ≡ x
+    ∷ l → e .lines .handled (Q r) ≡ false → (x .kind ≡ Setup) ⊎ (x .kind ≡ Tdown)) where
   -- after the units below n, none of which ended a packet
   pub record Upto (n : ℕ) (t : State) : Type 0 where
     pub others : (q : Queue) → ((r : ℕ) → q ≢ Q r) → t .lines .queue q ≡ e .lines .queue q
-    pub ahead : (r : ℕ) → n ≤ r → (t .lines .queue (Q r) ≡ e .lines .queue (Q r)) × (t .lines .handled (Q r) ≡ e .lines .handled (Q r))
+    pub ahead : (r : ℕ) → n ≤ r → (t .lines .queue (Q r) ≡ e .lines .queue (Q r))
+        × (t .lines .handled (Q r) ≡ e .lines .handled (Q r))
     pub done : (r : ℕ) → r < n → (t .lines .queue (Q r) ≡ []) ⊎ (t .lines .handled (Q r) ≡ true)
     pub long : (r : ℕ) → length (t .lines .queue (Q r)) ≡ length (e .lines .queue (Q r))
     pub flag : t .flow .flag ≡ e .flow .flag
@@ -142,7 +171,11 @@ module _ (pl : Plan) (e : State) (own : (r : ℕ) (x : Packet) (l : List Packet)
   goes-on n t u h =
       record {
         others = λ q d. k .queue q (d n) ∙ u .others q d;
-        ahead = λ r l. (k .queue (Q r) (apart r l) ∙ u .ahead r (omega arith) .0, k .handled (Q r) (apart r l) ∙ u .ahead r (omega arith) .1);
+        ahead = λ r l. (
+          k .queue (Q r) (apart r l) ∙ u .ahead r (omega arith) .0,
+          k .handled (Q r) (apart r l)
+              ∙ u .ahead r (omega arith) .1,
+        );
         done = λ r l. done′ r (below-suc l);
         long = λ r. long′ r (test (eqb r n));
         flag = h .flag ∙ u .flag;
@@ -157,18 +190,21 @@ module _ (pl : Plan) (e : State) (own : (r : ℕ) (x : Packet) (l : List Packet)
       apart : (r : ℕ) → suc n ≤ r → Q r ≢ Q n
       apart r l d = let m : r ≡ n = unit-same d in omega arith
 
-      done′ : (r : ℕ) → (r < n) ⊎ (r ≡ n) → (unit pl n t .lines .queue (Q r) ≡ []) ⊎ (unit pl n t .lines .handled (Q r) ≡ true)
+      done′ : (r : ℕ) → (r < n) ⊎ (r ≡ n) → (unit pl n t .lines .queue (Q r) ≡ [])
+          ⊎ (unit pl n t .lines .handled (Q r) ≡ true)
       done′ r (inl l) = by (u .done r l)
         where
           ne : Q r ≢ Q n
           ne d = let m : r ≡ n = unit-same d in omega arith
 
-          by : (t .lines .queue (Q r) ≡ []) ⊎ (t .lines .handled (Q r) ≡ true) → (unit pl n t .lines .queue (Q r) ≡ []) ⊎ (unit pl n t .lines .handled (Q r) ≡ true)
+          by : (t .lines .queue (Q r) ≡ []) ⊎ (t .lines .handled (Q r) ≡ true) → (unit pl n t .lines .queue (Q r) ≡ [])
+              ⊎ (unit pl n t .lines .handled (Q r) ≡ true)
           by (inl a) = inl (k .queue (Q r) ne ∙ a)
           by (inr a) = inr (k .handled (Q r) ne ∙ a)
       done′ r (inr m) = rw m (h .done)
 
-      long′ : (r : ℕ) → (eqb r n ≡ true) ⊎ (eqb r n ≡ false) → length (unit pl n t .lines .queue (Q r)) ≡ length (e .lines .queue (Q r))
+      long′ : (r : ℕ) → (eqb r n ≡ true) ⊎ (eqb r n ≡ false)
+          → length (unit pl n t .lines .queue (Q r)) ≡ length (e .lines .queue (Q r))
       long′ r (inl b) = let m : r ≡ n = eqb-true r n b in rw m (h .long ∙ u .long n)
       long′ r (inr b) = ap length (k .queue (Q r) (λ d. eqb-false r n b (unit-same d))) ∙ u .long r
 
@@ -181,13 +217,26 @@ module _ (pl : Plan) (e : State) (own : (r : ℕ) (x : Packet) (l : List Packet)
       up : ((r : ℕ) × (r < n) × Ends e r) → ((r : ℕ) × (r < suc n) × Ends e r)
       up (r, l, x) = (r, omega arith, x)
 
-      next : Upto n (upTo (unit pl) n e) → Ends (upTo (unit pl) n e) n ⊎ Handled pl n (upTo (unit pl) n e) → ((r : ℕ) × (r < suc n) × Ends e r) ⊎ Upto (suc n) (unit pl n (upTo (unit pl) n e))
+      next : Upto n (upTo (unit pl) n e) → Ends (upTo (unit pl) n e) n ⊎ Handled pl n (upTo (unit pl) n e)
+          → ((r : ℕ) × (r < suc n) × Ends e r) ⊎ Upto (suc n) (unit pl n (upTo (unit pl) n e))
       next u (inl x) =
           let a = u .ahead n (omega arith) in
-          inl (n, omega arith, record { packet = x .packet; rest = x .rest; queue = sym (a .0) ∙ x .queue; fresh = sym (a .1) ∙ x .fresh; kind = x .kind; last = x .last })
+          inl (
+            n,
+            omega arith,
+            record {
+              packet = x .packet;
+              rest = x .rest;
+              queue = sym (a .0) ∙ x .queue;
+              fresh = sym (a .1) ∙ x .fresh;
+              kind = x .kind;
+              last = x .last;
+            },
+          )
       next u (inr g) = inr (goes-on n (upTo (unit pl) n e) u g)
 
-      by : ((r : ℕ) × (r < n) × Ends e r) ⊎ Upto n (upTo (unit pl) n e) → ((r : ℕ) × (r < suc n) × Ends e r) ⊎ Upto (suc n) (unit pl n (upTo (unit pl) n e))
+      by : ((r : ℕ) × (r < n) × Ends e r) ⊎ Upto n (upTo (unit pl) n e)
+          → ((r : ℕ) × (r < suc n) × Ends e r) ⊎ Upto (suc n) (unit pl n (upTo (unit pl) n e))
       by (inl x) = inl (up x)
       by (inr u) =
           let a = u .ahead n (omega arith) in
@@ -209,22 +258,32 @@ module _ (pl : Plan) (e : State) (r : ℕ) (x : Ends e r) where
       k : Turned pl n t
       k = turned pl n t
 
-      by : (eqb n r ≡ true) ⊎ (eqb n r ≡ false) → ((n ≤ r) × Waits t) ⊎ ((r < n) × (t .lines .queue (Q r) ≡ x .rest)) → ((suc n ≤ r) × Waits (unit pl n t)) ⊎ ((r < suc n) × (unit pl n t .lines .queue (Q r) ≡ x .rest))
+      by : (eqb n r ≡ true) ⊎ (eqb n r ≡ false) → ((n ≤ r) × Waits t) ⊎ ((r < n) × (t .lines .queue (Q r) ≡ x .rest))
+          → ((suc n ≤ r) × Waits (unit pl n t)) ⊎ ((r < suc n) × (unit pl n t .lines .queue (Q r) ≡ x .rest))
       by (inl b) (inl (l, w)) =
           let m : n ≡ r = eqb-true n r b in
-          inr (omega arith, rw m (ap (λ (u : State). u .lines .queue (Q r)) (unit-ends pl r t (x .packet) (x .rest) (w .queue) (w .fresh) (x .kind) (x .last)) ∙ queue-here (t .lines .queue) (Q r) (x .rest)))
+          inr (
+            omega arith,
+            rw m (ap (λ (u : State). u .lines .queue (Q r)) (unit-ends pl r t (x .packet) (x .rest)
+                (w .queue) (w .fresh) (x .kind) (x .last)) ∙ queue-here (t .lines .queue) (Q r) (x .rest)),
+          )
       by (inl b) (inr (l, q)) = let m : n ≡ r = eqb-true n r b in absurd (omega arith)
       by (inr b) (inl (l, w)) =
           let ne : n ≢ r = eqb-false n r b in
           let d : Q r ≢ Q n = λ g. ne (sym (unit-same g)) in
           inl (omega arith, record { queue = k .queue (Q r) d ∙ w .queue; fresh = k .handled (Q r) d ∙ w .fresh })
-      by (inr b) (inr (l, q)) = let d : Q r ≢ Q n = λ g. eqb-false n r b (sym (unit-same g)) in inr (omega arith, k .queue (Q r) d ∙ q)
+      by (inr b) (inr (l, q)) =
+          let d : Q r ≢ Q n = λ g. eqb-false n r b (sym (unit-same g)) in
+          inr (omega arith, k .queue (Q r) d ∙ q)
 
   after-units : r < R pl → upTo (unit pl) (R pl) e .lines .queue (Q r) ≡ x .rest
   unfolding Passed
-  after-units h = by (up-keeps-at Passed (unit pl) (R pl) e (λ n t l p. passes n t p) (inl (omega arith, record { queue = x .queue; fresh = x .fresh })))
+  after-units h = by (up-keeps-at Passed (unit pl) (R pl) e (λ n t l p. passes n t p)
+      (inl (omega arith, record { queue = x .queue; fresh = x .fresh })))
     where
-      by : ((R pl ≤ r) × Waits (upTo (unit pl) (R pl) e)) ⊎ ((r < R pl) × (upTo (unit pl) (R pl) e .lines .queue (Q r) ≡ x .rest)) → upTo (unit pl) (R pl) e .lines .queue (Q r) ≡ x .rest
+      by : ((R pl ≤ r) × Waits (upTo (unit pl) (R pl) e))
+          ⊎ ((r < R pl) × (upTo (unit pl) (R pl) e .lines .queue (Q r) ≡ x .rest))
+          → upTo (unit pl) (R pl) e .lines .queue (Q r) ≡ x .rest
       by (inl (l, w)) = absurd (omega arith)
       by (inr (l, q)) = q
 
@@ -254,10 +313,14 @@ module _ (pl : Plan) (e : State) (r : ℕ) (x : Ends e r) where
   ends-moves h =
       let u : State = upTo (unit pl) (R pl) e in
       let c = all-chosen pl (upTo (unit pl) (R pl) e) in
-      let a : upTo (λ n. choose pl (outputAt pl n)) (outputs pl) (upTo (unit pl) (R pl) e) .lines .queue (Q r) ≡ x .rest
+      let a : upTo (λ n. choose pl (outputAt pl n)) (outputs pl) (upTo (unit pl) (R pl) e) .lines .queue (Q r)
+      ≡ x .rest
       = ap (λ (s : State). s .lines .queue (Q r)) (c .state) ∙ after-units h in
-      let b : upTo (undo pl) (A pl) (upTo (λ n. choose pl (outputAt pl n)) (outputs pl) (upTo (unit pl) (R pl) e)) .lines .queue (Q r) ≡ x .rest
-      = up-keeps (λ (s : State). s .lines .queue (Q r) ≡ x .rest) (undo pl) (A pl) (upTo (λ n. choose pl (outputAt pl n)) (outputs pl) (upTo (unit pl) (R pl) e)) (λ n s l q. undo-leaves s n ∙ q) a in
+      let b : upTo (undo pl) (A pl)
+      (upTo (λ n. choose pl (outputAt pl n)) (outputs pl) (upTo (unit pl) (R pl) e)) .lines .queue (Q r) ≡ x .rest
+      = up-keeps (λ (s : State). s .lines .queue (Q r) ≡ x .rest) (undo pl) (A pl)
+      (upTo (λ n. choose pl (outputAt pl n)) (outputs pl) (upTo (unit pl) (R pl) e))
+      (λ n s l q. undo-leaves s n ∙ q) a in
       let m : length (x .packet ∷ x .rest) ≡ length (e .lines .queue (Q r)) = ap length (sym (x .queue)) in
       let n = ap length b in
       inr (Q r, h, omega arith)

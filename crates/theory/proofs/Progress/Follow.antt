@@ -33,7 +33,8 @@ module _ {X : Type 0} (num : X → ℕ) (n : ℕ) (Next : X → X → Type 0) (B
       linked′ (suc i) h = c .linked i (omega arith)
 
   chain-or : (k : ℕ) (x : X) → B x → Chain k x ⊎ D
-  chain-or zero x b = inl (record { node = λ i. x; from = refl; good = λ i h. b; linked = λ i h. absurd (not-suc-le-zero h) })
+  chain-or zero x b =
+      inl (record { node = λ i. x; from = refl; good = λ i h. b; linked = λ i h. absurd (not-suc-le-zero h) })
   chain-or (suc k) x b = go (λ y c. chain-or k y c) (step x b)
     where
       grow : (y : X) → Next x y → Chain k y ⊎ D → Chain (suc k) x ⊎ D
@@ -57,7 +58,8 @@ module _ {X : Type 0} (num : X → ℕ) (n : ℕ) (Next : X → X → Type 0) (B
             some = omega arith;
             closed =
                 rw (add-sub-of-le, add-zero)
-                (named (c .node (t .second)) (c .node (t .first)) (c .good (t .second) (omega arith)) (c .good (t .first) (omega arith)) (sym (t .same)));
+                (named (c .node (t .second)) (c .node (t .first)) (c .good (t .second) (omega arith))
+                (c .good (t .first) (omega arith)) (sym (t .same)));
             linked = λ i h. rw add-suc (c .linked (t .first + i) (omega arith));
           }
 

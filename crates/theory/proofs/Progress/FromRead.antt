@@ -1,4 +1,5 @@
--- Progress from READ: until the first Read only Launches change the state; a full wire moves at that Read, else EXECUTE begins with the same queues.
+-- Progress from READ: until the first Read only Launches change the state; a full wire moves at that Read, else
+-- EXECUTE begins with the same queues.
 use mathlib.Core.Path.{_≡_, refl, sym, ap, _∙_}
 use mathlib.Core.Logic.{_⊎_, inl, inr, _≢_}
 use mathlib.Core.Bool.{Bool, true, false, not, _&&_, true≢false, false≢true}
@@ -54,7 +55,8 @@ record Before (s t : State) : Type 0 where
   pub phase : t .clock .phase ≡ s .clock .phase
   pub wire : t .links .wire ≡ s .links .wire
   pub ins : (q : Queue) → isInQueue q ≡ true → t .lines .queue q ≡ s .lines .queue q
-  pub held : (q : Queue) (x : Packet) (rest : List Packet) → s .lines .queue q ≡ x ∷ rest → (more : List Packet) × (t .lines .queue q ≡ x ∷ more)
+  pub held : (q : Queue) (x : Packet) (rest : List Packet) → s .lines .queue q ≡ x ∷ rest
+      → (more : List Packet) × (t .lines .queue q ≡ x ∷ more)
 
 unchanged : (s : State) → Before s s
 unchanged s = record { phase = refl; wire = refl; ins = λ q i. refl; held = λ q x rest e. (rest, e) }
@@ -63,19 +65,27 @@ joined-before : (k : Queue) (y : Packet) (s : State) → isInQueue k ≡ false �
 unfolding join
 joined-before k y s n = record { phase = refl; wire = refl; ins = ins′; held = held′ }
   where
-    ins′ : (z : Queue) → isInQueue z ≡ true → put sameQueue (s .lines .queue) k (s .lines .queue k ++ (y ∷ [])) z ≡ s .lines .queue z
+    ins′ : (z : Queue) → isInQueue z ≡ true → put sameQueue (s .lines .queue) k (s .lines .queue k ++ (y ∷ [])) z
+        ≡ s .lines .queue z
     ins′ z i = rw (refuted (sameQueue z k) (λ u. true≢false (sym i ∙ ap isInQueue (same-queue z k u) ∙ n)), pick)
 
-    held′ : (z : Queue) (x : Packet) (rest : List Packet) → s .lines .queue z ≡ x ∷ rest → (more : List Packet) × (put sameQueue (s .lines .queue) k (s .lines .queue k ++ (y ∷ [])) z ≡ x ∷ more)
+    held′ : (z : Queue) (x : Packet) (rest : List Packet) → s .lines .queue z ≡ x ∷ rest
+        → (more : List Packet) × (put sameQueue (s .lines .queue) k (s .lines .queue k ++ (y ∷ [])) z ≡ x ∷ more)
     held′ z x rest e = by (test (sameQueue z k))
       where
-        by : (sameQueue z k ≡ true) ⊎ (sameQueue z k ≡ false) → (more : List Packet) × (put sameQueue (s .lines .queue) k (s .lines .queue k ++ (y ∷ [])) z ≡ x ∷ more)
-        by (inl u) = (rest ++ (y ∷ []), rw (u, pick) (ap (λ (l : List Packet). l ++ (y ∷ [])) (ap (s .lines .queue) (sym (same-queue z k u)) ∙ e)))
+        by : (sameQueue z k ≡ true) ⊎ (sameQueue z k ≡ false)
+            → (more : List Packet) × (put sameQueue (s .lines .queue) k (s .lines .queue k ++ (y ∷ [])) z ≡ x ∷ more)
+        by (inl u) = (
+          rest ++ (y ∷ []),
+          rw (u, pick) (ap (λ (l : List Packet). l ++ (y ∷ [])) (ap (s .lines .queue) (sym (same-queue z k u)) ∙ e)),
+        )
         by (inr u) = (rest, rw (u, pick) e)
 
 launched-before : (a q t : ℕ) (s : State) → Before s (launched a q t s)
 unfolding launched
-launched-before a q t s = let j = joined-before (activeOut a) (setupOf a q t) s refl in record { phase = j .phase; wire = j .wire; ins = j .ins; held = j .held }
+launched-before a q t s =
+    let j = joined-before (activeOut a) (setupOf a q t) s refl in
+    record { phase = j .phase; wire = j .wire; ins = j .ins; held = j .held }
 
 module _ (pl : Plan) (s : State) (e : s .clock .phase ≡ Read) where
   only : (c : Call) (o : Outcome) → Does pl s c o → c ≢ read → Before s (o .state) × (endsRound c (o .answer) ≡ 0)
@@ -104,15 +114,18 @@ settle-queue q s = by (s .flow .flag q)
 read-queue : (pl : Plan) (s : State) → WiresEmpty pl s → doRead pl s .lines .queue ≡ s .lines .queue
 unfolding doRead
 read-queue pl s w =
-    up-keeps (λ (t : State). t .lines .queue ≡ upTo (λ n. deliver pl (outputAt pl n)) (outputs pl) s .lines .queue) (λ n. settle (queueAt pl n)) (queues pl) (upTo (λ n. deliver pl (outputAt pl n)) (outputs pl) s)
+    up-keeps (λ (t : State). t .lines .queue ≡ upTo (λ n. deliver pl (outputAt pl n)) (outputs pl) s .lines .queue)
+    (λ n. settle (queueAt pl n)) (queues pl) (upTo (λ n. deliver pl (outputAt pl n)) (outputs pl) s)
     (λ n t h q. settle-queue (queueAt pl n) t ∙ q) refl
     ∙ ap (λ (t : State). t .lines .queue) (none-delivered pl s w)
 
 -- a full wire, or none
-some-wire : (pl : Plan) (s : State) → ((o : Output) × (x : Packet) × Drives pl o × (s .links .wire o ≡ Full x)) ⊎ WiresEmpty pl s
+some-wire : (pl : Plan) (s : State) → ((o : Output) × (x : Packet) × Drives pl o × (s .links .wire o ≡ Full x))
+    ⊎ WiresEmpty pl s
 some-wire pl s = by (find (outputs pl) (λ n. isFull (s .links .wire (outputAt pl n))))
   where
-    full : (n : ℕ) → n < outputs pl → (w : Wire) → s .links .wire (outputAt pl n) ≡ w → isFull w ≡ true → (o : Output) × (x : Packet) × Drives pl o × (s .links .wire o ≡ Full x)
+    full : (n : ℕ) → n < outputs pl → (w : Wire) → s .links .wire (outputAt pl n) ≡ w → isFull w ≡ true
+        → (o : Output) × (x : Packet) × Drives pl o × (s .links .wire o ≡ Full x)
     full n h Empty e b = absurd (false≢true b)
     full n h (Full x) e b = (outputAt pl n, x, drives-at pl n h, e)
 
@@ -120,48 +133,76 @@ some-wire pl s = by (find (outputs pl) (λ n. isFull (s .links .wire (outputAt p
     empty Empty b = refl
     empty (Full x) b = absurd (true≢false b)
 
-    by : Found (outputs pl) (λ n. isFull (s .links .wire (outputAt pl n))) ⊎ ((n : ℕ) → n < outputs pl → isFull (s .links .wire (outputAt pl n)) ≡ false) → ((o : Output) × (x : Packet) × Drives pl o × (s .links .wire o ≡ Full x)) ⊎ WiresEmpty pl s
+    by : Found (outputs pl) (λ n. isFull (s .links .wire (outputAt pl n)))
+        ⊎ ((n : ℕ) → n < outputs pl → isFull (s .links .wire (outputAt pl n)) ≡ false)
+        → ((o : Output) × (x : Packet) × Drives pl o × (s .links .wire o ≡ Full x)) ⊎ WiresEmpty pl s
     by (inl (n, h, b)) = inl (full n h (s .links .wire (outputAt pl n)) refl b)
-    by (inr f) = inr (λ o h. ap (s .links .wire) (sym (output-at pl o h)) ∙ empty (s .links .wire (outputAt pl (outputNumber pl o))) (f (outputNumber pl o) (output-below pl o h)))
+    by (inr f) = inr (λ o h. ap (s .links .wire) (sym (output-at pl o h))
+        ∙ empty (s .links .wire (outputAt pl (outputNumber pl o))) (f (outputNumber pl o) (output-below pl o h)))
 
 module _ {pl : Plan} (wired : Wired pl) (range : InRange (pl .head)) (free : FeedRing pl → ⊥) where
   -- a packet under way: on a wire, or in a queue of the set
   abbrev Going : (Queue → Bool) → State → Type 0
   Going set s =
       ((o : Output) × (x : Packet) × Drives pl o × (s .links .wire o ≡ Full x))
-      ⊎ ((q : Queue) × (x : Packet) × (rest : List Packet) × Exists pl q × (isInQueue q ≡ false) × (set q ≡ true) × (s .lines .queue q ≡ x ∷ rest))
+      ⊎ ((q : Queue) × (x : Packet) × (rest : List Packet) × Exists pl q × (isInQueue q ≡ false) × (set q ≡ true)
+      × (s .lines .queue q ≡ x ∷ rest))
 
   -- at the Read itself
-  at-read : (set : Queue → Bool) (s : State) → Inv pl s → s .clock .phase ≡ Read → Closed pl set s → Going set s → (cs : List Call) → S pl ≤ rounds pl cs (doRead pl s) → MovesNow pl read s ⊎ Moves pl cs (doRead pl s)
+  at-read : (set : Queue → Bool) (s : State) → Inv pl s → s .clock .phase ≡ Read → Closed pl set s → Going set s
+      → (cs : List Call) → S pl ≤ rounds pl cs (doRead pl s) → MovesNow pl read s ⊎ Moves pl cs (doRead pl s)
   at-read set s i e c g cs n = by (some-wire pl s) g
     where
       now : call pl read s .state ≡ doRead pl s
       now = ap (λ (r : Outcome). r .state) (turn-now pl s Read e)
 
       brought : (o : Output) (x : Packet) → Drives pl o → s .links .wire o ≡ Full x → MovesNow pl read s
-      brought o x d f = (refl, inl (o, x, full-wire pl s (i .core) o d x f, f, ap (λ (t : State). t .links .wire o) now ∙ read-wires pl s o d))
+      brought o x d f = (
+        refl,
+        inl (
+          o,
+          x,
+          full-wire pl s (i .core) o d x f,
+          f,
+          ap (λ (t : State). t .links .wire o) now
+              ∙ read-wires pl s o d,
+        ),
+      )
 
-      by : ((o : Output) × (x : Packet) × Drives pl o × (s .links .wire o ≡ Full x)) ⊎ WiresEmpty pl s → Going set s → MovesNow pl read s ⊎ Moves pl cs (doRead pl s)
+      by : ((o : Output) × (x : Packet) × Drives pl o × (s .links .wire o ≡ Full x)) ⊎ WiresEmpty pl s → Going set s
+          → MovesNow pl read s ⊎ Moves pl cs (doRead pl s)
       by (inl (o, x, d, f)) w = inl (brought o x d f)
       by (inr w) (inl (o, x, d, f)) = absurd (full-not (sym (w o d) ∙ f))
       by (inr w) (inr (q, x, rest, h, ni, b, f)) =
           let same = read-queue pl s w in
           let there : Closed pl set (doRead pl s)
-          = record { stays = c .stays; room = λ hd a p k z ha hp d m v u l. rw (ap (λ (t : Queue → List Packet). t (passiveIn k)) same) (c .room hd a p k z ha hp d m v u l) } in
+          =
+          record {
+            stays = c .stays;
+            room = λ hd a p k z ha hp d m v u l.
+                rw (ap (λ (t : Queue → List Packet). t (passiveIn k)) same) (c .room hd a p k z ha hp d m v u l);
+          } in
           let kept : Inv pl (doRead pl s) = rw now at (call-inv wired range read s i) in
-          inr (from-execute wired range free (doRead pl s) kept (execute-phase pl s) set there q x rest h ni b (ap (λ (t : Queue → List Packet). t q) same ∙ f) cs n)
+          inr (from-execute wired range free (doRead pl s) kept (execute-phase pl s) set there q x rest h ni b
+          (ap (λ (t : Queue → List Packet). t q) same ∙ f) cs n)
 
   -- from any state in READ
-  pub from-read : (set : Queue → Bool) (cs : List Call) (s : State) → Inv pl s → s .clock .phase ≡ Read → Closed pl set s → Going set s → S pl ≤ rounds pl cs s → Moves pl cs s
+  pub from-read : (set : Queue → Bool) (cs : List Call) (s : State) → Inv pl s → s .clock .phase ≡ Read
+      → Closed pl set s → Going set s → S pl ≤ rounds pl cs s → Moves pl cs s
   from-read set [] s i e c g n = absurd (omega (arith, range .slots .0))
   from-read set (k ∷ cs) s i e c g n = by k (λ t j f d w m. from-read set cs t j f d w m) n
     where
-      other : (k : Call) → k ≢ read → ((t : State) → Inv pl t → t .clock .phase ≡ Read → Closed pl set t → Going set t → S pl ≤ rounds pl cs t → Moves pl cs t) → S pl ≤ rounds pl (k ∷ cs) s → Moves pl (k ∷ cs) s
+      other : (k : Call) → k ≢ read → ((t : State) → Inv pl t → t .clock .phase ≡ Read → Closed pl set t → Going set t
+          → S pl ≤ rounds pl cs t → Moves pl cs t) → S pl ≤ rounds pl (k ∷ cs) s → Moves pl (k ∷ cs) s
       other k ne rec m =
           let o = only-read pl s e k ne in
           moves-later pl k cs s
           (rec (call pl k s .state) (call-inv wired range k s i) (o .0 .phase ∙ e)
-          (record { stays = c .stays; room = λ hd a p b z ha hp d u v w l. rw (o .0 .ins (passiveIn b) refl) (c .room hd a p b z ha hp d u v w l) })
+          (record {
+            stays = c .stays;
+            room = λ hd a p b z ha hp d u v w l.
+                rw (o .0 .ins (passiveIn b) refl) (c .room hd a p b z ha hp d u v w l);
+          })
           (goes (o .0) g) (omega (arith, o .1)))
         where
           goes : Before s (call pl k s .state) → Going set s → Going set (call pl k s .state)
@@ -174,11 +215,13 @@ module _ {pl : Plan} (wired : Wired pl) (range : InRange (pl .head)) (free : Fee
           let l : rounds pl cs (call pl read s .state) ≡ rounds pl cs (doRead pl s) = ap (rounds pl cs) now in
           done now (at-read set s i e c g cs (omega arith))
         where
-          done : call pl read s .state ≡ doRead pl s → MovesNow pl read s ⊎ Moves pl cs (doRead pl s) → Moves pl (read ∷ cs) s
+          done : call pl read s .state ≡ doRead pl s → MovesNow pl read s ⊎ Moves pl cs (doRead pl s)
+              → Moves pl (read ∷ cs) s
           done now (inl x) = moves-now pl read cs s x
           done now (inr x) = moves-later pl read cs s (rw now x)
 
-      by : (k : Call) → ((t : State) → Inv pl t → t .clock .phase ≡ Read → Closed pl set t → Going set t → S pl ≤ rounds pl cs t → Moves pl cs t) → S pl ≤ rounds pl (k ∷ cs) s → Moves pl (k ∷ cs) s
+      by : (k : Call) → ((t : State) → Inv pl t → t .clock .phase ≡ Read → Closed pl set t → Going set t
+          → S pl ≤ rounds pl cs t → Moves pl cs t) → S pl ≤ rounds pl (k ∷ cs) s → Moves pl (k ∷ cs) s
       by (turn Read) rec m = reads m
       by (turn Execute) rec m = other execute (λ h. read-execute (sym (turn-same h))) rec m
       by (turn Write) rec m = other write (λ h. read-write (sym (turn-same h))) rec m
@@ -186,7 +229,8 @@ module _ {pl : Plan} (wired : Wired pl) (range : InRange (pl .head)) (free : Fee
 
   -- demand 3's last part, from every valid state
   pub progress : (s : State) → Good pl s → Waits pl s → (cs : List Call) → S pl ≤ rounds pl cs s → Moves pl cs s
-  progress s g w cs n = from-read every cs s (inv-of pl s g) (w .phase) (every-closed pl s (w .room)) (going (w .packet)) n
+  progress s g w cs n =
+      from-read every cs s (inv-of pl s g) (w .phase) (every-closed pl s (w .room)) (going (w .packet)) n
     where
       going : UnderWay pl s → Going every s
       going (inl x) = inl x
@@ -194,7 +238,8 @@ module _ {pl : Plan} (wired : Wired pl) (range : InRange (pl .head)) (free : Fee
 
   -- answers move whatever the passives do: a packet in some K or passive out-queue
   pub answers-move : AnswersMove pl
-  answers-move s g e q x rest h a f cs n = from-read answering cs s (inv-of pl s g) e (answering-closed wired s) (inr (q, x, rest, h, no-in q a, a, f)) n
+  answers-move s g e q x rest h a f cs n =
+      from-read answering cs s (inv-of pl s g) e (answering-closed wired s) (inr (q, x, rest, h, no-in q a, a, f)) n
     where
       no-in : (q : Queue) → answering q ≡ true → isInQueue q ≡ false
       no-in (activeOut x) b = refl

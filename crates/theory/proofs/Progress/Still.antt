@@ -1,4 +1,5 @@
--- While nothing moves: the inner queues, the marks and the table stay, out-queues only grow behind, credits only grow, wires stay empty.
+-- While nothing moves: the inner queues, the marks and the table stay, out-queues only grow behind, credits only grow,
+-- wires stay empty.
 use mathlib.Core.Path.{_≡_, refl, sym, ap, _∙_}
 use mathlib.Core.Logic.{_⊎_, inl, inr, _≢_}
 use mathlib.Core.Bool.{Bool, true, false, not, _&&_, true≢false, false≢true}
@@ -25,7 +26,8 @@ use Rattle.machine.specs.Store.{put, sameQueue, same-queue, sameOutput, same-ou
 use Rattle.machine.specs.Outputs.{nextBy, senders, outputs, outputAt}
 use Rattle.machine.specs.State.{State, Choice, nobody, sender, join, withPhase, withQueue, withFlag, withChoice}
 use Rattle.machine.specs.Read.{arrive, deliver, lower, settle, doRead}
-use Rattle.machine.specs.Execute.{unit, atUnit, hasCredit, mayLeave, headReady, candidate, isOpen, firstOf, picked, choose, answer, atActive, undo, doExecute, hasRoom, unmarked}
+use Rattle.machine.specs.Execute.{unit, atUnit, hasCredit, mayLeave, headReady, candidate, isOpen, firstOf, picked}
+use Rattle.machine.specs.Execute.{choose, answer, atActive, undo, doExecute, hasRoom, unmarked}
 use Rattle.machine.specs.Write.{sendBy, send, doWrite}
 use Rattle.machine.specs.Visits.{launched, replied, removed}
 use Rattle.machine.specs.Progress.{isInQueue}
@@ -44,7 +46,15 @@ pub record Same (pl : Plan) (p s : State) : Type 0 where
   pub wires : WiresEmpty pl s
 
 pub same-self : (pl : Plan) (p : State) → WiresEmpty pl p → Same pl p p
-same-self pl p w = record { inner = λ q f i. refl; outs = λ q f. ([], sym (nil (p .lines .queue q))); handled = λ q. refl; table = λ r o t. refl; credit = λ q. omega arith; wires = w }
+same-self pl p w =
+    record {
+      inner = λ q f i. refl;
+      outs = λ q f. ([], sym (nil (p .lines .queue q)));
+      handled = λ q. refl;
+      table = λ r o t. refl;
+      credit = λ q. omega arith;
+      wires = w;
+    }
   where
     nil : (l : List Packet) → l ++ [] ≡ l
     nil [] = refl
@@ -56,8 +66,10 @@ module _ (pl : Plan) (p s : State) (same : Same pl p s) where
   pub in-same : (k : Queue) (l : List Packet) → isOutQueue k ≡ false → isInQueue k ≡ true → Same pl p (withQueue k l s)
   in-same k l f i =
       record {
-        inner = λ q g j. queue-away (s .lines .queue) k l q (λ e. true≢false (sym i ∙ ap isInQueue (sym e) ∙ j)) ∙ same .inner q g j;
-        outs = λ q g. let o = same .outs q g in (o .0, queue-away (s .lines .queue) k l q (λ e. true≢false (sym g ∙ ap isOutQueue e ∙ f)) ∙ o .1);
+        inner = λ q g j. queue-away (s .lines .queue) k l q (λ e. true≢false (sym i ∙ ap isInQueue (sym e) ∙ j))
+            ∙ same .inner q g j;
+        outs = λ q g. let o = same .outs q g in
+            (o .0, queue-away (s .lines .queue) k l q (λ e. true≢false (sym g ∙ ap isOutQueue e ∙ f)) ∙ o .1);
         handled = same .handled;
         table = same .table;
         credit = same .credit;
@@ -69,7 +81,8 @@ module _ (pl : Plan) (p s : State) (same : Same pl p s) where
   unfolding join
   join-same k x f =
       record {
-        inner = λ q g j. queue-away (s .lines .queue) k (s .lines .queue k ++ (x ∷ [])) q (λ e. true≢false (sym f ∙ ap isOutQueue (sym e) ∙ g)) ∙ same .inner q g j;
+        inner = λ q g j. queue-away (s .lines .queue) k (s .lines .queue k ++ (x ∷ [])) q
+            (λ e. true≢false (sym f ∙ ap isOutQueue (sym e) ∙ g)) ∙ same .inner q g j;
         outs = outs′;
         handled = same .handled;
         table = same .table;
@@ -77,14 +90,20 @@ module _ (pl : Plan) (p s : State) (same : Same pl p s) where
         wires = same .wires;
       }
     where
-      outs′ : (q : Queue) → isOutQueue q ≡ true → (more : List Packet) × (put sameQueue (s .lines .queue) k (s .lines .queue k ++ (x ∷ [])) q ≡ p .lines .queue q ++ more)
+      outs′ : (q : Queue) → isOutQueue q ≡ true → (more : List Packet)
+          × (put sameQueue (s .lines .queue) k (s .lines .queue k ++ (x ∷ [])) q ≡ p .lines .queue q ++ more)
       outs′ q g = by (test (sameQueue q k)) (same .outs q g)
         where
-          by : (sameQueue q k ≡ true) ⊎ (sameQueue q k ≡ false) → (more : List Packet) × (s .lines .queue q ≡ p .lines .queue q ++ more)
-              → (more : List Packet) × (put sameQueue (s .lines .queue) k (s .lines .queue k ++ (x ∷ [])) q ≡ p .lines .queue q ++ more)
+          by : (sameQueue q k ≡ true) ⊎ (sameQueue q k ≡ false)
+              → (more : List Packet) × (s .lines .queue q ≡ p .lines .queue q ++ more)
+              → (more : List Packet)
+              × (put sameQueue (s .lines .queue) k (s .lines .queue k ++ (x ∷ [])) q ≡ p .lines .queue q ++ more)
           by (inl t) (more, e) =
-              let c : q ≡ k = same-queue q k t in
-              (more ++ (x ∷ []), rw (t, pick) (ap (λ (l : List Packet). l ++ (x ∷ [])) (ap (s .lines .queue) (sym c) ∙ e) ∙ append-assoc (p .lines .queue q) more (x ∷ [])))
+              let c : q ≡ k = same-queue q k t in (
+                more ++ (x ∷ []),
+                rw (t, pick) (ap (λ (l : List Packet). l ++ (x ∷ []))
+                    (ap (s .lines .queue) (sym c) ∙ e) ∙ append-assoc (p .lines .queue q) more (x ∷ [])),
+              )
           by (inr t) (more, e) = (more, rw (t, pick) e)
 
 -- ---- READ: with empty wires it only adds credits
@@ -92,7 +111,8 @@ no-delivery : (pl : Plan) (s : State) (o : Output) → s .links .wire o ≡ Empt
 unfolding deliver arrive
 no-delivery pl s o e = rw e
 
-pub none-delivered : (pl : Plan) (s : State) → WiresEmpty pl s → upTo (λ n. deliver pl (outputAt pl n)) (outputs pl) s ≡ s
+pub none-delivered : (pl : Plan) (s : State) → WiresEmpty pl s
+    → upTo (λ n. deliver pl (outputAt pl n)) (outputs pl) s ≡ s
 none-delivered pl s w =
     up-keeps (λ (t : State). t ≡ s) (λ n. deliver pl (outputAt pl n)) (outputs pl) s
     (λ n t h e. no-delivery pl t (outputAt pl n) (rw e (w (outputAt pl n) (drives-at pl n h))) ∙ e) refl
@@ -121,16 +141,22 @@ settles pl p s t q k = by (t .flow .flag q) refl
           slot = k .slot;
         }
       where
-        credit′ : (x : Queue) → p .flow .credit x .0 ≤ put sameQueue (t .flow .credit) q (record { 0 = t .flow .credit q .0 + 1 }) x .0
+        credit′ : (x : Queue)
+            → p .flow .credit x .0 ≤ put sameQueue (t .flow .credit) q (record { 0 = t .flow .credit q .0 + 1 }) x .0
         credit′ x = at (test (sameQueue x q)) (k .same .credit x)
           where
-            at : (sameQueue x q ≡ true) ⊎ (sameQueue x q ≡ false) → p .flow .credit x .0 ≤ t .flow .credit x .0 → p .flow .credit x .0 ≤ put sameQueue (t .flow .credit) q (record { 0 = t .flow .credit q .0 + 1 }) x .0
-            at (inl u) l = rw (u, pick) (let c : t .flow .credit x .0 ≡ t .flow .credit q .0 = ap (λ (z : Queue). t .flow .credit z .0) (same-queue x q u) in omega arith)
+            at : (sameQueue x q ≡ true) ⊎ (sameQueue x q ≡ false) → p .flow .credit x .0 ≤ t .flow .credit x .0
+                → p .flow .credit x .0 ≤ put sameQueue (t .flow .credit) q (record { 0 = t .flow .credit q .0 + 1 })
+                x .0
+            at (inl u) l = rw (u, pick) (let c : t .flow .credit x .0 ≡ t .flow .credit q .0 =
+                ap (λ (z : Queue). t .flow .credit z .0) (same-queue x q u) in omega arith)
             at (inr u) l = rw (u, pick) l
 
-settled-all : (pl : Plan) (p s : State) → Same pl p s → Settled pl p s (upTo (λ n. settle (queueAt pl n)) (queues pl) s)
+settled-all : (pl : Plan) (p s : State) → Same pl p s
+    → Settled pl p s (upTo (λ n. settle (queueAt pl n)) (queues pl) s)
 settled-all pl p s k =
-    up-keeps (Settled pl p s) (λ n. settle (queueAt pl n)) (queues pl) s (λ n t h d. settles pl p s t (queueAt pl n) d) (record { same = k; slot = refl })
+    up-keeps (Settled pl p s) (λ n. settle (queueAt pl n)) (queues pl) s (λ n t h d. settles pl p s t (queueAt pl n) d)
+    (record { same = k; slot = refl })
 
 -- the outcome of a phase in which nothing moves
 pub record Stays (pl : Plan) (p s t : State) : Type 0 where
@@ -138,13 +164,22 @@ pub record Stays (pl : Plan) (p s t : State) : Type 0 where
   pub slot : t .clock .slot ≡ s .clock .slot
 
 phase-same : (pl : Plan) (p t : State) (x : Phase) → Same pl p t → Same pl p (withPhase x t)
-phase-same pl p t x k = record { inner = k .inner; outs = k .outs; handled = k .handled; table = k .table; credit = k .credit; wires = k .wires }
+phase-same pl p t x k =
+    record {
+      inner = k .inner;
+      outs = k .outs;
+      handled = k .handled;
+      table = k .table;
+      credit = k .credit;
+      wires = k .wires;
+    }
 
 pub read-stays : (pl : Plan) (p s : State) → Same pl p s → Stays pl p s (doRead pl s)
 unfolding doRead
 read-stays pl p s k =
     let d = none-delivered pl s (k .wires) in
-    let t : Settled pl p s (upTo (λ n. settle (queueAt pl n)) (queues pl) (upTo (λ n. deliver pl (outputAt pl n)) (outputs pl) s)) = rw d (settled-all pl p s k) in
+    let t : Settled pl p s (upTo (λ n. settle (queueAt pl n)) (queues pl)
+    (upTo (λ n. deliver pl (outputAt pl n)) (outputs pl) s)) = rw d (settled-all pl p s k) in
     record { same = phase-same pl p _ Execute (t .same); slot = t .slot }
 
 -- ---- EXECUTE: units with handled heads do nothing, outputs pick, actives tear down
@@ -152,7 +187,8 @@ read-stays pl p s k =
 abbrev pub AllHandled : Plan → State → Type 0
 AllHandled pl s = (r : ℕ) → r < R pl → (s .lines .queue (Q r) ≡ []) ⊎ (s .lines .handled (Q r) ≡ true)
 
-no-unit : (pl : Plan) (s : State) (r : ℕ) → (s .lines .queue (Q r) ≡ []) ⊎ (s .lines .handled (Q r) ≡ true) → unit pl r s ≡ s
+no-unit : (pl : Plan) (s : State) (r : ℕ) → (s .lines .queue (Q r) ≡ []) ⊎ (s .lines .handled (Q r) ≡ true)
+    → unit pl r s ≡ s
 unfolding unit atUnit
 no-unit pl s r (inl e) = rw e
 no-unit pl s r (inr e) = by (s .lines .queue (Q r))
@@ -162,7 +198,8 @@ no-unit pl s r (inr e) = by (s .lines .queue (Q r))
     by (x ∷ l) = rw e
 
 pub no-units : (pl : Plan) (s : State) → AllHandled pl s → upTo (unit pl) (R pl) s ≡ s
-no-units pl s h = up-keeps (λ (t : State). t ≡ s) (unit pl) (R pl) s (λ r t l e. no-unit pl t r (rw e (h r l)) ∙ e) refl
+no-units pl s h =
+    up-keeps (λ (t : State). t ≡ s) (unit pl) (R pl) s (λ r t l e. no-unit pl t r (rw e (h r l)) ∙ e) refl
 
 pub record Chosen (pl : Plan) (s t : State) (n : ℕ) : Type 0 where
   pub choices : Output → Choice
@@ -181,15 +218,19 @@ chooses pl s t n c =
     now : picked pl t (outputAt pl n) ≡ picked pl s (outputAt pl n)
     now = ap (λ (u : State). picked pl u (outputAt pl n)) (c .state) ∙ picks-alike pl s (c .choices) (outputAt pl n)
 
-    at : (m : ℕ) → (m < n) ⊎ (m ≡ n) → (sameOutput (outputAt pl m) (outputAt pl n) ≡ true) ⊎ (sameOutput (outputAt pl m) (outputAt pl n) ≡ false)
-        → put sameOutput (c .choices) (outputAt pl n) (picked pl t (outputAt pl n)) (outputAt pl m) ≡ picked pl s (outputAt pl m)
+    at : (m : ℕ) → (m < n) ⊎ (m ≡ n) → (sameOutput (outputAt pl m) (outputAt pl n) ≡ true)
+        ⊎ (sameOutput (outputAt pl m) (outputAt pl n) ≡ false)
+        → put sameOutput (c .choices) (outputAt pl n) (picked pl t (outputAt pl n)) (outputAt pl m)
+        ≡ picked pl s (outputAt pl m)
     at m h (inl u) = rw (u, pick) (now ∙ ap (picked pl s) (sym (same-output (outputAt pl m) (outputAt pl n) u)))
     at m (inl l) (inr u) = rw (u, pick) (c .picks m l)
     at m (inr e) (inr u) = absurd (true≢false (sym (output-same (outputAt pl n)) ∙ rw e at u))
 
-pub all-chosen : (pl : Plan) (s : State) → Chosen pl s (upTo (λ n. choose pl (outputAt pl n)) (outputs pl) s) (outputs pl)
+pub all-chosen : (pl : Plan) (s : State)
+    → Chosen pl s (upTo (λ n. choose pl (outputAt pl n)) (outputs pl) s) (outputs pl)
 all-chosen pl s =
-    up-keeps-at (λ (n : ℕ) (t : State). Chosen pl s t n) (λ n. choose pl (outputAt pl n)) (outputs pl) s (λ n t h c. chooses pl s t n c)
+    up-keeps-at (λ (n : ℕ) (t : State). Chosen pl s t n) (λ n. choose pl (outputAt pl n)) (outputs pl) s
+    (λ n t h c. chooses pl s t n c)
     (record { choices = s .links .choice; state = refl; picks = λ m h. absurd (omega arith) })
 
 -- what tearing down keeps
@@ -222,22 +263,38 @@ pub record Picks (pl : Plan) (p s t : State) : Type 0 where
   pub picks : (n : ℕ) → n < outputs pl → t .links .choice (outputAt pl n) ≡ picked pl s (outputAt pl n)
 
 chosen-same : (pl : Plan) (p s : State) (f : Output → Choice) → Same pl p s → Same pl p (chosen s f)
-chosen-same pl p s f k = record { inner = k .inner; outs = k .outs; handled = k .handled; table = k .table; credit = k .credit; wires = k .wires }
+chosen-same pl p s f k =
+    record {
+      inner = k .inner;
+      outs = k .outs;
+      handled = k .handled;
+      table = k .table;
+      credit = k .credit;
+      wires = k .wires;
+    }
 
 -- after the units: outputs pick and actives tear down
-pub execute-rest : (pl : Plan) (p s : State) → Same pl p s → Picks pl p s (upTo (undo pl) (A pl) (upTo (λ n. choose pl (outputAt pl n)) (outputs pl) s))
+pub execute-rest : (pl : Plan) (p s : State) → Same pl p s
+    → Picks pl p s (upTo (undo pl) (A pl) (upTo (λ n. choose pl (outputAt pl n)) (outputs pl) s))
 execute-rest pl p s k =
     let c = all-chosen pl s in
     let begin : Undone pl p (chosen s (c .choices)) (upTo (λ n. choose pl (outputAt pl n)) (outputs pl) s)
     = rw (c .state) (record { same = chosen-same pl p s (c .choices) k; slot = refl; choice = refl }) in
-    let u = up-keeps (Undone pl p (chosen s (c .choices))) (undo pl) (A pl) (upTo (λ n. choose pl (outputAt pl n)) (outputs pl) s) (λ a t h d. undoes pl p (chosen s (c .choices)) t a d) begin in
-    record { same = u .same; slot = u .slot; picks = λ n h. ap (λ (f : Output → Choice). f (outputAt pl n)) (u .choice) ∙ c .picks n h }
+    let u = up-keeps (Undone pl p (chosen s (c .choices))) (undo pl) (A pl) (upTo (λ n. choose pl (outputAt pl n))
+    (outputs pl) s) (λ a t h d. undoes pl p (chosen s (c .choices)) t a d) begin in
+    record {
+      same = u .same;
+      slot = u .slot;
+      picks = λ n h. ap (λ (f : Output → Choice). f (outputAt pl n)) (u .choice)
+          ∙ c .picks n h;
+    }
 
 pub execute-picks : (pl : Plan) (p s : State) → Same pl p s → AllHandled pl s → Picks pl p s (doExecute pl s)
 unfolding doExecute
 execute-picks pl p s k h =
     let e = no-units pl s h in
-    let t : Picks pl p s (upTo (undo pl) (A pl) (upTo (λ n. choose pl (outputAt pl n)) (outputs pl) (upTo (unit pl) (R pl) s))) = rw e (execute-rest pl p s k) in
+    let t : Picks pl p s (upTo (undo pl) (A pl)
+    (upTo (λ n. choose pl (outputAt pl n)) (outputs pl) (upTo (unit pl) (R pl) s))) = rw e (execute-rest pl p s k) in
     record { same = phase-same pl p _ Write (t .same); slot = t .slot; picks = t .picks }
 
 -- ---- WRITE: where nobody is picked nothing is sent
@@ -250,28 +307,59 @@ none-sent pl s w =
     up-keeps (λ (t : State). t ≡ s) (λ n. send pl (outputAt pl n)) (outputs pl) s
     (λ n t h e. no-send pl t (outputAt pl n) (rw e (w (outputAt pl n) (drives-at pl n h))) ∙ e) refl
 
-pub write-stays : (pl : Plan) (p s : State) → Same pl p s → NoChoices pl s → Same pl p (doWrite pl s) × (doWrite pl s .clock .slot ≡ slotNext (s .clock .slot) (S pl))
+pub write-stays : (pl : Plan) (p s : State) → Same pl p s → NoChoices pl s
+    → Same pl p (doWrite pl s) × (doWrite pl s .clock .slot ≡ slotNext (s .clock .slot) (S pl))
 unfolding doWrite
 write-stays pl p s k n =
-    let e = none-sent pl s n in
-    (rw e (record { inner = k .inner; outs = k .outs; handled = k .handled; table = k .table; credit = k .credit; wires = k .wires }), refl)
+    let e = none-sent pl s n in (
+      rw e (record {
+        inner = k .inner;
+        outs = k .outs;
+        handled = k .handled;
+        table = k .table;
+        credit = k .credit;
+        wires = k .wires;
+      }),
+      refl,
+    )
 
 -- ---- the calls between
 pub launch-same : (pl : Plan) (p s : State) (a q t : ℕ) → Same pl p s → Same pl p (launched a q t s)
 unfolding launched
 launch-same pl p s a q t k =
     let j = join-same pl p s k (activeOut a) _ refl in
-    record { inner = j .inner; outs = j .outs; handled = j .handled; table = j .table; credit = j .credit; wires = j .wires }
+    record {
+      inner = j .inner;
+      outs = j .outs;
+      handled = j .handled;
+      table = j .table;
+      credit = j .credit;
+      wires = j .wires;
+    }
 
 pub reply-same : (pl : Plan) (p s : State) (q : ℕ) (k : Kind) (x : Packet) (l : List Packet) → Same pl p s
     → Same pl p (replied q k (x ∷ l) s)
 reply-same pl p s q k x l d =
     let i = in-same pl p s d (passiveIn q) l refl refl in
-    let f : Same pl p (withFlag (passiveIn q) true (withQueue (passiveIn q) l s)) = record { inner = i .inner; outs = i .outs; handled = i .handled; table = i .table; credit = i .credit; wires = i .wires } in
+    let f : Same pl p (withFlag (passiveIn q) true (withQueue (passiveIn q) l s)) = record {
+      inner = i .inner;
+      outs = i .outs;
+      handled = i .handled;
+      table = i .table;
+      credit = i .credit;
+      wires = i .wires;
+    } in
     join-same pl p _ f (passiveOut q) _ refl
 
 pub remove-same : (pl : Plan) (p s : State) (a : ℕ) (l : List Packet) → Same pl p s → Same pl p (removed a l s)
 unfolding removed
 remove-same pl p s a l d =
     let i = in-same pl p s d (activeIn a) l refl refl in
-    record { inner = i .inner; outs = i .outs; handled = i .handled; table = i .table; credit = i .credit; wires = i .wires }
+    record {
+      inner = i .inner;
+      outs = i .outs;
+      handled = i .handled;
+      table = i .table;
+      credit = i .credit;
+      wires = i .wires;
+    }

@@ -1,4 +1,5 @@
--- What calls do to a state in which nothing moves, by the phase: refused ones nothing, the others only what Still allows.
+-- What calls do to a state in which nothing moves, by the phase: refused ones nothing, the others only what Still
+-- allows.
 use mathlib.Core.Path.{_≡_, refl, sym, ap, _∙_}
 use mathlib.Core.Logic.{_≢_}
 use mathlib.Core.Bool.{true, false, true≢false}

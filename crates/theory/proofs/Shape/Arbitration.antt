@@ -1,5 +1,6 @@
--- The two laws of arbitration: what an output picks is a candidate among its senders, and an open output that picks nobody has none. And what it
--- looks at: not at choices, so that outputs may pick in any order. Nothing else looks at how the pick is made.
+-- The two laws of arbitration: what an output picks is a candidate among its senders, and an open output that picks
+-- nobody has none. And what it looks at: not at choices, so that outputs may pick in any order. Nothing else looks at
+-- how the pick is made.
 use mathlib.Core.Path.{_≡_, refl, sym, ap}
 use mathlib.Core.Logic.{_⊎_, inl, inr}
 use mathlib.Core.Bool.{Bool, true, false}
@@ -29,17 +30,21 @@ first-found ready n (p ∷ qs) k e = by (λ f. first-found ready (suc n) qs k f)
         → (m : ℕ) × (k ≡ n + m) × ((q : Queue) × (ofRank (p ∷ qs) m ≡ some q) × (ready q ≡ true))
     later (m, l, f) = (suc m, omega arith, f)
 
-    by : (firstOf ready (suc n) qs ≡ sender k → (m : ℕ) × (k ≡ suc n + m) × ((q : Queue) × (ofRank qs m ≡ some q) × (ready q ≡ true)))
-        → (ready p ≡ true) ⊎ (ready p ≡ false) → (m : ℕ) × (k ≡ n + m) × ((q : Queue) × (ofRank (p ∷ qs) m ≡ some q) × (ready q ≡ true))
+    by : (firstOf ready (suc n) qs ≡ sender k → (m : ℕ) × (k ≡ suc n + m)
+        × ((q : Queue) × (ofRank qs m ≡ some q) × (ready q ≡ true)))
+        → (ready p ≡ true) ⊎ (ready p ≡ false)
+        → (m : ℕ) × (k ≡ n + m) × ((q : Queue) × (ofRank (p ∷ qs) m ≡ some q) × (ready q ≡ true))
     by rec (inl t) = let z : n ≡ k = sender-same (rw (t, firstOf) at e) in (0, omega arith, (p, refl, t))
     by rec (inr t) = later (rec (rw (t, firstOf) at e))
 
-first-none : (ready : Queue → Bool) (n : ℕ) (qs : List Queue) → firstOf ready n qs ≡ nobody → (k : ℕ) (q : Queue) → ofRank qs k ≡ some q → ready q ≡ false
+first-none : (ready : Queue → Bool) (n : ℕ) (qs : List Queue) → firstOf ready n qs ≡ nobody → (k : ℕ) (q : Queue)
+    → ofRank qs k ≡ some q → ready q ≡ false
 unfolding firstOf
 first-none ready n [] e k q r = absurd (some-not-none r)
 first-none ready n (p ∷ qs) e k q r = by (λ f m g. first-none ready (suc n) qs f m q g) (test (ready p))
   where
-    by : (firstOf ready (suc n) qs ≡ nobody → (m : ℕ) → ofRank qs m ≡ some q → ready q ≡ false) → (ready p ≡ true) ⊎ (ready p ≡ false) → ready q ≡ false
+    by : (firstOf ready (suc n) qs ≡ nobody → (m : ℕ) → ofRank qs m ≡ some q → ready q ≡ false)
+        → (ready p ≡ true) ⊎ (ready p ≡ false) → ready q ≡ false
     by rec (inl t) = absurd (nobody-not (sym (rw (t, firstOf) at e)))
     by rec (inr t) = at k r
       where
@@ -57,7 +62,8 @@ picked-candidate pl s o k e = by (test (isOpen s o))
         → (q : Queue) × (ofRank (senders o) k ≡ some q) × (candidate pl s o q ≡ true)
     found (m, l, (q, r, c)) = let z : k ≡ m = omega arith in (q, rw z r, c)
 
-    by : (isOpen s o ≡ true) ⊎ (isOpen s o ≡ false) → (isOpen s o ≡ true) × ((q : Queue) × (ofRank (senders o) k ≡ some q) × (candidate pl s o q ≡ true))
+    by : (isOpen s o ≡ true) ⊎ (isOpen s o ≡ false)
+        → (isOpen s o ≡ true) × ((q : Queue) × (ofRank (senders o) k ≡ some q) × (candidate pl s o q ≡ true))
     by (inl t) = (t, found (first-found (candidate pl s o) 0 (senders o) k (rw (t, picked) at e)))
     by (inr t) = absurd (nobody-not (rw (t, picked) at e))
 
@@ -67,7 +73,8 @@ pub picked-none : (pl : Plan) (s : State) (o : Output) → picked pl s o ≡ nob
 unfolding picked
 picked-none pl s o e = by (test (isOpen s o))
   where
-    by : (isOpen s o ≡ true) ⊎ (isOpen s o ≡ false) → (isOpen s o ≡ false) ⊎ ((k : ℕ) (q : Queue) → ofRank (senders o) k ≡ some q → candidate pl s o q ≡ false)
+    by : (isOpen s o ≡ true) ⊎ (isOpen s o ≡ false)
+        → (isOpen s o ≡ false) ⊎ ((k : ℕ) (q : Queue) → ofRank (senders o) k ≡ some q → candidate pl s o q ≡ false)
     by (inl t) = inr (first-none (candidate pl s o) 0 (senders o) (rw (t, picked) at e))
     by (inr t) = inl t
 
@@ -80,11 +87,13 @@ credit-alike : (s : State) (f : Output → Choice) (y : Option Queue) → hasCre
 credit-alike s f none = refl
 credit-alike s f (some q) = refl
 
-ready-alike : (pl : Plan) (s : State) (f : Output → Choice) (o : Output) (b : Bool) (l : List Packet) → headReady pl (chosen s f) o b l ≡ headReady pl s o b l
+ready-alike : (pl : Plan) (s : State) (f : Output → Choice) (o : Output) (b : Bool) (l : List Packet)
+    → headReady pl (chosen s f) o b l ≡ headReady pl s o b l
 ready-alike pl s f o b [] = refl
 ready-alike pl s f o b (x ∷ l) = ap (also b) (credit-alike s f (nextBy pl o x))
 
-candidate-alike : (pl : Plan) (s : State) (f : Output → Choice) (o : Output) (q : Queue) → candidate pl (chosen s f) o q ≡ candidate pl s o q
+candidate-alike : (pl : Plan) (s : State) (f : Output → Choice) (o : Output) (q : Queue)
+    → candidate pl (chosen s f) o q ≡ candidate pl s o q
 unfolding candidate
 candidate-alike pl s f o q = ready-alike pl s f o (mayLeave (chosen s f) q) (s .lines .queue q)
 
@@ -95,7 +104,8 @@ open-alike s f (ofSide r o) = refl
 open-alike s f (toUnit r) = refl
 open-alike s f (fromUnit r) = refl
 
-first-alike : (f g : Queue → Bool) → ((q : Queue) → f q ≡ g q) → (k : ℕ) (qs : List Queue) → firstOf f k qs ≡ firstOf g k qs
+first-alike : (f g : Queue → Bool) → ((q : Queue) → f q ≡ g q) → (k : ℕ) (qs : List Queue)
+    → firstOf f k qs ≡ firstOf g k qs
 unfolding firstOf
 first-alike f g h k [] = refl
 first-alike f g h k (q ∷ qs) = rw (h q, first-alike f g h (suc k) qs)
@@ -103,4 +113,7 @@ first-alike f g h k (q ∷ qs) = rw (h q, first-alike f g h (suc k) qs)
 -- an output picks the same whatever was picked before
 pub picks-alike : (pl : Plan) (s : State) (f : Output → Choice) (o : Output) → picked pl (chosen s f) o ≡ picked pl s o
 unfolding picked
-picks-alike pl s f o = rw (open-alike s f o, first-alike (candidate pl (chosen s f) o) (candidate pl s o) (candidate-alike pl s f o) 0 (senders o))
+picks-alike pl s f o = rw (
+  open-alike s f o,
+  first-alike (candidate pl (chosen s f) o) (candidate pl s o) (candidate-alike pl s f o) 0 (senders o),
+)

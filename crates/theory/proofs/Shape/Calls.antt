@@ -14,8 +14,10 @@ use Rattle.journeys.proofs.Places.{some-not-none}
 use Rattle.machine.specs.State.{State, Choice, withQueue, withFlag, join}
 use Rattle.machine.specs.Visits.{launched, repliedAs, replied, removed}
 use Rattle.machine.proofs.Apart.{read-execute, read-write, execute-write}
-use Rattle.theory.specs.Invariant.{WiresEmpty, FlagsDown, NoChoices, ChoicesSendable, Shape, in-read, in-execute, in-write}
-use Rattle.theory.proofs.Shape.Spared.{Spares, spared-sendable, spares-alike, spares-then, join-spares, turn-spares, flag-spares}
+use Rattle.theory.specs.Invariant.{WiresEmpty, FlagsDown, NoChoices, ChoicesSendable, Shape, in-read, in-execute}
+use Rattle.theory.specs.Invariant.{in-write}
+use Rattle.theory.proofs.Shape.Spared.{Spares, spared-sendable, spares-alike, spares-then, join-spares}
+use Rattle.theory.proofs.Shape.Spared.{turn-spares, flag-spares}
 
 -- ---- what a shape has, by phase
 module _ {pl : Plan} (s : State) where
@@ -38,10 +40,13 @@ module _ {pl : Plan} (s : State) where
   write-has p (in-write e w c) = (w, c)
 
   -- ---- a change in WRITE that spares every output, and changes no wire and no choice
-  pub spared-shape : (t : State) → t .clock .phase ≡ s .clock .phase → t .links .wire ≡ s .links .wire → t .links .choice ≡ s .links .choice → ((o : Output) → Spares pl s t o) → s .clock .phase ≡ Write → Shape pl s → Shape pl t
+  pub spared-shape : (t : State) → t .clock .phase ≡ s .clock .phase → t .links .wire ≡ s .links .wire
+      → t .links .choice ≡ s .links .choice → ((o : Output) → Spares pl s t o) → s .clock .phase ≡ Write → Shape pl s
+      → Shape pl t
   spared-shape t p w c a q h =
       let g = write-has q h in
-      in-write (p ∙ q) (λ o d. ap (λ (m : Output → Wire). m o) w ∙ g .0 o d) (λ o k d e. spared-sendable (a o) k (g .1 o k d (sym (ap (λ (m : Output → Choice). m o) c) ∙ e)))
+      in-write (p ∙ q) (λ o d. ap (λ (m : Output → Wire). m o) w ∙ g .0 o d)
+      (λ o k d e. spared-sendable (a o) k (g .1 o k d (sym (ap (λ (m : Output → Choice). m o) c) ∙ e)))
 
   -- ---- the calls
   -- Launch, in READ
@@ -60,7 +65,8 @@ module _ {pl : Plan} (s : State) where
           spares-then s (withQueue (passiveIn p) rest s) (replied p k (x ∷ rest) s)
           (turn-spares (passiveIn p) (λ z. some-not-none z) rest s)
           (spares-then (withQueue (passiveIn p) rest s) (withFlag (passiveIn p) true (withQueue (passiveIn p) rest s))
-          (replied p k (x ∷ rest) s) (flag-spares (passiveIn p) (λ z. some-not-none z) true (withQueue (passiveIn p) rest s))
+          (replied p k (x ∷ rest) s)
+          (flag-spares (passiveIn p) (λ z. some-not-none z) true (withQueue (passiveIn p) rest s))
           (join-spares (passiveOut p) (repliedAs k x) (withFlag (passiveIn p) true (withQueue (passiveIn p) rest s))))
 
   -- Consume, in WRITE
@@ -70,7 +76,10 @@ module _ {pl : Plan} (s : State) where
     where
       spares : (o : Output) → Spares pl s (removed a rest s) o
       spares o =
-          spares-then s (withQueue (activeIn a) rest s) (removed a rest s) (turn-spares (activeIn a) (λ z. some-not-none z) rest s)
-          (spares-then (withQueue (activeIn a) rest s) (withFlag (activeIn a) true (withQueue (activeIn a) rest s)) (removed a rest s)
+          spares-then s (withQueue (activeIn a) rest s) (removed a rest s)
+          (turn-spares (activeIn a) (λ z. some-not-none z) rest s)
+          (spares-then (withQueue (activeIn a) rest s) (withFlag (activeIn a) true (withQueue (activeIn a) rest s))
+          (removed a rest s)
           (flag-spares (activeIn a) (λ z. some-not-none z) true (withQueue (activeIn a) rest s))
-          (spares-alike (withFlag (activeIn a) true (withQueue (activeIn a) rest s)) (removed a rest s) refl refl refl refl))
+          (spares-alike (withFlag (activeIn a) true (withQueue (activeIn a) rest s)) (removed a rest s) refl refl refl
+          refl))

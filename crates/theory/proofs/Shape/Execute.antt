@@ -1,5 +1,5 @@
--- EXECUTE from empty wires and lowered flags: wires stay empty, and what each output picks can be sent. A flag that rises is that of a Q whose head
--- ended; its mark is down, so it is no candidate.
+-- EXECUTE from empty wires and lowered flags: wires stay empty, and what each output picks can be sent. A flag that
+-- rises is that of a Q whose head ended; its mark is down, so it is no candidate.
 use mathlib.Core.Path.{_≡_, refl, sym, ap, subst, _∙_}
 use mathlib.Core.Logic.{_⊎_, inl, inr, _≢_}
 use mathlib.Core.Bool.{Bool, true, false}
@@ -28,12 +28,14 @@ use Rattle.theory.specs.Invariant.{WiresEmpty, FlagsDown, Sendable, Choi
 use Rattle.theory.proofs.Places.Senders.{candidate-ready}
 use Rattle.theory.proofs.Account.Units.{unit-by, undo-by}
 use Rattle.theory.proofs.Shape.Arbitration.{picked-candidate}
-use Rattle.theory.proofs.Shape.Spared.{Spares, spared-sendable, spares-alike, spares-then, join-spares, turn-spares}
+use Rattle.theory.proofs.Shape.Spared.{Spares, spared-sendable, spares-alike, spares-then, join-spares}
+use Rattle.theory.proofs.Shape.Spared.{turn-spares}
 
 -- ---- (1) units
 -- while the units below n have had their turn: a flag that is up is that of such a unit's Q, and its mark is down
 abbrev pub FlagsBehind : Plan → ℕ → State → Type 0
-FlagsBehind pl n s = (q : Queue) → Exists pl q → s .flow .flag q ≡ true → (r : ℕ) × (r < n) × (q ≡ Q r) × (s .lines .handled q ≡ false)
+FlagsBehind pl n s =
+    (q : Queue) → Exists pl q → s .flow .flag q ≡ true → (r : ℕ) × (r < n) × (q ≡ Q r) × (s .lines .handled q ≡ false)
 
 module _ (pl : Plan) where
   -- before the first unit's turn
@@ -47,7 +49,8 @@ module _ (pl : Plan) where
       by : (r : ℕ) × (r < n) × (Q n ≡ Q r) × (s .lines .handled (Q n) ≡ false) → ⊥
       by (r, l, e, m) = let z : n ≡ r = unit-same e in omega arith
 
-  quiet-same : (n : ℕ) (s t : State) → t .flow .flag ≡ s .flow .flag → t .lines .handled ≡ s .lines .handled → FlagsBehind pl n s → FlagsBehind pl n t
+  quiet-same : (n : ℕ) (s t : State) → t .flow .flag ≡ s .flow .flag → t .lines .handled ≡ s .lines .handled
+      → FlagsBehind pl n s → FlagsBehind pl n t
   quiet-same n s t f m g q h up =
       let d = g q h (sym (ap (λ (m : Queue → Bool). m q) f) ∙ up) in
       (d .0, d .1, d .2, ap (λ (m : Queue → Bool). m q) m ∙ d .3)
@@ -55,39 +58,48 @@ module _ (pl : Plan) where
   quiet-more : (n : ℕ) (s : State) → FlagsBehind pl n s → FlagsBehind pl (suc n) s
   quiet-more n s g q h up = by (g q h up)
     where
-      by : (r : ℕ) × (r < n) × (q ≡ Q r) × (s .lines .handled q ≡ false) → (r : ℕ) × (r < suc n) × (q ≡ Q r) × (s .lines .handled q ≡ false)
+      by : (r : ℕ) × (r < n) × (q ≡ Q r) × (s .lines .handled q ≡ false)
+          → (r : ℕ) × (r < suc n) × (q ≡ Q r) × (s .lines .handled q ≡ false)
       by (r, l, e, m) = (r, omega arith, e, m)
 
   -- the head of Q n is handled
-  quiet-handled : (n : ℕ) (s t : State) → t .flow .flag ≡ s .flow .flag → t .lines .handled ≡ put sameQueue (s .lines .handled) (Q n) true → FlagsBehind pl n s → FlagsBehind pl (suc n) t
+  quiet-handled : (n : ℕ) (s t : State) → t .flow .flag ≡ s .flow .flag → t .lines .handled
+      ≡ put sameQueue (s .lines .handled) (Q n) true → FlagsBehind pl n s → FlagsBehind pl (suc n) t
   quiet-handled n s t f m g q h up = by (g q h (sym (ap (λ (m : Queue → Bool). m q) f) ∙ up))
     where
-      by : (r : ℕ) × (r < n) × (q ≡ Q r) × (s .lines .handled q ≡ false) → (r : ℕ) × (r < suc n) × (q ≡ Q r) × (t .lines .handled q ≡ false)
+      by : (r : ℕ) × (r < n) × (q ≡ Q r) × (s .lines .handled q ≡ false)
+          → (r : ℕ) × (r < suc n) × (q ≡ Q r) × (t .lines .handled q ≡ false)
       by (r, l, e, d) =
           let ne : q ≢ Q n = λ z. let i : r ≡ n = unit-same (sym e ∙ z) in omega arith in
           (r, omega arith, e, ap (λ (m : Queue → Bool). m q) m ∙ queue-away (s .lines .handled) (Q n) true q ne ∙ d)
 
   -- the head of Q n ended
-  quiet-ended : (n : ℕ) (s t : State) → t .flow .flag ≡ put sameQueue (s .flow .flag) (Q n) true → t .lines .handled ≡ s .lines .handled → s .lines .handled (Q n) ≡ false → FlagsBehind pl n s → FlagsBehind pl (suc n) t
+  quiet-ended : (n : ℕ) (s t : State) → t .flow .flag ≡ put sameQueue (s .flow .flag) (Q n) true → t .lines .handled
+      ≡ s .lines .handled → s .lines .handled (Q n) ≡ false → FlagsBehind pl n s → FlagsBehind pl (suc n) t
   quiet-ended n s t f m d g q h up = by (queue-or q (Q n))
     where
       by : (q ≡ Q n) ⊎ (q ≢ Q n) → (r : ℕ) × (r < suc n) × (q ≡ Q r) × (t .lines .handled q ≡ false)
       by (inl e) = (n, omega arith, e, ap (λ (m : Queue → Bool). m q) m ∙ rw e d)
-      by (inr ne) = last (g q h (sym (ap (λ (m : Queue → Bool). m q) f ∙ queue-away (s .flow .flag) (Q n) true q ne) ∙ up))
+      by (inr ne) =
+          last (g q h (sym (ap (λ (m : Queue → Bool). m q) f ∙ queue-away (s .flow .flag) (Q n) true q ne) ∙ up))
         where
-          last : (r : ℕ) × (r < n) × (q ≡ Q r) × (s .lines .handled q ≡ false) → (r : ℕ) × (r < suc n) × (q ≡ Q r) × (t .lines .handled q ≡ false)
+          last : (r : ℕ) × (r < n) × (q ≡ Q r) × (s .lines .handled q ≡ false)
+              → (r : ℕ) × (r < suc n) × (q ≡ Q r) × (t .lines .handled q ≡ false)
           last (r, l, e, d) = (r, omega arith, e, ap (λ (m : Queue → Bool). m q) m ∙ d)
 
   -- a unit's turn
   pub unit-quiet : (n : ℕ) (s : State) → FlagsBehind pl n s → FlagsBehind pl (suc n) (unit pl n s)
   unit-quiet n s g =
-      unit-by pl s (FlagsBehind pl (suc n)) n (quiet-more n s g) (λ x y rest e m. quiet-handled n s (handledAs n y rest s) refl refl g)
+      unit-by pl s (FlagsBehind pl (suc n)) n (quiet-more n s g)
+      (λ x y rest e m. quiet-handled n s (handledAs n y rest s) refl refl g)
       (λ x y rest o t b e m. quiet-handled n s (handledAs n y rest (withEntry n o t b s)) refl refl g)
-      (λ x rest o t b e m. quiet-ended n s (withFlag (Q n) true (withQueue (Q n) rest (withEntry n o t b s))) refl refl m g)
+      (λ x rest o t b e m. quiet-ended n s (withFlag (Q n) true (withQueue (Q n) rest (withEntry n o t b s))) refl refl
+      m g)
 
   -- it changes no wire
   pub unit-wire : (n : ℕ) (s : State) → unit pl n s .links .wire ≡ s .links .wire
-  unit-wire n s = unit-by pl s (λ (t : State). t .links .wire ≡ s .links .wire) n refl (λ x y rest e m. refl) (λ x y rest o t b e m. refl) (λ x rest o t b e m. refl)
+  unit-wire n s = unit-by pl s (λ (t : State). t .links .wire ≡ s .links .wire) n refl (λ x y rest e m. refl)
+      (λ x y rest o t b e m. refl) (λ x rest o t b e m. refl)
 
   -- after all units
   pub units-quiet : (s : State) → FlagsDown pl s → FlagsBehind pl (R pl) (upTo (unit pl) (R pl) s)
@@ -95,21 +107,32 @@ module _ (pl : Plan) where
 
   -- after all units wires are still empty
   pub units-wires : (s : State) → WiresEmpty pl s → WiresEmpty pl (upTo (unit pl) (R pl) s)
-  units-wires s w = up-keeps (WiresEmpty pl) (unit pl) (R pl) s (λ i t h p o d. ap (λ (m : Output → Wire). m o) (unit-wire i t) ∙ p o d) w
+  units-wires s w = up-keeps (WiresEmpty pl) (unit pl) (R pl) s
+      (λ i t h p o d. ap (λ (m : Output → Wire). m o) (unit-wire i t) ∙ p o d) w
 
   -- ---- (2) picks
   -- what an output picks can be sent
-  pub picked-sendable : (s : State) → FlagsBehind pl (R pl) s → (o : Output) (k : ℕ) → Drives pl o → picked pl s o ≡ sender k → Sendable pl s o k
+  pub picked-sendable : (s : State) → FlagsBehind pl (R pl) s → (o : Output) (k : ℕ) → Drives pl o
+      → picked pl s o ≡ sender k → Sendable pl s o k
   picked-sendable s g o k d e =
       let c = picked-candidate pl s o k e .1 in
-      record { queue = c .0; rank = c .1; ready = c .2; down = refuted (s .flow .flag (c .0)) (λ up. not-both (leaves (c .0) (g (c .0) (sender-exists pl o k (c .0) d (c .1)) up) (candidate-ready pl s o (c .0) (c .2) .leaves)) (g (c .0) (sender-exists pl o k (c .0) d (c .1)) up .3)) }
+      record {
+        queue = c .0;
+        rank = c .1;
+        ready = c .2;
+        down = refuted (s .flow .flag (c .0))
+            (λ up. not-both (leaves (c .0) (g (c .0) (sender-exists pl o k (c .0) d (c .1)) up)
+            (candidate-ready pl s o (c .0) (c .2) .leaves)) (g (c .0) (sender-exists pl o k (c .0) d (c .1)) up .3));
+      }
     where
-      leaves : (q : Queue) → (r : ℕ) × (r < R pl) × (q ≡ Q r) × (s .lines .handled q ≡ false) → mayLeave s q ≡ true → s .lines .handled q ≡ true
+      leaves : (q : Queue) → (r : ℕ) × (r < R pl) × (q ≡ Q r) × (s .lines .handled q ≡ false) → mayLeave s q ≡ true
+          → s .lines .handled q ≡ true
       leaves q (r, l, e, m) h = rw e (rw e at h)
 
   -- the outputs below n have picked
   abbrev pub Picked : ℕ → State → Type 0
-  Picked n s = FlagsBehind pl (R pl) s × ((j : ℕ) → j < n → (k : ℕ) → s .links .choice (outputAt pl j) ≡ sender k → Sendable pl s (outputAt pl j) k)
+  Picked n s = FlagsBehind pl (R pl) s
+      × ((j : ℕ) → j < n → (k : ℕ) → s .links .choice (outputAt pl j) ≡ sender k → Sendable pl s (outputAt pl j) k)
 
   choose-spares : (o u : Output) (s : State) → Spares pl s (choose pl o s) u
   unfolding choose
@@ -118,18 +141,23 @@ module _ (pl : Plan) where
   -- an output's pick
   pub choose-picked : (n : ℕ) (s : State) → n < outputs pl → Picked n s → Picked (suc n) (choose pl (outputAt pl n) s)
   unfolding choose
-  choose-picked n s h g = (quiet-same (R pl) s (choose pl (outputAt pl n) s) refl refl (g .0), λ j l. by j (below-suc l))
+  choose-picked n s h g =
+      (quiet-same (R pl) s (choose pl (outputAt pl n) s) refl refl (g .0), λ j l. by j (below-suc l))
     where
-      by : (j : ℕ) → (j < n) ⊎ (j ≡ n) → (k : ℕ) → choose pl (outputAt pl n) s .links .choice (outputAt pl j) ≡ sender k → Sendable pl (choose pl (outputAt pl n) s) (outputAt pl j) k
+      by : (j : ℕ) → (j < n) ⊎ (j ≡ n) → (k : ℕ) → choose pl (outputAt pl n) s .links .choice (outputAt pl j)
+          ≡ sender k → Sendable pl (choose pl (outputAt pl n) s) (outputAt pl j) k
       by j (inl l) k e =
           spared-sendable (choose-spares (outputAt pl n) (outputAt pl j) s) k
-          (g .1 j l k (sym (output-away (s .links .choice) (outputAt pl n) (picked pl s (outputAt pl n)) (outputAt pl j) (at-apart pl j n (omega arith) h (λ z. omega arith))) ∙ e))
+          (g .1 j l k (sym (output-away (s .links .choice) (outputAt pl n) (picked pl s (outputAt pl n))
+          (outputAt pl j) (at-apart pl j n (omega arith) h (λ z. omega arith))) ∙ e))
       by j (inr z) k e = rw z (last (rw z at e))
         where
-          last : choose pl (outputAt pl n) s .links .choice (outputAt pl n) ≡ sender k → Sendable pl (choose pl (outputAt pl n) s) (outputAt pl n) k
+          last : choose pl (outputAt pl n) s .links .choice (outputAt pl n) ≡ sender k
+              → Sendable pl (choose pl (outputAt pl n) s) (outputAt pl n) k
           last f =
               spared-sendable (choose-spares (outputAt pl n) (outputAt pl n) s) k
-              (picked-sendable s (g .0) (outputAt pl n) k (drives-at pl n h) (sym (output-here (s .links .choice) (outputAt pl n) (picked pl s (outputAt pl n))) ∙ f))
+              (picked-sendable s (g .0) (outputAt pl n) k (drives-at pl n h)
+              (sym (output-here (s .links .choice) (outputAt pl n) (picked pl s (outputAt pl n))) ∙ f))
 
   abbrev chooses : ℕ → State → State
   chooses n = choose pl (outputAt pl n)
@@ -137,8 +165,10 @@ module _ (pl : Plan) where
   -- after all picks
   pub picks-sendable : (s : State) → FlagsBehind pl (R pl) s → ChoicesSendable pl (upTo chooses (outputs pl) s)
   picks-sendable s g o k d e =
-      let all = up-keeps-at Picked chooses (outputs pl) s (λ i t h p. choose-picked i t h p) (g, λ j l. absurd (not-suc-le-zero l)) in
-      subst (λ (u : Output). Sendable pl (upTo chooses (outputs pl) s) u k) (output-at pl o d) (all .1 (outputNumber pl o) (output-below pl o d) k (rw (output-at pl o d) e))
+      let all = up-keeps-at Picked chooses (outputs pl) s (λ i t h p. choose-picked i t h p)
+      (g, λ j l. absurd (not-suc-le-zero l)) in
+      subst (λ (u : Output). Sendable pl (upTo chooses (outputs pl) s) u k) (output-at pl o d)
+      (all .1 (outputNumber pl o) (output-below pl o d) k (rw (output-at pl o d) e))
 
   -- and wires are still empty
   pub picks-wires : (s : State) → WiresEmpty pl s → WiresEmpty pl (upTo chooses (outputs pl) s)
@@ -150,8 +180,10 @@ module _ (pl : Plan) where
   pub undo-spares : (a : ℕ) (o : Output) (s : State) → Spares pl s (undo pl a s) o
   undo-spares a o s =
       undo-by pl s (λ (t : State). Spares pl s t o) a (spares-alike s s refl refl refl refl)
-      (λ x rest e u room. spares-then s (withQueue (activeIn a) (marked x ∷ rest) s) (join (activeOut a) (tdownOf (S pl) x) (withQueue (activeIn a) (marked x ∷ rest) s))
-      (turn-spares (activeIn a) (λ z. some-not-none z) (marked x ∷ rest) s) (join-spares (activeOut a) (tdownOf (S pl) x) (withQueue (activeIn a) (marked x ∷ rest) s)))
+      (λ x rest e u room. spares-then s (withQueue (activeIn a) (marked x ∷ rest) s)
+      (join (activeOut a) (tdownOf (S pl) x) (withQueue (activeIn a) (marked x ∷ rest) s))
+      (turn-spares (activeIn a) (λ z. some-not-none z) (marked x ∷ rest) s)
+      (join-spares (activeOut a) (tdownOf (S pl) x) (withQueue (activeIn a) (marked x ∷ rest) s)))
 
   -- it changes no choice
   pub undo-choice : (a : ℕ) (s : State) → undo pl a s .links .choice ≡ s .links .choice
@@ -168,20 +200,23 @@ module _ (pl : Plan) where
   pub execute-wires : (s : State) → WiresEmpty pl s → WiresEmpty pl (doExecute pl s)
   unfolding doExecute
   execute-wires s w =
-      up-keeps (WiresEmpty pl) (undo pl) (A pl) (upTo chooses (outputs pl) (upTo (unit pl) (R pl) s)) (λ i t h p o d. ap (λ (m : Output → Wire). m o) (undo-wire i t) ∙ p o d)
+      up-keeps (WiresEmpty pl) (undo pl) (A pl) (upTo chooses (outputs pl) (upTo (unit pl) (R pl) s))
+      (λ i t h p o d. ap (λ (m : Output → Wire). m o) (undo-wire i t) ∙ p o d)
       (picks-wires (upTo (unit pl) (R pl) s) (units-wires s w))
 
   undone : (s : State) → ChoicesSendable pl s → ChoicesSendable pl (upTo (undo pl) (A pl) s)
   undone s c =
       up-keeps (ChoicesSendable pl) (undo pl) (A pl) s
-      (λ i t h p o k d e. spared-sendable (undo-spares i o t) k (p o k d (sym (ap (λ (m : Output → Choice). m o) (undo-choice i t)) ∙ e))) c
+      (λ i t h p o k d e. spared-sendable (undo-spares i o t) k
+      (p o k d (sym (ap (λ (m : Output → Choice). m o) (undo-choice i t)) ∙ e))) c
 
   -- after EXECUTE every choice can be sent
   pub execute-choices : (s : State) → FlagsDown pl s → ChoicesSendable pl (doExecute pl s)
   unfolding doExecute
   execute-choices s f o k d e =
       let u : State = upTo (undo pl) (A pl) (upTo chooses (outputs pl) (upTo (unit pl) (R pl) s)) in
-      spared-sendable (spares-alike u (doExecute pl s) refl refl refl refl) k (undone (upTo chooses (outputs pl) (upTo (unit pl) (R pl) s)) (picks-sendable (upTo (unit pl) (R pl) s) (units-quiet s f)) o k d e)
+      spared-sendable (spares-alike u (doExecute pl s) refl refl refl refl) k (undone (upTo chooses (outputs pl)
+      (upTo (unit pl) (R pl) s)) (picks-sendable (upTo (unit pl) (R pl) s) (units-quiet s f)) o k d e)
 
   -- EXECUTE ends in the shape of WRITE
   pub execute-shape : (s : State) → WiresEmpty pl s → FlagsDown pl s → Shape pl (doExecute pl s)

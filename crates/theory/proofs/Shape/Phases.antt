@@ -1,4 +1,5 @@
--- The three phases as folds of one-place steps: what each step keeps, given what the shape tells at its turn, the phase keeps.
+-- The three phases as folds of one-place steps: what each step keeps, given what the shape tells at its turn, the
+-- phase keeps.
 use mathlib.Core.Path.{_≡_}
 use mathlib.Core.Bool.{false}
 use Prim.Native.Nat.{ℕ, suc, _<_}
@@ -31,8 +32,10 @@ module _ (pl : Plan) (P : State → Type 0) (s : State) where
   unfolding doRead
   read-keeps delivers settles ends p =
       ends (upTo (λ n. settle (queueAt pl n)) (queues pl) (upTo (λ n. deliver pl (outputAt pl n)) (outputs pl) s))
-      (up-keeps P (λ n. settle (queueAt pl n)) (queues pl) (upTo (λ n. deliver pl (outputAt pl n)) (outputs pl) s) (λ i t h q. settles (queueAt pl i) t (exists-at pl i h) q)
-      (up-keeps P (λ n. deliver pl (outputAt pl n)) (outputs pl) s (λ i t h q. delivers (outputAt pl i) t (drives-at pl i h) q) p))
+      (up-keeps P (λ n. settle (queueAt pl n)) (queues pl) (upTo (λ n. deliver pl (outputAt pl n)) (outputs pl) s)
+      (λ i t h q. settles (queueAt pl i) t (exists-at pl i h) q)
+      (up-keeps P (λ n. deliver pl (outputAt pl n)) (outputs pl) s
+      (λ i t h q. delivers (outputAt pl i) t (drives-at pl i h) q) p))
 
   -- EXECUTE: units, whose Q's flag is down at their turn, then picks, then tear-downs
   pub execute-keeps : ((r : ℕ) (t : State) → r < R pl → t .flow .flag (Q r) ≡ false → P t → P (unit pl r t))
@@ -43,22 +46,28 @@ module _ (pl : Plan) (P : State → Type 0) (s : State) where
   unfolding doExecute
   execute-keeps units chooses undoes ends f p =
       ends (upTo (undo pl) (A pl) (upTo (λ n. choose pl (outputAt pl n)) (outputs pl) (upTo (unit pl) (R pl) s)))
-      (up-keeps P (undo pl) (A pl) (upTo (λ n. choose pl (outputAt pl n)) (outputs pl) (upTo (unit pl) (R pl) s)) (λ i t h q. undoes i t h q)
-      (up-keeps P (λ n. choose pl (outputAt pl n)) (outputs pl) (upTo (unit pl) (R pl) s) (λ i t h q. chooses (outputAt pl i) t (drives-at pl i h) q)
+      (up-keeps P (undo pl) (A pl) (upTo (λ n. choose pl (outputAt pl n)) (outputs pl) (upTo (unit pl) (R pl) s))
+      (λ i t h q. undoes i t h q)
+      (up-keeps P (λ n. choose pl (outputAt pl n)) (outputs pl) (upTo (unit pl) (R pl) s)
+      (λ i t h q. chooses (outputAt pl i) t (drives-at pl i h) q)
       (up-keeps-at (λ (n : ℕ) (t : State). FlagsBehind pl n t × P t) (unit pl) (R pl) s
-      (λ i t h q. (unit-quiet pl i t (q .0), units i t h (quiet-down pl i t h (q .0)) (q .1))) (quiet-start pl s f, p) .1)))
+      (λ i t h q. (unit-quiet pl i t (q .0), units i t h (quiet-down pl i t h (q .0)) (q .1)))
+      (quiet-start pl s f, p) .1)))
 
   -- WRITE: sendings, each with an empty wire and a choice that can be sent at its turn
   pub write-keeps : Wired pl
-      → ((o : Output) (t : State) → Drives pl o → t .links .wire o ≡ Empty → ((k : ℕ) → t .links .choice o ≡ sender k → Sendable pl t o k) → P t → P (send pl o t))
+      → ((o : Output) (t : State) → Drives pl o → t .links .wire o ≡ Empty
+      → ((k : ℕ) → t .links .choice o ≡ sender k → Sendable pl t o k) → P t → P (send pl o t))
       → ((t : State) → P t → P (withPhase Read (withSlot (slotNext (s .clock .slot) (S pl)) t)))
       → WiresEmpty pl s → ChoicesSendable pl s → P s → P (doWrite pl s)
   unfolding doWrite
   write-keeps wired sends ends w c p =
       ends (upTo (λ n. send pl (outputAt pl n)) (outputs pl) s)
-      (up-keeps-at (λ (n : ℕ) (t : State). Pending pl n t × P t) (λ n. send pl (outputAt pl n)) (outputs pl) s step (pending-start pl s w c, p) .1)
+      (up-keeps-at (λ (n : ℕ) (t : State). Pending pl n t × P t) (λ n. send pl (outputAt pl n)) (outputs pl) s step
+      (pending-start pl s w c, p) .1)
     where
-      step : (i : ℕ) (t : State) → i < outputs pl → Pending pl i t × P t → Pending pl (suc i) (send pl (outputAt pl i) t) × P (send pl (outputAt pl i) t)
+      step : (i : ℕ) (t : State) → i < outputs pl → Pending pl i t × P t
+          → Pending pl (suc i) (send pl (outputAt pl i) t) × P (send pl (outputAt pl i) t)
       step i t h q =
           let g = pending-now pl i t h (q .0) in
           (send-pending pl wired i t h (q .0), sends (outputAt pl i) t (drives-at pl i h) (g .0) (g .1) (q .1))

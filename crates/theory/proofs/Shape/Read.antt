@@ -46,16 +46,19 @@ deliver-empties pl o s = by (s .links .wire o) refl
   where
     by : (w : Wire) → s .links .wire o ≡ w → arrive pl o w s .links .wire o ≡ Empty
     by Empty e = e
-    by (Full x) e = ap (λ (m : Output → Wire). m o) (next-wire (nextBy pl o x) x (withWire o Empty s)) ∙ output-here (s .links .wire) o Empty
+    by (Full x) e = ap (λ (m : Output → Wire). m o) (next-wire (nextBy pl o x) x (withWire o Empty s))
+        ∙ output-here (s .links .wire) o Empty
 
 -- and no other fills
-pub deliver-fills-none : (pl : Plan) (o : Output) (s : State) (u : Output) → s .links .wire u ≡ Empty → deliver pl o s .links .wire u ≡ Empty
+pub deliver-fills-none : (pl : Plan) (o : Output) (s : State) (u : Output) → s .links .wire u ≡ Empty
+    → deliver pl o s .links .wire u ≡ Empty
 unfolding deliver arrive
 deliver-fills-none pl o s u h = by (s .links .wire o)
   where
     by : (w : Wire) → arrive pl o w s .links .wire u ≡ Empty
     by Empty = h
-    by (Full x) = ap (λ (m : Output → Wire). m u) (next-wire (nextBy pl o x) x (withWire o Empty s)) ∙ either (sameOutput u o) Empty (s .links .wire u) refl h
+    by (Full x) = ap (λ (m : Output → Wire). m u) (next-wire (nextBy pl o x) x (withWire o Empty s))
+        ∙ either (sameOutput u o) Empty (s .links .wire u) refl h
 
 -- and choices stay
 pub deliver-choice : (pl : Plan) (o : Output) (s : State) → deliver pl o s .links .choice ≡ s .links .choice
@@ -95,7 +98,8 @@ settle-lowers q s = by (s .flow .flag q) refl
     by false e = e
 
 -- and no other rises
-pub settle-raises-none : (q : Queue) (s : State) (p : Queue) → s .flow .flag p ≡ false → settle q s .flow .flag p ≡ false
+pub settle-raises-none : (q : Queue) (s : State) (p : Queue) → s .flow .flag p ≡ false
+    → settle q s .flow .flag p ≡ false
 unfolding settle lower
 settle-raises-none q s p h = by (s .flow .flag q)
   where
@@ -112,9 +116,11 @@ module _ (pl : Plan) where
   settles n = settle (queueAt pl n)
 
   delivered : (s : State) → WiresEmpty pl (upTo delivers (outputs pl) s)
-  delivered s o d = subst (λ (u : Output). upTo delivers (outputs pl) s .links .wire u ≡ Empty) (output-at pl o d) (all (outputNumber pl o) (output-below pl o d))
+  delivered s o d = subst (λ (u : Output). upTo delivers (outputs pl) s .links .wire u ≡ Empty) (output-at pl o d)
+      (all (outputNumber pl o) (output-below pl o d))
     where
-      step : (i : ℕ) (t : State) → i < outputs pl → ((j : ℕ) → j < i → t .links .wire (outputAt pl j) ≡ Empty) → (j : ℕ) → j < suc i → deliver pl (outputAt pl i) t .links .wire (outputAt pl j) ≡ Empty
+      step : (i : ℕ) (t : State) → i < outputs pl → ((j : ℕ) → j < i → t .links .wire (outputAt pl j) ≡ Empty)
+          → (j : ℕ) → j < suc i → deliver pl (outputAt pl i) t .links .wire (outputAt pl j) ≡ Empty
       step i t h p j l = by (below-suc l)
         where
           by : (j < i) ⊎ (j ≡ i) → deliver pl (outputAt pl i) t .links .wire (outputAt pl j) ≡ Empty
@@ -122,12 +128,15 @@ module _ (pl : Plan) where
           by (inr e) = rw e (deliver-empties pl (outputAt pl i) t)
 
       all : (j : ℕ) → j < outputs pl → upTo delivers (outputs pl) s .links .wire (outputAt pl j) ≡ Empty
-      all = up-keeps-at (λ (n : ℕ) (t : State). (j : ℕ) → j < n → t .links .wire (outputAt pl j) ≡ Empty) delivers (outputs pl) s step (λ j l. absurd (not-suc-le-zero l))
+      all = up-keeps-at (λ (n : ℕ) (t : State). (j : ℕ) → j < n → t .links .wire (outputAt pl j) ≡ Empty) delivers
+          (outputs pl) s step (λ j l. absurd (not-suc-le-zero l))
 
   settled : (s : State) → FlagsDown pl (upTo settles (queues pl) s)
-  settled s q h = subst (λ (u : Queue). upTo settles (queues pl) s .flow .flag u ≡ false) (queue-at pl q h) (all (number pl q) (number-below pl q h))
+  settled s q h = subst (λ (u : Queue). upTo settles (queues pl) s .flow .flag u ≡ false) (queue-at pl q h)
+      (all (number pl q) (number-below pl q h))
     where
-      step : (i : ℕ) (t : State) → i < queues pl → ((j : ℕ) → j < i → t .flow .flag (queueAt pl j) ≡ false) → (j : ℕ) → j < suc i → settle (queueAt pl i) t .flow .flag (queueAt pl j) ≡ false
+      step : (i : ℕ) (t : State) → i < queues pl → ((j : ℕ) → j < i → t .flow .flag (queueAt pl j) ≡ false) → (j : ℕ)
+          → j < suc i → settle (queueAt pl i) t .flow .flag (queueAt pl j) ≡ false
       step i t h p j l = by (below-suc l)
         where
           by : (j < i) ⊎ (j ≡ i) → settle (queueAt pl i) t .flow .flag (queueAt pl j) ≡ false
@@ -135,7 +144,8 @@ module _ (pl : Plan) where
           by (inr e) = rw e (settle-lowers (queueAt pl i) t)
 
       all : (j : ℕ) → j < queues pl → upTo settles (queues pl) s .flow .flag (queueAt pl j) ≡ false
-      all = up-keeps-at (λ (n : ℕ) (t : State). (j : ℕ) → j < n → t .flow .flag (queueAt pl j) ≡ false) settles (queues pl) s step (λ j l. absurd (not-suc-le-zero l))
+      all = up-keeps-at (λ (n : ℕ) (t : State). (j : ℕ) → j < n → t .flow .flag (queueAt pl j) ≡ false) settles
+          (queues pl) s step (λ j l. absurd (not-suc-le-zero l))
 
   -- after READ every wire is empty
   pub read-wires : (s : State) → WiresEmpty pl (doRead pl s)
@@ -153,8 +163,10 @@ module _ (pl : Plan) where
   pub read-choices : (s : State) → NoChoices pl s → NoChoices pl (doRead pl s)
   unfolding doRead
   read-choices s n =
-      up-keeps (NoChoices pl) settles (queues pl) (upTo delivers (outputs pl) s) (λ i t h p o d. ap (λ (m : Output → Choice). m o) (settle-choice (queueAt pl i) t) ∙ p o d)
-      (up-keeps (NoChoices pl) delivers (outputs pl) s (λ i t h p o d. ap (λ (m : Output → Choice). m o) (deliver-choice pl (outputAt pl i) t) ∙ p o d) n)
+      up-keeps (NoChoices pl) settles (queues pl) (upTo delivers (outputs pl) s)
+      (λ i t h p o d. ap (λ (m : Output → Choice). m o) (settle-choice (queueAt pl i) t) ∙ p o d)
+      (up-keeps (NoChoices pl) delivers (outputs pl) s
+      (λ i t h p o d. ap (λ (m : Output → Choice). m o) (deliver-choice pl (outputAt pl i) t) ∙ p o d) n)
 
   -- READ ends in the shape of EXECUTE
   pub read-shape : (s : State) → NoChoices pl s → Shape pl (doRead pl s)

@@ -1,4 +1,5 @@
--- A change that spares an output: its senders keep their heads, marks and flags, and its next queues their credits. What could be sent still can.
+-- A change that spares an output: its senders keep their heads, marks and flags, and its next queues their credits.
+-- What could be sent still can.
 use mathlib.Core.Path.{_≡_, refl, sym, ap, _∙_}
 use mathlib.Core.Logic.{_⊎_, inl, inr, _≢_}
 use mathlib.Core.Bool.{Bool, true}
@@ -21,7 +22,8 @@ use Rattle.machine.specs.Write.{raise, spend}
 use Rattle.theory.specs.Invariant.{Sendable}
 use Rattle.theory.proofs.Places.Feeders.{sender-leaves}
 use Rattle.theory.proofs.Ground.Cells.{queue-or, queue-here, queue-away}
-use Rattle.theory.proofs.Places.Senders.{raise-queue, raise-credit, raise-handled, raise-other, Ready, candidate-ready}
+use Rattle.theory.proofs.Places.Senders.{raise-queue, raise-credit, raise-handled, raise-other, Ready}
+use Rattle.theory.proofs.Places.Senders.{candidate-ready}
 
 -- a list with more behind it
 abbrev pub Longer : List Packet → List Packet → Type 0
@@ -42,13 +44,15 @@ pub record Spares (pl : Plan) (s t : State) (o : Output) : Type 0 where
 -- what is ready is a candidate
 pub ready-candidate : (pl : Plan) (s : State) (o : Output) (q : Queue) → Ready pl s o q → candidate pl s o q ≡ true
 unfolding candidate
-ready-candidate pl s o q r = rw (r .queue) (also-of (r .leaves) (rw (r .goes) (lt-ltb 0 (s .flow .credit (r .next) .0) (r .room))))
+ready-candidate pl s o q r =
+    rw (r .queue) (also-of (r .leaves) (rw (r .goes) (lt-ltb 0 (s .flow .credit (r .next) .0) (r .room))))
 
 may-same : (s t : State) (q : Queue) → t .lines .handled q ≡ s .lines .handled q → mayLeave t q ≡ mayLeave s q
 may-same s t q e = ap (mayLeaveAs (role q)) e
 
 -- a candidate of a spared output stays one
-pub spared-ready : {pl : Plan} {s t : State} {o : Output} → Spares pl s t o → (q : Queue) → outputOf q ≡ some o → Ready pl s o q → Ready pl t o q
+pub spared-ready : {pl : Plan} {s t : State} {o : Output} → Spares pl s t o → (q : Queue) → outputOf q ≡ some o
+    → Ready pl s o q → Ready pl t o q
 spared-ready {pl} {s} {t} {o} c q l r =
     let h = c .heads q l in
     record {
@@ -62,19 +66,22 @@ spared-ready {pl} {s} {t} {o} c q l r =
     }
 
 -- and what it could send it still can
-pub spared-sendable : {pl : Plan} {s t : State} {o : Output} → Spares pl s t o → (k : ℕ) → Sendable pl s o k → Sendable pl t o k
+pub spared-sendable : {pl : Plan} {s t : State} {o : Output} → Spares pl s t o → (k : ℕ) → Sendable pl s o k
+    → Sendable pl t o k
 spared-sendable {pl} {s} {t} {o} c k g =
     let l = sender-leaves o k (g .queue) (g .rank) in
     record {
       queue = g .queue;
       rank = g .rank;
-      ready = ready-candidate pl t o (g .queue) (spared-ready c (g .queue) l (candidate-ready pl s o (g .queue) (g .ready)));
+      ready = ready-candidate pl t o (g .queue)
+          (spared-ready c (g .queue) l (candidate-ready pl s o (g .queue) (g .ready)));
       down = c .flags (g .queue) l ∙ g .down;
     }
 
 -- ---- changes that spare every output
 -- what is not looked at
-pub spares-alike : {pl : Plan} {o : Output} (s t : State) → t .lines .queue ≡ s .lines .queue → t .lines .handled ≡ s .lines .handled → t .flow .flag ≡ s .flow .flag → t .flow .credit ≡ s .flow .credit → Spares pl s t o
+pub spares-alike : {pl : Plan} {o : Output} (s t : State) → t .lines .queue ≡ s .lines .queue → t .lines .handled
+    ≡ s .lines .handled → t .flow .flag ≡ s .flow .flag → t .flow .credit ≡ s .flow .credit → Spares pl s t o
 spares-alike s t q h f c =
     record {
       heads = λ x l. longer-same (ap (λ (m : Queue → List Packet). m x) q);
@@ -89,8 +96,11 @@ spares-then s t u a b =
     record {
       heads = λ x l.
           let g = a .heads x l in
-          let h = b .heads x l in
-          (g .0 ++ h .0, h .1 ∙ ap (λ (xs : List Packet). xs ++ h .0) (g .1) ∙ append-assoc (s .lines .queue x) (g .0) (h .0));
+          let h = b .heads x l in (
+            g .0 ++ h .0,
+            h .1 ∙ ap (λ (xs : List Packet). xs ++ h .0) (g .1)
+                ∙ append-assoc (s .lines .queue x) (g .0) (h .0),
+          );
       marks = λ x l. b .marks x l ∙ a .marks x l;
       flags = λ x l. b .flags x l ∙ a .flags x l;
       credits = λ y n e. b .credits y n e ∙ a .credits y n e;
@@ -120,12 +130,22 @@ module _ {o : Output} (k : Queue) (out : outputOf k ≡ some o → ⊥) where
     -- its packets
     pub turn-spares : (xs : List Packet) (s : State) → Spares pl s (withQueue k xs s) o
     turn-spares xs s =
-        record { heads = λ q l. longer-same (queue-away (s .lines .queue) k xs q (apart q l)); marks = λ q l. refl; flags = λ q l. refl; credits = λ y n e. refl }
+        record {
+          heads = λ q l. longer-same (queue-away (s .lines .queue) k xs q (apart q l));
+          marks = λ q l. refl;
+          flags = λ q l. refl;
+          credits = λ y n e. refl;
+        }
 
     -- its flag
     pub flag-spares : (b : Bool) (s : State) → Spares pl s (withFlag k b s) o
     flag-spares b s =
-        record { heads = λ q l. longer-same refl; marks = λ q l. refl; flags = λ q l. queue-away (s .flow .flag) k b q (apart q l); credits = λ y n e. refl }
+        record {
+          heads = λ q l. longer-same refl;
+          marks = λ q l. refl;
+          flags = λ q l. queue-away (s .flow .flag) k b q (apart q l);
+          credits = λ y n e. refl;
+        }
 
     -- its flag, as a head leaves, and its mark
     pub raise-spares : (s : State) → Spares pl s (raise k s) o
@@ -138,12 +158,14 @@ module _ {o : Output} (k : Queue) (out : outputOf k ≡ some o → ⊥) where
         }
 
 -- a credit of a queue that is not beyond the output
-pub spend-spares : {pl : Plan} {o : Output} (y : Option Queue) (s : State) → ((n : Queue) (x : Packet) → y ≡ some n → nextBy pl o x ≡ some n → ⊥) → Spares pl s (spend y s) o
+pub spend-spares : {pl : Plan} {o : Output} (y : Option Queue) (s : State)
+    → ((n : Queue) (x : Packet) → y ≡ some n → nextBy pl o x ≡ some n → ⊥) → Spares pl s (spend y s) o
 spend-spares none s away = spares-alike s s refl refl refl refl
 spend-spares (some n) s away =
     record {
       heads = λ q l. longer-same refl;
       marks = λ q l. refl;
       flags = λ q l. refl;
-      credits = λ x m e. queue-away (s .flow .credit) n (creditDown (s .flow .credit n)) m (λ i. away n x refl (e ∙ ap some i));
+      credits = λ x m e. queue-away (s .flow .credit) n (creditDown (s .flow .credit n)) m
+          (λ i. away n x refl (e ∙ ap some i));
     }

@@ -1,5 +1,5 @@
--- WRITE: each output's choice can still be sent when its turn comes, for two outputs never share a sender, a next queue or a wire. After WRITE there
--- are no choices.
+-- WRITE: each output's choice can still be sent when its turn comes, for two outputs never share a sender, a next
+-- queue or a wire. After WRITE there are no choices.
 use mathlib.Core.Path.{_≡_, refl, sym, ap, subst, _∙_}
 use mathlib.Core.Logic.{_⊎_, inl, inr, _≢_}
 use mathlib.Core.List.{List, [], _∷_}
@@ -26,24 +26,30 @@ use Rattle.theory.proofs.Ground.Cells.{output-here, output-away}
 use Rattle.theory.specs.Invariant.{WiresEmpty, NoChoices, Sendable, ChoicesSendable, Shape, in-read}
 use Rattle.theory.proofs.Places.Feeders.{one-feeder, sender-leaves}
 use Rattle.theory.proofs.Places.Senders.{raise-links}
-use Rattle.theory.proofs.Shape.Spared.{Spares, spared-sendable, spares-alike, spares-then, turn-spares, raise-spares, spend-spares}
+use Rattle.theory.proofs.Shape.Spared.{Spares, spared-sendable, spares-alike, spares-then, turn-spares}
+use Rattle.theory.proofs.Shape.Spared.{raise-spares, spend-spares}
 
 -- what a head's sending makes of a state
 abbrev pub sentFrom : Plan → Output → Queue → Packet → List Packet → State → State
 sentFrom pl o q x rest s = withWire o (Full x) (spend (nextBy pl o x) (raise q (withQueue q rest s)))
 
--- an output's turn does nothing; or its choice is cleared; or its choice is cleared and the head of that sender is sent
-pub send-by : (pl : Plan) (s : State) (P : State → Type 0) (o : Output) → (s .links .choice o ≡ nobody → P s) → P (withChoice o nobody s)
-    → ((k : ℕ) (q : Queue) (x : Packet) (rest : List Packet) → s .links .choice o ≡ sender k → ofRank (senders o) k ≡ some q → s .lines .queue q ≡ x ∷ rest → P (withChoice o nobody (sentFrom pl o q x rest s)))
+-- an output's turn does nothing; or its choice is cleared; or its choice is cleared and the head of that sender is
+-- sent
+pub send-by : (pl : Plan) (s : State) (P : State → Type 0) (o : Output) → (s .links .choice o ≡ nobody → P s)
+    → P (withChoice o nobody s)
+    → ((k : ℕ) (q : Queue) (x : Packet) (rest : List Packet) → s .links .choice o ≡ sender k → ofRank (senders o) k
+    ≡ some q → s .lines .queue q ≡ x ∷ rest → P (withChoice o nobody (sentFrom pl o q x rest s)))
     → P (send pl o s)
 unfolding send sendBy sendHead
 send-by pl s P o same cleared sent = by (s .links .choice o) refl
   where
-    head : (k : ℕ) → s .links .choice o ≡ sender k → (q : Queue) → ofRank (senders o) k ≡ some q → (xs : List Packet) → s .lines .queue q ≡ xs → P (withChoice o nobody (sendHead pl o q xs s))
+    head : (k : ℕ) → s .links .choice o ≡ sender k → (q : Queue) → ofRank (senders o) k ≡ some q → (xs : List Packet)
+        → s .lines .queue q ≡ xs → P (withChoice o nobody (sendHead pl o q xs s))
     head k e q r [] h = cleared
     head k e q r (x ∷ rest) h = sent k q x rest e r h
 
-    from : (k : ℕ) → s .links .choice o ≡ sender k → (y : Option Queue) → ofRank (senders o) k ≡ y → P (withChoice o nobody (sendFrom pl o y s))
+    from : (k : ℕ) → s .links .choice o ≡ sender k → (y : Option Queue) → ofRank (senders o) k ≡ y
+        → P (withChoice o nobody (sendFrom pl o y s))
     from k e none r = cleared
     from k e (some q) r = head k e q r (s .lines .queue q) refl
 
@@ -61,17 +67,23 @@ module _ (pl : Plan) where
   pub send-wire : (o u : Output) (s : State) → u ≢ o → send pl o s .links .wire u ≡ s .links .wire u
   send-wire o u s ne =
       send-by pl s (λ (t : State). t .links .wire u ≡ s .links .wire u) o (λ e. refl) refl
-      (λ k q x rest e r h. output-away (spend (nextBy pl o x) (raise q (withQueue q rest s)) .links .wire) o (Full x) u ne
-      ∙ ap (λ (l : Links). l .wire u) (spend-links (nextBy pl o x) (raise q (withQueue q rest s)) ∙ raise-links q (withQueue q rest s)))
+      (λ k q x rest e r h. output-away (spend (nextBy pl o x) (raise q (withQueue q rest s)) .links .wire) o (Full x) u
+      ne
+      ∙ ap (λ (l : Links). l .wire u)
+      (spend-links (nextBy pl o x) (raise q (withQueue q rest s)) ∙ raise-links q (withQueue q rest s)))
 
-  sent-choice : (o u : Output) (q : Queue) (x : Packet) (rest : List Packet) (s : State) → sentFrom pl o q x rest s .links .choice u ≡ s .links .choice u
-  sent-choice o u q x rest s = ap (λ (l : Links). l .choice u) (spend-links (nextBy pl o x) (raise q (withQueue q rest s)) ∙ raise-links q (withQueue q rest s))
+  sent-choice : (o u : Output) (q : Queue) (x : Packet) (rest : List Packet) (s : State)
+      → sentFrom pl o q x rest s .links .choice u ≡ s .links .choice u
+  sent-choice o u q x rest s = ap (λ (l : Links). l .choice u)
+      (spend-links (nextBy pl o x) (raise q (withQueue q rest s)) ∙ raise-links q (withQueue q rest s))
 
   -- another output's choice stays
   pub send-choice : (o u : Output) (s : State) → u ≢ o → send pl o s .links .choice u ≡ s .links .choice u
   send-choice o u s ne =
-      send-by pl s (λ (t : State). t .links .choice u ≡ s .links .choice u) o (λ e. refl) (output-away (s .links .choice) o nobody u ne)
-      (λ k q x rest e r h. output-away (sentFrom pl o q x rest s .links .choice) o nobody u ne ∙ sent-choice o u q x rest s)
+      send-by pl s (λ (t : State). t .links .choice u ≡ s .links .choice u) o (λ e. refl)
+      (output-away (s .links .choice) o nobody u ne)
+      (λ k q x rest e r h. output-away (sentFrom pl o q x rest s .links .choice) o nobody u ne
+      ∙ sent-choice o u q x rest s)
 
   -- the output's own choice is cleared
   pub send-clears : (o : Output) (s : State) → send pl o s .links .choice o ≡ nobody
@@ -86,17 +98,21 @@ module _ (pl : Plan) where
   -- after WRITE no output has a choice
   pub write-choices : (s : State) → NoChoices pl (doWrite pl s)
   unfolding doWrite
-  write-choices s o d = subst (λ (u : Output). upTo sends (outputs pl) s .links .choice u ≡ nobody) (output-at pl o d) (all (outputNumber pl o) (output-below pl o d))
+  write-choices s o d = subst (λ (u : Output). upTo sends (outputs pl) s .links .choice u ≡ nobody) (output-at pl o d)
+      (all (outputNumber pl o) (output-below pl o d))
     where
-      step : (i : ℕ) (t : State) → i < outputs pl → ((j : ℕ) → j < i → t .links .choice (outputAt pl j) ≡ nobody) → (j : ℕ) → j < suc i → send pl (outputAt pl i) t .links .choice (outputAt pl j) ≡ nobody
+      step : (i : ℕ) (t : State) → i < outputs pl → ((j : ℕ) → j < i → t .links .choice (outputAt pl j) ≡ nobody)
+          → (j : ℕ) → j < suc i → send pl (outputAt pl i) t .links .choice (outputAt pl j) ≡ nobody
       step i t h p j l = by (below-suc l)
         where
           by : (j < i) ⊎ (j ≡ i) → send pl (outputAt pl i) t .links .choice (outputAt pl j) ≡ nobody
-          by (inl m) = send-choice (outputAt pl i) (outputAt pl j) t (at-apart pl j i (omega arith) h (λ z. omega arith)) ∙ p j m
+          by (inl m) = send-choice (outputAt pl i) (outputAt pl j) t
+              (at-apart pl j i (omega arith) h (λ z. omega arith)) ∙ p j m
           by (inr e) = rw e (send-clears (outputAt pl i) t)
 
       all : (j : ℕ) → j < outputs pl → upTo sends (outputs pl) s .links .choice (outputAt pl j) ≡ nobody
-      all = up-keeps-at (λ (n : ℕ) (t : State). (j : ℕ) → j < n → t .links .choice (outputAt pl j) ≡ nobody) sends (outputs pl) s step (λ j l. absurd (not-suc-le-zero l))
+      all = up-keeps-at (λ (n : ℕ) (t : State). (j : ℕ) → j < n → t .links .choice (outputAt pl j) ≡ nobody) sends
+          (outputs pl) s step (λ j l. absurd (not-suc-le-zero l))
 
   -- WRITE ends in the shape of READ
   pub write-shape : (s : State) → Shape pl (doWrite pl s)
@@ -106,36 +122,46 @@ module _ (pl : Plan) where
   -- ---- what is still to come
   -- while the outputs below n have sent: from n on, wires are empty and choices can be sent
   abbrev pub Pending : ℕ → State → Type 0
-  Pending n s = (j : ℕ) → n ≤ j → j < outputs pl → (s .links .wire (outputAt pl j) ≡ Empty) × ((k : ℕ) → s .links .choice (outputAt pl j) ≡ sender k → Sendable pl s (outputAt pl j) k)
+  Pending n s = (j : ℕ) → n ≤ j → j < outputs pl → (s .links .wire (outputAt pl j) ≡ Empty)
+      × ((k : ℕ) → s .links .choice (outputAt pl j) ≡ sender k → Sendable pl s (outputAt pl j) k)
 
   -- before the first output's turn
   pub pending-start : (s : State) → WiresEmpty pl s → ChoicesSendable pl s → Pending 0 s
   pending-start s w c j l h = (w (outputAt pl j) (drives-at pl j h), λ k e. c (outputAt pl j) k (drives-at pl j h) e)
 
   -- the output whose turn it is
-  pub pending-now : (n : ℕ) (s : State) → n < outputs pl → Pending n s → (s .links .wire (outputAt pl n) ≡ Empty) × ((k : ℕ) → s .links .choice (outputAt pl n) ≡ sender k → Sendable pl s (outputAt pl n) k)
+  pub pending-now : (n : ℕ) (s : State) → n < outputs pl → Pending n s → (s .links .wire (outputAt pl n) ≡ Empty)
+      × ((k : ℕ) → s .links .choice (outputAt pl n) ≡ sender k → Sendable pl s (outputAt pl n) k)
   pending-now n s h p = p n (omega arith) h
 
   module _ (wired : Wired pl) where
     -- an output's turn spares every other output
     pub send-spares : (o u : Output) (s : State) → Drives pl o → Drives pl u → u ≢ o → Spares pl s (send pl o s) u
     send-spares o u s d e ne =
-        send-by pl s (λ (t : State). Spares pl s t u) o (λ c. spares-alike s s refl refl refl refl) (spares-alike s (withChoice o nobody s) refl refl refl refl) sent
+        send-by pl s (λ (t : State). Spares pl s t u) o (λ c. spares-alike s s refl refl refl refl)
+        (spares-alike s (withChoice o nobody s) refl refl refl refl) sent
       where
-        sent : (k : ℕ) (q : Queue) (x : Packet) (rest : List Packet) → s .links .choice o ≡ sender k → ofRank (senders o) k ≡ some q → s .lines .queue q ≡ x ∷ rest → Spares pl s (withChoice o nobody (sentFrom pl o q x rest s)) u
+        sent : (k : ℕ) (q : Queue) (x : Packet) (rest : List Packet) → s .links .choice o ≡ sender k
+            → ofRank (senders o) k ≡ some q → s .lines .queue q ≡ x ∷ rest
+            → Spares pl s (withChoice o nobody (sentFrom pl o q x rest s)) u
         sent k q x rest c r h =
-            spares-then s (withQueue q rest s) (withChoice o nobody (sentFrom pl o q x rest s)) (turn-spares q out rest s)
-            (spares-then (withQueue q rest s) (raise q (withQueue q rest s)) (withChoice o nobody (sentFrom pl o q x rest s)) (raise-spares q out (withQueue q rest s))
-            (spares-then (raise q (withQueue q rest s)) (spend (nextBy pl o x) (raise q (withQueue q rest s))) (withChoice o nobody (sentFrom pl o q x rest s))
+            spares-then s (withQueue q rest s) (withChoice o nobody (sentFrom pl o q x rest s))
+            (turn-spares q out rest s)
+            (spares-then (withQueue q rest s) (raise q (withQueue q rest s))
+            (withChoice o nobody (sentFrom pl o q x rest s)) (raise-spares q out (withQueue q rest s))
+            (spares-then (raise q (withQueue q rest s)) (spend (nextBy pl o x) (raise q (withQueue q rest s)))
+            (withChoice o nobody (sentFrom pl o q x rest s))
             (spend-spares (nextBy pl o x) (raise q (withQueue q rest s)) away)
-            (spares-alike (spend (nextBy pl o x) (raise q (withQueue q rest s))) (withChoice o nobody (sentFrom pl o q x rest s)) refl refl refl refl)))
+            (spares-alike (spend (nextBy pl o x) (raise q (withQueue q rest s)))
+            (withChoice o nobody (sentFrom pl o q x rest s)) refl refl refl refl)))
           where
             out : outputOf q ≡ some u → ⊥
             out l = ne (some-same (sym l ∙ sender-leaves o k q r))
 
             away : (n : Queue) (y : Packet) → nextBy pl o x ≡ some n → nextBy pl u y ≡ some n → ⊥
             away n y i j =
-                ne (one-feeder wired (headingOf (y .kind)) (headingOf (x .kind)) (y .active) (y .passive) (x .active) (x .passive) u o e d n j i)
+                ne (one-feeder wired (headingOf (y .kind)) (headingOf (x .kind)) (y .active) (y .passive) (x .active)
+                (x .passive) u o e d n j i)
 
     -- an output's turn
     pub send-pending : (n : ℕ) (s : State) → n < outputs pl → Pending n s → Pending (suc n) (send pl (outputAt pl n) s)
@@ -143,5 +169,6 @@ module _ (pl : Plan) where
         let ne = at-apart pl j n m h (λ z. omega arith) in
         let g = p j (omega arith) m in (
           send-wire (outputAt pl n) (outputAt pl j) s ne ∙ g .0,
-          λ k e. spared-sendable (send-spares (outputAt pl n) (outputAt pl j) s (drives-at pl n h) (drives-at pl j m) ne) k (g .1 k (sym (send-choice (outputAt pl n) (outputAt pl j) s ne) ∙ e)),
+          λ k e. spared-sendable (send-spares (outputAt pl n) (outputAt pl j) s (drives-at pl n h) (drives-at pl j m)
+              ne) k (g .1 k (sym (send-choice (outputAt pl n) (outputAt pl j) s ne) ∙ e)),
         )

@@ -1,5 +1,5 @@
--- 'An active's allowance + its SETUPs, ACKs and NACKs' stays its start allowance: in every step of the rules. Its packets are weighed: one for each
--- set-up and answer, nothing for a tear-down, wherever they are.
+-- 'An active's allowance + its SETUPs, ACKs and NACKs' stays its start allowance: in every step of the rules. Its
+-- packets are weighed: one for each set-up and answer, nothing for a tear-down, wherever they are.
 use mathlib.Core.Path.{_≡_, refl, sym, ap, ap₂, subst, _∙_}
 use mathlib.Core.Logic.{_⊎_, inl, inr}
 use mathlib.Core.Bool.{Bool, true, false}
@@ -32,11 +32,16 @@ use Rattle.machine.proofs.Apart.{full-not}
 use Rattle.theory.specs.Invariant.{Core, Sendable, Allowances}
 use Rattle.theory.proofs.Places.Closure.{passive-setup, active-answer}
 use Rattle.theory.proofs.Places.Senders.{raise-links, raise-allowance}
-use Rattle.theory.proofs.Cases.{deliver-none, deliver-one, UnitDoes, rests, books, declines, ends, frees, unit-does, unit-books, unit-declines, unit-ends, unit-frees, ActiveDoes, waits, tears, undo-does, undo-tears, SendDoes, none-sent, sent, send-does, send-one}
+use Rattle.theory.proofs.Cases.{deliver-none, deliver-one, UnitDoes, rests, books, declines, ends, frees}
+use Rattle.theory.proofs.Cases.{unit-does, unit-books, unit-declines, unit-ends, unit-frees, ActiveDoes, waits}
+use Rattle.theory.proofs.Cases.{tears, undo-does, undo-tears, SendDoes, none-sent, sent, send-does, send-one}
 use Rattle.theory.specs.Weights.{anywhere, weighed}
-use Rattle.theory.proofs.Weights.Total.{Bound, weighed-total, core-bound, weighed-plain, start-weighed, bound-put}
-use Rattle.theory.proofs.Weights.Moves.{head-belongs, phase-weighed, slot-weighed, settle-weighed, choose-weighed, deliver-weighed, send-weighed}
-use Rattle.theory.proofs.Weights.Changes.{booked-weighed, declined-weighed, freed-weighed, ended-weighed, torn-weighed, launched-weighed, replied-weighed, removed-weighed}
+use Rattle.theory.proofs.Weights.Total.{Bound, weighed-total, core-bound, weighed-plain, start-weighed}
+use Rattle.theory.proofs.Weights.Total.{bound-put}
+use Rattle.theory.proofs.Weights.Moves.{head-belongs, phase-weighed, slot-weighed, settle-weighed}
+use Rattle.theory.proofs.Weights.Moves.{choose-weighed, deliver-weighed, send-weighed}
+use Rattle.theory.proofs.Weights.Changes.{booked-weighed, declined-weighed, freed-weighed, ended-weighed}
+use Rattle.theory.proofs.Weights.Changes.{torn-weighed, launched-weighed, replied-weighed, removed-weighed}
 use Rattle.theory.proofs.Weights.Spending.{tdown-spends, kinds-spend, mine, fallen, grown}
 
 -- Start has every allowance whole.
@@ -49,7 +54,8 @@ start-allowances pl a h =
 
 module _ {pl : Plan} {s : State} (c : Core pl s) where
   -- Where allowance and weight together stay, the law stays.
-  pub allowances-from : (t : State) → Bound pl t → ((a : ℕ) → a < A pl → t .flow .allowance a + weighed pl (anywhere (spends a)) t ≡ s .flow .allowance a + weighed pl (anywhere (spends a)) s) → Allowances pl t
+  pub allowances-from : (t : State) → Bound pl t → ((a : ℕ) → a < A pl → t .flow .allowance a + weighed pl
+      (anywhere (spends a)) t ≡ s .flow .allowance a + weighed pl (anywhere (spends a)) s) → Allowances pl t
   allowances-from t b e a h =
       let old = weighed-plain pl (spends a) s c in
       let new = weighed-total pl (spends a) t b in
@@ -58,7 +64,8 @@ module _ {pl : Plan} {s : State} (c : Core pl s) where
       omega arith
 
   -- Where wires and allowances are as they were, the weights decide.
-  pub allowances-kept : (t : State) → t .links .wire ≡ s .links .wire → t .flow .allowance ≡ s .flow .allowance → ((a : ℕ) → weighed pl (anywhere (spends a)) t ≡ weighed pl (anywhere (spends a)) s) → Allowances pl t
+  pub allowances-kept : (t : State) → t .links .wire ≡ s .links .wire → t .flow .allowance ≡ s .flow .allowance
+      → ((a : ℕ) → weighed pl (anywhere (spends a)) t ≡ weighed pl (anywhere (spends a)) s) → Allowances pl t
   allowances-kept t e f k =
       allowances-from t (λ o d x q. core-bound pl s c o d x (sym (ap (λ (m : Output → Wire). m o) e) ∙ q))
       (λ a h. ap₂ (λ (m n : ℕ). m + n) (ap (λ (m : ℕ → ℕ). m a) f) (k a))
@@ -82,13 +89,16 @@ module _ {pl : Plan} {s : State} (c : Core pl s) where
       by (Full x) e =
           let k : Carries pl o x = c .wires o d x e in
           let is = deliver-one pl o s x (k .queue) e (k .next) in
-          allowances-from (deliver pl o s) (bound-put pl s (deliver pl o s) o Empty (core-bound pl s c) (λ x q. absurd (full-not q)) (ap (λ (t : State). t .links .wire) is))
-          (λ a h. ap₂ (λ (m n : ℕ). m + n) (ap (λ (t : State). t .flow .allowance a) is) (deliver-weighed pl (anywhere (spends a)) wired c o d))
+          allowances-from (deliver pl o s) (bound-put pl s (deliver pl o s) o Empty (core-bound pl s c)
+          (λ x q. absurd (full-not q)) (ap (λ (t : State). t .links .wire) is))
+          (λ a h. ap₂ (λ (m n : ℕ). m + n) (ap (λ (t : State). t .flow .allowance a) is)
+          (deliver-weighed pl (anywhere (spends a)) wired c o d))
 
   -- The settling of a flag keeps the allowances.
   pub settle-allowances : (q : Queue) → Allowances pl (settle q s)
   unfolding settle lower
-  settle-allowances q = allowances-kept (settle q s) (by (s .flow .flag q)) (on (s .flow .flag q)) (λ a. settle-weighed pl (anywhere (spends a)) q s)
+  settle-allowances q = allowances-kept (settle q s) (by (s .flow .flag q)) (on (s .flow .flag q))
+      (λ a. settle-weighed pl (anywhere (spends a)) q s)
     where
       by : (b : Bool) → lower q b s .links .wire ≡ s .links .wire
       by true = refl
@@ -103,8 +113,12 @@ module _ {pl : Plan} {s : State} (c : Core pl s) where
   pub unit-allowances : (r : ℕ) → r < R pl → Allowances pl (unit pl r s)
   unit-allowances r h = by (unit-does pl r s)
     where
-      changed : (t : State) → unit pl r s ≡ t → t .links .wire ≡ s .links .wire → t .flow .allowance ≡ s .flow .allowance → ((a : ℕ) → weighed pl (anywhere (spends a)) (unit pl r s) ≡ weighed pl (anywhere (spends a)) s) → Allowances pl (unit pl r s)
-      changed t is e f k = allowances-kept (unit pl r s) (ap (λ (u : State). u .links .wire) is ∙ e) (ap (λ (u : State). u .flow .allowance) is ∙ f) k
+      changed : (t : State)
+          → unit pl r s ≡ t → t .links .wire ≡ s .links .wire → t .flow .allowance ≡ s .flow .allowance
+          → ((a : ℕ) → weighed pl (anywhere (spends a)) (unit pl r s) ≡ weighed pl (anywhere (spends a)) s)
+          → Allowances pl (unit pl r s)
+      changed t is e f k = allowances-kept (unit pl r s) (ap (λ (u : State). u .links .wire) is ∙ e)
+          (ap (λ (u : State). u .flow .allowance) is ∙ f) k
 
       by : UnitDoes pl r s → Allowances pl (unit pl r s)
       by (rests is) = subst (Allowances pl) (sym is) (c .allowances)
@@ -113,10 +127,12 @@ module _ {pl : Plan} {s : State} (c : Core pl s) where
           (λ a. let all = booked-weighed pl (anywhere (spends a)) r h s x rest e f k t in omega arith)
       by (declines x rest e f k t) =
           changed _ (unit-declines pl r s x rest e f k t) refl refl
-          (λ a. let all = declined-weighed pl (anywhere (spends a)) r h s x rest e f k t in let same = kinds-spend a x (declined x) refl (sym (ap spendsKind k)) in omega arith)
+          (λ a. let all = declined-weighed pl (anywhere (spends a)) r h s x rest e f k t in
+          let same = kinds-spend a x (declined x) refl (sym (ap spendsKind k)) in omega arith)
       by (ends x rest e f k t) =
           changed _ (unit-ends pl r s x rest e f k t) refl refl
-          (λ a. let all = ended-weighed pl (anywhere (spends a)) r h s x rest e f k t in let none = tdown-spends a x k in omega arith)
+          (λ a. let all = ended-weighed pl (anywhere (spends a)) r h s x rest e f k t in
+          let none = tdown-spends a x k in omega arith)
       by (frees x rest e f k t) =
           changed _ (unit-frees pl r s x rest e f k t) refl refl
           (λ a. let all = freed-weighed pl (anywhere (spends a)) r h s x rest e f k t in omega arith)
@@ -135,12 +151,16 @@ module _ {pl : Plan} {s : State} (c : Core pl s) where
       by (waits is) = subst (Allowances pl) (sym is) (c .allowances)
       by (tears x rest e u g) =
           let is = undo-tears pl a s x rest e u g in
-          allowances-kept (undo pl a s) (ap (λ (t : State). t .links .wire) is) (ap (λ (t : State). t .flow .allowance) is)
-          (λ b. let all = torn-weighed pl (anywhere (spends b)) c a h x rest e u g in let none = tdown-spends b (tdownOf (S pl) x) refl in omega arith)
+          allowances-kept (undo pl a s) (ap (λ (t : State). t .links .wire) is)
+          (ap (λ (t : State). t .flow .allowance) is)
+          (λ b. let all = torn-weighed pl (anywhere (spends b)) c a h x rest e u g in
+          let none = tdown-spends b (tdownOf (S pl) x) refl in omega arith)
 
   -- ---- WRITE
   -- A sending keeps the allowances.
-  pub send-allowances : Wired pl → (o : Output) → Drives pl o → ((k : ℕ) → s .links .choice o ≡ sender k → Sendable pl s o k) → s .links .wire o ≡ Empty → Allowances pl (send pl o s)
+  pub send-allowances : Wired pl → (o : Output)
+      → Drives pl o → ((k : ℕ) → s .links .choice o ≡ sender k → Sendable pl s o k) → s .links .wire o ≡ Empty
+      → Allowances pl (send pl o s)
   send-allowances wired o d ready z = by (send-does pl o s ready)
     where
       by : SendDoes pl o s → Allowances pl (send pl o s)
@@ -148,14 +168,19 @@ module _ {pl : Plan} {s : State} (c : Core pl s) where
       by (sent k q e r g) =
           let is = send-one pl o s k q e r g in
           allowances-from (send pl o s)
-          (bound-put pl s (send pl o s) o (Full (g .packet)) (core-bound pl s c) onto (ap (λ (t : State). t .links .wire) is ∙ ap (λ (l : Links). put sameOutput (l .wire) o (Full (g .packet))) (raise-links q (withQueue q (g .rest) s))))
+          (bound-put pl s (send pl o s) o (Full (g .packet)) (core-bound pl s c) onto
+          (ap (λ (t : State). t .links .wire) is ∙ ap (λ (l : Links). put sameOutput (l .wire) o (Full (g .packet)))
+          (raise-links q (withQueue q (g .rest) s))))
           (λ a h.
           ap₂ (λ (m n : ℕ). m + n)
-          (ap (λ (t : State). t .flow .allowance a) is ∙ ap (λ (m : ℕ → ℕ). m a) (raise-allowance q (withQueue q (g .rest) s)))
+          (ap (λ (t : State). t .flow .allowance a) is
+          ∙ ap (λ (m : ℕ → ℕ). m a) (raise-allowance q (withQueue q (g .rest) s)))
           (send-weighed pl (anywhere (spends a)) wired c o d (λ u i p y x l m n v. refl) ready z))
         where
           onto : (x : Packet) → Full (g .packet) ≡ Full x → (y : Queue) × (nextBy pl o x ≡ some y)
-          onto x p = let same : g .packet ≡ x = cc in (g .onto, subst (λ (v : Packet). nextBy pl o v ≡ some (g .onto)) same (g .next))
+          onto x p =
+              let same : g .packet ≡ x = cc in
+              (g .onto, subst (λ (v : Packet). nextBy pl o v ≡ some (g .onto)) same (g .next))
 
   -- ---- the calls
   -- A launch takes one of the allowance for its set-up.
@@ -169,16 +194,20 @@ module _ {pl : Plan} {s : State} (c : Core pl s) where
       omega arith)
 
   -- A reply keeps the allowances: an answer for the set-up.
-  pub replied-allowances : Wired pl → (p : ℕ) → p < P pl → (k : Kind) → spendsKind k ≡ 1 → (x : Packet) (rest : List Packet) → s .lines .queue (passiveIn p) ≡ x ∷ rest → Allowances pl (replied p k (x ∷ rest) s)
+  pub replied-allowances : Wired pl → (p : ℕ) → p < P pl → (k : Kind) → spendsKind k ≡ 1 → (x : Packet)
+      (rest : List Packet) → s .lines .queue (passiveIn p) ≡ x ∷ rest → Allowances pl (replied p k (x ∷ rest) s)
   unfolding join
   replied-allowances wired p h k one x rest e =
       let b = head-belongs c (passiveIn p) h x rest e in
-      let setup = passive-setup wired (x .active) (x .passive) (b .ranges .active) (b .ranges .passive) (b .serves) (x .kind) (x .hub .0) p (b .fits) .0 in
+      let setup = passive-setup wired (x .active) (x .passive) (b .ranges .active) (b .ranges .passive) (b .serves)
+      (x .kind) (x .hub .0) p (b .fits) .0 in
       allowances-kept (replied p k (x ∷ rest) s) refl refl
-      (λ a. let all = replied-weighed pl (anywhere (spends a)) c p h k x rest e in let same = kinds-spend a x (repliedAs k x) refl (one ∙ sym (ap spendsKind setup)) in omega arith)
+      (λ a. let all = replied-weighed pl (anywhere (spends a)) c p h k x rest e in
+      let same = kinds-spend a x (repliedAs k x) refl (one ∙ sym (ap spendsKind setup)) in omega arith)
 
   -- A removed answer gives one back.
-  pub removed-allowances : Wired pl → (a : ℕ) → a < A pl → (x : Packet) (rest : List Packet) → s .lines .queue (activeIn a) ≡ x ∷ rest → Allowances pl (removed a rest s)
+  pub removed-allowances : Wired pl → (a : ℕ) → a < A pl → (x : Packet) (rest : List Packet)
+      → s .lines .queue (activeIn a) ≡ x ∷ rest → Allowances pl (removed a rest s)
   unfolding removed
   removed-allowances wired a h x rest e =
       allowances-from (removed a rest s) (core-bound pl s c)
@@ -191,7 +220,8 @@ module _ {pl : Plan} {s : State} (c : Core pl s) where
       own : (a ≡ x .active) × (spendsKind (x .kind) ≡ 1)
       own =
           let b = head-belongs c (activeIn a) h x rest e in
-          let f = active-answer wired (x .active) (x .passive) (b .ranges .active) (b .ranges .passive) (b .serves) (x .kind) (x .hub .0) a (b .fits) in
+          let f = active-answer wired (x .active) (x .passive) (b .ranges .active) (b .ranges .passive) (b .serves)
+          (x .kind) (x .hub .0) a (b .fits) in
           (f .0, kind (f .2))
         where
           kind : (x .kind ≡ Ack) ⊎ (x .kind ≡ Nack) → spendsKind (x .kind) ≡ 1

@@ -1,4 +1,5 @@
--- What a unit, an active and a passive do to the sum of weights: the head's old weight goes, the weight of what it becomes comes, at its place.
+-- What a unit, an active and a passive do to the sum of weights: the head's old weight goes, the weight of what it
+-- becomes comes, at its place.
 use mathlib.Core.Path.{_≡_, refl, ap, ap₂, _∙_}
 use mathlib.Core.Bool.{true, false}
 use mathlib.Core.List.{List, _∷_}
@@ -23,7 +24,8 @@ use Rattle.theory.proofs.Weights.Moves.{queue-weighed}
 
 module _ (pl : Plan) (w : Weight) where
   -- The head of a queue taken, where it is in the queue.
-  pub taken-weighed : (q : Queue) → Exists pl q → (s : State) → headPlace (s .lines .handled q) q ≡ inQueue q → (x : Packet) (rest : List Packet) → s .lines .queue q ≡ x ∷ rest
+  pub taken-weighed : (q : Queue) → Exists pl q → (s : State) → headPlace (s .lines .handled q) q ≡ inQueue q
+      → (x : Packet) (rest : List Packet) → s .lines .queue q ≡ x ∷ rest
       → weighed pl w (withQueue q rest s) + w (inQueue q) x ≡ weighed pl w s
   taken-weighed q h s p x rest e =
       let all = queue-weighed pl w q h rest s p in
@@ -31,7 +33,8 @@ module _ (pl : Plan) (w : Weight) where
       omega arith
 
   -- The head of a queue replaced, where it is in the queue.
-  pub swapped-weighed : (q : Queue) → Exists pl q → (s : State) → headPlace (s .lines .handled q) q ≡ inQueue q → (x y : Packet) (rest : List Packet) → s .lines .queue q ≡ x ∷ rest
+  pub swapped-weighed : (q : Queue) → Exists pl q → (s : State) → headPlace (s .lines .handled q) q ≡ inQueue q
+      → (x y : Packet) (rest : List Packet) → s .lines .queue q ≡ x ∷ rest
       → weighed pl w (withQueue q (y ∷ rest) s) + w (inQueue q) x ≡ weighed pl w s + w (inQueue q) y
   swapped-weighed q h s p x y rest e =
       let all = queue-weighed pl w q h (y ∷ rest) s p in
@@ -41,7 +44,8 @@ module _ (pl : Plan) (w : Weight) where
   -- ---- a unit
   module _ (r : ℕ) (h : r < R pl) (s : State) where
     -- A unit's head handled: what it became weighs as handled.
-    pub handled-weighed : (x y : Packet) (rest : List Packet) → s .lines .queue (Q r) ≡ x ∷ rest → s .lines .handled (Q r) ≡ false
+    pub handled-weighed : (x y : Packet) (rest : List Packet) → s .lines .queue (Q r) ≡ x ∷ rest
+        → s .lines .handled (Q r) ≡ false
         → weighed pl w (handledAs r y rest s) + w (inQueue (Q r)) x ≡ weighed pl w s + w (handledAt r) y
     unfolding inLine
     handled-weighed x y rest e f =
@@ -49,29 +53,34 @@ module _ (pl : Plan) (w : Weight) where
         let old = ap₂ (inLine w (Q r)) f e in
         omega arith
 
-    module _ (x : Packet) (rest : List Packet) (e : s .lines .queue (Q r) ≡ x ∷ rest) (f : s .lines .handled (Q r) ≡ false) where
+    module _ (x : Packet) (rest : List Packet) (e : s .lines .queue (Q r) ≡ x ∷ rest)
+        (f : s .lines .handled (Q r) ≡ false) where
       -- A set-up is booked.
-      pub booked-weighed : x .kind ≡ Setup → mayBookAt pl r s x ≡ true → weighed pl w (unit pl r s) + w (inQueue (Q r)) x ≡ weighed pl w s + w (handledAt r) (booked (S pl) x)
+      pub booked-weighed : x .kind ≡ Setup → mayBookAt pl r s x ≡ true
+          → weighed pl w (unit pl r s) + w (inQueue (Q r)) x ≡ weighed pl w s + w (handledAt r) (booked (S pl) x)
       unfolding weighed
       booked-weighed k t =
           ap (λ (u : State). weighed pl w u + w (inQueue (Q r)) x) (unit-books pl r s x rest e f k t)
           ∙ handled-weighed x (booked (S pl) x) rest e f
 
       -- A set-up is declined.
-      pub declined-weighed : x .kind ≡ Setup → mayBookAt pl r s x ≡ false → weighed pl w (unit pl r s) + w (inQueue (Q r)) x ≡ weighed pl w s + w (handledAt r) (declined x)
+      pub declined-weighed : x .kind ≡ Setup → mayBookAt pl r s x ≡ false
+          → weighed pl w (unit pl r s) + w (inQueue (Q r)) x ≡ weighed pl w s + w (handledAt r) (declined x)
       declined-weighed k t =
           ap (λ (u : State). weighed pl w u + w (inQueue (Q r)) x) (unit-declines pl r s x rest e f k t)
           ∙ handled-weighed x (declined x) rest e f
 
       -- A tear-down frees an entry and goes on.
-      pub freed-weighed : x .kind ≡ Tdown → eqb (x .hub .0) 1 ≡ false → weighed pl w (unit pl r s) + w (inQueue (Q r)) x ≡ weighed pl w s + w (handledAt r) (freed (S pl) x)
+      pub freed-weighed : x .kind ≡ Tdown → eqb (x .hub .0) 1 ≡ false
+          → weighed pl w (unit pl r s) + w (inQueue (Q r)) x ≡ weighed pl w s + w (handledAt r) (freed (S pl) x)
       unfolding weighed
       freed-weighed k t =
           ap (λ (u : State). weighed pl w u + w (inQueue (Q r)) x) (unit-frees pl r s x rest e f k t)
           ∙ handled-weighed x (freed (S pl) x) rest e f
 
       -- A tear-down frees its last entry and ends.
-      pub ended-weighed : x .kind ≡ Tdown → eqb (x .hub .0) 1 ≡ true → weighed pl w (unit pl r s) + w (inQueue (Q r)) x ≡ weighed pl w s
+      pub ended-weighed : x .kind ≡ Tdown → eqb (x .hub .0) 1 ≡ true
+          → weighed pl w (unit pl r s) + w (inQueue (Q r)) x ≡ weighed pl w s
       unfolding weighed
       ended-weighed k t =
           ap (λ (u : State). weighed pl w u + w (inQueue (Q r)) x) (unit-ends pl r s x rest e f k t)
@@ -80,31 +89,40 @@ module _ (pl : Plan) (w : Weight) where
   -- ---- an active and a passive
   module _ {s : State} (c : Core pl s) where
     -- An unmarked NACK is marked, and its tear-down joins the out-queue.
-    pub torn-weighed : (a : ℕ) → a < A pl → (x : Packet) (rest : List Packet) → s .lines .queue (activeIn a) ≡ x ∷ rest → unmarked x ≡ true → hasRoom pl (activeOut a) s ≡ true
-        → weighed pl w (undo pl a s) + w (inQueue (activeIn a)) x ≡ weighed pl w s + w (inQueue (activeIn a)) (marked x) + w (inQueue (activeOut a)) (tdownOf (S pl) x)
+    pub torn-weighed : (a : ℕ) → a < A pl → (x : Packet) (rest : List Packet) → s .lines .queue (activeIn a) ≡ x ∷ rest
+        → unmarked x ≡ true → hasRoom pl (activeOut a) s ≡ true
+        → weighed pl w (undo pl a s) + w (inQueue (activeIn a)) x ≡ weighed pl w s
+        + w (inQueue (activeIn a)) (marked x) + w (inQueue (activeOut a)) (tdownOf (S pl) x)
     unfolding weighed
     torn-weighed a h x rest e u g =
-        let joined = weighed-join pl w (activeOut a) h (tdownOf (S pl) x) (withQueue (activeIn a) (marked x ∷ rest) s) (λ m. c .marks (activeOut a) h m .2) in
+        let joined = weighed-join pl w (activeOut a) h (tdownOf (S pl) x) (withQueue (activeIn a) (marked x ∷ rest) s)
+        (λ m. c .marks (activeOut a) h m .2) in
         let swapped = swapped-weighed (activeIn a) h s refl x (marked x) rest e in
-        let is : weighed pl w (undo pl a s) ≡ weighed pl w (join (activeOut a) (tdownOf (S pl) x) (withQueue (activeIn a) (marked x ∷ rest) s))
+        let is : weighed pl w (undo pl a s)
+        ≡ weighed pl w (join (activeOut a) (tdownOf (S pl) x) (withQueue (activeIn a) (marked x ∷ rest) s))
         = ap (weighed pl w) (undo-tears pl a s x rest e u g) in
         omega arith
 
     -- A launched set-up joins the out-queue.
-    pub launched-weighed : (a p t : ℕ) → a < A pl → weighed pl w (launched a p t s) ≡ weighed pl w s + w (inQueue (activeOut a)) (setupOf a p t)
+    pub launched-weighed : (a p t : ℕ) → a < A pl
+        → weighed pl w (launched a p t s) ≡ weighed pl w s + w (inQueue (activeOut a)) (setupOf a p t)
     unfolding launched weighed
     launched-weighed a p t h = weighed-join pl w (activeOut a) h (setupOf a p t) s (λ m. c .marks (activeOut a) h m .2)
 
     -- A passive's head goes, and its answer joins the out-queue.
-    pub replied-weighed : (p : ℕ) → p < P pl → (k : Kind) (x : Packet) (rest : List Packet) → s .lines .queue (passiveIn p) ≡ x ∷ rest
-        → weighed pl w (replied p k (x ∷ rest) s) + w (inQueue (passiveIn p)) x ≡ weighed pl w s + w (inQueue (passiveOut p)) (repliedAs k x)
+    pub replied-weighed : (p : ℕ) → p < P pl → (k : Kind) (x : Packet) (rest : List Packet)
+        → s .lines .queue (passiveIn p) ≡ x ∷ rest
+        → weighed pl w (replied p k (x ∷ rest) s) + w (inQueue (passiveIn p)) x ≡ weighed pl w s
+        + w (inQueue (passiveOut p)) (repliedAs k x)
     unfolding weighed
     replied-weighed p h k x rest e =
-        let joined = weighed-join pl w (passiveOut p) h (repliedAs k x) (withFlag (passiveIn p) true (withQueue (passiveIn p) rest s)) (λ m. c .marks (passiveOut p) h m .2) in
+        let joined = weighed-join pl w (passiveOut p) h (repliedAs k x)
+        (withFlag (passiveIn p) true (withQueue (passiveIn p) rest s)) (λ m. c .marks (passiveOut p) h m .2) in
         let taken = taken-weighed (passiveIn p) h s refl x rest e in
         omega arith
 
   -- An active's head is removed.
-  pub removed-weighed : (s : State) (a : ℕ) → a < A pl → (x : Packet) (rest : List Packet) → s .lines .queue (activeIn a) ≡ x ∷ rest → weighed pl w (removed a rest s) + w (inQueue (activeIn a)) x ≡ weighed pl w s
+  pub removed-weighed : (s : State) (a : ℕ) → a < A pl → (x : Packet) (rest : List Packet) → s .lines .queue
+      (activeIn a) ≡ x ∷ rest → weighed pl w (removed a rest s) + w (inQueue (activeIn a)) x ≡ weighed pl w s
   unfolding removed weighed
   removed-weighed s a h x rest e = taken-weighed (activeIn a) h s refl x rest e

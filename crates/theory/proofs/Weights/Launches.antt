@@ -1,5 +1,5 @@
--- A connection is accepted no more times than it was launched: accepted ones, and the set-ups and ACKs that are on the way, count against the
--- accepted Launches of the same pair and start slot.
+-- A connection is accepted no more times than it was launched: accepted ones, and the set-ups and ACKs that are on the
+-- way, count against the accepted Launches of the same pair and start slot.
 use mathlib.Core.Path.{_≡_, refl, sym, ap, _∙_}
 use mathlib.Core.Logic.{_⊎_, inl, inr}
 use mathlib.Core.Bool.{_&&_}
@@ -32,9 +32,12 @@ use Rattle.theory.proofs.Places.Closure.{passive-setup}
 use Rattle.theory.specs.Invariant.{Core, Sendable}
 use Rattle.theory.specs.Weights.{anywhere, weighed}
 use Rattle.theory.proofs.Weights.Total.{start-weighed}
-use Rattle.theory.proofs.Cases.{UnitDoes, rests, books, declines, ends, frees, unit-does, unmarked-nack, ActiveDoes, waits, tears, undo-does}
-use Rattle.theory.proofs.Weights.Moves.{head-belongs, phase-weighed, slot-weighed, settle-weighed, choose-weighed, deliver-weighed, send-weighed}
-use Rattle.theory.proofs.Weights.Changes.{booked-weighed, declined-weighed, freed-weighed, ended-weighed, torn-weighed, launched-weighed, replied-weighed, removed-weighed}
+use Rattle.theory.proofs.Cases.{UnitDoes, rests, books, declines, ends, frees, unit-does, unmarked-nack}
+use Rattle.theory.proofs.Cases.{ActiveDoes, waits, tears, undo-does}
+use Rattle.theory.proofs.Weights.Moves.{head-belongs, phase-weighed, slot-weighed, settle-weighed}
+use Rattle.theory.proofs.Weights.Moves.{choose-weighed, deliver-weighed, send-weighed}
+use Rattle.theory.proofs.Weights.Changes.{booked-weighed, declined-weighed, freed-weighed, ended-weighed}
+use Rattle.theory.proofs.Weights.Changes.{torn-weighed, launched-weighed, replied-weighed, removed-weighed}
 use Rattle.theory.proofs.Places.Slots.{start-next, start-none}
 
 -- what a packet of a kind bears: of a set-up and an ACK, the connection of its pair and start slot
@@ -66,17 +69,20 @@ module _ (pl : Plan) (d : Connection) where
   pub booked-bears : (x : Packet) → x .kind ≡ Setup → x .slot .0 < S pl → bears pl d (booked (S pl) x) ≡ bears pl d x
   booked-bears x e h =
       bears-of Setup (booked (S pl) x) e
-      ∙ ap (λ (u : Slot). pick (eqb (x .active) (d .active) && eqb (x .passive) (d .passive) && eqb (u .0) (d .start .0)) 1 0) (start-next (S pl) (x .slot) (x .hub) h)
+      ∙ ap (λ (u : Slot). pick (eqb (x .active) (d .active) && eqb (x .passive) (d .passive)
+      && eqb (u .0) (d .start .0)) 1 0) (start-next (S pl) (x .slot) (x .hub) h)
       ∙ sym (bears-of Setup x e)
 
   -- A launched set-up is the connection of its Launch.
   pub launched-bears : (a p t : ℕ) → t < S pl → bears pl d (setupOf a p t) ≡ launchesCall d (launch a p t) Done
   launched-bears a p t h =
       bears-of Setup (setupOf a p t) refl
-      ∙ ap (λ (u : Slot). pick (eqb a (d .active) && eqb p (d .passive) && eqb (u .0) (d .start .0)) 1 0) (start-none (S pl) (record { 0 = t }) h)
+      ∙ ap (λ (u : Slot). pick (eqb a (d .active) && eqb p (d .passive) && eqb (u .0) (d .start .0)) 1 0)
+      (start-none (S pl) (record { 0 = t }) h)
 
   -- An answer is that of its set-up, or none.
-  pub replied-bears : (k : Kind) (x : Packet) → (k ≡ Ack) ⊎ (k ≡ Nack) → x .kind ≡ Setup → bears pl d (repliedAs k x) ≤ bears pl d x
+  pub replied-bears : (k : Kind) (x : Packet) → (k ≡ Ack) ⊎ (k ≡ Nack) → x .kind ≡ Setup
+      → bears pl d (repliedAs k x) ≤ bears pl d x
   replied-bears k x (inl q) e = let a = bears-of Ack (repliedAs k x) q in let b = bears-of Setup x e in omega arith
   replied-bears k x (inr q) e = let a = bears-of Nack (repliedAs k x) q in omega arith
 
@@ -119,7 +125,8 @@ module _ (pl : Plan) (d : Connection) where
       choose-counted o = same s (choose pl o s) k (choose-weighed pl (anywhere (bears pl d)) o s)
 
       -- So does a Consume: an ACK's connection is accepted, and another packet bears none.
-      pub removed-counted : (a : ℕ) (x : Packet) (rest : List Packet) → a < A pl → s .lines .queue (activeIn a) ≡ x ∷ rest → Counted pl d (acceptKind pl (x .kind) x acc) n (removed a rest s)
+      pub removed-counted : (a : ℕ) (x : Packet) (rest : List Packet) → a < A pl
+          → s .lines .queue (activeIn a) ≡ x ∷ rest → Counted pl d (acceptKind pl (x .kind) x acc) n (removed a rest s)
       unfolding borne
       removed-counted a x rest h e = by (x .kind) refl
         where
@@ -139,9 +146,11 @@ module _ (pl : Plan) (d : Connection) where
       deliver-counted o h = same s (deliver pl o s) k (deliver-weighed pl (anywhere (bears pl d)) wired c o h)
 
       -- So does a sending.
-      pub send-counted : (o : Output) → Drives pl o → ((m : ℕ) → s .links .choice o ≡ sender m → Sendable pl s o m) → s .links .wire o ≡ Empty → Counted pl d acc n (send pl o s)
+      pub send-counted : (o : Output) → Drives pl o → ((m : ℕ) → s .links .choice o ≡ sender m → Sendable pl s o m)
+          → s .links .wire o ≡ Empty → Counted pl d acc n (send pl o s)
       unfolding borne
-      send-counted o h ready z = same s (send pl o s) k (send-weighed pl (anywhere (bears pl d)) wired c o h (λ u m q y x g e f b. refl) ready z)
+      send-counted o h ready z = same s (send pl o s) k
+          (send-weighed pl (anywhere (bears pl d)) wired c o h (λ u m q y x g e f b. refl) ready z)
 
       -- So does a unit's turn: a booked set-up is the same connection, a declined one is none.
       pub unit-counted : (r : ℕ) → r < R pl → Counted pl d acc n (unit pl r s)
@@ -158,7 +167,9 @@ module _ (pl : Plan) (d : Connection) where
               let w = declined-weighed pl (anywhere (bears pl d)) r h s x rest e f q t in
               let b = bears-of Nack (declined x) refl in
               omega arith
-          by (ends x rest e f q t) = let w = ended-weighed pl (anywhere (bears pl d)) r h s x rest e f q t in omega arith
+          by (ends x rest e f q t) =
+              let w = ended-weighed pl (anywhere (bears pl d)) r h s x rest e f q t in
+              omega arith
           by (frees x rest e f q t) =
               let w = freed-weighed pl (anywhere (bears pl d)) r h s x rest e f q t in
               let b = bears-of Tdown (freed (S pl) x) q in
@@ -178,10 +189,14 @@ module _ (pl : Plan) (d : Connection) where
               omega arith
 
       -- A Launch counts on both sides.
-      pub launched-counted : (a p t : ℕ) → a < A pl → t < S pl → Counted pl d acc (launchesCall d (launch a p t) Done + n) (launched a p t s)
+      pub launched-counted : (a p t : ℕ) → a < A pl → t < S pl
+          → Counted pl d acc (launchesCall d (launch a p t) Done + n) (launched a p t s)
       unfolding borne
       launched-counted a p t h l =
-          record { count = let w = launched-weighed pl (anywhere (bears pl d)) c a p t h in let b = launched-bears a p t l in let m = k .count in omega arith }
+          record {
+            count = let w = launched-weighed pl (anywhere (bears pl d)) c a p t h in
+                let b = launched-bears a p t l in let m = k .count in omega arith;
+          }
 
       -- A Reply keeps the count.
       pub replied-counted : (p : ℕ) (kind : Kind) (x : Packet) (rest : List Packet) → p < P pl
@@ -190,7 +205,8 @@ module _ (pl : Plan) (d : Connection) where
       unfolding borne
       replied-counted p kind x rest h q e =
           let b = head-belongs c (passiveIn p) h x rest e in
-          let setup = passive-setup wired (x .active) (x .passive) (b .ranges .active) (b .ranges .passive) (b .serves) (x .kind) (x .hub .0) p (b .fits) .0 in
+          let setup = passive-setup wired (x .active) (x .passive) (b .ranges .active) (b .ranges .passive) (b .serves)
+          (x .kind) (x .hub .0) p (b .fits) .0 in
           let less = replied-bears kind x q setup in
           let w = replied-weighed pl (anywhere (bears pl d)) c p h kind x rest e in
           counted-less s (replied p kind (x ∷ rest) s) k (omega arith)

@@ -19,7 +19,8 @@ pub tdown-spends : (a : ℕ) (x : Packet) → x .kind ≡ Tdown → spends a x �
 tdown-spends a x e = ap (λ (k : Kind). pick (eqb (x .active) a) (spendsKind k) 0) e ∙ pick-same (eqb (x .active) a) 0
 
 -- Packets of one active, of kinds that take the same, take the same.
-pub kinds-spend : (a : ℕ) (x y : Packet) → y .active ≡ x .active → spendsKind (y .kind) ≡ spendsKind (x .kind) → spends a y ≡ spends a x
+pub kinds-spend : (a : ℕ) (x y : Packet) → y .active ≡ x .active → spendsKind (y .kind) ≡ spendsKind (x .kind)
+    → spends a y ≡ spends a x
 kinds-spend a x y e k = ap₂ (λ (m n : ℕ). pick (eqb m a) n 0) e k
 
 -- An answer of either kind takes as much as a set-up.
@@ -38,7 +39,8 @@ mine a b = pick (eqb a b) 1 0
 same-number : (a b : ℕ) → ((b ≡ a) × (eqb b a ≡ true) × (mine a b ≡ 1)) ⊎ ((eqb b a ≡ false) × (mine a b ≡ 0))
 same-number a b = by (test (eqb b a))
   where
-    by : (eqb b a ≡ true) ⊎ (eqb b a ≡ false) → ((b ≡ a) × (eqb b a ≡ true) × (mine a b ≡ 1)) ⊎ ((eqb b a ≡ false) × (mine a b ≡ 0))
+    by : (eqb b a ≡ true) ⊎ (eqb b a ≡ false) → ((b ≡ a) × (eqb b a ≡ true) × (mine a b ≡ 1))
+        ⊎ ((eqb b a ≡ false) × (mine a b ≡ 0))
     by (inl t) = let e = eqb-true b a t in inl (e, t, rw (eq-eqb a b (sym e)))
     by (inr f) = inr (f, rw (ne-eqb a b (λ e. eqb-false b a f (sym e))))
 
@@ -46,7 +48,8 @@ same-number a b = by (test (eqb b a))
 pub fallen : (m : ℕ → ℕ) (a b n : ℕ) → n + 1 ≡ m a → put eqb m a n b + mine a b ≡ m b
 fallen m a b n e = by (same-number a b)
   where
-    by : ((b ≡ a) × (eqb b a ≡ true) × (mine a b ≡ 1)) ⊎ ((eqb b a ≡ false) × (mine a b ≡ 0)) → put eqb m a n b + mine a b ≡ m b
+    by : ((b ≡ a) × (eqb b a ≡ true) × (mine a b ≡ 1)) ⊎ ((eqb b a ≡ false) × (mine a b ≡ 0))
+        → put eqb m a n b + mine a b ≡ m b
     by (inl (q, f, g)) = let same = ap m q in rw (f, g) (omega arith)
     by (inr (f, g)) = rw (f, g) (omega arith)
 
@@ -54,6 +57,7 @@ fallen m a b n e = by (same-number a b)
 pub grown : (m : ℕ → ℕ) (a b n : ℕ) → n ≡ m a + 1 → put eqb m a n b ≡ m b + mine a b
 grown m a b n e = by (same-number a b)
   where
-    by : ((b ≡ a) × (eqb b a ≡ true) × (mine a b ≡ 1)) ⊎ ((eqb b a ≡ false) × (mine a b ≡ 0)) → put eqb m a n b ≡ m b + mine a b
+    by : ((b ≡ a) × (eqb b a ≡ true) × (mine a b ≡ 1)) ⊎ ((eqb b a ≡ false) × (mine a b ≡ 0))
+        → put eqb m a n b ≡ m b + mine a b
     by (inl (q, f, g)) = let same = ap m q in rw (f, g) (omega arith)
     by (inr (f, g)) = rw (f, g) (omega arith)

@@ -1,4 +1,5 @@
--- What a change of one queue, one handled mark or one wire does to the sum of a weight over all packets. Credits, flags, choices, the table, allowances, phase and slot do not matter.
+-- What a change of one queue, one handled mark or one wire does to the sum of a weight over all packets. Credits,
+-- flags, choices, the table, allowances, phase and slot do not matter.
 use mathlib.Core.Path.{_≡_, refl, sym, ap, ap₂, subst, _∙_}
 use mathlib.Core.Logic.{_⊎_, inl, inr, _≢_}
 use mathlib.Core.Bool.{Bool, true, false}
@@ -14,20 +15,23 @@ use Rattle.plan.specs.Plan.{Plan}
 use Rattle.feeding.specs.Queue.{Queue, Exists, number, queues, queueAt}
 use Rattle.feeding.specs.Feeds.{Output, Place, inQueue, headPlace}
 use Rattle.journeys.proofs.Numbers.{queue-at, number-below}
-use Rattle.machine.specs.Store.{put, sameQueue, same-queue, queue-same, sameOutput, same-output, output-same, put-here, put-away}
+use Rattle.machine.specs.Store.{put, sameQueue, same-queue, queue-same, sameOutput, same-output, output-same, put-here}
+use Rattle.machine.specs.Store.{put-away}
 use Rattle.machine.specs.Outputs.{nextBy, outputs, outputAt, outputNumber}
 use Rattle.machine.specs.State.{State, blank, start, withQueue, withWire, withHandled, join}
 use Rattle.machine.specs.Valid.{Drives, sum, inAll, inWire, total}
 use Rattle.machine.proofs.Numbers.{at-number}
 use Rattle.machine.proofs.OutNumbers.{output-at, output-below, drives-at, at-output}
 use Rattle.theory.proofs.Ground.Sums.{sum-same, sum-but, sum-nought}
-use Rattle.theory.specs.Weights.{Weight, anywhere, inLine, inNext, onWire, lineOf, wireOf, inLines, inWires, weighed}
+use Rattle.theory.specs.Weights.{Weight, anywhere, inLine, inNext, onWire, lineOf, wireOf, inLines, inWires}
+use Rattle.theory.specs.Weights.{weighed}
 use Rattle.theory.specs.Invariant.{Core}
 use Rattle.theory.proofs.Places.Lines.{head-unhandled}
 
 -- ---- one line
 -- A line whose head is in the queue weighs what its packets weigh there.
-pub line-in : (w : Weight) (q : Queue) (done : Bool) (xs : List Packet) → headPlace done q ≡ inQueue q → inLine w q done xs ≡ inAll (w (inQueue q)) xs
+pub line-in : (w : Weight) (q : Queue) (done : Bool) (xs : List Packet) → headPlace done q ≡ inQueue q
+    → inLine w q done xs ≡ inAll (w (inQueue q)) xs
 unfolding inLine
 line-in w q done [] e = refl
 line-in w q done (x ∷ xs) e = rw e
@@ -41,7 +45,8 @@ in-all-joins w [] x = omega arith
 in-all-joins w (y ∷ ys) x = let h = in-all-joins w ys x in omega arith
 
 -- A packet that joins a line weighs as in the queue, where the mark is down or another packet is the head.
-pub line-joins : (w : Weight) (q : Queue) (done : Bool) (xs : List Packet) (x : Packet) → (done ≡ true → xs ≢ []) → inLine w q done (xs ++ (x ∷ [])) ≡ inLine w q done xs + w (inQueue q) x
+pub line-joins : (w : Weight) (q : Queue) (done : Bool) (xs : List Packet) (x : Packet) → (done ≡ true → xs ≢ [])
+    → inLine w q done (xs ++ (x ∷ [])) ≡ inLine w q done xs + w (inQueue q) x
 unfolding inLine
 line-joins w q true [] x h = absurd (h refl refl)
 line-joins w q false [] x h = rw (head-unhandled q) (omega arith)
@@ -52,15 +57,20 @@ module _ (pl : Plan) (w : Weight) where
   -- Where but one queue's line changed, the sum changed by that line.
   pub lines-but : (q : Queue) → Exists pl q → (handled done : Queue → Bool) (queue line : Queue → List Packet)
       → ((x : Queue) → x ≢ q → done x ≡ handled x) → ((x : Queue) → x ≢ q → line x ≡ queue x)
-      → inLines pl w done line + inLine w q (handled q) (queue q) ≡ inLines pl w handled queue + inLine w q (done q) (line q)
+      → inLines pl w done line + inLine w q (handled q) (queue q) ≡ inLines pl w handled queue
+      + inLine w q (done q) (line q)
   unfolding inLines
   lines-but q h handled done queue line e f =
-      let old : lineOf w handled queue (queueAt pl (number pl q)) ≡ lineOf w handled queue q = ap (lineOf w handled queue) (queue-at pl q h) in
-      let new : lineOf w done line (queueAt pl (number pl q)) ≡ lineOf w done line q = ap (lineOf w done line) (queue-at pl q h) in
-      let all = sum-but (queues pl) (number pl q) (λ n. lineOf w done line (queueAt pl n)) (λ n. lineOf w handled queue (queueAt pl n)) (number-below pl q h) same in
+      let old : lineOf w handled queue (queueAt pl (number pl q)) ≡ lineOf w handled queue q =
+      ap (lineOf w handled queue) (queue-at pl q h) in
+      let new : lineOf w done line (queueAt pl (number pl q)) ≡ lineOf w done line q =
+      ap (lineOf w done line) (queue-at pl q h) in
+      let all = sum-but (queues pl) (number pl q) (λ n. lineOf w done line (queueAt pl n))
+      (λ n. lineOf w handled queue (queueAt pl n)) (number-below pl q h) same in
       omega arith
     where
-      same : (n : ℕ) → n < queues pl → n ≢ number pl q → lineOf w done line (queueAt pl n) ≡ lineOf w handled queue (queueAt pl n)
+      same : (n : ℕ) → n < queues pl → n ≢ number pl q
+          → lineOf w done line (queueAt pl n) ≡ lineOf w handled queue (queueAt pl n)
       same n l ne = ap₂ (inLine w (queueAt pl n)) (e (queueAt pl n) away) (f (queueAt pl n) away)
         where
           away : queueAt pl n ≢ q
@@ -71,25 +81,35 @@ module _ (pl : Plan) (w : Weight) where
       → inWires pl w cable + onWire pl w o (wire o) ≡ inWires pl w wire + onWire pl w o (cable o)
   unfolding inWires
   wires-but o d wire cable e =
-      let old : wireOf pl w wire (outputAt pl (outputNumber pl o)) ≡ wireOf pl w wire o = ap (wireOf pl w wire) (output-at pl o d) in
-      let new : wireOf pl w cable (outputAt pl (outputNumber pl o)) ≡ wireOf pl w cable o = ap (wireOf pl w cable) (output-at pl o d) in
-      let all = sum-but (outputs pl) (outputNumber pl o) (λ n. wireOf pl w cable (outputAt pl n)) (λ n. wireOf pl w wire (outputAt pl n)) (output-below pl o d) same in
+      let old : wireOf pl w wire (outputAt pl (outputNumber pl o)) ≡ wireOf pl w wire o =
+      ap (wireOf pl w wire) (output-at pl o d) in
+      let new : wireOf pl w cable (outputAt pl (outputNumber pl o)) ≡ wireOf pl w cable o =
+      ap (wireOf pl w cable) (output-at pl o d) in
+      let all = sum-but (outputs pl) (outputNumber pl o) (λ n. wireOf pl w cable (outputAt pl n))
+      (λ n. wireOf pl w wire (outputAt pl n)) (output-below pl o d) same in
       omega arith
     where
-      same : (n : ℕ) → n < outputs pl → n ≢ outputNumber pl o → wireOf pl w cable (outputAt pl n) ≡ wireOf pl w wire (outputAt pl n)
-      same n l ne = ap (onWire pl w (outputAt pl n)) (e (outputAt pl n) (λ p. ne (sym (at-output pl n l) ∙ ap (outputNumber pl) p)))
+      same : (n : ℕ) → n < outputs pl → n ≢ outputNumber pl o
+          → wireOf pl w cable (outputAt pl n) ≡ wireOf pl w wire (outputAt pl n)
+      same n l ne = ap (onWire pl w (outputAt pl n))
+          (e (outputAt pl n) (λ p. ne (sym (at-output pl n l) ∙ ap (outputNumber pl) p)))
 
   -- One queue's packets replaced.
-  pub weighed-queue : (q : Queue) → Exists pl q → (xs : List Packet) (s : State) → weighed pl w (withQueue q xs s) + inLine w q (s .lines .handled q) (s .lines .queue q) ≡ weighed pl w s + inLine w q (s .lines .handled q) xs
+  pub weighed-queue : (q : Queue) → Exists pl q → (xs : List Packet) (s : State) → weighed pl w (withQueue q xs s)
+      + inLine w q (s .lines .handled q) (s .lines .queue q) ≡ weighed pl w s + inLine w q (s .lines .handled q) xs
   unfolding weighed
   weighed-queue q h xs s =
-      let now = ap (inLine w q (s .lines .handled q)) (put-here sameQueue queue-same same-queue (s .lines .queue) q xs) in
+      let now =
+      ap (inLine w q (s .lines .handled q)) (put-here sameQueue queue-same same-queue (s .lines .queue) q xs) in
       let away = put-away sameQueue queue-same same-queue (s .lines .queue) q xs in
-      let all = lines-but q h (s .lines .handled) (s .lines .handled) (s .lines .queue) (put sameQueue (s .lines .queue) q xs) (λ x ne. refl) away in
+      let all = lines-but q h (s .lines .handled) (s .lines .handled) (s .lines .queue)
+      (put sameQueue (s .lines .queue) q xs) (λ x ne. refl) away in
       omega arith
 
   -- One queue's packets and handled mark replaced.
-  pub weighed-line : (q : Queue) → Exists pl q → (done : Bool) (xs : List Packet) (s : State) → weighed pl w (withHandled q done (withQueue q xs s)) + inLine w q (s .lines .handled q) (s .lines .queue q) ≡ weighed pl w s + inLine w q done xs
+  pub weighed-line : (q : Queue) → Exists pl q → (done : Bool) (xs : List Packet) (s : State)
+      → weighed pl w (withHandled q done (withQueue q xs s)) + inLine w q (s .lines .handled q) (s .lines .queue q)
+      ≡ weighed pl w s + inLine w q done xs
   unfolding weighed
   weighed-line q h done xs s =
       let here = put-here sameQueue queue-same same-queue (s .lines .queue) q xs in
@@ -97,19 +117,24 @@ module _ (pl : Plan) (w : Weight) where
       let now = ap₂ (inLine w q) mark here in
       let away = put-away sameQueue queue-same same-queue (s .lines .queue) q xs in
       let others = put-away sameQueue queue-same same-queue (s .lines .handled) q done in
-      let all = lines-but q h (s .lines .handled) (put sameQueue (s .lines .handled) q done) (s .lines .queue) (put sameQueue (s .lines .queue) q xs) others away in
+      let all = lines-but q h (s .lines .handled) (put sameQueue (s .lines .handled) q done) (s .lines .queue)
+      (put sameQueue (s .lines .queue) q xs) others away in
       omega arith
 
   -- One output's wire replaced.
-  pub weighed-wire : (o : Output) → Drives pl o → (v : Wire) (s : State) → weighed pl w (withWire o v s) + onWire pl w o (s .links .wire o) ≡ weighed pl w s + onWire pl w o v
+  pub weighed-wire : (o : Output) → Drives pl o → (v : Wire) (s : State)
+      → weighed pl w (withWire o v s) + onWire pl w o (s .links .wire o) ≡ weighed pl w s + onWire pl w o v
   unfolding weighed
   weighed-wire o d v s =
       let now = ap (onWire pl w o) (put-here sameOutput output-same same-output (s .links .wire) o v) in
-      let all = wires-but o d (s .links .wire) (put sameOutput (s .links .wire) o v) (put-away sameOutput output-same same-output (s .links .wire) o v) in
+      let all = wires-but o d (s .links .wire) (put sameOutput (s .links .wire) o v)
+      (put-away sameOutput output-same same-output (s .links .wire) o v) in
       omega arith
 
   -- A packet joins a queue.
-  pub weighed-join : (q : Queue) → Exists pl q → (x : Packet) (s : State) → (s .lines .handled q ≡ true → s .lines .queue q ≢ []) → weighed pl w (join q x s) ≡ weighed pl w s + w (inQueue q) x
+  pub weighed-join : (q : Queue)
+      → Exists pl q → (x : Packet) (s : State) → (s .lines .handled q ≡ true → s .lines .queue q ≢ [])
+      → weighed pl w (join q x s) ≡ weighed pl w s + w (inQueue q) x
   unfolding join
   weighed-join q h x s m =
       let all = weighed-queue q h (s .lines .queue q ++ (x ∷ [])) s in
@@ -127,7 +152,8 @@ module _ (pl : Plan) (w : Weight) where
 -- ---- weights that do not depend on the place
 -- every packet on a wire has a next queue
 abbrev pub Bound : Plan → State → Type 0
-Bound pl s = (o : Output) → Drives pl o → (x : Packet) → s .links .wire o ≡ Full x → (y : Queue) × (nextBy pl o x ≡ some y)
+Bound pl s =
+    (o : Output) → Drives pl o → (x : Packet) → s .links .wire o ≡ Full x → (y : Queue) × (nextBy pl o x ≡ some y)
 
 module _ (pl : Plan) (w : Packet → ℕ) (s : State) where
   line-plain : (q : Queue) (done : Bool) (xs : List Packet) → inLine (anywhere w) q done xs ≡ inAll w xs
@@ -135,7 +161,8 @@ module _ (pl : Plan) (w : Packet → ℕ) (s : State) where
   line-plain q done [] = refl
   line-plain q done (x ∷ xs) = refl
 
-  wire-plain : (o : Output) (v : Wire) → ((x : Packet) → v ≡ Full x → (y : Queue) × (nextBy pl o x ≡ some y)) → onWire pl (anywhere w) o v ≡ inWire w v
+  wire-plain : (o : Output) (v : Wire) → ((x : Packet) → v ≡ Full x → (y : Queue) × (nextBy pl o x ≡ some y))
+      → onWire pl (anywhere w) o v ≡ inWire w v
   unfolding onWire
   wire-plain o Empty h = refl
   wire-plain o (Full x) h = rw (h x refl .1)
@@ -145,9 +172,11 @@ module _ (pl : Plan) (w : Packet → ℕ) (s : State) where
   unfolding weighed inLines inWires total
   weighed-total b =
       ap₂ (λ (m n : ℕ). m + n)
-      (sum-same (queues pl) (λ n. lineOf (anywhere w) (s .lines .handled) (s .lines .queue) (queueAt pl n)) (λ n. inAll w (s .lines .queue (queueAt pl n)))
+      (sum-same (queues pl) (λ n. lineOf (anywhere w) (s .lines .handled) (s .lines .queue) (queueAt pl n))
+      (λ n. inAll w (s .lines .queue (queueAt pl n)))
       (λ n l. line-plain (queueAt pl n) (s .lines .handled (queueAt pl n)) (s .lines .queue (queueAt pl n))))
-      (sum-same (outputs pl) (λ n. wireOf pl (anywhere w) (s .links .wire) (outputAt pl n)) (λ n. inWire w (s .links .wire (outputAt pl n)))
+      (sum-same (outputs pl) (λ n. wireOf pl (anywhere w) (s .links .wire) (outputAt pl n))
+      (λ n. inWire w (s .links .wire (outputAt pl n)))
       (λ n l. wire-plain (outputAt pl n) (s .links .wire (outputAt pl n)) (b (outputAt pl n) (drives-at pl n l))))
 
 -- In a state every packet on a wire has a next queue.
@@ -159,12 +188,15 @@ pub weighed-plain : (pl : Plan) (w : Packet → ℕ) (s : State) → Core pl s �
 weighed-plain pl w s c = weighed-total pl w s (core-bound pl s c)
 
 -- A wire replaced by one whose packet has a next queue keeps it so.
-pub bound-put : (pl : Plan) (s t : State) (o : Output) (v : Wire) → Bound pl s → ((x : Packet) → v ≡ Full x → (y : Queue) × (nextBy pl o x ≡ some y)) → t .links .wire ≡ put sameOutput (s .links .wire) o v → Bound pl t
+pub bound-put : (pl : Plan) (s t : State) (o : Output) (v : Wire)
+    → Bound pl s → ((x : Packet) → v ≡ Full x → (y : Queue) × (nextBy pl o x ≡ some y))
+    → t .links .wire ≡ put sameOutput (s .links .wire) o v → Bound pl t
 bound-put pl s t o v b f q u d x e = by (test (sameOutput u o))
   where
     now : pick (sameOutput u o) v (s .links .wire u) ≡ Full x
     now = sym (ap (λ (m : Output → Wire). m u) q) ∙ e
 
     by : (sameOutput u o ≡ true) ⊎ (sameOutput u o ≡ false) → (y : Queue) × (nextBy pl u x ≡ some y)
-    by (inl z) = subst (λ (k : Output). (y : Queue) × (nextBy pl k x ≡ some y)) (sym (same-output u o z)) (f x (sym (ap (λ (z : Bool). pick z v (s .links .wire u)) z) ∙ now))
+    by (inl z) = subst (λ (k : Output). (y : Queue) × (nextBy pl k x ≡ some y)) (sym (same-output u o z))
+        (f x (sym (ap (λ (z : Bool). pick z v (s .links .wire u)) z) ∙ now))
     by (inr z) = b u d x (sym (ap (λ (z : Bool). pick z v (s .links .wire u)) z) ∙ now)

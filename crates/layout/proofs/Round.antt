@@ -29,7 +29,7 @@ use Rattle.layout.specs.Places.{packetBytes, placeBytes, packetAt, packe
 use Rattle.layout.specs.Encode.{queueBytes, wireBytes, outputBytes, allowanceBytes, entryBytes, encode}
 use Rattle.layout.specs.Encode.{length-wire}
 use Rattle.layout.proofs.Standing.{queue-stands, output-stands, allowance-stands, entry-stands}
-use Rattle.layout.specs.Decode.{creditAt, flagAt, handledAt, lengthAt, queueIn, wireFrom, wireAt, choiceAt}
+use Rattle.layout.specs.Decode.{creditAt, flagAt, markAt, lengthAt, queueIn, wireFrom, wireAt, choiceAt}
 use Rattle.layout.specs.Decode.{entryAt, decode, Small}
 
 -- ---- one row is read where it stands
@@ -43,7 +43,7 @@ module _ (s : State) (b : List ℕ) (i : ℕ) where
   unfolding queueBytes
   flag-read q t = ap flagOf (stands-get i (queueBytes s q) b t flagByte (omega arith)) ∙ flag-code (s .flow .flag q)
 
-  pub handled-read : (q : Queue) → RowStands i (queueBytes s q) b → handledAt i b ≡ s .lines .handled q
+  pub handled-read : (q : Queue) → RowStands i (queueBytes s q) b → markAt i b ≡ s .lines .handled q
   unfolding queueBytes
   handled-read q t =
       ap flagOf (stands-get i (queueBytes s q) b t handledByte (omega arith)) ∙ flag-code (s .lines .handled q)

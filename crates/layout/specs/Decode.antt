@@ -36,8 +36,8 @@ creditAt i b = record { 0 = getD b (i + creditByte) 0 }
 abbrev pub flagAt : ℕ → List ℕ → Bool
 flagAt i b = flagOf (getD b (i + flagByte) 0)
 
-abbrev pub handledAt : ℕ → List ℕ → Bool
-handledAt i b = flagOf (getD b (i + handledByte) 0)
+abbrev pub markAt : ℕ → List ℕ → Bool
+markAt i b = flagOf (getD b (i + handledByte) 0)
 
 abbrev pub lengthAt : ℕ → List ℕ → ℕ
 lengthAt i b = getD b (i + lengthByte) 0
@@ -65,7 +65,7 @@ decode pl b =
       clock = record { phase = phaseOf (getD b phaseByte 0); slot = record { 0 = getD b slotByte 0 } };
       lines = record {
         queue = λ q. pick (existsTest pl q) (queueIn (queueRow pl q) b) (blank pl .lines .queue q);
-        handled = λ q. pick (existsTest pl q) (handledAt (queueRow pl q) b) (blank pl .lines .handled q);
+        handled = λ q. pick (existsTest pl q) (markAt (queueRow pl q) b) (blank pl .lines .handled q);
       };
       flow = record {
         credit = λ q. pick (existsTest pl q) (creditAt (queueRow pl q) b) (blank pl .flow .credit q);

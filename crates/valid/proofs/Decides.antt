@@ -66,13 +66,13 @@ either {s} {t} {X} {Y} d e = record { holds = λ q. by (or-cases s t q); passes 
     of (inr y) = rw (e .passes y) (or-right s)
 
 -- a claim that is made only where a test passes, or only where it fails
-pub given : (s : Bool) {t : Bool} {Y : Type 0} → Decides t Y → Decides (not s || t) (s ≡ true → Y)
-given true d = record { holds = λ q e. d .holds q; passes = λ f. d .passes (f refl) }
-given false d = record { holds = λ q e. absurd (false≢true e); passes = λ f. refl }
+pub if-so : (s : Bool) {t : Bool} {Y : Type 0} → Decides t Y → Decides (not s || t) (s ≡ true → Y)
+if-so true d = record { holds = λ q e. d .holds q; passes = λ f. d .passes (f refl) }
+if-so false d = record { holds = λ q e. absurd (false≢true e); passes = λ f. refl }
 
-pub unless : (s : Bool) {t : Bool} {Y : Type 0} → Decides t Y → Decides (s || t) (s ≡ false → Y)
-unless true d = record { holds = λ q e. absurd (true≢false e); passes = λ f. refl }
-unless false d = record { holds = λ q e. d .holds q; passes = λ f. d .passes (f refl) }
+pub if-not : (s : Bool) {t : Bool} {Y : Type 0} → Decides t Y → Decides (s || t) (s ≡ false → Y)
+if-not true d = record { holds = λ q e. absurd (true≢false e); passes = λ f. refl }
+if-not false d = record { holds = λ q e. d .holds q; passes = λ f. d .passes (f refl) }
 
 -- ---- every number below a bound, some number below it, every element of a list
 pub all-below : (n : ℕ) (f : ℕ → Bool) (X : ℕ → Type 0) → ((i : ℕ) → i < n → Decides (f i) (X i))

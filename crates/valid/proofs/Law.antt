@@ -21,7 +21,7 @@ use Rattle.machine.specs.Execute.{candidate}
 use Rattle.machine.specs.Write.{ofRank}
 use Rattle.machine.specs.Valid.{Lined, Drives, Carries, bit, onWires, total, spends, fed, Valid}
 use Rattle.wiring.specs.Wired.{Wired}
-use Rattle.valid.proofs.Decides.{Decides, like, not-so, less, most, same, given, unless, all-below, any-below}
+use Rattle.valid.proofs.Decides.{Decides, like, not-so, less, most, same, if-so, if-not, all-below, any-below}
 use Rattle.valid.specs.Test.{slotTest, entriesTest, capacitiesTest, placesTest, wiresTest, wiresEmptyTest}
 use Rattle.valid.specs.Test.{choicesTest, flagsDownTest, pickedDownTest, outFlagsTest, marksTest, freeEntryTest}
 use Rattle.valid.specs.Test.{creditsTest, outCreditsTest, allowancesTest, validTest}
@@ -105,7 +105,7 @@ module _ (pl : Plan) (s : State) where
       ((q : Queue) → Exists pl q → fed pl q ≡ false → s .flow .flag q ≡ false)
   unfolding outFlagsTest
   out-flags-decide = every-queue pl _ (λ q. fed pl q ≡ false → s .flow .flag q ≡ false)
-      (λ q h. unless (fed pl q) (not-so (s .flow .flag q)))
+      (λ q h. if-not (fed pl q) (not-so (s .flow .flag q)))
 
   marks-decide : Decides (marksTest pl s)
       ((q : Queue) → Exists pl q → s .lines .handled q ≡ true → (r : ℕ) × (q ≡ Q r) × (s .lines .queue q ≢ []))
@@ -131,7 +131,7 @@ module _ (pl : Plan) (s : State) where
   credits-decide =
       every-queue pl _ (λ q. fed pl q ≡ true → s .flow .credit q .0 + length (s .lines .queue q) + onWires pl q s
       + bit (s .flow .flag q) ≡ capacity (pl .head) q)
-      (λ q h. given (fed pl q) (same (s .flow .credit q .0 + length (s .lines .queue q) + onWires pl q s
+      (λ q h. if-so (fed pl q) (same (s .flow .credit q .0 + length (s .lines .queue q) + onWires pl q s
       + bit (s .flow .flag q)) (capacity (pl .head) q)))
 
   out-credits-decide : Decides (outCreditsTest pl s)
@@ -139,7 +139,7 @@ module _ (pl : Plan) (s : State) where
   unfolding outCreditsTest
   out-credits-decide =
       every-queue pl _ (λ q. fed pl q ≡ false → s .flow .credit q .0 ≡ capacity (pl .head) q)
-      (λ q h. unless (fed pl q) (same (s .flow .credit q .0) (capacity (pl .head) q)))
+      (λ q h. if-not (fed pl q) (same (s .flow .credit q .0) (capacity (pl .head) q)))
 
   allowances-decide : Decides (allowancesTest pl s)
       ((a : ℕ) → a < A pl → s .flow .allowance a + total pl (spends a) s ≡ startAllowance pl)

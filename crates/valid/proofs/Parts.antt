@@ -31,7 +31,7 @@ use Rattle.journeys.proofs.Places.{some-not-none, some-same}
 use Rattle.machine.proofs.Apart.{nobody-not, sender-same}
 use Rattle.machine.proofs.Numbers.{exists-at}
 use Rattle.machine.proofs.OutNumbers.{output-at, output-below, drives-at}
-use Rattle.valid.proofs.Decides.{Decides, like, never, always, so, not-so, less, both, given, unless, all-below}
+use Rattle.valid.proofs.Decides.{Decides, like, never, always, so, not-so, less, both, if-so, if-not, all-below}
 use Rattle.valid.specs.Test.{everyQueue, everyOutput, mayTest, choiceTest, downTest, pickedTest, entryTest}
 
 -- ---- every queue and every output of the plan, by number
@@ -66,11 +66,11 @@ is-phase Write Write = always refl
 
 -- a claim that is made in one phase, or in the others
 pub in-phase : (x y : Phase) {t : Bool} {Y : Type 0} → Decides t Y → Decides (not (isPhase x y) || t) (x ≡ y → Y)
-in-phase x y d = like (given (isPhase x y) d) (λ f e. f (is-phase x y .passes e)) (λ f e. f (is-phase x y .holds e))
+in-phase x y d = like (if-so (isPhase x y) d) (λ f e. f (is-phase x y .passes e)) (λ f e. f (is-phase x y .holds e))
 
 pub out-of-phase : (x y : Phase) {t : Bool} {Y : Type 0} → Decides t Y → Decides (isPhase x y || t) (x ≢ y → Y)
 out-of-phase x y d =
-    like (unless (isPhase x y) d) (λ f ne. f (refuted (isPhase x y) (λ e. ne (is-phase x y .holds e))))
+    like (if-not (isPhase x y) d) (λ f ne. f (refuted (isPhase x y) (λ e. ne (is-phase x y .holds e))))
     (λ f e. f (λ q. not-both (is-phase x y .passes q) e))
 
 -- ---- one wire
@@ -118,7 +118,7 @@ filled (x ∷ xs) = always (λ e. let z : _≡_ {A = ℕ} 0 1 = cc in omega arit
 pub mark-decides : (q : Queue) (done : Bool) (xs : List Packet)
     → Decides (not done || also (isUnit q) (not (isEmpty xs))) (done ≡ true → (r : ℕ) × (q ≡ Q r) × (xs ≢ []))
 mark-decides q done xs =
-    like (given done (both (is-unit q) (λ u. filled xs))) (λ f e. let g = f e in (g .0 .0, g .0 .1, g .1))
+    like (if-so done (both (is-unit q) (λ u. filled xs))) (λ f e. let g = f e in (g .0 .0, g .0 .1, g .1))
     (λ f e. let g = f e in ((g .0, g .1), g .2))
 
 -- ---- one entry

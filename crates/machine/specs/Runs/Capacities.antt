@@ -9,7 +9,7 @@ use Rattle.packets.specs.declared.Packet.{Packet}
 use Rattle.feeding.specs.Queue.{Queue, activeOut, activeIn, passiveIn, passiveOut, U, Q, F, K}
 use Rattle.machine.specs.State.{State}
 use Rattle.machine.specs.Calls.{Call, read, execute, write, launch, reply, consume}
-use Rattle.machine.specs.Runs.Watch.{round, rounds, inWrite, packet, allowanceIn, countIn, creditIn, flagIn}
+use Rattle.machine.specs.Runs.Watch.{round, manyRounds, inWrite, packet, allowanceIn, countIn, creditIn, flagIn}
 use Rattle.machine.specs.Runs.Watch.{each, after, moments}
 use Rattle.plan.specs.Samples.{widerT, narrowThere, narrowBack}
 use Rattle.packets.specs.Answers.{refused, done, taken}
@@ -22,7 +22,7 @@ fillThere =
     ∷ (launch 0 0 9 ∷ [])
     ∷ each (launch 1 0) (9 ∷ 8 ∷ 7 ∷ 6 ∷ 5 ∷ 4 ∷ [])
     -- rounds 0 to 7; round 8
-    ∷ rounds 8
+    ∷ manyRounds 8
     ∷ round
     -- round 9: the passive replies; rounds 10 to 13: after READ of each
     ∷ inWrite (reply 0 1)
@@ -77,7 +77,7 @@ fillBack =
     (launch 0 1 15 ∷ launch 0 1 14 ∷ launch 0 1 13 ∷ launch 0 1 12 ∷ launch 0 0 15 ∷ [])
     ∷ (launch 0 0 14 ∷ [])
     -- rounds 0 to 7
-    ∷ rounds 8
+    ∷ manyRounds 8
     -- round 8: both passives reply, passive 1 once more
     ∷ (read ∷ execute ∷ reply 0 1 ∷ reply 1 1 ∷ [])
     ∷ (reply 1 1 ∷ [])
@@ -89,7 +89,7 @@ fillBack =
     ∷ inWrite (reply 1 1)
     ∷ (write ∷ round ++ inWrite (reply 1 1))
     -- rounds 14 to 20; round 21: active 0 consumes
-    ∷ (write ∷ rounds 7)
+    ∷ (write ∷ manyRounds 7)
     ∷ inWrite (consume 0)
     ∷ (write ∷ read ∷ [])
     ∷ []
@@ -131,10 +131,10 @@ filled-back = refl
 abbrev pub fillOut : List (List Call)
 fillOut =
     -- rounds 0 to 3; round 4: declined
-    (launch 0 0 6 ∷ rounds 4)
+    (launch 0 0 6 ∷ manyRounds 4)
     ∷ inWrite (reply 0 0)
     -- rounds 5 and 6; round 7: the NACK comes, is marked and consumed
-    ∷ (write ∷ rounds 2 ++ inWrite (consume 0))
+    ∷ (write ∷ manyRounds 2 ++ inWrite (consume 0))
     -- round 8: two launches; round 9: the second again
     ∷ (write ∷ launch 0 0 4 ∷ [])
     ∷ (launch 0 0 5 ∷ [])

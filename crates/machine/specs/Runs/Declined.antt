@@ -93,15 +93,15 @@ inIn x = seen [] [] [] (x ∷ [])
 abbrev pub setup : Packet
 setup = packet Setup 0 0 3 0
 
-abbrev pub onward : Packet
-onward = packet Setup 0 0 0 1
+abbrev pub passedOn : Packet
+passedOn = packet Setup 0 0 0 1
 
 -- the NACK that it becomes, 'slot and hub kept': slot 0, hub 1; and when it is marked: hub 0
 abbrev pub nack : Packet
 nack = packet Nack 0 0 0 1
 
-abbrev pub marked : Packet
-marked = packet Nack 0 0 0 0
+abbrev pub markedNack : Packet
+markedNack = packet Nack 0 0 0 0
 
 -- the TDOWN 'with the NACK's hub and with slot minus hub modulo S': slot 3, hub 1
 abbrev pub tdown : Packet
@@ -140,20 +140,20 @@ pub second-declines : watch twoRouters bothSides (activeOut 0 ∷ Q 0 ∷ Q 1 �
     -- round 9
     ++ steady second quiet
     -- round 10: the first router books slot 3
-    ++ after done second (inFirst setup) ∷ after done both (inFirst onward) ∷ after done both quiet ∷ []
+    ++ after done second (inFirst setup) ∷ after done both (inFirst passedOn) ∷ after done both quiet ∷ []
     -- rounds 11 to 13
     ++ steady both quiet
     ++ steady both quiet
     ++ steady both quiet
     -- round 14: the second router declines, for its slot 0 is booked
-    ++ after done both (inSecond onward) ∷ after done both (inSecond nack) ∷ after done both quiet ∷ []
+    ++ after done both (inSecond passedOn) ∷ after done both (inSecond nack) ∷ after done both quiet ∷ []
     -- rounds 15 and 16
     ++ steady both quiet
     ++ steady both quiet
     -- round 17: the NACK has come, slot 0, hub 1; Execute puts a TDOWN, slot 3, hub 1, into the out-queue and marks
     -- the NACK, which is consumed
-    ++ after done both (inIn nack) ∷ after done both (seen (tdown ∷ []) [] [] (marked ∷ [])) ∷ []
-    ++ after (taken marked) both (inOut tdown) ∷ after done both (inOut tdown) ∷ []
+    ++ after done both (inIn nack) ∷ after done both (seen (tdown ∷ []) [] [] (markedNack ∷ [])) ∷ []
+    ++ after (taken markedNack) both (inOut tdown) ∷ after done both (inOut tdown) ∷ []
     -- round 18: the TDOWN is sent
     ++ after done both (inOut tdown) ∷ after done both (inOut tdown) ∷ after done both quiet ∷ []
     -- round 19

@@ -5,7 +5,7 @@ use mathlib.Core.List.{List, [], _∷_, _++_}
 use Prim.Native.Nat.{ℕ}
 use Rattle.machine.specs.State.{State}
 use Rattle.machine.specs.Calls.{Call, read, execute, write, launch, entry}
-use Rattle.machine.specs.Runs.Watch.{rounds, slotIn, after, moments}
+use Rattle.machine.specs.Runs.Watch.{manyRounds, slotIn, after, moments}
 use Rattle.plan.specs.Samples.{allSides}
 use Rattle.packets.specs.Answers.{refused, holds}
 
@@ -19,7 +19,7 @@ asking =
     ∷ (entry 0 4 0 ∷ [])
     ∷ (entry 0 2 4 ∷ [])
     -- rounds 0 and 1; round 2, in EXECUTE
-    ∷ (launch 0 0 0 ∷ launch 1 0 1 ∷ launch 2 0 1 ∷ rounds 2 ++ read ∷ entry 0 2 0 ∷ [])
+    ∷ (launch 0 0 0 ∷ launch 1 0 1 ∷ launch 2 0 1 ∷ manyRounds 2 ++ read ∷ entry 0 2 0 ∷ [])
     ∷ (entry 2 2 0 ∷ [])
     -- round 2, in WRITE
     ∷ (execute ∷ entry 0 2 0 ∷ [])
@@ -27,7 +27,7 @@ asking =
     ∷ (entry 0 2 1 ∷ [])
     ∷ (entry 0 4 1 ∷ [])
     -- rounds 3 to 6; round 7, in READ
-    ∷ (write ∷ rounds 4 ++ entry 0 2 0 ∷ [])
+    ∷ (write ∷ manyRounds 4 ++ entry 0 2 0 ∷ [])
     ∷ (entry 0 2 1 ∷ [])
     ∷ (entry 0 2 2 ∷ [])
     ∷ (entry 0 2 3 ∷ [])

@@ -20,12 +20,12 @@ side1 s = entryIn s 0 1 0 ∷ entryIn s 0 1 1 ∷ []
 abbrev pub free : List ℕ
 free = 4 ∷ 4 ∷ []
 
-abbrev pub booked : List ℕ
-booked = 0 ∷ 4 ∷ []
+abbrev pub bookedSide : List ℕ
+bookedSide = 0 ∷ 4 ∷ []
 
 -- the set-up of Launch (0,0,0), as launched and after its booking; its ACK: slot 1, hub 1
-abbrev pub launched : Packet
-launched = packet Setup 0 0 0 0
+abbrev pub launchedSetup : Packet
+launchedSetup = packet Setup 0 0 0 0
 
 abbrev pub setup : Packet
 setup = packet Setup 0 0 1 1
@@ -55,11 +55,11 @@ abbrev pub nowhere : List (List Packet)
 nowhere = [] ∷ [] ∷ []
 
 -- the set-up waits at the passive; the ACK waits at the active
-abbrev pub atPassive : List (List Packet)
-atPassive = (setup ∷ []) ∷ [] ∷ []
+abbrev pub waitsAtPassive : List (List Packet)
+waitsAtPassive = (setup ∷ []) ∷ [] ∷ []
 
-abbrev pub atActive : List (List Packet)
-atActive = [] ∷ (ack ∷ []) ∷ []
+abbrev pub waitsAtActive : List (List Packet)
+waitsAtActive = [] ∷ (ack ∷ []) ∷ []
 
 pub launch-in-round-0 : watch planT side1 (passiveIn 0 ∷ activeIn 0 ∷ []) launchInRound0
     -- round 0: the launch, then the round
@@ -67,17 +67,17 @@ pub launch-in-round-0 : watch planT side1 (passiveIn 0 ∷ activeIn 0 ∷ []) la
     -- round 1
     ++ steady free nowhere
     -- round 2: booked by its Execute, not before
-    ++ after done free nowhere ∷ after done booked nowhere ∷ after done booked nowhere ∷ []
+    ++ after done free nowhere ∷ after done bookedSide nowhere ∷ after done bookedSide nowhere ∷ []
     -- round 3
-    ++ steady booked nowhere
+    ++ steady bookedSide nowhere
     -- round 4: it waits at the passive from its Read on, not before, and is accepted
-    ++ after done booked atPassive ∷ after done booked atPassive ∷ []
-    ++ after done booked nowhere ∷ after done booked nowhere ∷ []
+    ++ after done bookedSide waitsAtPassive ∷ after done bookedSide waitsAtPassive ∷ []
+    ++ after done bookedSide nowhere ∷ after done bookedSide nowhere ∷ []
     -- rounds 5 and 6
-    ++ steady booked nowhere
-    ++ steady booked nowhere
+    ++ steady bookedSide nowhere
+    ++ steady bookedSide nowhere
     -- round 7: the ACK has come, and is consumed
-    ++ after done booked atActive ∷ after done booked atActive ∷ after (taken ack) booked nowhere ∷ []
+    ++ after done bookedSide waitsAtActive ∷ after done bookedSide waitsAtActive ∷ after (taken ack) bookedSide nowhere ∷ []
 unfolding watch
 launch-in-round-0 = refl
 
@@ -102,8 +102,8 @@ slotAndSide1 s = slotIn s ∷ side1 s
 abbrev pub inF : List (List Packet)
 inF = (setup ∷ []) ∷ [] ∷ []
 
-abbrev pub reached : List (List Packet)
-reached = [] ∷ (setup ∷ []) ∷ []
+abbrev pub hasReached : List (List Packet)
+hasReached = [] ∷ (setup ∷ []) ∷ []
 
 pub launch-in-round-1 : watch planT slotAndSide1 (F 0 1 ∷ passiveIn 0 ∷ []) launchInRound1
     -- round 0
@@ -114,12 +114,12 @@ pub launch-in-round-1 : watch planT slotAndSide1 (F 0 1 ∷ passiveIn 0 ∷ []) 
     -- round 2
     ++ after done (0 ∷ free) nowhere ∷ after done (0 ∷ free) nowhere ∷ after done (1 ∷ free) nowhere ∷ []
     -- round 3: booked by its Execute
-    ++ after done (1 ∷ free) nowhere ∷ after done (1 ∷ booked) nowhere ∷ after done (0 ∷ booked) nowhere ∷ []
+    ++ after done (1 ∷ free) nowhere ∷ after done (1 ∷ bookedSide) nowhere ∷ after done (0 ∷ bookedSide) nowhere ∷ []
     -- round 4: the current slot is 0, which is booked: the set-up waits in F[1], and is there still after the Write
-    ++ after done (0 ∷ booked) inF ∷ after done (0 ∷ booked) inF ∷ after done (1 ∷ booked) inF ∷ []
+    ++ after done (0 ∷ bookedSide) inF ∷ after done (0 ∷ bookedSide) inF ∷ after done (1 ∷ bookedSide) inF ∷ []
     -- round 5: the current slot is 1, which is free: the Write sends it
-    ++ after done (1 ∷ booked) inF ∷ after done (1 ∷ booked) inF ∷ after done (0 ∷ booked) nowhere ∷ []
+    ++ after done (1 ∷ bookedSide) inF ∷ after done (1 ∷ bookedSide) inF ∷ after done (0 ∷ bookedSide) nowhere ∷ []
     -- round 6: it has reached the passive, by the Read
-    ++ after done (0 ∷ booked) reached ∷ after done (0 ∷ booked) reached ∷ after done (1 ∷ booked) reached ∷ []
+    ++ after done (0 ∷ bookedSide) hasReached ∷ after done (0 ∷ bookedSide) hasReached ∷ after done (1 ∷ bookedSide) hasReached ∷ []
 unfolding watch
 launch-in-round-1 = refl

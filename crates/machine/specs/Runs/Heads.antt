@@ -9,20 +9,20 @@ use Rattle.packets.specs.declared.Packet.{Packet}
 use Rattle.feeding.specs.Queue.{Q}
 use Rattle.machine.specs.State.{State}
 use Rattle.machine.specs.Calls.{Call, read, execute, write, launch, reply}
-use Rattle.machine.specs.Runs.Watch.{round, rounds, inWrite, packet, entryIn, creditIn, flagIn, after, moments}
+use Rattle.machine.specs.Runs.Watch.{round, manyRounds, inWrite, packet, entryIn, creditIn, flagIn, after, moments}
 use Rattle.plan.specs.Samples.{narrowThere}
 use Rattle.packets.specs.Answers.{done}
 
 abbrev pub headsInTurn : List (List Call)
 headsInTurn =
     -- rounds 0 to 3: active 0 launches, then active 1, whose set-ups fill the way to passive 0: passive in 1, F 2, Q
-    (launch 0 0 15 ∷ rounds 3 ++ launch 1 0 0 ∷ launch 1 0 1 ∷ launch 1 0 2 ∷ launch 1 0 3 ∷ round)
+    (launch 0 0 15 ∷ manyRounds 3 ++ launch 1 0 0 ∷ launch 1 0 1 ∷ launch 1 0 2 ∷ launch 1 0 3 ∷ round)
     -- round 4: active 0's is declined; rounds 5 to 7: its NACK comes back, and a TDOWN joins the out-queue
-    ∷ (inWrite (reply 0 0) ++ write ∷ rounds 3)
+    ∷ (inWrite (reply 0 0) ++ write ∷ manyRounds 3)
     -- rounds 8 to 10: active 0 launches behind it; round 11
-    ∷ (launch 0 0 4 ∷ rounds 3 ++ read ∷ execute ∷ [])
+    ∷ (launch 0 0 4 ∷ manyRounds 3 ++ read ∷ execute ∷ [])
     -- passive 0 replies; rounds 12 and 13: the way is free for one
-    ∷ (reply 0 1 ∷ write ∷ rounds 2)
+    ∷ (reply 0 1 ∷ write ∷ manyRounds 2)
     -- round 14: READ, EXECUTE, WRITE
     ∷ (read ∷ [])
     ∷ (execute ∷ [])
@@ -43,8 +43,8 @@ waiting = packet Setup 1 0 4 1
 abbrev pub tdown : Packet
 tdown = packet Tdown 0 0 15 1
 
-abbrev pub next : Packet
-next = packet Setup 0 0 4 0
+abbrev pub nextSetup : Packet
+nextSetup = packet Setup 0 0 4 0
 
 abbrev pub nextBooked : Packet
 nextBooked = packet Setup 0 0 5 1
@@ -53,15 +53,15 @@ pub one-head-a-round : moments narrowThere watched (Q 0 ∷ []) headsInTurn
     ≡ after done (1 ∷ 4 ∷ 3 ∷ 0 ∷ []) ([] ∷ [])
     ∷ after done (1 ∷ 4 ∷ 1 ∷ 1 ∷ []) ([] ∷ [])
     -- round 11: the handled head waits, and nothing behind it is handled
-    ∷ after done (1 ∷ 4 ∷ 0 ∷ 0 ∷ []) ((waiting ∷ tdown ∷ next ∷ []) ∷ [])
+    ∷ after done (1 ∷ 4 ∷ 0 ∷ 0 ∷ []) ((waiting ∷ tdown ∷ nextSetup ∷ []) ∷ [])
     -- round 13: it has left
-    ∷ after done (1 ∷ 4 ∷ 0 ∷ 1 ∷ []) ((tdown ∷ next ∷ []) ∷ [])
+    ∷ after done (1 ∷ 4 ∷ 0 ∷ 1 ∷ []) ((tdown ∷ nextSetup ∷ []) ∷ [])
     -- round 14: the TDOWN frees slot 15 and ends, Q's flag rises; the next head is not handled in this round
-    ∷ after done (1 ∷ 4 ∷ 1 ∷ 0 ∷ []) ((tdown ∷ next ∷ []) ∷ [])
-    ∷ after done (4 ∷ 4 ∷ 1 ∷ 1 ∷ []) ((next ∷ []) ∷ [])
-    ∷ after done (4 ∷ 4 ∷ 1 ∷ 1 ∷ []) ((next ∷ []) ∷ [])
+    ∷ after done (1 ∷ 4 ∷ 1 ∷ 0 ∷ []) ((tdown ∷ nextSetup ∷ []) ∷ [])
+    ∷ after done (4 ∷ 4 ∷ 1 ∷ 1 ∷ []) ((nextSetup ∷ []) ∷ [])
+    ∷ after done (4 ∷ 4 ∷ 1 ∷ 1 ∷ []) ((nextSetup ∷ []) ∷ [])
     -- round 15: the credit is back, and it is handled
-    ∷ after done (4 ∷ 4 ∷ 2 ∷ 0 ∷ []) ((next ∷ []) ∷ [])
+    ∷ after done (4 ∷ 4 ∷ 2 ∷ 0 ∷ []) ((nextSetup ∷ []) ∷ [])
     ∷ after done (4 ∷ 1 ∷ 2 ∷ 0 ∷ []) ((nextBooked ∷ []) ∷ [])
     ∷ []
 unfolding moments

@@ -7,7 +7,7 @@ use Rattle.packets.specs.declared.Packet.{Packet}
 use Rattle.feeding.specs.Queue.{activeOut, activeIn, Q}
 use Rattle.machine.specs.Calls.{Call, read, execute, write, launch, consume}
 use Rattle.machine.specs.Runs.Watch.{round, packet, after, steady, watch}
-use Rattle.machine.specs.Runs.FirstBookings.{side1, free, booked, launched, setup, ack, launchInRound0}
+use Rattle.machine.specs.Runs.FirstBookings.{side1, free, bookedSide, launchedSetup, setup, ack, launchInRound0}
 use Rattle.plan.specs.Samples.{planT}
 use Rattle.packets.specs.Answers.{done, taken}
 
@@ -45,33 +45,33 @@ inIn x = [] ∷ [] ∷ (x ∷ []) ∷ []
 
 pub last-free-entry : watch planT side1 (activeOut 0 ∷ Q 0 ∷ activeIn 0 ∷ []) lastFreeEntry
     -- round 0: Launch (0,0,0), then the round
-    ≡ after done free (inOut launched) ∷ []
-    ++ after done free (inOut launched) ∷ after done free (inOut launched) ∷ after done free quiet ∷ []
+    ≡ after done free (inOut launchedSetup) ∷ []
+    ++ after done free (inOut launchedSetup) ∷ after done free (inOut launchedSetup) ∷ after done free quiet ∷ []
     -- round 1
     ++ steady free quiet
     -- round 2: booked
-    ++ after done free (inQ launched) ∷ after done booked (inQ setup) ∷ after done booked quiet ∷ []
+    ++ after done free (inQ launchedSetup) ∷ after done bookedSide (inQ setup) ∷ after done bookedSide quiet ∷ []
     -- round 3
-    ++ steady booked quiet
+    ++ steady bookedSide quiet
     -- round 4: accepted; four calls
-    ++ after done booked quiet ∷ steady booked quiet
+    ++ after done bookedSide quiet ∷ steady bookedSide quiet
     -- rounds 5 and 6
-    ++ steady booked quiet
-    ++ steady booked quiet
+    ++ steady bookedSide quiet
+    ++ steady bookedSide quiet
     -- round 7: the ACK is consumed
-    ++ after done booked (inIn ack) ∷ after done booked (inIn ack) ∷ after (taken ack) booked quiet ∷ []
-    ++ after done booked quiet ∷ []
+    ++ after done bookedSide (inIn ack) ∷ after done bookedSide (inIn ack) ∷ after (taken ack) bookedSide quiet ∷ []
+    ++ after done bookedSide quiet ∷ []
     -- round 8: Launch (0,0,1), then the round
-    ++ after done booked (inOut last) ∷ []
-    ++ after done booked (inOut last) ∷ after done booked (inOut last) ∷ after done booked quiet ∷ []
+    ++ after done bookedSide (inOut last) ∷ []
+    ++ after done bookedSide (inOut last) ∷ after done bookedSide (inOut last) ∷ after done bookedSide quiet ∷ []
     -- round 9
-    ++ steady booked quiet
+    ++ steady bookedSide quiet
     -- round 10: declined by its Execute, for slot 1 is the last free entry of side 1; it stays free
-    ++ after done booked (inQ last) ∷ after done booked (inQ nack) ∷ after done booked quiet ∷ []
+    ++ after done bookedSide (inQ last) ∷ after done bookedSide (inQ nack) ∷ after done bookedSide quiet ∷ []
     -- round 11
-    ++ steady booked quiet
+    ++ steady bookedSide quiet
     -- round 12: the NACK has come with hub 0, so no TDOWN joins the out-queue; it is consumed
-    ++ after done booked (inIn nack) ∷ after done booked (inIn nack) ∷ after (taken nack) booked quiet ∷ []
-    ++ after done booked quiet ∷ []
+    ++ after done bookedSide (inIn nack) ∷ after done bookedSide (inIn nack) ∷ after (taken nack) bookedSide quiet ∷ []
+    ++ after done bookedSide quiet ∷ []
 unfolding watch
 last-free-entry = refl

@@ -8,7 +8,7 @@ use Rattle.packets.specs.declared.Packet.{Packet}
 use Rattle.feeding.specs.Queue.{activeIn, U, Q, F, K}
 use Rattle.machine.specs.State.{State}
 use Rattle.machine.specs.Calls.{Call, read, execute, write, launch, reply}
-use Rattle.machine.specs.Runs.Watch.{round, rounds, packet, entryIn, after, moments}
+use Rattle.machine.specs.Runs.Watch.{round, manyRounds, packet, entryIn, after, moments}
 use Rattle.plan.specs.Samples.{narrowThere, narrowBack}
 use Rattle.packets.specs.Answers.{done}
 
@@ -34,8 +34,8 @@ slot5 s = entryIn s 0 0 5 ∷ []
 abbrev pub free : List ℕ
 free = 4 ∷ []
 
-abbrev pub booked : List ℕ
-booked = 1 ∷ []
+abbrev pub bookedSide : List ℕ
+bookedSide = 1 ∷ []
 
 -- U[1], U[2], U[3], Q
 abbrev pub seen : List Packet → List Packet → List Packet → List Packet → List (List Packet)
@@ -50,13 +50,13 @@ pub lower-side-first : moments narrowThere slot5 (U 0 1 ∷ U 0 2 ∷ U 0 3 ∷ 
     ≡ after done free (seen (of 0) (of 1) (of 2) [])
     ∷ after done free (seen [] (of 1) (of 2) [])
     -- round 2: active 0 gets the entry; U[2] goes
-    ∷ after done booked (seen [] (of 1) (of 2) (packet Setup 0 0 6 1 ∷ []))
-    ∷ after done booked (seen [] [] (of 2) [])
+    ∷ after done bookedSide (seen [] (of 1) (of 2) (packet Setup 0 0 6 1 ∷ []))
+    ∷ after done bookedSide (seen [] [] (of 2) [])
     -- round 3: active 1 comes too late; U[3] goes
-    ∷ after done booked (seen [] [] (of 2) (packet Nack 1 0 5 0 ∷ []))
-    ∷ after done booked (seen [] [] [] [])
+    ∷ after done bookedSide (seen [] [] (of 2) (packet Nack 1 0 5 0 ∷ []))
+    ∷ after done bookedSide (seen [] [] [] [])
     -- round 4: and so does active 2
-    ∷ after done booked (seen [] [] [] (packet Nack 2 0 5 0 ∷ []))
+    ∷ after done bookedSide (seen [] [] [] (packet Nack 2 0 5 0 ∷ []))
     ∷ []
 unfolding moments
 lower-side-first = refl
@@ -65,7 +65,7 @@ lower-side-first = refl
 abbrev pub threeAnswers : List (List Call)
 threeAnswers =
     -- round 0: a set-up to each passive; round 6: another to passive 0, for an entry that is booked
-    (launch 0 0 8 ∷ launch 0 1 8 ∷ rounds 6 ++ launch 0 0 8 ∷ round)
+    (launch 0 0 8 ∷ launch 0 1 8 ∷ manyRounds 6 ++ launch 0 0 8 ∷ round)
     -- round 7: both passives accept; round 8; round 9: all three answers wait
     ∷ (read ∷ execute ∷ reply 0 1 ∷ reply 1 1 ∷ write ∷ round ++ read ∷ [])
     -- round 9: its WRITE; rounds 10, 11 and 12: after READ, and after the WRITE of 10 and 11

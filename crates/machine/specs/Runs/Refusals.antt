@@ -8,8 +8,8 @@ use Rattle.packets.specs.declared.Packet.{Packet}
 use Rattle.feeding.specs.Queue.{activeOut, activeIn, passiveIn, passiveOut, U}
 use Rattle.machine.specs.State.{State}
 use Rattle.machine.specs.Calls.{Call, read, execute, write, launch, reply, consume}
-use Rattle.machine.specs.Runs.Watch.{rounds, inWrite, packet, slotIn, allowanceIn, flagIn, after, moments, watch}
-use Rattle.machine.specs.Runs.FirstBookings.{launched, setup, ack}
+use Rattle.machine.specs.Runs.Watch.{manyRounds, inWrite, packet, slotIn, allowanceIn, flagIn, after, moments, watch}
+use Rattle.machine.specs.Runs.FirstBookings.{launchedSetup, setup, ack}
 use Rattle.plan.specs.Samples.{planT, widerT, allSides}
 use Rattle.packets.specs.Answers.{refused, done, taken}
 
@@ -30,22 +30,22 @@ setupAt out u = out ∷ u ∷ []
 
 pub phases-in-turn : watch planT currentSlot (activeOut 0 ∷ U 0 0 ∷ []) phasesTried
     -- READ
-    ≡ after done (0 ∷ []) (setupAt (launched ∷ []) [])
-    ∷ after (refused 8) (0 ∷ []) (setupAt (launched ∷ []) [])
-    ∷ after (refused 8) (0 ∷ []) (setupAt (launched ∷ []) [])
-    ∷ after done (0 ∷ []) (setupAt (launched ∷ []) [])
+    ≡ after done (0 ∷ []) (setupAt (launchedSetup ∷ []) [])
+    ∷ after (refused 8) (0 ∷ []) (setupAt (launchedSetup ∷ []) [])
+    ∷ after (refused 8) (0 ∷ []) (setupAt (launchedSetup ∷ []) [])
+    ∷ after done (0 ∷ []) (setupAt (launchedSetup ∷ []) [])
     -- EXECUTE
-    ∷ after (refused 8) (0 ∷ []) (setupAt (launched ∷ []) [])
-    ∷ after (refused 8) (0 ∷ []) (setupAt (launched ∷ []) [])
-    ∷ after done (0 ∷ []) (setupAt (launched ∷ []) [])
+    ∷ after (refused 8) (0 ∷ []) (setupAt (launchedSetup ∷ []) [])
+    ∷ after (refused 8) (0 ∷ []) (setupAt (launchedSetup ∷ []) [])
+    ∷ after done (0 ∷ []) (setupAt (launchedSetup ∷ []) [])
     -- WRITE
-    ∷ after (refused 8) (0 ∷ []) (setupAt (launched ∷ []) [])
-    ∷ after (refused 8) (0 ∷ []) (setupAt (launched ∷ []) [])
+    ∷ after (refused 8) (0 ∷ []) (setupAt (launchedSetup ∷ []) [])
+    ∷ after (refused 8) (0 ∷ []) (setupAt (launchedSetup ∷ []) [])
     ∷ after done (1 ∷ []) (setupAt [] [])
     -- READ again
     ∷ after (refused 8) (1 ∷ []) (setupAt [] [])
     ∷ after (refused 8) (1 ∷ []) (setupAt [] [])
-    ∷ after done (1 ∷ []) (setupAt [] (launched ∷ []))
+    ∷ after done (1 ∷ []) (setupAt [] (launchedSetup ∷ []))
     ∷ []
 unfolding watch
 phases-in-turn = refl
@@ -79,30 +79,30 @@ abbrev pub allowances : State → List ℕ
 allowances s = allowanceIn s 0 ∷ allowanceIn s 1 ∷ []
 
 -- their out-queues: empty, with one set-up each or not
-abbrev pub outs : List Packet → List Packet → List (List Packet)
-outs o0 o1 = o0 ∷ o1 ∷ []
+abbrev pub outQueues : List Packet → List Packet → List (List Packet)
+outQueues o0 o1 = o0 ∷ o1 ∷ []
 
 pub launch-in-order : moments allSides allowances (activeOut 0 ∷ activeOut 1 ∷ []) launchesTried
     -- an active, a passive, a slot out of range; a pair not served, and with a slot out of range: 9 before 10
-    ≡ after (refused 9) (1 ∷ 1 ∷ []) (outs [] [])
-    ∷ after (refused 9) (1 ∷ 1 ∷ []) (outs [] [])
-    ∷ after (refused 9) (1 ∷ 1 ∷ []) (outs [] [])
-    ∷ after (refused 10) (1 ∷ 1 ∷ []) (outs [] [])
-    ∷ after (refused 9) (1 ∷ 1 ∷ []) (outs [] [])
+    ≡ after (refused 9) (1 ∷ 1 ∷ []) (outQueues [] [])
+    ∷ after (refused 9) (1 ∷ 1 ∷ []) (outQueues [] [])
+    ∷ after (refused 9) (1 ∷ 1 ∷ []) (outQueues [] [])
+    ∷ after (refused 10) (1 ∷ 1 ∷ []) (outQueues [] [])
+    ∷ after (refused 9) (1 ∷ 1 ∷ []) (outQueues [] [])
     -- accepted; then allowance 0 and the out-queue full: 11 before 12; and not served: 10 before 11; and a passive out
     -- of range: 9
-    ∷ after done (0 ∷ 1 ∷ []) (outs (launched ∷ []) [])
-    ∷ after (refused 11) (0 ∷ 1 ∷ []) (outs (launched ∷ []) [])
-    ∷ after (refused 10) (0 ∷ 1 ∷ []) (outs (launched ∷ []) [])
-    ∷ after (refused 9) (0 ∷ 1 ∷ []) (outs (launched ∷ []) [])
+    ∷ after done (0 ∷ 1 ∷ []) (outQueues (launchedSetup ∷ []) [])
+    ∷ after (refused 11) (0 ∷ 1 ∷ []) (outQueues (launchedSetup ∷ []) [])
+    ∷ after (refused 10) (0 ∷ 1 ∷ []) (outQueues (launchedSetup ∷ []) [])
+    ∷ after (refused 9) (0 ∷ 1 ∷ []) (outQueues (launchedSetup ∷ []) [])
     -- EXECUTE: 8 before 9; 8 alone
-    ∷ after (refused 8) (0 ∷ 1 ∷ []) (outs (launched ∷ []) [])
-    ∷ after (refused 8) (0 ∷ 1 ∷ []) (outs (launched ∷ []) [])
+    ∷ after (refused 8) (0 ∷ 1 ∷ []) (outQueues (launchedSetup ∷ []) [])
+    ∷ after (refused 8) (0 ∷ 1 ∷ []) (outQueues (launchedSetup ∷ []) [])
     -- WRITE: 8 before 9, 10, 11 and 12; 8 alone
-    ∷ after (refused 8) (0 ∷ 1 ∷ []) (outs (launched ∷ []) [])
-    ∷ after (refused 8) (0 ∷ 1 ∷ []) (outs (launched ∷ []) [])
+    ∷ after (refused 8) (0 ∷ 1 ∷ []) (outQueues (launchedSetup ∷ []) [])
+    ∷ after (refused 8) (0 ∷ 1 ∷ []) (outQueues (launchedSetup ∷ []) [])
     -- READ
-    ∷ after done (0 ∷ 0 ∷ []) (outs [] (packet Setup 1 0 0 0 ∷ []))
+    ∷ after done (0 ∷ 0 ∷ []) (outQueues [] (packet Setup 1 0 0 0 ∷ []))
     ∷ []
 unfolding moments
 launch-in-order = refl
@@ -119,7 +119,7 @@ repliesTried =
     ∷ (reply 0 2 ∷ [])
     ∷ (reply 0 1 ∷ [])
     -- rounds 1 to 3; round 4, in WRITE
-    ∷ (write ∷ rounds 3 ++ read ∷ execute ∷ [])
+    ∷ (write ∷ manyRounds 3 ++ read ∷ execute ∷ [])
     ∷ (reply 0 1 ∷ [])
     ∷ (reply 0 1 ∷ [])
     ∷ (reply 0 2 ∷ [])
@@ -140,28 +140,28 @@ abbrev pub up : List ℕ
 up = 1 ∷ []
 
 -- the passive's in-queue and its out-queue
-abbrev pub atPassive : List Packet → List Packet → List (List Packet)
-atPassive pin pout = pin ∷ pout ∷ []
+abbrev pub waitsAtPassive : List Packet → List Packet → List (List Packet)
+waitsAtPassive pin pout = pin ∷ pout ∷ []
 
 pub reply-in-order : moments planT passiveFlag (passiveIn 0 ∷ passiveOut 0 ∷ []) repliesTried
     -- READ: 8 before 9; 8 before 13. EXECUTE: 8 before 9
-    ≡ after (refused 8) down (atPassive [] [])
-    ∷ after (refused 8) down (atPassive [] [])
-    ∷ after (refused 8) down (atPassive [] [])
+    ≡ after (refused 8) down (waitsAtPassive [] [])
+    ∷ after (refused 8) down (waitsAtPassive [] [])
+    ∷ after (refused 8) down (waitsAtPassive [] [])
     -- WRITE: a number, a choice out of range: 9 before 13; 13 alone
-    ∷ after (refused 9) down (atPassive [] [])
-    ∷ after (refused 9) down (atPassive [] [])
-    ∷ after (refused 13) down (atPassive [] [])
+    ∷ after (refused 9) down (waitsAtPassive [] [])
+    ∷ after (refused 9) down (waitsAtPassive [] [])
+    ∷ after (refused 13) down (waitsAtPassive [] [])
     -- round 4: accepted; then the flag is up, the in-queue empty, the out-queue full: 14 before 13 and 12; a choice, a
     -- number out of range: 9 before 14
-    ∷ after done down (atPassive (setup ∷ []) [])
-    ∷ after done up (atPassive [] (ack ∷ []))
-    ∷ after (refused 14) up (atPassive [] (ack ∷ []))
-    ∷ after (refused 9) up (atPassive [] (ack ∷ []))
-    ∷ after (refused 9) up (atPassive [] (ack ∷ []))
+    ∷ after done down (waitsAtPassive (setup ∷ []) [])
+    ∷ after done up (waitsAtPassive [] (ack ∷ []))
+    ∷ after (refused 14) up (waitsAtPassive [] (ack ∷ []))
+    ∷ after (refused 9) up (waitsAtPassive [] (ack ∷ []))
+    ∷ after (refused 9) up (waitsAtPassive [] (ack ∷ []))
     -- round 5, READ: 8 before 14. WRITE: the flag is down, the ACK is picked and has not left: 13 before 12
-    ∷ after (refused 8) up (atPassive [] (ack ∷ []))
-    ∷ after (refused 13) down (atPassive [] (ack ∷ []))
+    ∷ after (refused 8) up (waitsAtPassive [] (ack ∷ []))
+    ∷ after (refused 13) down (waitsAtPassive [] (ack ∷ []))
     ∷ []
 unfolding moments
 reply-in-order = refl
@@ -175,7 +175,7 @@ consumesTried =
     ∷ (execute ∷ consume 1 ∷ [])
     ∷ (consume 0 ∷ [])
     -- rounds 1 to 6, accepted in 4; round 7, in EXECUTE and in WRITE
-    ∷ (write ∷ rounds 3 ++ read ∷ execute ∷ reply 0 1 ∷ write ∷ rounds 2 ++ read ∷ consume 0 ∷ [])
+    ∷ (write ∷ manyRounds 3 ++ read ∷ execute ∷ reply 0 1 ∷ write ∷ manyRounds 2 ++ read ∷ consume 0 ∷ [])
     ∷ (execute ∷ consume 1 ∷ [])
     ∷ (consume 0 ∷ [])
     ∷ (consume 0 ∷ [])
@@ -212,8 +212,8 @@ consume-in-order = refl
 abbrev pub bothDeclined : List Call
 bothDeclined =
     -- rounds 0 to 3; declined in rounds 4 and 5; round 6
-    launch 0 0 6 ∷ launch 0 0 7 ∷ rounds 4
-    ++ read ∷ execute ∷ reply 0 0 ∷ write ∷ read ∷ execute ∷ reply 0 0 ∷ write ∷ rounds 1
+    launch 0 0 6 ∷ launch 0 0 7 ∷ manyRounds 4
+    ++ read ∷ execute ∷ reply 0 0 ∷ write ∷ read ∷ execute ∷ reply 0 0 ∷ write ∷ manyRounds 1
 
 -- the first NACK, marked; the second, not marked and marked; the TDOWN of each
 abbrev pub first : Packet
@@ -236,8 +236,8 @@ abbrev pub later : Packet
 later = packet Setup 0 0 5 0
 
 -- the active's out-queue and its in-queue
-abbrev pub atActive : List Packet → List Packet → List (List Packet)
-atActive out ain = out ∷ ain ∷ []
+abbrev pub waitsAtActive : List Packet → List Packet → List (List Packet)
+waitsAtActive out ain = out ∷ ain ∷ []
 
 -- the first NACK is consumed at once, and a launch fills the out-queue
 abbrev pub outQueueFull : List (List Call)
@@ -253,12 +253,12 @@ outQueueFull =
 
 pub unmarked-while-full : moments widerT allowanceAndFlag (activeOut 0 ∷ activeIn 0 ∷ []) outQueueFull
     -- round 7: the first NACK, marked, is consumed
-    ≡ after (taken first) (1 ∷ 1 ∷ []) (atActive (tdown6 ∷ []) [])
+    ≡ after (taken first) (1 ∷ 1 ∷ []) (waitsAtActive (tdown6 ∷ []) [])
     -- round 8: the out-queue is full, so no TDOWN joins and the second NACK is not marked: 15
-    ∷ after done (0 ∷ 1 ∷ []) (atActive (tdown6 ∷ later ∷ []) [])
-    ∷ after (refused 15) (0 ∷ 0 ∷ []) (atActive (tdown6 ∷ later ∷ []) (second ∷ []))
+    ∷ after done (0 ∷ 1 ∷ []) (waitsAtActive (tdown6 ∷ later ∷ []) [])
+    ∷ after (refused 15) (0 ∷ 0 ∷ []) (waitsAtActive (tdown6 ∷ later ∷ []) (second ∷ []))
     -- round 9: the first TDOWN has left, the second joins
-    ∷ after (taken secondMarked) (1 ∷ 1 ∷ []) (atActive (later ∷ tdown7 ∷ []) [])
+    ∷ after (taken secondMarked) (1 ∷ 1 ∷ []) (waitsAtActive (later ∷ tdown7 ∷ []) [])
     ∷ []
 unfolding moments
 unmarked-while-full = refl
@@ -267,7 +267,7 @@ unmarked-while-full = refl
 abbrev pub bothWait : List (List Call)
 bothWait =
     -- round 7; round 8
-    (bothDeclined ++ rounds 1 ++ inWrite (consume 0))
+    (bothDeclined ++ manyRounds 1 ++ inWrite (consume 0))
     ∷ (consume 0 ∷ [])
     -- round 9
     ∷ (write ∷ inWrite (consume 0))
@@ -275,10 +275,10 @@ bothWait =
 
 pub flag-before-mark : moments widerT allowanceAndFlag (activeOut 0 ∷ activeIn 0 ∷ []) bothWait
     -- round 8: the first NACK is consumed; then the flag is up and the head an unmarked NACK: 14 before 15
-    ≡ after (taken first) (1 ∷ 1 ∷ []) (atActive (tdown6 ∷ []) (second ∷ []))
-    ∷ after (refused 14) (1 ∷ 1 ∷ []) (atActive (tdown6 ∷ []) (second ∷ []))
+    ≡ after (taken first) (1 ∷ 1 ∷ []) (waitsAtActive (tdown6 ∷ []) (second ∷ []))
+    ∷ after (refused 14) (1 ∷ 1 ∷ []) (waitsAtActive (tdown6 ∷ []) (second ∷ []))
     -- round 9
-    ∷ after (taken secondMarked) (2 ∷ 1 ∷ []) (atActive (tdown7 ∷ []) [])
+    ∷ after (taken secondMarked) (2 ∷ 1 ∷ []) (waitsAtActive (tdown7 ∷ []) [])
     ∷ []
 unfolding moments
 flag-before-mark = refl

@@ -9,7 +9,7 @@ use Rattle.feeding.specs.Queue.{activeOut, activeIn}
 use Rattle.machine.specs.State.{State}
 use Rattle.machine.specs.Calls.{Call, read, execute, write, launch, reply, consume}
 use Rattle.machine.specs.Runs.Watch.{round, packet, allowanceIn, after, steady, watch}
-use Rattle.machine.specs.Runs.FirstBookings.{launched, ack}
+use Rattle.machine.specs.Runs.FirstBookings.{launchedSetup, ack}
 use Rattle.plan.specs.Samples.{planT}
 use Rattle.packets.specs.Answers.{refused, done, taken}
 
@@ -54,9 +54,9 @@ inIn = [] ∷ (ack ∷ []) ∷ []
 
 pub allowance-spent : watch planT allowance0 (activeOut 0 ∷ activeIn 0 ∷ []) allowanceSpent
     -- round 0: a launch, the same again, one of the other slot; then the round
-    ≡ after done spent (inOut launched) ∷ []
-    ++ after (refused 11) spent (inOut launched) ∷ after (refused 11) spent (inOut launched) ∷ []
-    ++ after done spent (inOut launched) ∷ after done spent (inOut launched) ∷ after done spent quiet ∷ []
+    ≡ after done spent (inOut launchedSetup) ∷ []
+    ++ after (refused 11) spent (inOut launchedSetup) ∷ after (refused 11) spent (inOut launchedSetup) ∷ []
+    ++ after done spent (inOut launchedSetup) ∷ after done spent (inOut launchedSetup) ∷ after done spent quiet ∷ []
     -- round 1: the out-queue is empty again, the allowance is not back
     ++ after (refused 11) spent quiet ∷ steady spent quiet
     -- rounds 2 and 3

@@ -8,7 +8,7 @@ use Rattle.packets.specs.declared.Packet.{Packet}
 use Rattle.feeding.specs.Queue.{Queue, activeOut, activeIn, passiveIn, Q}
 use Rattle.machine.specs.State.{State}
 use Rattle.machine.specs.Calls.{Call, read, execute, write, launch, reply, consume}
-use Rattle.machine.specs.Runs.Watch.{rounds, inWrite, packet, entryIn, allowanceIn, after, moments}
+use Rattle.machine.specs.Runs.Watch.{manyRounds, inWrite, packet, entryIn, allowanceIn, after, moments}
 use Rattle.machine.specs.Runs.Declined.{bothSides}
 use Rattle.plan.specs.Samples.{twoRouters, fourRouters}
 use Rattle.packets.specs.Answers.{refused, done, taken}
@@ -17,23 +17,23 @@ use Rattle.packets.specs.Answers.{refused, done, taken}
 abbrev pub overTwo : List (List Call)
 overTwo =
     -- rounds 0 to 6, then round 7: it has come to the passive, which declines
-    (launch 0 0 2 ∷ rounds 7)
+    (launch 0 0 2 ∷ manyRounds 7)
     ∷ (read ∷ execute ∷ [])
     ∷ (reply 0 0 ∷ [])
     -- rounds 8 to 10, then round 11: the NACK comes, and is marked
-    ∷ (write ∷ rounds 3 ++ read ∷ [])
+    ∷ (write ∷ manyRounds 3 ++ read ∷ [])
     ∷ (execute ∷ [])
     -- round 12: a launch is tried; the NACK is consumed, and the TDOWN is sent
     ∷ (write ∷ launch 0 0 0 ∷ [])
     ∷ inWrite (consume 0)
     -- round 13, then round 14: the TDOWN is at the first router's unit
-    ∷ (write ∷ rounds 1 ++ read ∷ [])
+    ∷ (write ∷ manyRounds 1 ++ read ∷ [])
     ∷ (execute ∷ [])
     -- rounds 15 and 16, then round 17: it is at the second one's
-    ∷ (write ∷ rounds 2 ++ read ∷ [])
+    ∷ (write ∷ manyRounds 2 ++ read ∷ [])
     ∷ (execute ∷ [])
     -- rounds 18 and 19
-    ∷ (write ∷ rounds 2)
+    ∷ (write ∷ manyRounds 2)
     ∷ []
 
 -- active 0's allowance, then the entries of the first router's side 1, then of the second one's
@@ -67,8 +67,8 @@ setup = packet Setup 0 0 0 2
 abbrev pub nack : Packet
 nack = packet Nack 0 0 0 2
 
-abbrev pub marked : Packet
-marked = packet Nack 0 0 0 0
+abbrev pub markedNack : Packet
+markedNack = packet Nack 0 0 0 0
 
 -- its TDOWN, slot 0 minus hub 2 modulo 4: slot 2, hub 2; and as the first router sends it on
 abbrev pub tdown : Packet
@@ -85,10 +85,10 @@ pub torn-over-two : moments twoRouters allowanceAndBoth places overTwo
     -- round 11: the NACK has come; Execute marks it and a TDOWN joins. The allowance is not back, neither at the
     -- arrival nor at the mark
     ∷ after done (both 0) (seen [] (nack ∷ []) [] [] [])
-    ∷ after done (both 0) (seen (tdown ∷ []) (marked ∷ []) [] [] [])
-    ∷ after (refused 11) (both 0) (seen (tdown ∷ []) (marked ∷ []) [] [] [])
+    ∷ after done (both 0) (seen (tdown ∷ []) (markedNack ∷ []) [] [] [])
+    ∷ after (refused 11) (both 0) (seen (tdown ∷ []) (markedNack ∷ []) [] [] [])
     -- round 12: it is back at Consume
-    ∷ after (taken marked) (both 1) (seen (tdown ∷ []) [] [] [] [])
+    ∷ after (taken markedNack) (both 1) (seen (tdown ∷ []) [] [] [] [])
     -- round 14: the first router frees its entry and sends the TDOWN on
     ∷ after done (both 1) (seen [] [] (tdown ∷ []) [] [])
     ∷ after done (second 1) (seen [] [] (tdownOn ∷ []) [] [])
@@ -104,23 +104,23 @@ torn-over-two = refl
 abbrev pub overThree : List (List Call)
 overThree =
     -- rounds 0 to 10, then round 11: it has come to the passive, which declines
-    (launch 1 0 1 ∷ rounds 11)
+    (launch 1 0 1 ∷ manyRounds 11)
     ∷ (read ∷ execute ∷ [])
     ∷ (reply 0 0 ∷ [])
     -- rounds 12 to 15, then round 16: the NACK comes, and is marked
-    ∷ (write ∷ rounds 4 ++ read ∷ [])
+    ∷ (write ∷ manyRounds 4 ++ read ∷ [])
     ∷ (execute ∷ [])
     -- round 17: the NACK is consumed, and the TDOWN is sent
     ∷ (write ∷ launch 1 0 0 ∷ [])
     ∷ inWrite (consume 1)
     -- rounds 19, 22 and 25: the TDOWN is at the unit of router 1, of router 2, of router 3
-    ∷ (write ∷ rounds 1 ++ read ∷ [])
+    ∷ (write ∷ manyRounds 1 ++ read ∷ [])
     ∷ (execute ∷ [])
-    ∷ (write ∷ rounds 2 ++ read ∷ [])
+    ∷ (write ∷ manyRounds 2 ++ read ∷ [])
     ∷ (execute ∷ [])
-    ∷ (write ∷ rounds 2 ++ read ∷ [])
+    ∷ (write ∷ manyRounds 2 ++ read ∷ [])
     ∷ (execute ∷ [])
-    ∷ (write ∷ rounds 2)
+    ∷ (write ∷ manyRounds 2)
     ∷ []
 
 -- active 1's allowance, then the entries of side 1 of routers 1, 2 and 3

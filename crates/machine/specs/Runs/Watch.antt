@@ -35,9 +35,9 @@ use Rattle.machine.specs.Ruled.{acceptedAfter}
 abbrev pub round : List Call
 round = read ∷ execute ∷ write ∷ []
 
-abbrev pub rounds : ℕ → List Call
-rounds zero = []
-rounds (suc n) = read ∷ execute ∷ write ∷ rounds n
+abbrev pub manyRounds : ℕ → List Call
+manyRounds zero = []
+manyRounds (suc n) = read ∷ execute ∷ write ∷ manyRounds n
 
 -- a round up to its WRITE, and one call there
 abbrev pub inWrite : Call → List Call

@@ -8,7 +8,7 @@ use Rattle.packets.specs.declared.Packet.{Packet}
 use Rattle.feeding.specs.Queue.{passiveIn, Q}
 use Rattle.machine.specs.State.{State}
 use Rattle.machine.specs.Calls.{Call, read, execute, write, launch, reply, consume}
-use Rattle.machine.specs.Runs.Watch.{rounds, packet, entryIn, after, moments, accepts}
+use Rattle.machine.specs.Runs.Watch.{manyRounds, packet, entryIn, after, moments, accepts}
 use Rattle.plan.specs.Samples.{fourRouters}
 use Rattle.packets.specs.Answers.{done, taken}
 
@@ -16,22 +16,22 @@ use Rattle.packets.specs.Answers.{done, taken}
 abbrev pub goingRound : List (List Call)
 goingRound =
     -- rounds 0 and 1, then round 2: at the unit of router 0
-    (launch 0 0 2 ∷ rounds 2 ++ read ∷ [])
+    (launch 0 0 2 ∷ manyRounds 2 ++ read ∷ [])
     ∷ (execute ∷ [])
     -- round 5: at that of router 1
-    ∷ (write ∷ rounds 2 ++ read ∷ [])
+    ∷ (write ∷ manyRounds 2 ++ read ∷ [])
     ∷ (execute ∷ [])
     -- round 9: of router 2
-    ∷ (write ∷ rounds 3 ++ read ∷ [])
+    ∷ (write ∷ manyRounds 3 ++ read ∷ [])
     ∷ (execute ∷ [])
     -- round 13: of router 3
-    ∷ (write ∷ rounds 3 ++ read ∷ [])
+    ∷ (write ∷ manyRounds 3 ++ read ∷ [])
     ∷ (execute ∷ [])
     -- round 16: at the passive, which accepts
-    ∷ (write ∷ rounds 2 ++ read ∷ [])
+    ∷ (write ∷ manyRounds 2 ++ read ∷ [])
     ∷ (execute ∷ reply 0 1 ∷ [])
     -- round 22: the ACK is consumed
-    ∷ (write ∷ rounds 5 ++ read ∷ execute ∷ consume 0 ∷ [])
+    ∷ (write ∷ manyRounds 5 ++ read ∷ execute ∷ consume 0 ∷ [])
     ∷ []
 
 -- the entries of side 1 of routers 0 to 3, three each

@@ -33,7 +33,7 @@ use Rattle.theory.specs.Invariant.{Core, Sendable}
 use Rattle.theory.specs.Weights.{weighed}
 use Rattle.theory.proofs.Weights.Total.{start-weighed}
 use Rattle.theory.proofs.Cases.{unmarked-nack, ActiveDoes, waits, tears, undo-does}
-use Rattle.theory.proofs.Weights.Moves.{head-belongs, phase-weighed, slot-weighed, settle-weighed}
+use Rattle.theory.proofs.Weights.Moves.{core-head, phase-weighed, slot-weighed, settle-weighed}
 use Rattle.theory.proofs.Weights.Moves.{choose-weighed, deliver-weighed, send-weighed}
 use Rattle.theory.proofs.Weights.Changes.{torn-weighed, launched-weighed, replied-weighed, removed-weighed}
 use Rattle.theory.proofs.Places.Slots.{start-below}
@@ -103,7 +103,7 @@ module _ {pl : Plan} (wired : Wired pl) {acc : List Connection} (s : State) (c :
           → weighed pl (owns pl r o u v) (undo pl a s) ≡ weighed pl (owns pl r o u v) s
       by r o u v (waits e) = ap (weighed pl (owns pl r o u v)) e
       by r o u v (tears x rest e m g) =
-          let b = head-belongs c (activeIn a) h x rest e in
+          let b = core-head c (activeIn a) h x rest e in
           let all = torn-weighed pl (owns pl r o u v) c a h x rest e m g in
           let one = torn-owns pl r o u v a (inQueue (activeIn a)) (inQueue (activeIn a)) x (unmarked-nack x m)
           (b .ranges .slot) in
@@ -127,7 +127,7 @@ module _ {pl : Plan} (wired : Wired pl) {acc : List Connection} (s : State) (c :
   replied-owned p kind x rest h q e = owned-same s (replied p kind (x ∷ rest) s) k refl (λ r o u v. same r o u v)
     where
       b : Belongs pl (inQueue (passiveIn p)) x
-      b = head-belongs c (passiveIn p) h x rest e
+      b = core-head c (passiveIn p) h x rest e
 
       setup : x .kind ≡ Setup
       setup = passive-setup wired (x .active) (x .passive) (b .ranges .active) (b .ranges .passive) (b .serves)
@@ -148,7 +148,7 @@ module _ {pl : Plan} (wired : Wired pl) {acc : List Connection} (s : State) (c :
       (b .ranges .passive) (b .serves) (x .kind) (x .hub .0) a (b .fits) .2)
     where
       b : Belongs pl (inQueue (activeIn a)) x
-      b = head-belongs c (activeIn a) h x rest e
+      b = core-head c (activeIn a) h x rest e
 
       agrees : Agreed pl (connectionOf pl x)
       agrees =

@@ -28,7 +28,7 @@ use Rattle.theory.proofs.Places.CameIn.{stands-exit}
 use Rattle.theory.specs.Weights.{weighed}
 use Rattle.theory.proofs.Cases.{exitAt, mayBookAt, unit-books, unit-declines, unit-ends, unit-frees, UnitDoes}
 use Rattle.theory.proofs.Cases.{rests, books, declines, ends, frees, unit-does}
-use Rattle.theory.proofs.Weights.Moves.{head-belongs}
+use Rattle.theory.proofs.Weights.Moves.{core-head}
 use Rattle.theory.proofs.Weights.Changes.{booked-weighed, declined-weighed, freed-weighed, ended-weighed}
 use Rattle.theory.specs.Promises.{OwnEntry}
 use Rattle.theory.specs.Owners.{Holder, holderOf, owns, made, heldEntry, holds, Owned}
@@ -107,7 +107,7 @@ module _ {pl : Plan} (wired : Wired pl) {acc : List Connection} (s : State) (c :
     own = holderOf pl (x .active) (x .passive) i
 
     here : Belongs pl (inQueue (Q i)) x
-    here = subst (λ (d : Bool). Belongs pl (headPlace d (Q i)) x) f (head-belongs c (Q i) h x rest e)
+    here = subst (λ (d : Bool). Belongs pl (headPlace d (Q i)) x) f (core-head c (Q i) h x rest e)
 
     -- the side out is one of the four
     exit-below : (n : ℕ) → Fits pl Setup (x .active) (x .passive) n (inQueue (Q i)) → exit < 4

@@ -94,10 +94,10 @@ module _ {pl : Plan} (wired : Wired pl) (a p : ℕ) (ha : a < A pl) (hp : p < P 
       (returns-on wired a p ha hp s (record { router = r; side = i }) m)))
 
 -- the queue that a packet goes to next is fed by a wire
-next-fed : {pl : Plan} → Wired pl → (h : Heading) (a p : ℕ) (q y : Queue) → Exists pl q → next pl h a p q ≡ some y
+beyond-fed : {pl : Plan} → Wired pl → (h : Heading) (a p : ℕ) (q y : Queue) → Exists pl q → next pl h a p q ≡ some y
     → fed pl y ≡ true
 unfolding next
-next-fed {pl} wired h a p q y k n = by (outputOf q) refl n
+beyond-fed {pl} wired h a p q y k n = by (outputOf q) refl n
   where
     by : (o : Option Output) → outputOf q ≡ o → leaving pl h a p o ≡ some y → fed pl y ≡ true
     by none e n = absurd (some-not-none n)
@@ -243,7 +243,7 @@ module _ {pl : Plan} (wired : Wired pl) (range : InRange (pl .head)) (free : Fee
 
       there : (y : Queue) (n : next pl (headingOf (x .kind)) (x .active) (x .passive) q ≡ some y)
           → length (s .lines .queue y) ≡ capacity (pl .head) y
-      there y n = full y (exists y n) (next-fed wired (headingOf (x .kind)) (x .active) (x .passive) q y h n)
+      there y n = full y (exists y n) (beyond-fed wired (headingOf (x .kind)) (x .active) (x .passive) q y h n)
           (jam .blocked q y x rest h ni e n)
 
       -- a full queue has a packet

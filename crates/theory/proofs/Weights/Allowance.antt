@@ -38,7 +38,7 @@ use Rattle.theory.proofs.Cases.{tears, undo-does, undo-tears, SendDoes,
 use Rattle.theory.specs.Weights.{anywhere, weighed}
 use Rattle.theory.proofs.Weights.Total.{Bound, weighed-total, core-bound, weighed-plain, start-weighed}
 use Rattle.theory.proofs.Weights.Total.{bound-put}
-use Rattle.theory.proofs.Weights.Moves.{head-belongs, phase-weighed, slot-weighed, settle-weighed}
+use Rattle.theory.proofs.Weights.Moves.{core-head, phase-weighed, slot-weighed, settle-weighed}
 use Rattle.theory.proofs.Weights.Moves.{choose-weighed, deliver-weighed, send-weighed}
 use Rattle.theory.proofs.Weights.Changes.{booked-weighed, declined-weighed, freed-weighed, ended-weighed}
 use Rattle.theory.proofs.Weights.Changes.{torn-weighed, launched-weighed, replied-weighed, removed-weighed}
@@ -198,7 +198,7 @@ module _ {pl : Plan} {s : State} (c : Core pl s) where
       (rest : List Packet) → s .lines .queue (passiveIn p) ≡ x ∷ rest → Allowances pl (replied p k (x ∷ rest) s)
   unfolding join
   replied-allowances wired p h k one x rest e =
-      let b = head-belongs c (passiveIn p) h x rest e in
+      let b = core-head c (passiveIn p) h x rest e in
       let setup = passive-setup wired (x .active) (x .passive) (b .ranges .active) (b .ranges .passive) (b .serves)
       (x .kind) (x .hub .0) p (b .fits) .0 in
       allowances-kept (replied p k (x ∷ rest) s) refl refl
@@ -219,7 +219,7 @@ module _ {pl : Plan} {s : State} (c : Core pl s) where
     where
       own : (a ≡ x .active) × (spendsKind (x .kind) ≡ 1)
       own =
-          let b = head-belongs c (activeIn a) h x rest e in
+          let b = core-head c (activeIn a) h x rest e in
           let f = active-answer wired (x .active) (x .passive) (b .ranges .active) (b .ranges .passive) (b .serves)
           (x .kind) (x .hub .0) a (b .fits) in
           (f .0, kind (f .2))

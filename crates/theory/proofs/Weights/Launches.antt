@@ -34,7 +34,7 @@ use Rattle.theory.specs.Weights.{anywhere, weighed}
 use Rattle.theory.proofs.Weights.Total.{start-weighed}
 use Rattle.theory.proofs.Cases.{UnitDoes, rests, books, declines, ends, frees, unit-does, unmarked-nack}
 use Rattle.theory.proofs.Cases.{ActiveDoes, waits, tears, undo-does}
-use Rattle.theory.proofs.Weights.Moves.{head-belongs, phase-weighed, slot-weighed, settle-weighed}
+use Rattle.theory.proofs.Weights.Moves.{core-head, phase-weighed, slot-weighed, settle-weighed}
 use Rattle.theory.proofs.Weights.Moves.{choose-weighed, deliver-weighed, send-weighed}
 use Rattle.theory.proofs.Weights.Changes.{booked-weighed, declined-weighed, freed-weighed, ended-weighed}
 use Rattle.theory.proofs.Weights.Changes.{torn-weighed, launched-weighed, replied-weighed, removed-weighed}
@@ -161,7 +161,7 @@ module _ (pl : Plan) (d : Connection) where
           by (rests e) = let w = ap (weighed pl (anywhere (bears pl d))) e in omega arith
           by (books x rest e f q t) =
               let w = booked-weighed pl (anywhere (bears pl d)) r h s x rest e f q t in
-              let b = booked-bears x q (head-belongs c (Q r) h x rest e .ranges .slot) in
+              let b = booked-bears x q (core-head c (Q r) h x rest e .ranges .slot) in
               omega arith
           by (declines x rest e f q t) =
               let w = declined-weighed pl (anywhere (bears pl d)) r h s x rest e f q t in
@@ -204,7 +204,7 @@ module _ (pl : Plan) (d : Connection) where
           → Counted pl d acc n (replied p kind (x ∷ rest) s)
       unfolding borne
       replied-counted p kind x rest h q e =
-          let b = head-belongs c (passiveIn p) h x rest e in
+          let b = core-head c (passiveIn p) h x rest e in
           let setup = passive-setup wired (x .active) (x .passive) (b .ranges .active) (b .ranges .passive) (b .serves)
           (x .kind) (x .hub .0) p (b .fits) .0 in
           let less = replied-bears kind x q setup in

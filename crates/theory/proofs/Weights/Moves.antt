@@ -34,9 +34,9 @@ use Rattle.theory.proofs.Weights.Total.{weighed-join}
 
 -- ---- where packets are
 -- A queue's head belongs where the handled mark puts it.
-pub head-belongs : {pl : Plan} {s : State} → Core pl s → (q : Queue) → Exists pl q → (x : Packet) (rest : List Packet)
+pub core-head : {pl : Plan} {s : State} → Core pl s → (q : Queue) → Exists pl q → (x : Packet) (rest : List Packet)
     → s .lines .queue q ≡ x ∷ rest → Belongs pl (headPlace (s .lines .handled q) q) x
-head-belongs {pl} {s} c q h x rest e = subst (Lined pl q (s .lines .handled q)) e (c .places q h) .0
+core-head {pl} {s} c q h x rest e = subst (Lined pl q (s .lines .handled q)) e (c .places q h) .0
 
 -- ---- weights that a packet keeps as it leaves a queue for the next
 abbrev pub Steady : Plan → Weight → Type 0
@@ -152,7 +152,7 @@ module _ (pl : Plan) (w : Weight) where
         by (sent k q e r g) =
             let h = sender-exists pl o k q d r in
             let belongs = subst (λ (at : Place). Belongs pl at (g .packet)) (head-leaves s q (g .leaves))
-            (head-belongs c q h (g .packet) (g .rest) (g .line)) in
+            (core-head c q h (g .packet) (g .rest) (g .line)) in
             let same = steady o k q (g .onto) (g .packet) d r (g .next) belongs in
             let all = sent-weighed s o q (g .onto) (g .packet) (g .rest) d h z (g .line) (g .leaves) (g .next) in
             ap (weighed pl w) (send-one pl o s k q e r g) ∙ omega arith

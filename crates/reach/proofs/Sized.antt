@@ -67,7 +67,7 @@ module _ (by : List (List ℕ)) (next : List ℕ) (routes : List (List ℕ)) (s 
   Blank o v =
       (v ≡ 0) × ((has (s .sized) (s .column + p) && has (getD t x 0) (s .column + p)) ≡ false)
       × ((i : ℕ) → i < o → eqb (getD (getD routes x []) (s .column + p) 0) i ≡ true
-          → getD (getD z (beyond by next x i) []) p 0 ≡ 0)
+      → getD (getD z (beyond by next x i) []) p 0 ≡ 0)
 
   begins : Right (getD (getD z x []) p 0) ⊎ Blank 0 (getD (getD z x []) p 0)
   begins = go (test (has (s .sized) (s .column + p))) (test (has (getD t x 0) (s .column + p)))
@@ -109,7 +109,7 @@ module _ (by : List (List ℕ)) (next : List ℕ) (routes : List (List ℕ)) (s 
             (
               suc (f .0),
               any-of 4 (λ i. has (sideSet by next x i) (s .column + p) && farIn by next first (s .column + p) (f .0) (beyond by next x i))
-              o l (rw (there, f .1)),
+                  o l (rw (there, f .1)),
               longer-least (f .0) _ (f .2),
             ),
           )
@@ -167,7 +167,7 @@ module _ (by : List (List ℕ)) (next : List ℕ) (routes : List (List ℕ)) (s 
     where
       side-of : (o : ℕ) × (o < 4) × ((has (sideSet by next x o) (s .column + p) && has (getD t (beyond by next x o) 0) (s .column + p)) ≡ true)
           → ((i : ℕ) → i < 4 → eqb (getD (getD routes x []) (s .column + p) 0) i ≡ true
-              → getD (getD z (beyond by next x i) []) p 0 ≡ 0) → ⊥
+          → getD (getD z (beyond by next x i) []) p 0 ≡ 0) → ⊥
       side-of (o, l, q) e =
           let w = and-parts _ _ q in
           unknown (beyond by next x o) a (e o l (sym (told .sides x o p inside l place) ∙ w .0)) (w .1)

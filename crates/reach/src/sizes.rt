@@ -54,7 +54,13 @@ fn beyond(next: &[u8; 64], port: usize) -> usize
 }
 
 // The sizes of router x's walks, from those of its neighbours.
-pub fn row(sides: &[u8; 32], column: usize, next: &[u8; 64], z: &[[u8; 16]; 17], x: usize) -> [u8; 16]
+pub fn row(
+    sides: &[u8; 32],
+    column: usize,
+    next: &[u8; 64],
+    z: &[[u8; 16]; 17],
+    x: usize,
+) -> [u8; 16]
     requires { ⌜ (x < 16) × (column ≤ 16) × Inside (now next) ⌝ }
     ensures { λ t. ⌜ t ≡ rowOf (now (sides .entry)) column (now (next .entry)) (now (z .entry)) x ⌝ }
 {

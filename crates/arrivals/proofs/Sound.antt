@@ -74,7 +74,7 @@ module _ (pl : Plan) (by : List (List ℕ)) (joints homes : List ℕ) (w : Chart
 
   pub serving-served : (a p v : ℕ) → a < A pl → p < P pl → Serving by (nextsOf joints (R pl)) homes t (pl .head) all a v
       → has v (A pl + p) ≡ served pl a p
-  unfolding returning
+  unfolding returning servedFrom
   serving-served a p v la lp (inl (e, g)) =
       ap (λ (u : ℕ). has u (A pl + p)) g ∙ at-home pl refl t f a p la lp
       ∙ sym (served-everywhere pl (w .wired) a p la back)
@@ -83,7 +83,11 @@ module _ (pl : Plan) (by : List (List ℕ)) (joints homes : List ℕ) (w : Chart
       back x l =
           let there = common-has t (below (destinations (pl .head))) (R pl) a (sym (ap (λ (u : ℕ). has u a) common) ∙ e) .1 (x .router) l in
           ap (λ (i : Interface). arrives pl i x) (sym (active-at pl a la)) ∙ sym (f .there x a l (omega arith)) ∙ there
-  serving-served a p v la lp (inr (u, r, g)) =
+  serving-served a p v la lp (inr (inl (z, g))) =
+      let none : arrives pl (passive p) (home pl (active a)) ≡ false =
+      sym (at-home pl refl t f a p la lp) ∙ ap (λ (u : ℕ). has u (A pl + p)) (sym g ∙ z) ∙ none-has (A pl + p) in
+      ap (λ (u : ℕ). has u (A pl + p)) z ∙ none-has (A pl + p) ∙ rw none
+  serving-served a p v la lp (inr (inr (u, r, g))) =
       ap (λ (x : ℕ). has x (A pl + p)) g
       ∙ at-home (returning pl a) refl u
       (arrivals (returning pl a) (keepsOf by t (R pl) a) joints homes (kept-charting pl by joints homes t w f a la) u r) a p la lp
@@ -94,7 +98,8 @@ module _ (pl : Plan) (by : List (List ℕ)) (joints homes : List ℕ) (w : Chart
   serving-known a d v (inl (e, g)) q =
       far-known (pl .head) d
       (and-parts (has (getD t (getD homes a 0 / 4) 0) d) _ (sym (has-both (getD t (getD homes a 0 / 4) 0) (farOf (pl .head)) d) ∙ sym (ap (λ (u : ℕ). has u d) g) ∙ q) .1)
-  serving-known a d v (inr (u, r, g)) q =
+  serving-known a d v (inr (inl (z, g))) q = absurd (true≢false (sym q ∙ ap (λ (u : ℕ). has u d) z ∙ none-has d))
+  serving-known a d v (inr (inr (u, r, g))) q =
       far-known (pl .head) d
       (and-parts (has (getD u (getD homes a 0 / 4) 0) d) _ (sym (has-both (getD u (getD homes a 0 / 4) 0) (farOf (pl .head)) d) ∙ sym (ap (λ (x : ℕ). has x d) g) ∙ q) .1)
 

@@ -65,9 +65,14 @@ pub serving-all : (by : List (List ℕ)) (next homes arrive : List ℕ) (h : Hea
 serving-all by next homes arrive h all a e f g i j =
     inl (sym f ∙ g, j ∙ ap₂ (λ (x y : ℕ). both (getD arrive (x / 4) 0) y) e i)
 
+pub serving-none : (by : List (List ℕ)) (next homes arrive : List ℕ) (h : Head) (all a : ℕ) {k w far : ℕ}
+    → k ≡ getD homes a 0 → far ≡ farOf h → w ≡ both (getD arrive (k / 4) 0) far → w ≡ 0 → Serving by next homes arrive h all a w
+serving-none by next homes arrive h all a e i j z =
+    inr (inl (z, j ∙ ap₂ (λ (x y : ℕ). both (getD arrive (x / 4) 0) y) e i))
+
 pub serving-swept : (by : List (List ℕ)) (next homes arrive : List ℕ) (h : Head) (all a : ℕ) {k w : ℕ}
     → k ≡ getD homes a 0 → Swept by next homes arrive h a (k / 4) w → Serving by next homes arrive h all a w
-serving-swept by next homes arrive h all a e s = inr (s .0, s .1, s .2 ∙ ap (λ (x : ℕ). both (getD (s .0) (x / 4) 0) (farOf h)) e)
+serving-swept by next homes arrive h all a e s = inr (inr (s .0, s .1, s .2 ∙ ap (λ (x : ℕ). both (getD (s .0) (x / 4) 0) (farOf h)) e))
 
 pub swept-by : (by : List (List ℕ)) (next homes arrive : List ℕ) (h : Head) (a x : ℕ) {kept : List (List ℕ)} {first t : List ℕ} {n w far : ℕ}
     → kept ≡ keepsOf by arrive (h .routers) a → first ≡ firstsOf kept homes (h .actives + h .passives)

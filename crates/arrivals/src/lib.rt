@@ -155,7 +155,8 @@ fn swept(
     both(t[x], far_of(h))
 }
 
-// The passives that an active is served with. Where every router has a way back to it, they are those at which its walk arrives.
+// The passives that an active is served with. Where every router has a way back to it, they are those at which its walk arrives;
+// where its walk arrives at none, there are none.
 fn serve(
     by: &[[u32; 4]; 16],
     next: &[u8; 64],
@@ -170,8 +171,12 @@ fn serve(
     ensures { λ w. ⌜ Serving (now (by .entry)) (now (next .entry)) (now (homes .entry)) (now (arrive .entry)) h all a w ⌝ }
 {
     let x = port(homes, a, h.actives + h.passives) / 4;
+    let v = both(arrive[x], far_of(h));
     if has(all, a) {
-        return both(arrive[x], far_of(h));
+        return v;
+    }
+    if v == 0 {
+        return v;
     }
     swept(by, next, routes, homes, arrive, h, a, x)
 }

@@ -1,0 +1,1 @@
+// Refusal 6 by routers and answers.

@@ -1,2 +1,3 @@
 pub mod Crossings
 pub mod Equal
+pub mod Tests

@@ -3,7 +3,7 @@ use mathlib.Core.Path.{_≡_, refl, sym, ap, _∙_}
 use mathlib.Core.Logic.{_⊎_, inl, inr, _≢_}
 use mathlib.Core.Bool.{Bool, true, false, not, _&&_, _||_, true≢false, false≢true, and-eq-true-iff}
 use mathlib.Core.List.{List, []}
-use Prim.Native.Nat.{ℕ, zero, suc, _+_, _-_, _*_, _≤_, _<_}
+use Prim.Native.Nat.{ℕ, zero, suc, _+_, _-_, _*_, _/_, _%_, _≤_, _<_}
 use native.Mathlib.Numerals.{add-one}
 use native.Mathlib.Omega.{arith}
 use lib.Dec.{eqb}
@@ -14,7 +14,7 @@ use Rattle.basis.specs.Choice.{test, refuted, affirmed, not-both}
 use Rattle.basis.specs.Bounded.{below-suc, or-cases, or-right}
 use Rattle.sets.specs.Sets.{has, single, both, either, less, below}
 use Rattle.sets.specs.Laws.{has-both, has-either, has-less, has-single, has-below, none-has}
-use Rattle.spread.specs.Carried.{beyondOf, In, Leaves, Gone, Carried, Fair, Pushed, Passed, Off, Stepped, Round, Spread}
+use Rattle.spread.specs.Carried.{partnerOf, beyondOf, In, Leaves, Gone, Carried, Fair, Pushed, Passed, Off, Stepped, Round, Spread}
 
 -- ---- members of sets
 none-of : (s d : ℕ) → s ≡ 0 → has s d ≡ false
@@ -41,6 +41,18 @@ not-left s t d e = refuted (has s d) (λ a. not-both (in-left s t d a) e)
 not-right : (s t d : ℕ) → has (either s t) d ≡ false → has t d ≡ false
 not-right s t d e = refuted (has t d) (λ a. not-both (in-right s t d a) e)
 
+-- ---- the port beyond a port
+pub partner-some : (joints : List ℕ) (k : ℕ) {v : ℕ} → v ≡ getD joints k 0 → v / 64 ≡ 1 → (v % 64 ≡ partnerOf joints k) × (v % 64 ≤ 64)
+unfolding partnerOf
+partner-some joints k e q = (rw (← e, eq-eqb _ 1 q), omega arith)
+
+pub partner-none : (joints : List ℕ) (k : ℕ) {v : ℕ} → v ≡ getD joints k 0 → v / 64 ≢ 1 → (64 ≡ partnerOf joints k) × (64 ≤ 64)
+unfolding partnerOf
+partner-none joints k e q = (rw (← e, ne-eqb _ 1 q), omega arith)
+
+pub beyond-at : (joints : List ℕ) (k : ℕ) {v : ℕ} → (v ≡ partnerOf joints k) × (v ≤ 64) → (v / 4 ≡ beyondOf joints k) × (v / 4 < 32)
+beyond-at joints k (e, l) = (ap (λ (u : ℕ). u / 4) e, omega arith)
+
 module _ (by : List (List ℕ)) (joints : List ℕ) where
   abbrev to : ℕ → ℕ → ℕ
   to x o = beyondOf joints (4 * x + o)
@@ -62,7 +74,7 @@ module _ (by : List (List ℕ)) (joints : List ℕ) where
       new : (d : ℕ) → Leaves by joints x o d → In t x d → has (getD t (to x o) 0) d ≡ false → has (less m (getD t n 0)) d ≡ true
       new d a b c = has-less m (getD t n 0) d ∙ rw (em, in-both (side x o) (getD t x 0) d a b, en, c)
 
-  pub pushed-some : (x o : ℕ) (t : List ℕ) {n m v s : ℕ} → length t ≡ 64 → (n ≡ to x o) × (n < 64) → o < 4
+  pub pushed-some : (x o : ℕ) (t : List ℕ) {n m v s : ℕ} → length t ≡ 32 → (n ≡ to x o) × (n < 32) → o < 4
       → m ≡ both (side x o) (getD t x 0) → v ≡ either (getD t n 0) m → s ≡ single n → Pushed by joints x o t s (set t n v)
   pushed-some x o t {n} {m} {v} {s} long (en, small) ho em ev es = record {
     long = length-set t n v;
@@ -193,7 +205,7 @@ module _ (by : List (List ℕ)) (joints : List ℕ) where
 
   -- ---- the rounds
   module _ (n : ℕ) (first : List ℕ) where
-    pub round-first : (work : ℕ) → length first ≡ 64 → ((x : ℕ) → x < n → has work x ≡ false → getD first x 0 ≡ 0)
+    pub round-first : (work : ℕ) → length first ≡ 32 → ((x : ℕ) → x < n → has work x ≡ false → getD first x 0 ≡ 0)
         → Round by joints n first 0 work first
     round-first work long h = record {
       long = long;

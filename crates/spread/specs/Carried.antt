@@ -3,12 +3,18 @@ use mathlib.Core.Path.{_≡_}
 use mathlib.Core.Bool.{Bool, true, false}
 use mathlib.Core.List.{List, []}
 use Prim.Native.Nat.{ℕ, zero, suc, _+_, _*_, _/_, _%_, _≤_, _<_}
+use lib.Dec.{eqb}
 use lib.ListN.{getD, length}
+use Rattle.basis.specs.Choice.{pick}
 use Rattle.sets.specs.Sets.{has}
 
--- the router joined at port k, by a joint's byte: from 16 on where none is
-unfoldable pub beyondOf : List ℕ → ℕ → ℕ
-beyondOf joints k = (getD joints k 0 + 192) % 256 / 4
+-- the port that port k is joined to by a joint's byte, or 64 where no router is joined there
+unfoldable pub partnerOf : List ℕ → ℕ → ℕ
+partnerOf joints k = pick (eqb (getD joints k 0 / 64) 1) (getD joints k 0 % 64) 64
+
+-- the router beyond port k, or 16
+abbrev pub beyondOf : List ℕ → ℕ → ℕ
+beyondOf joints k = partnerOf joints k / 4
 
 -- d is in the set of row y
 abbrev pub In : List ℕ → ℕ → ℕ → Type 0
@@ -61,7 +67,7 @@ module _ (by : List (List ℕ)) (joints : List ℕ) where
 
   -- all that comes after k routers is there
   pub record Round (n : ℕ) (first : List ℕ) (k work : ℕ) (t : List ℕ) : Type 0 where
-    pub long : length t ≡ 64
+    pub long : length t ≡ 32
     pub fair : Fair n first t
     pub off : Off n work t
     pub found : (j : ℕ) → j ≤ k → (y d : ℕ) → Carried n first d j y → In t y d

@@ -6,7 +6,7 @@ use Rattle.spread.proofs.pass.Statement.{statement}
 use Rattle.spread.proofs.pass.Tie as tie
 use Rattle.spread.proofs.pass.Reads as reads
 use Rattle.spread.proofs.pass.Lts as lts
-use Rattle.sets.proofs.long.either.Reads as either-reads
+use Rattle.sets.proofs.either.Reads as either-reads
 use Rattle.spread.proofs.push.Reads as push-reads
 
 -- src/lib.rt:41:9

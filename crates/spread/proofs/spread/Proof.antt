@@ -9,8 +9,8 @@ use Rattle.spread.proofs.spread.Statement.{statement}
 use Rattle.spread.proofs.spread.Tie as tie
 use Rattle.spread.proofs.spread.Reads as reads
 use Rattle.spread.proofs.spread.Lts as lts
-use Rattle.sets.proofs.long.below.Reads as below-reads
-use Rattle.sets.proofs.long.both.Reads as both-reads
+use Rattle.sets.proofs.below.Reads as below-reads
+use Rattle.sets.proofs.both.Reads as both-reads
 use Rattle.spread.proofs.sweep_down.Reads as sweep-down-reads
 use Rattle.spread.proofs.sweep_up.Reads as sweep-up-reads
 

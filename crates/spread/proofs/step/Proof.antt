@@ -5,9 +5,9 @@ use Rattle.spread.proofs.step.Statement.{statement}
 use Rattle.spread.proofs.step.Tie as tie
 use Rattle.spread.proofs.step.Reads as reads
 use Rattle.spread.proofs.step.Lts as lts
-use Rattle.sets.proofs.long.either.Reads as either-reads
-use Rattle.sets.proofs.long.has.Reads as has-reads
-use Rattle.sets.proofs.long.without.Reads as without-reads
+use Rattle.sets.proofs.either.Reads as either-reads
+use Rattle.sets.proofs.has.Reads as has-reads
+use Rattle.sets.proofs.without.Reads as without-reads
 use Rattle.spread.proofs.pass.Reads as pass-reads
 
 -- src/lib.rt:60:8

@@ -1,1 +1,1 @@
-// Refusal 6 by routers and answers.
+// What a ring of feeding queues is: a ring of walks, or one of crossing answers.

@@ -85,7 +85,7 @@ module _ (l joints : List ℕ) where
   cross-on x e h f k em es ev = rw (← e, lt-ltb _ 64 h, ← f, lt-ltb _ 64 k, ← em, ← es) ev
 
 -- ---- empty rows
-empty-at : (m x : ℕ) → _≡_ {A = ℕ} (getD (replicate m 0) x 0) 0
+pub empty-at : (m x : ℕ) → _≡_ {A = ℕ} (getD (replicate m 0) x 0) 0
 empty-at zero x = refl
 empty-at (suc m) zero = refl
 empty-at (suc m) (suc x) = empty-at m x
@@ -109,7 +109,7 @@ module _ (homes served : List ℕ) where
   unfolding startAt
   starts-more a {t} {x} e (h, k) f = up-more (startAt homes served) (replicate 32 0) a e (rw (f, h))
 
-  starts-long : (n : ℕ) → length (startsOf homes served n) ≡ 32
+  pub starts-long : (n : ℕ) → length (startsOf homes served n) ≡ 32
   unfolding startsOf startAt
   starts-long n =
       up-keeps-at (λ i t. length t ≡ 32) (startAt homes served) n (replicate 32 0)

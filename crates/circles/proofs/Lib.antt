@@ -1,3 +1,4 @@
 pub mod Crossings
 pub mod Equal
 pub mod Tests
+pub mod Drawn

@@ -2,3 +2,4 @@ pub mod Crossings
 pub mod Equal
 pub mod Tests
 pub mod Drawn
+pub mod Found

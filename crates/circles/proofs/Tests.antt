@@ -48,13 +48,13 @@ unfolding onward
 router-onward pl (active a) x n t q = rw q refl
 router-onward pl (passive p) x n t q = rw q refl
 
-router-is : (r : ℕ) (j : Joint) → isRouter r j ≡ true → (t : ℕ) × (j ≡ Router r t)
+pub router-is : (r : ℕ) (j : Joint) → isRouter r j ≡ true → (t : ℕ) × (j ≡ Router r t)
 router-is r Nothing e = absurd (false≢true e)
 router-is r (Router n t) e = (t, ap (λ (k : ℕ). Router k t) (eqb-true n r e))
 router-is r (Active n) e = absurd (false≢true e)
 router-is r (Passive n) e = absurd (false≢true e)
 
-port-is : (i : ℕ) (j : Joint) → isRouterAt i j ≡ true → (n t : ℕ) × (j ≡ Router n t) × (4 * n + t ≡ i)
+pub port-is : (i : ℕ) (j : Joint) → isRouterAt i j ≡ true → (n t : ℕ) × (j ≡ Router n t) × (4 * n + t ≡ i)
 port-is i Nothing e = absurd (false≢true e)
 port-is i (Router n t) e = (n, t, refl, eqb-true (4 * n + t) i e)
 port-is i (Active n) e = absurd (false≢true e)
@@ -222,7 +222,7 @@ module _ {pl : Plan} (wired : Wired pl) where
   unfolding answerLeaves
   answer-leaves a r o t = let b = also-true t in (b .1, eqb-true (routeTo pl (active a) r) o (b .0))
 
-  answer-comes : (a : ℕ) (j : Joint) → answerComes pl a j ≡ true → (n t : ℕ) × (j ≡ Router n t) × (answerLeaves pl a n t ≡ true)
+  pub answer-comes : (a : ℕ) (j : Joint) → answerComes pl a j ≡ true → (n t : ℕ) × (j ≡ Router n t) × (answerLeaves pl a n t ≡ true)
   answer-comes a Nothing u = absurd (false≢true u)
   answer-comes a (Router n t) u = (n, t, refl, u)
   answer-comes a (Active n) u = absurd (false≢true u)

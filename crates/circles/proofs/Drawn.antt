@@ -126,8 +126,7 @@ module _ {pl : Plan} {h : Head} {by : List (List ℕ)} {joints homes arrive serv
       let ex : (4 * x + o) / 4 ≡ x = omega arith in
       let eo : (4 * x + o) % 4 ≡ o = omega arith in
       let j : pl .joint x o ≡ Router (beyondOf joints (4 * x + o)) (partnerOf joints (4 * x + o) % 4) =
-      rw (ex, eo) at (partner-joint (4 * x + o) (omega arith) (omega arith)) in
-      (
+      rw (ex, eo) at (partner-joint (4 * x + o) (omega arith) (omega arith)) in (
         partnerOf joints (4 * x + o) % 4,
         router-onward pl e (record { router = x; side = i }) y (partnerOf joints (4 * x + o) % 4) (ap (pl .joint x) r ∙ j ∙ ap (λ (n : ℕ). Router n (partnerOf joints (4 * x + o) % 4)) q),
       )

@@ -296,3 +296,41 @@ module _ {pl : Plan} {h : Head} {by : List (List ℕ)} {joints homes arrive serv
       round r =
           test-of-ring (4 * R pl) (edge (linksOf heard joints (4 * R pl)))
           (ring-map (Hands pl) (Leads (4 * R pl) (edge (linksOf heard joints (4 * R pl)))) linkAt step r)
+
+  -- ---- as the code has it
+  routers : h .routers ≡ R pl
+  routers = ap (λ (x : Head). x .routers) (sym (told .same))
+
+  actives : h .actives ≡ A pl
+  actives = ap (λ (x : Head). x .actives) (sym (told .same))
+
+  pub walks-ring : {t l cells : List ℕ} {limit : ℕ} {r : Bool} → Spread by joints (h .routers) (startsOf homes serve (h .actives)) t
+      → limit ≡ below 32 → l ≡ leavesOf by t limit (4 * h .routers) → cells ≡ trailsOf l joints (4 * h .routers)
+      → r ≡ ringTest (4 * h .routers) (edge cells) → r ≡ ringTest (4 * R pl) (trailEdge pl)
+  walks-ring {t} s m el ec e = walks-found t (rw (routers, actives) at s) (rw (ec, el, m, routers) at e)
+
+  pub answers-ring : {t l cells : List ℕ} {limit : ℕ} {r : Bool}
+      → Rattle.links.specs.Starts.Answers by joints homes serve (h .routers) (h .actives) t
+      → limit ≡ below 32 → l ≡ leavesOf by t limit (4 * h .routers) → cells ≡ crossesOf l joints (16 * h .routers)
+      → r ≡ ringTest (4 * (4 * h .routers)) (edge cells) → r ≡ ringTest (16 * R pl) (handEdge pl)
+  answers-ring {t} {l} {cells} s m el ec e =
+      let n : 4 * (4 * h .routers) ≡ 16 * h .routers = omega arith in
+      answers-found t (rw (routers, actives) at s) (rw (n, ec, el, m, routers) at e)
+
+  pub links-ring : {l cells : List ℕ} {live : ℕ} {r : Bool} → live ≡ livesOf serve (h .actives)
+      → l ≡ leavesOf by arrive live (4 * h .routers) → cells ≡ linksOf l joints (4 * h .routers)
+      → r ≡ ringTest (4 * h .routers) (edge cells) → r ≡ false → ringTest (16 * R pl) (handEdge pl) ≡ false
+  links-ring m el ec e f = links-clear (rw (ec, el, m, routers, actives) at e) f
+
+-- ---- the three together
+pub ring-by-walks : (pl : Plan) → true ≡ ringTest (4 * R pl) (trailEdge pl) → true ≡ hasRing pl
+unfolding hasRing
+ring-by-walks pl e = rw (← e)
+
+pub ring-by-links : (pl : Plan) → false ≡ ringTest (4 * R pl) (trailEdge pl) → ringTest (16 * R pl) (handEdge pl) ≡ false → false ≡ hasRing pl
+unfolding hasRing
+ring-by-links pl e f = rw (← e, f)
+
+pub ring-by-answers : (pl : Plan) {r : Bool} → false ≡ ringTest (4 * R pl) (trailEdge pl) → r ≡ ringTest (16 * R pl) (handEdge pl) → r ≡ hasRing pl
+unfolding hasRing
+ring-by-answers pl e f = rw (← e) f

@@ -235,8 +235,8 @@ module _ (l joints : List ℕ) where
           → (ltb (partnerOf joints (outOf x)) 64 ≡ true) ⊎ (ltb (partnerOf joints (outOf x)) 64 ≡ false)
           → (partnerOf joints (x / 4) < 64) × (partnerOf joints (outOf x) < 64)
           × (pick (ltb (partnerOf joints (x / 4)) 64)
-             (pick (ltb (partnerOf joints (outOf x)) 64) (16 * partnerOf joints (outOf x) + maskOf l (crossed x) (beyondOf joints (outOf x))) 0) 0
-             ≡ 16 * partnerOf joints (outOf x) + maskOf l (crossed x) (beyondOf joints (outOf x)))
+          (pick (ltb (partnerOf joints (outOf x)) 64) (16 * partnerOf joints (outOf x) + maskOf l (crossed x) (beyondOf joints (outOf x))) 0) 0
+          ≡ 16 * partnerOf joints (outOf x) + maskOf l (crossed x) (beyondOf joints (outOf x)))
       by (inl e) (inl f) = (ltb-true _ 64 e, ltb-true _ 64 f, rw (e, f))
       by (inl e) (inr f) = absurd (not-empty 0 j (rw (e, f) at t) refl)
       by (inr e) b = absurd (not-empty 0 j (rw e at t) refl)

@@ -13,12 +13,12 @@ use lib.Seq.{getD-set-same, getD-set-other, set-getD}
 use lib.Bits.{and-le-r, and-le-l, or-add-and}
 use borrow.Author.Tests.{lt-ltb, eqb-true, eqb-false, eq-eqb, ne-eqb}
 use Rattle.basis.specs.Choice.{pick, test, refuted, affirmed, not-both}
-use Rattle.basis.specs.Bounded.{Found, find, below-suc, lt-or-ge}
+use Rattle.basis.specs.Bounded.{Found, find, below-suc, lt-or-ge, or-cases, or-right}
 use Rattle.basis.specs.Fold.{upTo, up-none, up-more, up-done, up-keeps, up-keeps-at, fill, fill-at, fill-past, length-fill}
 use Rattle.basis.specs.Ring.{Ring, Leads, Chain, ring-in, still, longer, follow, ringTest, ring-of-test, test-of-ring}
 use Rattle.sets.specs.Sets.{has, single, both, either, less, below}
-use Rattle.sets.specs.Laws.{has-both, has-less, has-single, has-below, none-has, no-member, less-le, either-grows}
-use Rattle.peel.specs.Cells.{groupOf, edge, isLeft, staysOf, dropOf, judgeOf, judgeAt, upOf, downOf, restOf, firstOf}
+use Rattle.sets.specs.Laws.{has-both, has-either, has-single, has-below, none-has, no-member, both-none}
+use Rattle.peel.specs.Cells.{groupOf, edge, isLeft, staysOf, keepOf, judgeOf, judgeAt, upOf, downOf, restOf, firstOf}
 
 -- ---- members
 -- a set of four that is not empty has a member
@@ -31,6 +31,9 @@ member s l h = by (find 4 (has s))
 
 not-empty : (s i : ℕ) → has s i ≡ true → s ≢ 0
 not-empty s i t e = true≢false (sym t ∙ ap (λ (u : ℕ). has u i) e ∙ none-has i)
+
+in-either : (s t i : ℕ) → has (either s t) i ≡ true → (has s i ≡ true) ⊎ (has t i ≡ true)
+in-either s t i e = or-cases (has s i) (has t i) (sym (has-either s t i) ∙ e)
 
 -- two sets that make the empty one
 either-none : (s t : ℕ) → either s t ≡ 0 → (s ≡ 0) × (t ≡ 0)
@@ -87,91 +90,68 @@ module _ (cells : List ℕ) where
       rw (g, ne-eqb (both (getD cells x 0) (getD left (y / 4) 0)) 0 (not-empty _ (y % 4) u))
 
   -- ---- a group judged
-  drop-true : (left : List ℕ) (row x o i : ℕ) → has (dropOf cells left row x o) i ≡ true
-      → (has row i ≡ true) × (i ≡ o → staysOf cells left x ≡ true)
-  unfolding dropOf
-  drop-true left row x o i t = by (staysOf cells left x) refl t
+  keep-in : (left : List ℕ) (x o i : ℕ) → has (keepOf cells left x o) i ≡ true → (i ≡ o) × (staysOf cells left x ≡ true)
+  unfolding keepOf
+  keep-in left x o i t = by (staysOf cells left x) refl t
     where
-      by : (b : Bool) → staysOf cells left x ≡ b → has (pick b row (less row (single o))) i ≡ true
-          → (has row i ≡ true) × (i ≡ o → staysOf cells left x ≡ true)
-      by true e u = (u, λ q. e)
-      by false e u =
-          let b = and-eq-true-iff (has row i) (not (has (single o) i)) .0 (sym (has-less row (single o) i) ∙ u) in
-          (b .0, λ q. absurd (false≢true (rw (has-single o i, eq-eqb i o q) at (b .1))))
+      by : (b : Bool) → staysOf cells left x ≡ b → has (pick b (single o) 0) i ≡ true → (i ≡ o) × (staysOf cells left x ≡ true)
+      by true e u = (eqb-true i o (sym (has-single o i) ∙ u), e)
+      by false e u = absurd (not-empty 0 i u refl)
 
-  drop-of : (left : List ℕ) (row x o i : ℕ) → has row i ≡ true → (i ≡ o → staysOf cells left x ≡ true)
-      → has (dropOf cells left row x o) i ≡ true
-  unfolding dropOf
-  drop-of left row x o i t h = by (staysOf cells left x) refl
-    where
-      by : (b : Bool) → staysOf cells left x ≡ b → has (pick b row (less row (single o))) i ≡ true
-      by true e = t
-      by false e =
-          let u : eqb i o ≡ false = ne-eqb i o (λ q. not-both (h q) e) in
-          has-less row (single o) i ∙ rw (t, has-single o i, u)
-
-  drop-le : (left : List ℕ) (row x o : ℕ) → dropOf cells left row x o ≤ row
-  unfolding dropOf
-  drop-le left row x o = by (staysOf cells left x)
-    where
-      by : (b : Bool) → pick b row (less row (single o)) ≤ row
-      by true = omega arith
-      by false = less-le row (single o)
+  in-keep : (left : List ℕ) (x o : ℕ) → staysOf cells left x ≡ true → has (keepOf cells left x o) o ≡ true
+  unfolding keepOf
+  in-keep left x o e = rw e (has-single o o ∙ eq-eqb o o refl)
 
   module _ (left : List ℕ) (g : ℕ) where
-    abbrev one : ℕ
-    one = dropOf cells left (getD left g 0) (4 * g) 0
+    abbrev digit : ℕ → ℕ
+    digit o = keepOf cells left (4 * g + o) o
 
-    abbrev two : ℕ
-    two = dropOf cells left one (4 * g + 1) 1
+    abbrev four : ℕ
+    four = either (either (digit 0) (digit 1)) (either (digit 2) (digit 3))
 
-    abbrev three : ℕ
-    three = dropOf cells left two (4 * g + 2) 2
-
-    judge-true : (i : ℕ) → has (judgeOf cells left g) i ≡ true
-        → (has (getD left g 0) i ≡ true) × (i < 4 → staysOf cells left (4 * g + i) ≡ true)
+    judge-is : judgeOf cells left g ≡ both (getD left g 0) four
     unfolding judgeOf
+    judge-is = let z : 4 * g + 0 ≡ 4 * g = omega arith in rw z
+
+    judge-true : (i : ℕ) → has (judgeOf cells left g) i ≡ true → (has (getD left g 0) i ≡ true) × (staysOf cells left (4 * g + i) ≡ true)
     judge-true i t =
-        let d = drop-true left three (4 * g + 3) 3 i t in
-        let c = drop-true left two (4 * g + 2) 2 i (d .0) in
-        let b = drop-true left one (4 * g + 1) 1 i (c .0) in
-        let a = drop-true left (getD left g 0) (4 * g) 0 i (b .0) in
-        (a .0, by i (a .1) (b .1) (c .1) (d .1))
+        let b = and-eq-true-iff (has (getD left g 0) i) (has four i) .0 (sym (has-both (getD left g 0) four i) ∙ (rw judge-is at t)) in
+        (b .0, by (in-either (either (digit 0) (digit 1)) (either (digit 2) (digit 3)) i (b .1)))
       where
-        by : (i : ℕ) → (i ≡ 0 → staysOf cells left (4 * g) ≡ true) → (i ≡ 1 → staysOf cells left (4 * g + 1) ≡ true)
-            → (i ≡ 2 → staysOf cells left (4 * g + 2) ≡ true) → (i ≡ 3 → staysOf cells left (4 * g + 3) ≡ true)
-            → i < 4 → staysOf cells left (4 * g + i) ≡ true
-        by zero a b c d l = let z : 4 * g + 0 ≡ 4 * g = omega arith in rw z (a refl)
-        by (suc zero) a b c d l = b refl
-        by (suc (suc zero)) a b c d l = c refl
-        by (suc (suc (suc zero))) a b c d l = d refl
-        by (suc (suc (suc (suc i)))) a b c d l = absurd (omega arith)
+        at : (o : ℕ) → has (digit o) i ≡ true → staysOf cells left (4 * g + i) ≡ true
+        at o u = let k = keep-in left (4 * g + o) o i u in rw (k .0) (k .1)
 
-    judge-of : (i : ℕ) → has (getD left g 0) i ≡ true → (i < 4 → staysOf cells left (4 * g + i) ≡ true)
-        → has (judgeOf cells left g) i ≡ true
-    unfolding judgeOf
-    judge-of i t h =
-        drop-of left three (4 * g + 3) 3 i
-        (drop-of left two (4 * g + 2) 2 i
-        (drop-of left one (4 * g + 1) 1 i
-        (drop-of left (getD left g 0) (4 * g) 0 i t (λ q. at 0 q (omega arith) (omega arith)))
-        (λ q. at 1 q refl (omega arith)))
-        (λ q. at 2 q refl (omega arith)))
-        (λ q. at 3 q refl (omega arith))
+        two : (o p : ℕ) → (has (digit o) i ≡ true) ⊎ (has (digit p) i ≡ true) → staysOf cells left (4 * g + i) ≡ true
+        two o p (inl u) = at o u
+        two o p (inr u) = at p u
+
+        by : (has (either (digit 0) (digit 1)) i ≡ true) ⊎ (has (either (digit 2) (digit 3)) i ≡ true) → staysOf cells left (4 * g + i) ≡ true
+        by (inl u) = two 0 1 (in-either (digit 0) (digit 1) i u)
+        by (inr u) = two 2 3 (in-either (digit 2) (digit 3) i u)
+
+    judge-of : (i : ℕ) → i < 4 → has (getD left g 0) i ≡ true → staysOf cells left (4 * g + i) ≡ true → has (judgeOf cells left g) i ≡ true
+    judge-of i l t s =
+        rw judge-is (has-both (getD left g 0) four i ∙ and-eq-true-iff (has (getD left g 0) i) (has four i) .1 (t, by i l (in-keep left (4 * g + i) i s)))
       where
-        at : (o : ℕ) → i ≡ o → {x : ℕ} → 4 * g + o ≡ x → o < 4 → staysOf cells left x ≡ true
-        at o q e l = rw (← e, ← q) (h (omega arith))
+        by : (i : ℕ) → i < 4 → has (digit i) i ≡ true → has four i ≡ true
+        by zero l u = has-either (either (digit 0) (digit 1)) (either (digit 2) (digit 3)) 0 ∙ rw (has-either (digit 0) (digit 1) 0, u)
+        by (suc zero) l u =
+            has-either (either (digit 0) (digit 1)) (either (digit 2) (digit 3)) 1 ∙ rw (has-either (digit 0) (digit 1) 1, u, or-right (has (digit 0) 1))
+        by (suc (suc zero)) l u =
+            has-either (either (digit 0) (digit 1)) (either (digit 2) (digit 3)) 2
+            ∙ rw (has-either (digit 2) (digit 3) 2, u, or-right (has (either (digit 0) (digit 1)) 2))
+        by (suc (suc (suc zero))) l u =
+            has-either (either (digit 0) (digit 1)) (either (digit 2) (digit 3)) 3
+            ∙ rw (has-either (digit 2) (digit 3) 3, u, or-right (has (digit 2) 3), or-right (has (either (digit 0) (digit 1)) 3))
+        by (suc (suc (suc (suc i)))) l u = absurd (omega arith)
 
     judge-le : judgeOf cells left g ≤ getD left g 0
-    unfolding judgeOf
-    judge-le =
-        omega (
-          arith,
-          drop-le left three (4 * g + 3) 3,
-          drop-le left two (4 * g + 2) 2,
-          drop-le left one (4 * g + 1) 1,
-          drop-le left (getD left g 0) (4 * g) 0,
-        )
+    unfolding both
+    judge-le = rw judge-is (and-le-l (getD left g 0) four)
+
+    -- of a group of which none is left
+    pub judge-none : getD left g 0 ≡ 0 → 0 ≡ judgeOf cells left g
+    judge-none e = sym (rw (judge-is, e) (both-none four))
 
   -- ---- a sweep as the code makes it: the first g groups judged, and nothing gone only where nothing changed
   abbrev pub Swept : List ℕ → ℕ → ℕ → List ℕ → Type 0
@@ -240,7 +220,7 @@ module _ (cells : List ℕ) where
             let q : x / 4 ≡ g = eqb-true (x / 4) g e in
             let j = judge-true left g (x % 4) (rw (q, row-same left g l) at t) in
             let same : 4 * g + x % 4 ≡ x = omega arith in
-            (rw q (j .0), λ k. rw same at (j .1 (omega arith)))
+            (rw q (j .0), λ k. rw same at (j .1))
         by (inr e) =
             let q = eqb-false (x / 4) g e in
             (rw (row-other left g (x / 4) q) at t, λ k. absurd (q k))
@@ -253,7 +233,7 @@ module _ (cells : List ℕ) where
         by (inl e) =
             let q : x / 4 ≡ g = eqb-true (x / 4) g e in
             let same : 4 * g + x % 4 ≡ x = omega arith in
-            rw (q, row-same left g l) (judge-of left g (x % 4) (rw q at t) (λ h. rw same s))
+            rw (q, row-same left g l) (judge-of left g (x % 4) (omega arith) (rw q at t) (rw same s))
         by (inr e) = rw (row-other left g (x / 4) (eqb-false (x / 4) g e)) t
 
     peeled-judge : (k g : ℕ) (left : List ℕ) → n ≤ 64 → g < n → Peeled k left → Peeled k (judgeAt cells g left)

@@ -7,7 +7,7 @@ use lib.Dec.{eqb}
 use lib.ListN.{getD, set, replicate}
 use Rattle.basis.specs.Choice.{pick}
 use Rattle.basis.specs.Fold.{upTo, fill}
-use Rattle.sets.specs.Sets.{has, single, both, either, less}
+use Rattle.sets.specs.Sets.{has, single, both, either}
 
 -- the group that a cell leads to
 abbrev pub groupOf : ℕ → ℕ
@@ -26,14 +26,15 @@ module _ (cells : List ℕ) where
   unfoldable pub staysOf : List ℕ → ℕ → Bool
   staysOf left x = not (eqb (both (getD cells x 0) (getD left (groupOf (getD cells x 0)) 0)) 0)
 
-  unfoldable pub dropOf : List ℕ → ℕ → ℕ → ℕ → ℕ
-  dropOf left row x o = pick (staysOf left x) row (less row (single o))
+  -- the o-th node of a group, x, if it stays
+  unfoldable pub keepOf : List ℕ → ℕ → ℕ → ℕ
+  keepOf left x o = pick (staysOf left x) (single o) 0
 
   unfoldable pub judgeOf : List ℕ → ℕ → ℕ
   judgeOf left g =
-      dropOf left
-      (dropOf left (dropOf left (dropOf left (getD left g 0) (4 * g) 0) (4 * g + 1) 1) (4 * g + 2) 2)
-      (4 * g + 3) 3
+      both (getD left g 0)
+      (either (either (keepOf left (4 * g) 0) (keepOf left (4 * g + 1) 1))
+      (either (keepOf left (4 * g + 2) 2) (keepOf left (4 * g + 3) 3)))
 
   unfoldable pub judgeAt : ℕ → List ℕ → List ℕ
   judgeAt g left = set left g (judgeOf left g)

@@ -4,13 +4,13 @@
 use sets::both;
 use sets::either;
 use sets::less;
-use sets::without;
+use sets::single;
 ghost use mathlib.Core.Path.{_≡_};
 ghost use mathlib.Core.Bool.{Bool};
 ghost use Prim.Native.Nat.{_+_, _*_, _≤_, _<_};
 ghost use lib.ListN.{length, getD};
 ghost use Rattle.basis.specs.Ring.{ringTest};
-ghost use Rattle.peel.specs.Cells.{edge, staysOf, dropOf, judgeOf, upOf, downOf, restOf, firstOf};
+ghost use Rattle.peel.specs.Cells.{edge, staysOf, keepOf, judgeOf, upOf, downOf, restOf, firstOf};
 
 // The most groups.
 pub const GROUPS: usize = 64;
@@ -25,15 +25,15 @@ fn stays(cells: &[u32], left: &[u32; GROUPS], x: usize) -> bool
     both(c, left[g]) != 0
 }
 
-// A group's nodes that are left, without its o-th, x, if that does not stay.
-fn drop(cells: &[u32], left: &[u32; GROUPS], row: u32, x: usize, o: usize) -> u32
+// The o-th node of a group, x, if it stays.
+fn keep(cells: &[u32], left: &[u32; GROUPS], x: usize, o: usize) -> u32
     requires { ⌜ (x < length (now cells)) × (o < 4) ⌝ }
-    ensures { λ r. ⌜ r ≡ dropOf (now (cells .entry)) (now (left .entry)) row x o ⌝ }
+    ensures { λ r. ⌜ r ≡ keepOf (now (cells .entry)) (now (left .entry)) x o ⌝ }
 {
     if stays(cells, left, x) {
-        return row;
+        return single(o);
     }
-    without(row, o)
+    0
 }
 
 // The nodes of group g that are left and stay.
@@ -41,10 +41,14 @@ fn judge(cells: &[u32], left: &[u32; GROUPS], g: usize) -> u32
     requires { ⌜ (g < 64) × (4 * g + 3 < length (now cells)) ⌝ }
     ensures { λ r. ⌜ r ≡ judgeOf (now (cells .entry)) (now (left .entry)) g ⌝ }
 {
-    let a = drop(cells, left, left[g], 4 * g, 0);
-    let b = drop(cells, left, a, 4 * g + 1, 1);
-    let c = drop(cells, left, b, 4 * g + 2, 2);
-    drop(cells, left, c, 4 * g + 3, 3)
+    if left[g] == 0 {
+        return 0;
+    }
+    let a = keep(cells, left, 4 * g, 0);
+    let b = keep(cells, left, 4 * g + 1, 1);
+    let c = keep(cells, left, 4 * g + 2, 2);
+    let d = keep(cells, left, 4 * g + 3, 3);
+    both(left[g], either(either(a, b), either(c, d)))
 }
 
 // A sweep up the groups; answers 0 only where no node goes.

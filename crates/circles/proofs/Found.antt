@@ -36,7 +36,7 @@ use Rattle.links.proofs.Members.{member, in-lives, leaves-at, leave-in, in-leav
 use Rattle.circles.specs.Circles.{Answers, Crossing, Hands, AnswerRing}
 use Rattle.circles.specs.RingTest.{walkMeets, walkLeaves, isRouter, trailEdge, answered, answerLeaves, answerComes, answersPass, handEdge, hasRing}
 use Rattle.circles.specs.Told.{Fits, Told}
-use Rattle.circles.proofs.Tests.{WalkBy, walk-by, by-walk, router-is, port-is, answered-by, by-answers, back-from, start-inside, answer-leaves, answer-comes, Handed, handed, answer-test}
+use Rattle.circles.proofs.Tests.{WalkBy, walk-by, by-walk, router-is, port-is, answered-by, by-answers, back-from, start-inside, answer-leaves, answer-comes, Handed, handed, answer-test, one-router}
 use Rattle.circles.proofs.Drawn.{few, joint-partner, partner-joint, leaves-of, of-leaves, all-walker, walker-all, answers-of, of-answers}
 
 -- ---- tests of relations that agree
@@ -321,6 +321,9 @@ module _ {pl : Plan} {h : Head} {by : List (List ℕ)} {joints homes arrive serv
       → l ≡ leavesOf by arrive live (4 * h .routers) → cells ≡ linksOf l joints (4 * h .routers)
       → r ≡ ringTest (4 * h .routers) (edge cells) → r ≡ false → ringTest (16 * R pl) (handEdge pl) ≡ false
   links-ring m el ec e f = links-clear (rw (ec, el, m, routers, actives) at e) f
+
+  pub one-ringless : h .routers ≡ 1 → false ≡ hasRing pl
+  one-ringless e = one-router (told .wired) (sym routers ∙ e)
 
 -- ---- the three together
 pub ring-by-walks : (pl : Plan) → true ≡ ringTest (4 * R pl) (trailEdge pl) → true ≡ hasRing pl

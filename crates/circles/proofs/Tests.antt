@@ -6,7 +6,7 @@ use Prim.Native.Nat.{ℕ, zero, suc, _+_, _*_, _-_, _/_, _%_, _≤_, _<_}
 use native.Mathlib.Omega.{arith}
 use lib.Dec.{eqb}
 use borrow.Author.Tests.{eqb-true, eq-eqb}
-use Rattle.basis.specs.Choice.{also, test, also-true, also-of}
+use Rattle.basis.specs.Choice.{also, also-true, also-of, refuted}
 use Rattle.basis.specs.Bounded.{Found, anyBelow, any-true, any-of, or-cases, or-right}
 use Rattle.basis.specs.Walk.{Spot, on, end, lost, way-on}
 use Rattle.basis.specs.Ring.{Ring, Leads, ring-map, ringTest, ring-of-test, test-of-ring}
@@ -351,3 +351,19 @@ module _ {pl : Plan} (wired : Wired pl) where
       by : WalkRing pl ⊎ AnswerRing pl → (ringTest (4 * R pl) (trailEdge pl) || ringTest (16 * R pl) (handEdge pl)) ≡ true
       by (inl s) = rw (test-walk wired s) refl
       by (inr s) = rw (test-answer s) (or-right (ringTest (4 * R pl) (trailEdge pl)))
+
+  -- ---- one router alone has none
+  no-step : R pl ≡ 1 → (e : Interface) (x z : Port) → onward pl e x ≡ on z → ⊥
+  no-step one e x z q =
+      let j = onward-on pl e x z q in
+      let n = wired .named (x .router) (routeTo pl e (x .router)) (z .router) (z .side) j in
+      let here = near wired (n .1) in
+      let there = near wired j in
+      n .0 (omega arith)
+
+  pub one-router : R pl ≡ 1 → false ≡ hasRing pl
+  one-router one = sym (refuted (hasRing pl) (λ t. by (rings-of-feeds wired (ring-test t))))
+    where
+      by : WalkRing pl ⊎ AnswerRing pl → ⊥
+      by (inl r) = let f = r .linked 0 (r .some) in no-step one (passive (f .p)) _ _ (f .next)
+      by (inr r) = let f = r .linked 0 (r .some) in no-step one (active (f .a)) _ _ (f .goes)

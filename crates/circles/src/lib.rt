@@ -25,9 +25,11 @@ fn walks_ring(
 {
     let n = h.routers;
     let used = links::starts::carried(by, joints, homes, served, n, h.actives);
-    let gone = links::leaves(by, &used, sets::below(32), 4 * n);
-    let trails = links::trail_cells(&gone, joints, 4 * n);
-    peel::has_ring(&trails, n)
+    let mut gone = [0u32; 64];
+    links::leaves(by, &used, sets::below(32), 4 * n, &mut gone);
+    let mut cells = [0u32; 64];
+    links::trail_cells(&gone, joints, 4 * n, &mut cells);
+    peel::has_ring(&cells, n)
 }
 
 // Whether answers might go round, if every router sent some to each served active that it reaches: a quick look.
@@ -45,8 +47,10 @@ fn links_ring(
 {
     let n = h.routers;
     let live = links::starts::live(served, h.actives);
-    let gone = links::leaves(by, arrive, live, 4 * n);
-    let cells = links::link_cells(&gone, joints, 4 * n);
+    let mut gone = [0u32; 64];
+    links::leaves(by, arrive, live, 4 * n, &mut gone);
+    let mut cells = [0u32; 64];
+    links::link_cells(&gone, joints, 4 * n, &mut cells);
     peel::has_ring(&cells, n)
 }
 
@@ -65,8 +69,10 @@ fn answers_ring(
 {
     let n = h.routers;
     let sent = links::starts::answers(by, joints, homes, served, n, h.actives);
-    let gone = links::leaves(by, &sent, sets::below(32), 4 * n);
-    let cells = links::cross_cells(&gone, joints, 16 * n);
+    let mut gone = [0u32; 64];
+    links::leaves(by, &sent, sets::below(32), 4 * n, &mut gone);
+    let mut cells = [0u32; 256];
+    links::cross_cells(&gone, joints, 16 * n, &mut cells);
     peel::has_ring(&cells, 4 * n)
 }
 
@@ -84,6 +90,9 @@ pub fn ring_found(
         → Told pl h (now (by .entry)) (now (joints .entry)) (now (homes .entry)) (now (arrive .entry)) (now (served .entry))
         → r ≡ hasRing pl) ⌝ }
 {
+    if h.routers == 1 {
+        return false;
+    }
     if walks_ring(by, joints, homes, served, h) {
         return true;
     }

@@ -13,7 +13,7 @@ use lib.Seq.{getD-set-same, getD-set-other}
 use borrow.Author.Tests.{lt-ltb, ltb-true, ltb-false, le-ltb, eqb-true, eqb-false, eq-eqb, ne-eqb}
 use Rattle.basis.specs.Choice.{pick, test, not-both}
 use Rattle.basis.specs.Bounded.{Found, find, below-suc, lt-or-ge}
-use Rattle.basis.specs.Fold.{upTo, fill, fill-at, up-keeps-at}
+use Rattle.basis.specs.Fold.{upTo, fill, fill-at, length-fill, up-keeps-at}
 use Rattle.sets.specs.Sets.{has, single, both, either, below}
 use Rattle.sets.specs.Laws.{has-single, has-below, none-has, no-member}
 use Rattle.spread.specs.Carried.{partnerOf, beyondOf, In}
@@ -257,3 +257,15 @@ module _ (l joints : List ℕ) where
   pub crosses-at : (n k : ℕ) → k < n → n ≤ 256 → getD (crossesOf l joints n) k 0 ≡ crossOf l joints k
   unfolding crossesOf
   crosses-at n k h m = fill-at {A = ℕ} (crossOf l joints) n (replicate 256 0) k 0 h m
+
+  pub trails-long : (n : ℕ) {c : List ℕ} → c ≡ trailsOf l joints n → length c ≡ 64
+  unfolding trailsOf
+  trails-long n e = rw e (length-fill {A = ℕ} (trailOf l joints) n (replicate 64 0))
+
+  pub links-long : (n : ℕ) {c : List ℕ} → c ≡ linksOf l joints n → length c ≡ 64
+  unfolding linksOf
+  links-long n e = rw e (length-fill {A = ℕ} (linkOf l joints) n (replicate 64 0))
+
+  pub crosses-long : (n : ℕ) {c : List ℕ} → c ≡ crossesOf l joints n → length c ≡ 256
+  unfolding crossesOf
+  crosses-long n e = rw e (length-fill {A = ℕ} (crossOf l joints) n (replicate 256 0))

@@ -8,6 +8,7 @@ use sets::single;
 use spread::partner;
 ghost use mathlib.Core.Path.{_≡_};
 ghost use Prim.Native.Nat.{_+_, _*_, _≤_, _<_};
+ghost use lib.ListN.{replicate};
 ghost use Rattle.links.specs.Cells.{leaveOf, leavesOf, bitOf, maskOf, trailOf, trailsOf, linkOf, linksOf, crossOf, crossesOf};
 
 // What of a set leaves by port k.
@@ -21,15 +22,13 @@ fn leave(by: &[[u32; 4]; 16], t: &[u32; 32], limit: u32, k: usize) -> u32
 }
 
 // By port: what of the sets of its router leaves by it.
-pub fn leaves(by: &[[u32; 4]; 16], t: &[u32; 32], limit: u32, n: usize) -> [u32; 64]
-    requires { ⌜ n ≤ 64 ⌝ }
-    ensures { λ r. ⌜ r ≡ leavesOf (now (by .entry)) (now (t .entry)) limit n ⌝ }
+pub fn leaves(by: &[[u32; 4]; 16], t: &[u32; 32], limit: u32, n: usize, l: &mut [u32; 64])
+    requires { ⌜ (n ≤ 64) × (now l ≡ replicate 64 0) ⌝ }
+    ensures { λ _. ⌜ now (l .exit) ≡ leavesOf (now (by .entry)) (now (t .entry)) limit n ⌝ }
 {
-    let mut l = [0u32; 64];
     for k in 0..n {
         l[k] = leave(by, t, limit, k);
     }
-    l
 }
 
 // The j-th side of router q, if some of m leave by it.
@@ -78,15 +77,13 @@ fn trail(l: &[u32; 64], joints: &[u8; 64], k: usize) -> u32
     0
 }
 
-pub fn trail_cells(l: &[u32; 64], joints: &[u8; 64], n: usize) -> [u32; 64]
-    requires { ⌜ n ≤ 64 ⌝ }
-    ensures { λ r. ⌜ r ≡ trailsOf (now (l .entry)) (now (joints .entry)) n ⌝ }
+pub fn trail_cells(l: &[u32; 64], joints: &[u8; 64], n: usize, cells: &mut [u32; 64])
+    requires { ⌜ (n ≤ 64) × (now cells ≡ replicate 64 0) ⌝ }
+    ensures { λ _. ⌜ now (cells .exit) ≡ trailsOf (now (l .entry)) (now (joints .entry)) n ⌝ }
 {
-    let mut cells = [0u32; 64];
     for k in 0..n {
         cells[k] = trail(l, joints, k);
     }
-    cells
 }
 
 // Side k, to the sides of the router beyond it that some of the same leave by.
@@ -101,15 +98,13 @@ fn link(l: &[u32; 64], joints: &[u8; 64], k: usize) -> u32
     0
 }
 
-pub fn link_cells(l: &[u32; 64], joints: &[u8; 64], n: usize) -> [u32; 64]
-    requires { ⌜ n ≤ 64 ⌝ }
-    ensures { λ r. ⌜ r ≡ linksOf (now (l .entry)) (now (joints .entry)) n ⌝ }
+pub fn link_cells(l: &[u32; 64], joints: &[u8; 64], n: usize, cells: &mut [u32; 64])
+    requires { ⌜ (n ≤ 64) × (now cells ≡ replicate 64 0) ⌝ }
+    ensures { λ _. ⌜ now (cells .exit) ≡ linksOf (now (l .entry)) (now (joints .entry)) n ⌝ }
 {
-    let mut cells = [0u32; 64];
     for k in 0..n {
         cells[k] = link(l, joints, k);
     }
-    cells
 }
 
 // The crossing x, from side x / 4 of a router to its side x % 4: to the crossings of the router beyond that some of the same
@@ -131,13 +126,11 @@ fn cross(l: &[u32; 64], joints: &[u8; 64], x: usize) -> u32
     cell(q, mask(l, m, q / 4))
 }
 
-pub fn cross_cells(l: &[u32; 64], joints: &[u8; 64], n: usize) -> [u32; 256]
-    requires { ⌜ n ≤ 256 ⌝ }
-    ensures { λ r. ⌜ r ≡ crossesOf (now (l .entry)) (now (joints .entry)) n ⌝ }
+pub fn cross_cells(l: &[u32; 64], joints: &[u8; 64], n: usize, cells: &mut [u32; 256])
+    requires { ⌜ (n ≤ 256) × (now cells ≡ replicate 256 0) ⌝ }
+    ensures { λ _. ⌜ now (cells .exit) ≡ crossesOf (now (l .entry)) (now (joints .entry)) n ⌝ }
 {
-    let mut cells = [0u32; 256];
     for x in 0..n {
         cells[x] = cross(l, joints, x);
     }
-    cells
 }

@@ -8,7 +8,7 @@ use sets::single;
 ghost use mathlib.Core.Path.{_≡_};
 ghost use mathlib.Core.Bool.{Bool};
 ghost use Prim.Native.Nat.{_+_, _*_, _≤_, _<_};
-ghost use lib.ListN.{length, getD};
+ghost use lib.ListN.{length, getD, replicate};
 ghost use Rattle.basis.specs.Ring.{ringTest};
 ghost use Rattle.peel.specs.Cells.{edge, staysOf, keepOf, judgeOf, upOf, downOf, restOf, firstOf};
 
@@ -90,15 +90,13 @@ fn rest(left: &[u32; GROUPS], n: usize) -> u32
 }
 
 // All nodes of n groups.
-fn first(n: usize) -> [u32; GROUPS]
-    requires { ⌜ n ≤ 64 ⌝ }
-    ensures { λ r. ⌜ r ≡ firstOf n ⌝ }
+fn first(n: usize, left: &mut [u32; GROUPS])
+    requires { ⌜ (n ≤ 64) × (now left ≡ replicate 64 0) ⌝ }
+    ensures { λ _. ⌜ now (left .exit) ≡ firstOf n ⌝ }
 {
-    let mut left = [0u32; GROUPS];
     for g in 0..n {
         left[g] = 15;
     }
-    left
 }
 
 // Whether the nodes of n groups have a ring.
@@ -106,7 +104,8 @@ pub fn has_ring(cells: &[u32], n: usize) -> bool
     requires { ⌜ (n ≤ 64) × (4 * n ≤ length (now cells)) ⌝ }
     ensures { λ r. ⌜ r ≡ ringTest (4 * n) (edge (now (cells .entry))) ⌝ }
 {
-    let mut left = first(n);
+    let mut left = [0u32; GROUPS];
+    first(n, &mut left);
     for k in 0..4 * n {
         sweep_down(cells, n, &mut left);
         if rest(&left, n) == 0 {

@@ -1,7 +1,7 @@
 use borrow.Author.Needs.{needs}
 use Prim.Native.Nat.{_-_, _≤_}
 use lib.ListN.{replicate}
-use mathlib.Core.Path.{_≡_}
+use mathlib.Core.Path.{_≡_, _∙_}
 use Rattle.links.specs.Cells.{leaveOf, leavesOf}
 use Rattle.basis.specs.Fold.{upTo, fill, up-none, up-fill, up-done}
 use native.Mathlib.Omega.{arith}
@@ -19,7 +19,7 @@ abbrev μ-loop : tie.MeasureT-loop
 
 -- src/lib.rt:29:5
 loop-holds : tie.Need-loop-holds Inv-loop μ-loop
-loop-holds c = (omega arith, up-none _ _)
+loop-holds c = (omega arith, c .pre .1 ∙ up-none _ _)
 
 -- src/lib.rt:30:16
 leave-requires : tie.Need-leave-requires Inv-loop μ-loop
@@ -30,8 +30,8 @@ mul-l : tie.Need-mul-l Inv-loop μ-loop
 mul-l c = search needs
 
 -- src/lib.rt:30:9
-array-write-l : tie.Need-array-write-l Inv-loop μ-loop
-array-write-l c = search needs
+element-write-l : tie.Need-element-write-l Inv-loop μ-loop
+element-write-l c = search needs
 
 -- src/lib.rt:29:9
 add-k : tie.Need-add-k Inv-loop μ-loop
@@ -45,7 +45,7 @@ loop-less c = omega arith
 loop-again : tie.Need-loop-again Inv-loop μ-loop
 loop-again c = (omega arith, up-fill _ _ _ (c .before .before .loop .inv .1) (c .leave .ensures))
 
--- src/lib.rt:24:1
+-- src/lib.rt:25:1
 returns : tie.Need-returns Inv-loop μ-loop
 unfolding leavesOf
 returns c = up-done _ _ (c .before .loop .inv .1) (omega arith)
@@ -59,7 +59,7 @@ leaves-spec =
     loop-holds
     leave-requires
     mul-l
-    array-write-l
+    element-write-l
     add-k
     loop-less
     loop-again

@@ -3,3 +3,4 @@ pub mod Equal
 pub mod Tests
 pub mod Drawn
 pub mod Found
+pub mod Tables

@@ -20,6 +20,7 @@ use Rattle.plan.specs.Tables.{jointOfByte}
 use Rattle.paths.specs.Walk.{onward, routerOf, Walk, walked}
 use Rattle.paths.specs.Served.{Served, served}
 use Rattle.feeding.specs.Feeds.{Meets}
+use Rattle.feeding.specs.Numbered.{Counts}
 use Rattle.wiring.specs.Wired.{Wired}
 use Rattle.wiring.proofs.Wires.{near, home-inside}
 use Rattle.journeys.proofs.Walks.{onward-on, walk-short, serves-of, served-of}
@@ -30,7 +31,7 @@ use Rattle.links.specs.Starts.{homeRow, startsOf, aloneOf, Comes}
 use Rattle.links.proofs.Laws.{not-empty}
 use Rattle.links.proofs.Members.{member, begun, alone-in, in-alone}
 use Rattle.circles.specs.Circles.{Answers}
-use Rattle.circles.specs.Told.{Fits, Told}
+use Rattle.circles.specs.Told.{Told}
 use Rattle.circles.proofs.Tests.{router-onward, back-from, start-inside}
 
 -- ---- a joint's byte
@@ -67,7 +68,7 @@ router-byte v l = by (test (eqb (v / 64) 1))
 nothing-router : {n t : ℕ} → Nothing ≡ Router n t → ⊥
 nothing-router e = let z : _≡_ {A = ℕ} 0 1 = cc in omega arith
 
-module _ {pl : Plan} {h : Head} {by : List (List ℕ)} {joints homes arrive serve : List ℕ} (fits : Fits h)
+module _ {pl : Plan} {h : Head} {by : List (List ℕ)} {joints homes arrive serve : List ℕ} (fits : Counts h)
     (told : Told pl h by joints homes arrive serve) where
   pub few : (R pl ≤ 16) × (A pl ≤ 16) × (P pl ≤ 16)
   few = rw (told .same) fits

@@ -21,6 +21,7 @@ use Rattle.plan.specs.Rules.{home, isRouterAt}
 use Rattle.plan.specs.Tables.{interfaceAt}
 use Rattle.paths.specs.Walk.{onward, routerOf, Walk}
 use Rattle.paths.specs.Served.{Served}
+use Rattle.feeding.specs.Numbered.{Counts}
 use Rattle.wiring.proofs.Wires.{near}
 use Rattle.journeys.proofs.Walks.{arrives-of, serves-of}
 use Rattle.journeys.proofs.Places.{walk-move}
@@ -35,7 +36,7 @@ use Rattle.links.proofs.Laws.{mask-small, not-empty}
 use Rattle.links.proofs.Members.{member, in-lives, leaves-at, leave-in, in-leave, cell-group, cell-has, four-has, mask-in, in-mask, trail-in, trail-is, link-is, crossed, cross-in, cross-is, trails-at, links-at, crosses-at}
 use Rattle.circles.specs.Circles.{Answers, Crossing, Hands, AnswerRing}
 use Rattle.circles.specs.RingTest.{walkMeets, walkLeaves, isRouter, trailEdge, answered, answerLeaves, answerComes, answersPass, handEdge, hasRing}
-use Rattle.circles.specs.Told.{Fits, Told}
+use Rattle.circles.specs.Told.{Told}
 use Rattle.circles.proofs.Tests.{WalkBy, walk-by, by-walk, router-is, port-is, answered-by, by-answers, back-from, start-inside, answer-leaves, answer-comes, Handed, handed, answer-test, one-router}
 use Rattle.circles.proofs.Drawn.{few, joint-partner, partner-joint, leaves-of, of-leaves, all-walker, walker-all, answers-of, of-answers}
 
@@ -58,7 +59,7 @@ unfolding edge
 parts-edge cells x y g m e a b q t =
     rw (e, cell-group g m a b, eq-eqb g (y / 4) q) (cell-has g m (y % 4) (omega arith) ∙ t)
 
-module _ {pl : Plan} {h : Head} {by : List (List ℕ)} {joints homes arrive serve : List ℕ} (fits : Fits h)
+module _ {pl : Plan} {h : Head} {by : List (List ℕ)} {joints homes arrive serve : List ℕ} (fits : Counts h)
     (told : Told pl h by joints homes arrive serve) where
   room : (R pl ≤ 16) × (A pl ≤ 16) × (P pl ≤ 16)
   room = few fits told

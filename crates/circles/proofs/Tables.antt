@@ -13,8 +13,9 @@ use Rattle.plan.specs.Plan.{Plan, active, A}
 use Rattle.plan.specs.Rules.{home, portsOf, portOr0}
 use Rattle.plan.specs.Tables.{jointOfByte, tablePlan, interfaceAt, homesOf}
 use Rattle.paths.specs.Drawn.{Sides, Arrivals, Serves}
+use Rattle.feeding.specs.Numbered.{Counts}
 use Rattle.wiring.specs.Wired.{Wired}
-use Rattle.circles.specs.Told.{Fits, Told}
+use Rattle.circles.specs.Told.{Told}
 
 -- the port of an active's home stands in the table of homes
 home-at : (pl : Plan) (a : ℕ) → destinations (pl .head) ≤ 32 → a < A pl → getD (homesOf pl) a 0 / 4 ≡ home pl (active a) .router
@@ -23,7 +24,7 @@ home-at pl a room l =
     rw (fill-at {A = ℕ} (λ d. portOr0 (portsOf pl (interfaceAt (pl .head) d))) (destinations (pl .head)) (replicate 32 0) a 0 (omega arith) room, lt-ltb a (A pl) l)
 
 -- with sides, arrivals and served pairs drawn as sets, the tables tell all that the search for a ring wants
-pub tables-told : (h : Head) (routes : List (List ℕ)) (joints : List ℕ) {homes arrive serve : List ℕ} {by : List (List ℕ)} → Fits h
+pub tables-told : (h : Head) (routes : List (List ℕ)) (joints : List ℕ) {homes arrive serve : List ℕ} {by : List (List ℕ)} → Counts h
     → Wired (tablePlan h routes joints) → homes ≡ homesOf (tablePlan h routes joints) → Sides (tablePlan h routes joints) by
     → Arrivals (tablePlan h routes joints) arrive → Serves (tablePlan h routes joints) serve
     → Told (tablePlan h routes joints) h by joints homes arrive serve

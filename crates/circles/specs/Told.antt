@@ -1,7 +1,7 @@
 -- The tables that the search for a ring is given, and that they tell what a plan says.
 use mathlib.Core.Path.{_≡_}
 use mathlib.Core.List.{List}
-use Prim.Native.Nat.{ℕ, _+_, _*_, _/_, _≤_, _<_}
+use Prim.Native.Nat.{ℕ, _+_, _*_, _/_, _<_}
 use lib.ListN.{getD}
 use Rattle.plan.specs.declared.Head.{Head}
 use Rattle.plan.specs.Plan.{Plan, active, R, A}
@@ -9,10 +9,6 @@ use Rattle.plan.specs.Rules.{home}
 use Rattle.plan.specs.Tables.{jointOfByte}
 use Rattle.paths.specs.Drawn.{Sides, Arrivals, Serves}
 use Rattle.wiring.specs.Wired.{Wired}
-
--- the tables have room for the plan
-abbrev pub Fits : Head → Type 0
-Fits h = (h .routers ≤ 16) × (h .actives ≤ 16) × (h .passives ≤ 16)
 
 -- destinations by router and side, joints by port, the homes' ports by active, the destinations that are reached from each
 -- router, the passives that each active is served with

@@ -7,8 +7,9 @@ ghost use mathlib.Core.List.{List};
 ghost use Prim.Native.Nat.{ℕ, _*_};
 ghost use Rattle.basis.specs.Ring.{ringTest};
 ghost use Rattle.plan.specs.Plan.{Plan, R};
+ghost use Rattle.feeding.specs.Numbered.{Counts};
 ghost use Rattle.circles.specs.RingTest.{trailEdge, handEdge, hasRing};
-ghost use Rattle.circles.specs.Told.{Fits, Told};
+ghost use Rattle.circles.specs.Told.{Told};
 
 // Whether the walks of served pairs go round.
 fn walks_ring(
@@ -18,7 +19,7 @@ fn walks_ring(
     served: &[u32; 16],
     h: Head,
 ) -> bool
-    requires { ⌜ Fits h ⌝ }
+    requires { ⌜ Counts h ⌝ }
     ensures { λ r. ⌜ ((pl : Plan) (arrive : List ℕ)
         → Told pl h (now (by .entry)) (now (joints .entry)) (now (homes .entry)) arrive (now (served .entry))
         → r ≡ ringTest (4 * R pl) (trailEdge pl)) ⌝ }
@@ -40,7 +41,7 @@ fn links_ring(
     served: &[u32; 16],
     h: Head,
 ) -> bool
-    requires { ⌜ Fits h ⌝ }
+    requires { ⌜ Counts h ⌝ }
     ensures { λ r. ⌜ ((pl : Plan) (homes : List ℕ)
         → Told pl h (now (by .entry)) (now (joints .entry)) homes (now (arrive .entry)) (now (served .entry))
         → r ≡ false → ringTest (16 * R pl) (handEdge pl) ≡ false) ⌝ }
@@ -62,7 +63,7 @@ fn answers_ring(
     served: &[u32; 16],
     h: Head,
 ) -> bool
-    requires { ⌜ Fits h ⌝ }
+    requires { ⌜ Counts h ⌝ }
     ensures { λ r. ⌜ ((pl : Plan) (arrive : List ℕ)
         → Told pl h (now (by .entry)) (now (joints .entry)) (now (homes .entry)) arrive (now (served .entry))
         → r ≡ ringTest (16 * R pl) (handEdge pl)) ⌝ }
@@ -85,7 +86,7 @@ pub fn ring_found(
     served: &[u32; 16],
     h: Head,
 ) -> bool
-    requires { ⌜ Fits h ⌝ }
+    requires { ⌜ Counts h ⌝ }
     ensures { λ r. ⌜ ((pl : Plan)
         → Told pl h (now (by .entry)) (now (joints .entry)) (now (homes .entry)) (now (arrive .entry)) (now (served .entry))
         → r ≡ hasRing pl) ⌝ }

@@ -30,10 +30,10 @@ use Rattle.sets.specs.Laws.{has-below}
 use Rattle.peel.specs.Cells.{groupOf, edge}
 use Rattle.spread.specs.Carried.{partnerOf, beyondOf, In, Leaves, Spread}
 use Rattle.spread.proofs.Laws.{in-both, both-in}
-use Rattle.links.specs.Cells.{leaveOf, leavesOf, maskOf, trailOf, trailsOf, linkOf, linksOf, crossOf, crossesOf, outOf}
+use Rattle.links.specs.Cells.{leaveOf, leavesOf, maskOf, trailOf, trailsOf, linkOf, linksOf, crossed, crossOf, crossesOf, outOf}
 use Rattle.links.specs.Starts.{startsOf, livesOf}
 use Rattle.links.proofs.Laws.{mask-small, not-empty}
-use Rattle.links.proofs.Members.{member, in-lives, leaves-at, leave-in, in-leave, cell-group, cell-has, four-has, mask-in, in-mask, trail-in, trail-is, link-is, crossed, cross-in, cross-is, trails-at, links-at, crosses-at}
+use Rattle.links.proofs.Members.{member, in-lives, leaves-at, leave-in, in-leave, cell-group, cell-has, four-has, mask-in, in-mask, trail-in, trail-is, link-is, cross-in, cross-is, trails-at, links-at, crosses-at}
 use Rattle.circles.specs.Circles.{Answers, Crossing, Hands, AnswerRing}
 use Rattle.circles.specs.RingTest.{walkMeets, walkLeaves, isRouter, trailEdge, answered, answerLeaves, answerComes, answersPass, handEdge, hasRing}
 use Rattle.circles.specs.Told.{Told}
@@ -229,9 +229,10 @@ module _ {pl : Plan} {h : Head} {by : List (List ℕ)} {joints homes arrive serv
                 let first = answers-leave i a (omega (arith, li)) la (rw (ir, is) (d .3)) in
                 let second = answers-leave (outOf x) a ox la (rw (or, oo) (c .0)) in
                 let third = answers-leave (4 * (q / 4) + y % 4) a (omega (arith, ln)) la (rw (er, es) (c .1)) in
+                let k = in-both (getD sent i 0) (getD sent (outOf x) 0) a first second in
                 let m = not-empty (both (crossed sent joints x) (getD sent (4 * (q / 4) + y % 4) 0)) a
-                (in-both (crossed sent joints x) (getD sent (4 * (q / 4) + y % 4) 0) a (in-both (getD sent i 0) (getD sent (outOf x) 0) a first second) third) in
-                let z = cross-is sent joints x (omega (arith, li, room)) (omega (arith, ln, room)) in
+                (in-both (crossed sent joints x) (getD sent (4 * (q / 4) + y % 4) 0) a k third) in
+                let z = cross-is sent joints x (omega (arith, li, room)) (omega (arith, ln, room)) (not-empty (crossed sent joints x) a k) in
                 parts-edge (crossesOf sent joints (16 * R pl)) x y q (maskOf sent (crossed sent joints x) (q / 4)) (cell ∙ z) (omega (arith, ln, room))
                 (mask-small sent (crossed sent joints x) (q / 4)) (eq ∙ p) (in-mask sent (crossed sent joints x) (q / 4) (y % 4) (omega arith) m)
 

@@ -79,10 +79,15 @@ module _ (l joints : List ℕ) where
   unfolding crossOf
   cross-out x e h f k = rw (← e, lt-ltb _ 64 h, ← f, le-ltb _ 64 k)
 
-  pub cross-on : (x : ℕ) {i q m s v : ℕ} → i ≡ partnerOf joints (x / 4) → i < 64 → q ≡ partnerOf joints (outOf x) → q < 64
-      → m ≡ both (getD l i 0) (getD l (outOf x) 0) → s ≡ maskOf l m (q / 4) → v ≡ 16 * q + s → v ≡ crossOf l joints x
+  pub cross-none : (x : ℕ) {i q m : ℕ} → i ≡ partnerOf joints (x / 4) → i < 64 → q ≡ partnerOf joints (outOf x) → q < 64
+      → m ≡ both (getD l i 0) (getD l (outOf x) 0) → m ≡ 0 → 0 ≡ crossOf l joints x
   unfolding crossOf
-  cross-on x e h f k em es ev = rw (← e, lt-ltb _ 64 h, ← f, lt-ltb _ 64 k, ← em, ← es) ev
+  cross-none x e h f k em z = rw (← e, lt-ltb _ 64 h, ← f, lt-ltb _ 64 k, ← em, eq-eqb _ 0 z)
+
+  pub cross-on : (x : ℕ) {i q m s v : ℕ} → i ≡ partnerOf joints (x / 4) → i < 64 → q ≡ partnerOf joints (outOf x) → q < 64
+      → m ≡ both (getD l i 0) (getD l (outOf x) 0) → m ≢ 0 → s ≡ maskOf l m (q / 4) → v ≡ 16 * q + s → v ≡ crossOf l joints x
+  unfolding crossOf
+  cross-on x e h f k em n es ev = rw (← e, lt-ltb _ 64 h, ← f, lt-ltb _ 64 k, ← em, ne-eqb _ 0 n, ← es) ev
 
 -- ---- empty rows
 pub empty-at : (m x : ℕ) → _≡_ {A = ℕ} (getD (replicate m 0) x 0) 0

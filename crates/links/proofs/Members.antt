@@ -18,7 +18,7 @@ use Rattle.sets.specs.Sets.{has, single, both, either, below}
 use Rattle.sets.specs.Laws.{has-single, has-below, none-has, no-member}
 use Rattle.spread.specs.Carried.{partnerOf, beyondOf, In}
 use Rattle.spread.proofs.Laws.{in-both, both-in, in-left, in-right, either-in}
-use Rattle.links.specs.Cells.{leaveOf, leavesOf, bitOf, maskOf, trailOf, trailsOf, linkOf, linksOf, crossOf, crossesOf, outOf}
+use Rattle.links.specs.Cells.{leaveOf, leavesOf, bitOf, maskOf, trailOf, trailsOf, linkOf, linksOf, crossed, crossOf, crossesOf, outOf}
 use Rattle.links.specs.Starts.{homeRow, startAt, startsOf, aloneOf, liveOf, livesOf}
 use Rattle.links.proofs.Laws.{mask-small, empty-at, not-empty}
 
@@ -221,30 +221,32 @@ module _ (l joints : List ℕ) where
   unfolding linkOf
   link-is k b = rw (lt-ltb (partnerOf joints k) 64 b)
 
-  -- what goes by the crossing x, if both of its ports have routers beyond
-  abbrev pub crossed : ℕ → ℕ
-  crossed x = both (getD l (partnerOf joints (x / 4)) 0) (getD l (outOf x) 0)
+  -- what leads on from the crossing x
+  abbrev pub crossCell : ℕ → ℕ
+  crossCell x = 16 * partnerOf joints (outOf x) + maskOf l (crossed l joints x) (beyondOf joints (outOf x))
 
   pub cross-in : (x j : ℕ) → has (crossOf l joints x) j ≡ true
-      → (partnerOf joints (x / 4) < 64) × (partnerOf joints (outOf x) < 64)
-      × (crossOf l joints x ≡ 16 * partnerOf joints (outOf x) + maskOf l (crossed x) (beyondOf joints (outOf x)))
+      → (partnerOf joints (x / 4) < 64) × (partnerOf joints (outOf x) < 64) × (crossOf l joints x ≡ crossCell x)
   unfolding crossOf
-  cross-in x j t = by (test (ltb (partnerOf joints (x / 4)) 64)) (test (ltb (partnerOf joints (outOf x)) 64))
+  cross-in x j t =
+      by (test (ltb (partnerOf joints (x / 4)) 64)) (test (ltb (partnerOf joints (outOf x)) 64)) (test (eqb (crossed l joints x) 0))
     where
       by : (ltb (partnerOf joints (x / 4)) 64 ≡ true) ⊎ (ltb (partnerOf joints (x / 4)) 64 ≡ false)
           → (ltb (partnerOf joints (outOf x)) 64 ≡ true) ⊎ (ltb (partnerOf joints (outOf x)) 64 ≡ false)
+          → (eqb (crossed l joints x) 0 ≡ true) ⊎ (eqb (crossed l joints x) 0 ≡ false)
           → (partnerOf joints (x / 4) < 64) × (partnerOf joints (outOf x) < 64)
           × (pick (ltb (partnerOf joints (x / 4)) 64)
-          (pick (ltb (partnerOf joints (outOf x)) 64) (16 * partnerOf joints (outOf x) + maskOf l (crossed x) (beyondOf joints (outOf x))) 0) 0
-          ≡ 16 * partnerOf joints (outOf x) + maskOf l (crossed x) (beyondOf joints (outOf x)))
-      by (inl e) (inl f) = (ltb-true _ 64 e, ltb-true _ 64 f, rw (e, f))
-      by (inl e) (inr f) = absurd (not-empty 0 j (rw (e, f) at t) refl)
-      by (inr e) b = absurd (not-empty 0 j (rw e at t) refl)
+          (pick (ltb (partnerOf joints (outOf x)) 64) (pick (eqb (crossed l joints x) 0) 0 (crossCell x)) 0) 0 ≡ crossCell x)
+      by (inl e) (inl f) (inl g) = absurd (not-empty 0 j (rw (e, f, g) at t) refl)
+      by (inl e) (inl f) (inr g) = (ltb-true _ 64 e, ltb-true _ 64 f, rw (e, f, g))
+      by (inl e) (inr f) b = absurd (not-empty 0 j (rw (e, f) at t) refl)
+      by (inr e) b c = absurd (not-empty 0 j (rw e at t) refl)
 
-  pub cross-is : (x : ℕ) → partnerOf joints (x / 4) < 64 → partnerOf joints (outOf x) < 64
-      → crossOf l joints x ≡ 16 * partnerOf joints (outOf x) + maskOf l (crossed x) (beyondOf joints (outOf x))
+  pub cross-is : (x : ℕ) → partnerOf joints (x / 4) < 64 → partnerOf joints (outOf x) < 64 → crossed l joints x ≢ 0
+      → crossOf l joints x ≡ crossCell x
   unfolding crossOf
-  cross-is x a b = rw (lt-ltb (partnerOf joints (x / 4)) 64 a, lt-ltb (partnerOf joints (outOf x)) 64 b)
+  cross-is x a b n =
+      rw (lt-ltb (partnerOf joints (x / 4)) 64 a, lt-ltb (partnerOf joints (outOf x)) 64 b, ne-eqb (crossed l joints x) 0 n)
 
   pub trails-at : (n k : ℕ) → k < n → n ≤ 64 → getD (trailsOf l joints n) k 0 ≡ trailOf l joints k
   unfolding trailsOf

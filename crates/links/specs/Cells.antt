@@ -39,14 +39,15 @@ module _ (l joints : List ℕ) where
       pick (ltb (partnerOf joints k) 64) (16 * beyondOf joints k + maskOf l (getD l k 0) (beyondOf joints k)) 0
 
   -- crossing x, to the crossings of the router beyond it that some of the same answers go by
+  abbrev pub crossed : ℕ → ℕ
+  crossed x = both (getD l (partnerOf joints (x / 4)) 0) (getD l (outOf x) 0)
+
   unfoldable pub crossOf : ℕ → ℕ
   crossOf x =
       pick (ltb (partnerOf joints (x / 4)) 64)
       (pick (ltb (partnerOf joints (outOf x)) 64)
-      (16 * partnerOf joints (outOf x)
-      + maskOf l (both (getD l (partnerOf joints (x / 4)) 0) (getD l (outOf x) 0)) (beyondOf joints (outOf x)))
-      0)
-      0
+      (pick (eqb (crossed x) 0) 0
+      (16 * partnerOf joints (outOf x) + maskOf l (crossed x) (beyondOf joints (outOf x)))) 0) 0
 
   unfoldable pub trailsOf : ℕ → List ℕ
   trailsOf n = upTo (fill trailOf) n (replicate 64 0)

@@ -123,6 +123,9 @@ fn cross(l: &[u32; 64], joints: &[u8; 64], x: usize) -> u32
         return 0;
     }
     let m = both(l[i], l[o]);
+    if m == 0 {
+        return 0;
+    }
     cell(q, mask(l, m, q / 4))
 }
 

@@ -25,7 +25,8 @@ fn walks_ring(
         → r ≡ ringTest (4 * R pl) (trailEdge pl)) ⌝ }
 {
     let n = h.routers;
-    let used = links::starts::carried(by, joints, homes, served, n, h.actives);
+    let mut used = [0u32; 32];
+    links::starts::carried(by, joints, homes, served, n, h.actives, &mut used);
     let mut gone = [0u32; 64];
     links::leaves(by, &used, sets::below(32), 4 * n, &mut gone);
     let mut cells = [0u32; 64];
@@ -69,7 +70,8 @@ fn answers_ring(
         → r ≡ ringTest (16 * R pl) (handEdge pl)) ⌝ }
 {
     let n = h.routers;
-    let sent = links::starts::answers(by, joints, homes, served, n, h.actives);
+    let mut sent = [0u32; 32];
+    links::starts::answers(by, joints, homes, served, n, h.actives, &mut sent);
     let mut gone = [0u32; 64];
     links::leaves(by, &sent, sets::below(32), 4 * n, &mut gone);
     let mut cells = [0u32; 256];

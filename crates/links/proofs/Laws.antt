@@ -99,9 +99,9 @@ pub not-empty : (s d : ℕ) → has s d ≡ true → s ≢ 0
 not-empty s d t e = true≢false (sym t ∙ ap (λ (u : ℕ). has u d) e ∙ none-has d)
 
 -- only the row of a's router may be looked at
-pub alone-whole : (k x v : ℕ) {w : ℕ} → w ≡ single x → (length (set (replicate 32 0) x v) ≡ 32)
-    × ((y : ℕ) → y < k → has w y ≡ false → getD (set (replicate 32 0) x v) y 0 ≡ 0)
-alone-whole k x v {w} f = (length-set (replicate 32 0) x v, λ y h g. other y g (test (eqb y x)))
+pub alone-whole : (k x v : ℕ) {t : List ℕ} {w : ℕ} → t ≡ replicate 32 0 → w ≡ single x → (length (set t x v) ≡ 32)
+    × ((y : ℕ) → y < k → has w y ≡ false → getD (set t x v) y 0 ≡ 0)
+alone-whole k x v {t} {w} e f = rw e (length-set (replicate 32 0) x v, λ y h g. other y g (test (eqb y x)))
   where
     other : (y : ℕ) → has w y ≡ false → (eqb y x ≡ true) ⊎ (eqb y x ≡ false) → getD (set (replicate 32 0) x v) y 0 ≡ 0
     other y g (inl q) = absurd (not-both (rw f (has-single x y ∙ q)) g)
@@ -126,9 +126,10 @@ module _ (homes served : List ℕ) where
   starts-whole n {k} {t} {w} e f =
       (rw e (starts-long n), λ x l h. absurd (not-both (rw f (has-below k x ∙ lt-ltb x k l)) h))
 
-  pub alone-is : (a : ℕ) {x : ℕ} → (x ≡ homeRow homes a) × (x < 32) → set (replicate 32 0) x (getD served a 0) ≡ aloneOf homes served a
+  pub alone-is : (a : ℕ) {x : ℕ} {t : List ℕ} → t ≡ replicate 32 0 → (x ≡ homeRow homes a) × (x < 32)
+      → set t x (getD served a 0) ≡ aloneOf homes served a
   unfolding aloneOf
-  alone-is a (e, l) = rw e
+  alone-is a f (e, l) = rw (f, e)
 
 -- ---- a router's actives
 note-more : (a m s d : ℕ) → has (noteOf a m s) d ≡ true → (has s d ≡ true) ⊎ ((d ≡ a) × (m ≢ 0))
@@ -214,12 +215,12 @@ noted a m n first room =
         fresh x k (inr e) = rw (e, same) (note-new a (getD m i 0) (getD t i 0) (rw e at k))
 
 module _ (by : List (List ℕ)) (joints homes served : List ℕ) (n : ℕ) where
-  pub answering-none : Answering by joints homes served n 0 (replicate 32 0)
-  answering-none = record {
+  pub answering-none : {t : List ℕ} → t ≡ replicate 32 0 → Answering by joints homes served n 0 t
+  answering-none e = rw e (record {
     long = refl;
     sound = λ x a h. absurd (not-empty (getD (replicate 32 0) x 0) a h (empty-at 32 x));
     complete = λ a h. absurd (omega arith);
-  }
+  })
 
   pub answering-more : {i : ℕ} {t u m : List ℕ} → n ≤ 16 → Spread by joints n (aloneOf homes served i) m → u ≡ notesOf i m n t
       → Answering by joints homes served n i t → Answering by joints homes served n (i + 1) u

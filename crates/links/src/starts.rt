@@ -7,7 +7,7 @@ use spread::spread;
 ghost use mathlib.Core.Path.{_≡_};
 ghost use mathlib.Core.List.{List};
 ghost use Prim.Native.Nat.{ℕ, _≤_, _<_};
-ghost use lib.ListN.{length};
+ghost use lib.ListN.{replicate};
 ghost use Rattle.spread.specs.Carried.{Spread};
 ghost use Rattle.links.specs.Starts.{homeRow, startsOf, aloneOf, liveOf, livesOf, noteOf, notesOf, Answering, Answers};
 
@@ -20,16 +20,14 @@ fn home(homes: &[u8; 32], a: usize) -> usize
 }
 
 // By router: the passives that its actives are served with.
-fn starts(homes: &[u8; 32], served: &[u32; 16], n: usize) -> [u32; 32]
-    requires { ⌜ n ≤ 16 ⌝ }
-    ensures { λ r. ⌜ r ≡ startsOf (now (homes .entry)) (now (served .entry)) n ⌝ }
+fn starts(homes: &[u8; 32], served: &[u32; 16], n: usize, t: &mut [u32; 32])
+    requires { ⌜ (n ≤ 16) × (now t ≡ replicate 32 0) ⌝ }
+    ensures { λ _. ⌜ now (t .exit) ≡ startsOf (now (homes .entry)) (now (served .entry)) n ⌝ }
 {
-    let mut t = [0u32; 32];
     for a in 0..n {
         let x = home(homes, a);
         t[x] = either(t[x], served[a]);
     }
-    t
 }
 
 // By router: the passives whose served walks, of any of the actives, come to it.
@@ -40,13 +38,14 @@ pub fn carried(
     served: &[u32; 16],
     n: usize,
     actives: usize,
-) -> [u32; 32]
-    requires { ⌜ (n ≤ 16) × (actives ≤ 16) ⌝ }
-    ensures { λ r. ⌜ Spread (now (by .entry)) (now (joints .entry)) n (startsOf (now (homes .entry)) (now (served .entry)) actives) r ⌝ }
+    t: &mut [u32; 32],
+)
+    requires { ⌜ (n ≤ 16) × (actives ≤ 16) × (now t ≡ replicate 32 0) ⌝ }
+    ensures { λ _. ⌜ Spread (now (by .entry)) (now (joints .entry)) n
+        (startsOf (now (homes .entry)) (now (served .entry)) actives) (now (t .exit)) ⌝ }
 {
-    let mut t = starts(homes, served, actives);
-    spread(by, joints, n, below(n), &mut t);
-    t
+    starts(homes, served, actives, t);
+    spread(by, joints, n, below(n), t);
 }
 
 // By router: the passives whose served walks, of active a, come to it.
@@ -57,15 +56,15 @@ fn met(
     served: &[u32; 16],
     n: usize,
     a: usize,
-) -> [u32; 32]
-    requires { ⌜ (n ≤ 16) × (a < 16) ⌝ }
-    ensures { λ r. ⌜ Spread (now (by .entry)) (now (joints .entry)) n (aloneOf (now (homes .entry)) (now (served .entry)) a) r ⌝ }
+    t: &mut [u32; 32],
+)
+    requires { ⌜ (n ≤ 16) × (a < 16) × (now t ≡ replicate 32 0) ⌝ }
+    ensures { λ _. ⌜ Spread (now (by .entry)) (now (joints .entry)) n
+        (aloneOf (now (homes .entry)) (now (served .entry)) a) (now (t .exit)) ⌝ }
 {
-    let mut t = [0u32; 32];
     let x = home(homes, a);
     t[x] = served[a];
-    spread(by, joints, n, single(x), &mut t);
-    t
+    spread(by, joints, n, single(x), t);
 }
 
 // Active a, if it is served with some passive.
@@ -120,16 +119,17 @@ fn answering(
     served: &[u32; 16],
     n: usize,
     actives: usize,
-) -> [u32; 32]
-    requires { ⌜ (n ≤ 16) × (actives ≤ 16) ⌝ }
-    ensures { λ r. ⌜ Answering (now (by .entry)) (now (joints .entry)) (now (homes .entry)) (now (served .entry)) n actives r ⌝ }
+    t: &mut [u32; 32],
+)
+    requires { ⌜ (n ≤ 16) × (actives ≤ 16) × (now t ≡ replicate 32 0) ⌝ }
+    ensures { λ _. ⌜ Answering (now (by .entry)) (now (joints .entry)) (now (homes .entry)) (now (served .entry)) n actives
+        (now (t .exit)) ⌝ }
 {
-    let mut t = [0u32; 32];
     for a in 0..actives {
-        let m = met(by, joints, homes, served, n, a);
-        note(&m, a, n, &mut t);
+        let mut m = [0u32; 32];
+        met(by, joints, homes, served, n, a, &mut m);
+        note(&m, a, n, t);
     }
-    t
 }
 
 // By router: the actives whose answers come to it, or set out there.
@@ -140,11 +140,12 @@ pub fn answers(
     served: &[u32; 16],
     n: usize,
     actives: usize,
-) -> [u32; 32]
-    requires { ⌜ (n ≤ 16) × (actives ≤ 16) ⌝ }
-    ensures { λ r. ⌜ Answers (now (by .entry)) (now (joints .entry)) (now (homes .entry)) (now (served .entry)) n actives r ⌝ }
+    t: &mut [u32; 32],
+)
+    requires { ⌜ (n ≤ 16) × (actives ≤ 16) × (now t ≡ replicate 32 0) ⌝ }
+    ensures { λ _. ⌜ Answers (now (by .entry)) (now (joints .entry)) (now (homes .entry)) (now (served .entry)) n actives
+        (now (t .exit)) ⌝ }
 {
-    let mut t = answering(by, joints, homes, served, n, actives);
-    spread(by, joints, n, below(n), &mut t);
-    t
+    answering(by, joints, homes, served, n, actives, t);
+    spread(by, joints, n, below(n), t);
 }

@@ -13,41 +13,41 @@ use Rattle.links.proofs.trail_cells.Reads as trail-cells-reads
 use Rattle.peel.proofs.has_ring.Reads as has-ring-reads
 use Rattle.sets.proofs.below.Reads as below-reads
 
--- src/lib.rt:27:16
+-- src/lib.rt:29:5
 carried-requires : tie.Need-carried-requires
 carried-requires c κs = search needs
 
--- src/lib.rt:29:30
+-- src/lib.rt:31:30
 below-requires : tie.Need-below-requires
 below-requires c κs = search needs
 
--- src/lib.rt:29:47
+-- src/lib.rt:31:47
 mul-leaves : tie.Need-mul-leaves
 mul-leaves c = search needs
 
--- src/lib.rt:29:5
+-- src/lib.rt:31:5
 leaves-requires : tie.Need-leaves-requires
 leaves-requires c κs = search needs
 
--- src/lib.rt:31:39
+-- src/lib.rt:33:39
 mul-trail-cells : tie.Need-mul-trail-cells
 mul-trail-cells c = search needs
 
--- src/lib.rt:31:5
+-- src/lib.rt:33:5
 trail-cells-requires : tie.Need-trail-cells-requires
 trail-cells-requires c κs = search needs
 
--- src/lib.rt:32:20
+-- src/lib.rt:34:20
 slice-aggregate-has-ring : tie.Need-slice-aggregate-has-ring
 slice-aggregate-has-ring c = sym (trails-long _ _ _ (c .before .trail-cells .ensures))
 
--- src/lib.rt:32:5
+-- src/lib.rt:34:5
 has-ring-requires : tie.Need-has-ring-requires
 has-ring-requires c κs = (omega arith, let e = trails-long _ _ _ (c .before .trail-cells .ensures) in omega arith)
 
--- src/lib.rt:14:1
+-- src/lib.rt:15:1
 returns : tie.Need-returns
-returns c = λ pl arrive told. walks-ring (c .before .before .before .before .before .before .before .before .before .before .pre) told (c .before .before .before .before .before .before .before .before .before .carried .ensures) (c .before .before .before .before .before .before .before .below .ensures) (c .before .before .before .before .before .leaves .ensures) (c .before .before .trail-cells .ensures) (c .has-ring .ensures)
+returns c = λ pl arrive told. walks-ring (c .before .before .before .before .before .before .before .before .before .before .before .pre) told (c .before .before .before .before .before .before .before .before .before .carried .ensures) (c .before .before .before .before .before .before .before .below .ensures) (c .before .before .before .before .before .leaves .ensures) (c .before .before .trail-cells .ensures) (c .has-ring .ensures)
 
 pub walks-ring-spec : {M : Type 1} → statement M
 walks-ring-spec =

@@ -8,19 +8,19 @@ use Rattle.links.proofs.starts.answering.Reads as answering-reads
 use Rattle.sets.proofs.below.Reads as below-reads
 use Rattle.spread.proofs.spread.Reads as spread-reads
 
--- src/starts.rt:119:17
+-- src/starts.rt:149:5
 answering-requires : tie.Need-answering-requires
 answering-requires c κs = search needs
 
--- src/starts.rt:120:27
+-- src/starts.rt:150:27
 below-requires : tie.Need-below-requires
 below-requires c κs = search needs
 
--- src/starts.rt:120:5
+-- src/starts.rt:150:5
 spread-requires : tie.Need-spread-requires
-spread-requires c κs = (c .before .before .before .pre .0, answering-whole _ _ _ _ _ (c .before .before .answering .ensures) (c .before .below .ensures) .0, answering-whole _ _ _ _ _ (c .before .before .answering .ensures) (c .before .below .ensures) .1)
+spread-requires c κs = (c .before .before .before .before .pre .0, answering-whole _ _ _ _ _ (c .before .before .answering .ensures) (c .before .below .ensures) .0, answering-whole _ _ _ _ _ (c .before .before .answering .ensures) (c .before .below .ensures) .1)
 
--- src/starts.rt:115:1
+-- src/starts.rt:136:1
 returns : tie.Need-returns
 returns c = record { first = _; answering = c .before .before .before .answering .ensures; spread = c .spread .ensures }
 

@@ -93,7 +93,8 @@ module _ {pl : Plan} {h : Head} {by : List (List ℕ)} {joints homes arrive serv
 
   pub of-leaves : (r o d : ℕ) → o < 4 → Leaves by joints r o d → (d < destinations (pl .head)) × (pl .route r d ≡ o)
   of-leaves r o d l e =
-      let b = and-eq-true-iff (ltb d (destinations (pl .head))) (eqb (pl .route r d) o) .0 (sym (told .sides r o d l) ∙ e) in
+      let b =
+      and-eq-true-iff (ltb d (destinations (pl .head))) (eqb (pl .route r d) o) .0 (sym (told .sides r o d l) ∙ e) in
       (ltb-true d (destinations (pl .head)) (b .0), eqb-true (pl .route r d) o (b .1))
 
   column-below : (e : Interface) → Has pl e → column pl e < destinations (pl .head)
@@ -120,7 +121,8 @@ module _ {pl : Plan} {h : Head} {by : List (List ℕ)} {joints homes arrive serv
         leaves = leaves-of (x .router) (routeTo pl e (x .router)) (column pl e) (i .1) (column-below e l) refl;
       }
 
-  hop-on : (e : Interface) (x o y i : ℕ) → x < R pl → o < 4 → Leaves by joints x o (column pl e) → beyondOf joints (4 * x + o) ≡ y → y < 16
+  hop-on : (e : Interface) (x o y i : ℕ) → x < R pl → o < 4 → Leaves by joints x o (column pl e)
+      → beyondOf joints (4 * x + o) ≡ y → y < 16
       → (t : ℕ) × (onward pl e (record { router = x; side = i }) ≡ on (record { router = y; side = t }))
   hop-on e x o y i lx lo d q ly =
       let r : routeTo pl e x ≡ o = of-leaves x o (column pl e) lo d .1 in
@@ -134,7 +136,8 @@ module _ {pl : Plan} {h : Head} {by : List (List ℕ)} {joints homes arrive serv
 
   -- ---- ways are carried
   module _ (first : List ℕ) where
-    pub carries : (e : Interface) → Has pl e → (from : Port) → In first (from .router) (column pl e) → (k : ℕ) (y : Port) → walked pl e k from ≡ on y
+    pub carries : (e : Interface) → Has pl e → (from : Port) → In first (from .router) (column pl e)
+        → (k : ℕ) (y : Port) → walked pl e k from ≡ on y
         → Carried by joints (R pl) first (column pl e) k (y .router)
     carries e l from s zero y q =
         let same : from ≡ y = on-same (sym (spot-none (onward pl e) (on from)) ∙ q) in
@@ -191,7 +194,8 @@ module _ {pl : Plan} {h : Head} {by : List (List ℕ)} {joints homes arrive serv
     walker-of : (y d : ℕ) → y < R pl → In t y d → Walker who d y
     walker-of y d l i = found (spread .sound y d i)
       where
-        made : (a p s : ℕ) → who a → a < A pl → p < P pl → d ≡ A pl + p → homeRow homes a ≡ s → has (getD serve a 0) d ≡ true
+        made : (a p s : ℕ) → who a → a < A pl → p < P pl → d ≡ A pl + p → homeRow homes a ≡ s
+            → has (getD serve a 0) d ≡ true
             → ((i : ℕ) → (j : ℕ) × Meets pl (passive p) (record { router = s; side = i }) (record { router = y; side = j })) → Walker who d y
         made a p s w ha hp e r u m =
             let k = m (home pl (active a) .side) in
@@ -223,51 +227,61 @@ module _ {pl : Plan} {h : Head} {by : List (List ℕ)} {joints homes arrive serv
             let n = told .serves .known (b .0) d (b .4) in
             way k c (d - A pl) (omega (arith, n)) (omega (arith, n))
 
-    of-walker : (a p : ℕ) → who a → a < A pl → p < P pl → Served pl a p → (y : Port) → Meets pl (passive p) (home pl (active a)) y → In t (y .router) (A pl + p)
+    of-walker : (a p : ℕ) → who a → a < A pl → p < P pl → Served pl a p → (y : Port)
+        → Meets pl (passive p) (home pl (active a)) y → In t (y .router) (A pl + p)
     of-walker a p w ha hp s y m =
         let i = home-inside (active a) (told .wired) ha in
         let o = way-on (onward pl (passive p)) routerOf (s .ahead) (m .steps) y (m .here) in
         let short = walk-short (told .wired) (passive p) (home pl (active a)) (i .0) (s .ahead) in
-        let u : has (getD serve a 0) (A pl + p) ≡ true = told .serves .pairs a p ha hp ∙ serves-of (told .wired) a p ha s in
+        let u : has (getD serve a 0) (A pl + p) ≡ true =
+        told .serves .pairs a p ha hp ∙ serves-of (told .wired) a p ha s in
         spread .complete (m .steps) (omega (arith, o .0)) (y .router) (A pl + p)
         (carries first (passive p) hp (home pl (active a)) (rw (home-row a ha) at (complete a (A pl + p) w ha u)) (m .steps) y (m .here))
 
   -- ---- of all actives
   module _ (t : List ℕ) (spread : Spread by joints (R pl) (startsOf homes serve (A pl)) t) where
-    begins : (y d : ℕ) → In (startsOf homes serve (A pl)) y d → (a : ℕ) × (a < A pl) × (a < A pl) × (homeRow homes a ≡ y) × (has (getD serve a 0) d ≡ true)
+    begins : (y d : ℕ) → In (startsOf homes serve (A pl)) y d
+        → (a : ℕ) × (a < A pl) × (a < A pl) × (homeRow homes a ≡ y) × (has (getD serve a 0) d ≡ true)
     begins y d u = let b = begun homes serve (A pl) .sound y d u in (b .0, b .1, b .1, b .2, b .3)
 
     pub all-walker : (y d : ℕ) → y < R pl → In t y d → Walker (λ a. a < A pl) d y
     all-walker = walker-of (λ a. a < A pl) (startsOf homes serve (A pl)) t spread begins (λ a d w l u. begun homes serve (A pl) .complete a d l u)
 
-    pub walker-all : (a p : ℕ) → a < A pl → p < P pl → Served pl a p → (y : Port) → Meets pl (passive p) (home pl (active a)) y → In t (y .router) (A pl + p)
+    pub walker-all : (a p : ℕ) → a < A pl → p < P pl → Served pl a p → (y : Port)
+        → Meets pl (passive p) (home pl (active a)) y → In t (y .router) (A pl + p)
     walker-all a p ha =
         of-walker (λ a. a < A pl) (startsOf homes serve (A pl)) t spread begins (λ a d w l u. begun homes serve (A pl) .complete a d l u) a p ha ha
 
   -- ---- of one active
   module _ (b : ℕ) (lb : b < A pl) (t : List ℕ) (spread : Spread by joints (R pl) (aloneOf homes serve b) t) where
-    alone : (y d : ℕ) → In (aloneOf homes serve b) y d → (a : ℕ) × (a ≡ b) × (a < A pl) × (homeRow homes a ≡ y) × (has (getD serve a 0) d ≡ true)
+    alone : (y d : ℕ) → In (aloneOf homes serve b) y d
+        → (a : ℕ) × (a ≡ b) × (a < A pl) × (homeRow homes a ≡ y) × (has (getD serve a 0) d ≡ true)
     alone y d u = let q = alone-in homes serve b y d u in (b, refl, lb, q .0, q .1)
 
-    alone-of : (a d : ℕ) → a ≡ b → a < A pl → has (getD serve a 0) d ≡ true → In (aloneOf homes serve b) (homeRow homes a) d
+    alone-of : (a d : ℕ) → a ≡ b → a < A pl → has (getD serve a 0) d ≡ true
+        → In (aloneOf homes serve b) (homeRow homes a) d
     alone-of a d e l u = rw e (in-alone homes serve b d (rw e at u))
 
     pub one-walker : (y d : ℕ) → y < R pl → In t y d → Walker (λ a. a ≡ b) d y
     one-walker = walker-of (λ a. a ≡ b) (aloneOf homes serve b) t spread alone alone-of
 
-    pub walker-one : (p : ℕ) → p < P pl → Served pl b p → (y : Port) → Meets pl (passive p) (home pl (active b)) y → In t (y .router) (A pl + p)
+    pub walker-one : (p : ℕ) → p < P pl → Served pl b p → (y : Port) → Meets pl (passive p) (home pl (active b)) y
+        → In t (y .router) (A pl + p)
     walker-one p = of-walker (λ a. a ≡ b) (aloneOf homes serve b) t spread alone alone-of b p refl lb
 
   -- ---- answers
   module _ (t : List ℕ) (answers : Rattle.links.specs.Starts.Answers by joints homes serve (R pl) (A pl) t) where
-    pub answers-of : (y a : ℕ) → y < R pl → In t y a → (a < A pl) × ((i : ℕ) × Answers pl a (record { router = y; side = i }))
+    pub answers-of : (y a : ℕ) → y < R pl → In t y a
+        → (a < A pl) × ((i : ℕ) × Answers pl a (record { router = y; side = i }))
     answers-of y a l u = found (answers .spread .sound y a u)
       where
-        made : (s : ℕ) → In (answers .first) s a → ((i : ℕ) → (j : ℕ) × Meets pl (active a) (record { router = s; side = i }) (record { router = y; side = j }))
+        made : (s : ℕ) → In (answers .first) s a
+            → ((i : ℕ) → (j : ℕ) × Meets pl (active a) (record { router = s; side = i }) (record { router = y; side = j }))
             → (a < A pl) × ((i : ℕ) × Answers pl a (record { router = y; side = i }))
         made s v m = begin (answers .answering .sound s a v)
           where
-            begin : (a < A pl) × (s < R pl) × Comes by joints homes serve (R pl) a s → (a < A pl) × ((i : ℕ) × Answers pl a (record { router = y; side = i }))
+            begin : (a < A pl) × (s < R pl) × Comes by joints homes serve (R pl) a s
+                → (a < A pl) × ((i : ℕ) × Answers pl a (record { router = y; side = i }))
             begin (la, ls, (q, spread, n)) =
                 let d = member (getD q s 0) n in
                 let w = one-walker a la q spread s (d .0) ls (d .1) in
@@ -287,7 +301,8 @@ module _ {pl : Plan} {h : Head} {by : List (List ℕ)} {joints homes arrive serv
                   ),
                 )
 
-        found : (k : ℕ) × Carried by joints (R pl) (answers .first) a k y → (a < A pl) × ((i : ℕ) × Answers pl a (record { router = y; side = i }))
+        found : (k : ℕ) × Carried by joints (R pl) (answers .first) a k y
+            → (a < A pl) × ((i : ℕ) × Answers pl a (record { router = y; side = i }))
         found (k, c) = let s = came (answers .first) (active a) k y l c in made (s .0) (s .1) (s .2)
 
     pub of-answers : (a : ℕ) (y : Port) → Answers pl a y → In t (y .router) a

@@ -234,7 +234,8 @@ module _ (pl : Plan) where
       by (back, g) = absurd (not-both (across-late (g .a) (g .p) (pl .joint r o) y (g .goes)) early)
       by (ahead, g) = walk (g .visits .0 .0) (g .visits .0 .1) (g .visits .1)
         where
-          walk : (i : ℕ) → Meets pl (passive (g .p)) (home pl (active (g .a))) (exit r i) → o ≡ routeTo pl (passive (g .p)) r → Onto r o y
+          walk : (i : ℕ) → Meets pl (passive (g .p)) (home pl (active (g .a))) (exit r i)
+              → o ≡ routeTo pl (passive (g .p)) r → Onto r o y
           walk i m e = step (goes-from pl (passive (g .p)) (home pl (active (g .a))) (g .serves .ahead) (exit r i) m)
             where
               step : ((z : Port) × (onward pl (passive (g .p)) (exit r i) ≡ on z)) ⊎ (onward pl (passive (g .p)) (exit r i) ≡ end) → Onto r o y
@@ -256,7 +257,8 @@ module _ (pl : Plan) where
                 },
               )
               step (inr q) =
-                  let s : passiveIn (g .p) ≡ y = some-same (rw (e, onward-end pl (passive (g .p)) (exit r i) q) at (g .goes)) in
+                  let s : passiveIn (g .p) ≡ y =
+                  some-same (rw (e, onward-end pl (passive (g .p)) (exit r i) q) at (g .goes)) in
                   absurd (not-both (ap late (sym s)) early)
 
   abbrev exitOf : Queue → Port
@@ -276,7 +278,8 @@ module _ (pl : Plan) where
   abbrev Early : Queue → Queue → Type 0
   Early = Amid (Both (Feeds pl) late false)
 
-  three-steps : (w x y z : Queue) → AtSide w → Early w x → Early x y → Early y z → AtSide z × Trails pl (exitOf w) (exitOf z)
+  three-steps : (w x y z : Queue) → AtSide w → Early w x → Early x y → Early y z
+      → AtSide z × Trails pl (exitOf w) (exitOf z)
   unfolding Onto
   three-steps w x y z (r, o, e) f g h = first (from-f r o x (rw e at (f .step .step)) (f .step .to))
     where
@@ -305,7 +308,8 @@ module _ (pl : Plan) where
   early-ring r = ring-strides Early (Trails pl) exitOf AtSide three-steps first-side (ring-amid (Both (Feeds pl) late false) r)
 
 -- ---- the steps among K
-across-crossing : (pl : Plan) (a p : ℕ) (j : Joint) (r i o : ℕ) → across pl back a p j ≡ some (K r i o) → (j ≡ Router r i) × (o ≡ routeTo pl (active a) r)
+across-crossing : (pl : Plan) (a p : ℕ) (j : Joint) (r i o : ℕ) → across pl back a p j ≡ some (K r i o)
+    → (j ≡ Router r i) × (o ≡ routeTo pl (active a) r)
 across-crossing pl a p Nothing r i o q = absurd (some-not-none q)
 across-crossing pl a p (Router n t) r i o q =
     let same : K n t (routeTo pl (active a) n) ≡ K r i o = some-same q in

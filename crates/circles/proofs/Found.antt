@@ -30,15 +30,22 @@ use Rattle.sets.specs.Laws.{has-below}
 use Rattle.peel.specs.Cells.{groupOf, edge}
 use Rattle.spread.specs.Carried.{partnerOf, beyondOf, In, Leaves, Spread}
 use Rattle.spread.proofs.Laws.{in-both, both-in}
-use Rattle.links.specs.Cells.{leaveOf, leavesOf, maskOf, trailOf, trailsOf, linkOf, linksOf, crossed, crossOf, crossesOf, outOf}
+use Rattle.links.specs.Cells.{leaveOf, leavesOf, maskOf, trailOf, trailsOf, linkOf, linksOf, crossed, crossOf}
+use Rattle.links.specs.Cells.{crossesOf, outOf}
 use Rattle.links.specs.Starts.{startsOf, livesOf}
 use Rattle.links.proofs.Laws.{mask-small, not-empty}
-use Rattle.links.proofs.Members.{member, in-lives, leaves-at, leave-in, in-leave, cell-group, cell-has, four-has, mask-in, in-mask, trail-in, trail-is, link-is, cross-in, cross-is, trails-at, links-at, crosses-at}
+use Rattle.links.proofs.Members.{member, in-lives, leaves-at, leave-in, in-leave, cell-group, cell-has, four-has}
+use Rattle.links.proofs.Members.{mask-in, in-mask, trail-in, trail-is, link-is, cross-in, cross-is, trails-at, links-at}
+use Rattle.links.proofs.Members.{crosses-at}
 use Rattle.circles.specs.Circles.{Answers, Crossing, Hands, AnswerRing}
-use Rattle.circles.specs.RingTest.{walkMeets, walkLeaves, isRouter, trailEdge, answered, answerLeaves, answerComes, answersPass, handEdge, hasRing}
+use Rattle.circles.specs.RingTest.{walkMeets, walkLeaves, isRouter, trailEdge, answered, answerLeaves}
+use Rattle.circles.specs.RingTest.{answerComes, answersPass, handEdge, hasRing}
 use Rattle.circles.specs.Told.{Told}
-use Rattle.circles.proofs.Tests.{WalkBy, walk-by, by-walk, router-is, port-is, answered-by, by-answers, back-from, start-inside, answer-leaves, answer-comes, Handed, handed, answer-test, one-router}
-use Rattle.circles.proofs.Drawn.{few, joint-partner, partner-joint, leaves-of, of-leaves, all-walker, walker-all, answers-of, of-answers}
+use Rattle.circles.proofs.Tests.{WalkBy, walk-by, by-walk, router-is, port-is, answered-by, by-answers}
+use Rattle.circles.proofs.Tests.{back-from, start-inside, answer-leaves, answer-comes, Handed, handed}
+use Rattle.circles.proofs.Tests.{answer-test, one-router}
+use Rattle.circles.proofs.Drawn.{few, joint-partner, partner-joint, leaves-of, of-leaves, all-walker, walker-all}
+use Rattle.circles.proofs.Drawn.{answers-of, of-answers}
 
 -- ---- tests of relations that agree
 ring-alike : (n : ℕ) (f g : ℕ → ℕ → Bool) → ((x y : ℕ) → x < n → y < n → f x y ≡ g x y) → ringTest n f ≡ ringTest n g
@@ -48,13 +55,15 @@ ring-alike n f g h =
     (λ t. test-of-ring n f (ring-same n g f (λ x y a b. sym (h x y a b)) (ring-of-test n g t)))
 
 -- ---- an edge by its cell
-edge-parts : (cells : List ℕ) (x y : ℕ) → edge cells x y ≡ true → (groupOf (getD cells x 0) ≡ y / 4) × (has (getD cells x 0) (y % 4) ≡ true)
+edge-parts : (cells : List ℕ) (x y : ℕ) → edge cells x y ≡ true
+    → (groupOf (getD cells x 0) ≡ y / 4) × (has (getD cells x 0) (y % 4) ≡ true)
 unfolding edge
 edge-parts cells x y e =
     let b = and-eq-true-iff (eqb (groupOf (getD cells x 0)) (y / 4)) (has (getD cells x 0) (y % 4)) .0 e in
     (eqb-true (groupOf (getD cells x 0)) (y / 4) (b .0), b .1)
 
-parts-edge : (cells : List ℕ) (x y g m : ℕ) → getD cells x 0 ≡ 16 * g + m → g < 64 → m < 16 → g ≡ y / 4 → has m (y % 4) ≡ true → edge cells x y ≡ true
+parts-edge : (cells : List ℕ) (x y g m : ℕ) → getD cells x 0 ≡ 16 * g + m → g < 64 → m < 16 → g ≡ y / 4
+    → has m (y % 4) ≡ true → edge cells x y ≡ true
 unfolding edge
 parts-edge cells x y g m e a b q t =
     rw (e, cell-group g m a b, eq-eqb g (y / 4) q) (cell-has g m (y % 4) (omega arith) ∙ t)
@@ -75,7 +84,8 @@ module _ {pl : Plan} {h : Head} {by : List (List ℕ)} {joints homes arrive serv
       where
         found : (d : ℕ) × (has (getD trailed k 0) d ≡ true) → walkLeaves pl (k / 4) (k % 4) ≡ true
         found (d, u) =
-            let b = leave-in by t (below 32) k d (rw (leaves-at by t (below 32) (4 * R pl) k l (omega (arith, room))) at u) in
+            let b =
+            leave-in by t (below 32) k d (rw (leaves-at by t (below 32) (4 * R pl) k l (omega (arith, room))) at u) in
             let w = all-walker fits told t spread (k / 4) d (omega arith) (b .1) in
             let r = of-leaves fits told (k / 4) (k % 4) d (omega arith) (b .0) .1 in
             any-of (P pl) (λ p. also (eqb (routeTo pl (passive p) (k / 4)) (k % 4)) (walkMeets pl p (k / 4))) (w .p) (w .has-passive)
@@ -86,7 +96,8 @@ module _ {pl : Plan} {h : Head} {by : List (List ℕ)} {joints homes arrive serv
     unfolding walkLeaves
     walk-leaves k l u = found (any-true (P pl) (λ p. also (eqb (routeTo pl (passive p) (k / 4)) (k % 4)) (walkMeets pl p (k / 4))) u)
       where
-        found : Found (P pl) (λ p. also (eqb (routeTo pl (passive p) (k / 4)) (k % 4)) (walkMeets pl p (k / 4))) → getD trailed k 0 ≢ 0
+        found : Found (P pl) (λ p. also (eqb (routeTo pl (passive p) (k / 4)) (k % 4)) (walkMeets pl p (k / 4)))
+            → getD trailed k 0 ≢ 0
         found (p, hp, v) =
             let b = also-true v in
             let w = walk-by (told .wired) p (k / 4) (b .1) in
@@ -97,32 +108,38 @@ module _ {pl : Plan} {h : Head} {by : List (List ℕ)} {joints homes arrive serv
             (walker-all fits told t spread (w .a) p (w .has) hp (w .serves) (record { router = k / 4; side = w .side }) (w .met))
             (has-below 32 (A pl + p) ∙ lt-ltb (A pl + p) 32 (omega (arith, room)))))
 
-    trail-edges : (x y : ℕ) → x < 4 * R pl → y < 4 * R pl → edge (trailsOf trailed joints (4 * R pl)) x y ≡ trailEdge pl x y
+    trail-edges : (x y : ℕ) → x < 4 * R pl → y < 4 * R pl
+        → edge (trailsOf trailed joints (4 * R pl)) x y ≡ trailEdge pl x y
     unfolding trailEdge
     trail-edges x y lx ly = same-test (edge (trailsOf trailed joints (4 * R pl)) x y) (trailEdge pl x y) there back
       where
         cell : getD (trailsOf trailed joints (4 * R pl)) x 0 ≡ trailOf trailed joints x
         cell = trails-at trailed joints (4 * R pl) x lx (omega (arith, room))
 
-        there : edge (trailsOf trailed joints (4 * R pl)) x y ≡ true → also (isRouter (y / 4) (pl .joint (x / 4) (x % 4))) (walkLeaves pl (x / 4) (x % 4)) ≡ true
+        there : edge (trailsOf trailed joints (4 * R pl)) x y ≡ true
+            → also (isRouter (y / 4) (pl .joint (x / 4) (x % 4))) (walkLeaves pl (x / 4) (x % 4)) ≡ true
         there e =
             let b = edge-parts (trailsOf trailed joints (4 * R pl)) x y e in
             let c = trail-in trailed joints x (y % 4) (rw cell at (b .1)) in
-            let g : beyondOf joints x ≡ y / 4 = sym (cell-group (beyondOf joints x) 15 (omega (arith, c .1)) (omega arith)) ∙ ap groupOf (sym (cell ∙ c .2)) ∙ b .0 in
+            let g : beyondOf joints x ≡ y / 4 =
+            sym (cell-group (beyondOf joints x) 15 (omega (arith, c .1)) (omega arith)) ∙ ap groupOf (sym (cell ∙ c .2)) ∙ b .0 in
             also-of {a = isRouter (y / 4) (pl .joint (x / 4) (x % 4))} (rw (partner-joint fits told x lx (c .1)) (eq-eqb (beyondOf joints x) (y / 4) g)) (leaves-walk x lx (c .0))
 
-        back : also (isRouter (y / 4) (pl .joint (x / 4) (x % 4))) (walkLeaves pl (x / 4) (x % 4)) ≡ true → edge (trailsOf trailed joints (4 * R pl)) x y ≡ true
+        back : also (isRouter (y / 4) (pl .joint (x / 4) (x % 4))) (walkLeaves pl (x / 4) (x % 4)) ≡ true
+            → edge (trailsOf trailed joints (4 * R pl)) x y ≡ true
         back e =
             let b = also-true {a = isRouter (y / 4) (pl .joint (x / 4) (x % 4))} e in
             let j = router-is (y / 4) (pl .joint (x / 4) (x % 4)) (b .0) in
             let q : 4 * (x / 4) + x % 4 ≡ x = omega arith in
-            let p : partnerOf joints x ≡ 4 * (y / 4) + j .0 = rw q at (joint-partner fits told (x / 4) (x % 4) (y / 4) (j .0) (j .1)) in
+            let p : partnerOf joints x ≡ 4 * (y / 4) + j .0 =
+            rw q at (joint-partner fits told (x / 4) (x % 4) (y / 4) (j .0) (j .1)) in
             let n = near (told .wired) (j .1) in
             let g : beyondOf joints x ≡ y / 4 = omega (arith, n) in
             let c = trail-is trailed joints x (walk-leaves x lx (b .1)) (omega (arith, n, room)) in
             parts-edge (trailsOf trailed joints (4 * R pl)) x y (beyondOf joints x) 15 (cell ∙ c) (omega (arith, n, room)) (omega arith) g (four-has (y % 4) (omega arith))
 
-    pub walks-found : {r : Bool} → r ≡ ringTest (4 * R pl) (edge (trailsOf trailed joints (4 * R pl))) → r ≡ ringTest (4 * R pl) (trailEdge pl)
+    pub walks-found : {r : Bool} → r ≡ ringTest (4 * R pl) (edge (trailsOf trailed joints (4 * R pl)))
+        → r ≡ ringTest (4 * R pl) (trailEdge pl)
     walks-found e = e ∙ ring-alike (4 * R pl) (edge (trailsOf trailed joints (4 * R pl))) (trailEdge pl) trail-edges
 
   -- ---- answers
@@ -130,15 +147,18 @@ module _ {pl : Plan} {h : Head} {by : List (List ℕ)} {joints homes arrive serv
     abbrev sent : List ℕ
     sent = leavesOf by t (below 32) (4 * R pl)
 
-    leaves-answers : (k a : ℕ) → k < 4 * R pl → has (getD sent k 0) a ≡ true → (a < A pl) × (answerLeaves pl a (k / 4) (k % 4) ≡ true)
+    leaves-answers : (k a : ℕ) → k < 4 * R pl → has (getD sent k 0) a ≡ true
+        → (a < A pl) × (answerLeaves pl a (k / 4) (k % 4) ≡ true)
     unfolding answerLeaves
     leaves-answers k a l u =
-        let b = leave-in by t (below 32) k a (rw (leaves-at by t (below 32) (4 * R pl) k l (omega (arith, room))) at u) in
+        let b =
+        leave-in by t (below 32) k a (rw (leaves-at by t (below 32) (4 * R pl) k l (omega (arith, room))) at u) in
         let s = answers-of fits told t answers (k / 4) a (omega arith) (b .1) in
         let r = of-leaves fits told (k / 4) (k % 4) a (omega arith) (b .0) .1 in
         (s .0, also-of (eq-eqb (routeTo pl (active a) (k / 4)) (k % 4) r) (by-answers (told .wired) a (record { router = k / 4; side = s .1 .0 }) (s .1 .1)))
 
-    answers-leave : (k a : ℕ) → k < 4 * R pl → a < A pl → answerLeaves pl a (k / 4) (k % 4) ≡ true → has (getD sent k 0) a ≡ true
+    answers-leave : (k a : ℕ) → k < 4 * R pl → a < A pl → answerLeaves pl a (k / 4) (k % 4) ≡ true
+        → has (getD sent k 0) a ≡ true
     answers-leave k a l la u =
         let b = answer-leaves (told .wired) a (k / 4) (k % 4) u in
         let s = answered-by (told .wired) a (k / 4) la (b .0) in
@@ -147,7 +167,8 @@ module _ {pl : Plan} {h : Head} {by : List (List ℕ)} {joints homes arrive serv
         (of-answers fits told t answers a (record { router = k / 4; side = s .0 }) (s .1))
         (has-below 32 a ∙ lt-ltb a 32 (omega (arith, room))))
 
-    hand-edges : (x y : ℕ) → x < 16 * R pl → y < 16 * R pl → edge (crossesOf sent joints (16 * R pl)) x y ≡ handEdge pl x y
+    hand-edges : (x y : ℕ) → x < 16 * R pl → y < 16 * R pl
+        → edge (crossesOf sent joints (16 * R pl)) x y ≡ handEdge pl x y
     unfolding handEdge answersPass
     hand-edges x y lx ly = same-test (edge (crossesOf sent joints (16 * R pl)) x y) (handEdge pl x y) there back
       where
@@ -185,16 +206,22 @@ module _ {pl : Plan} {h : Head} {by : List (List ℕ)} {joints homes arrive serv
             sym (cell-group q (maskOf sent (crossed sent joints x) (beyondOf joints (outOf x))) (c .1) s) ∙ ap groupOf (sym (cell ∙ c .2)) ∙ b .0 in
             let m : has (maskOf sent (crossed sent joints x) (beyondOf joints (outOf x))) (y % 4) ≡ true =
             sym (cell-has q (maskOf sent (crossed sent joints x) (beyondOf joints (outOf x))) (y % 4) (omega arith)) ∙ (rw (cell, c .2) at (b .1)) in
-            let d = member (both (crossed sent joints x) (getD sent (4 * beyondOf joints (outOf x) + y % 4) 0)) (mask-in sent (crossed sent joints x) (beyondOf joints (outOf x)) (y % 4) m) in
-            let f = both-in (crossed sent joints x) (getD sent (4 * beyondOf joints (outOf x) + y % 4) 0) (d .0) (d .1) in
+            let d =
+            member (both (crossed sent joints x) (getD sent (4 * beyondOf joints (outOf x) + y % 4) 0)) (mask-in sent (crossed sent joints x) (beyondOf joints (outOf x)) (y % 4) m) in
+            let f =
+            both-in (crossed sent joints x) (getD sent (4 * beyondOf joints (outOf x) + y % 4) 0) (d .0) (d .1) in
             let k = both-in (getD sent i 0) (getD sent (outOf x) 0) (d .0) (f .0) in
             made (d .0) (c .0) (c .1) g (k .0) (k .1) (f .1)
           where
-            made : (a : ℕ) → i < 64 → q < 64 → q ≡ y / 4 → has (getD sent i 0) a ≡ true → has (getD sent (outOf x) 0) a ≡ true
-                → has (getD sent (4 * (q / 4) + y % 4) 0) a ≡ true → also (isRouterAt (y / 4) (pl .joint (x / 16) (x % 4))) (anyBelow (A pl) pass) ≡ true
+            made : (a : ℕ) → i < 64 → q < 64 → q ≡ y / 4 → has (getD sent i 0) a ≡ true
+                → has (getD sent (outOf x) 0) a ≡ true
+                → has (getD sent (4 * (q / 4) + y % 4) 0) a ≡ true
+                → also (isRouterAt (y / 4) (pl .joint (x / 16) (x % 4))) (anyBelow (A pl) pass) ≡ true
             made a li lq g u v w =
-                let into : pl .joint (x / 16) (x / 4 % 4) ≡ Router (i / 4) (i % 4) = rw ir at (partner-joint fits told (x / 4) (omega arith) li) in
-                let out : pl .joint (x / 16) (x % 4) ≡ Router (q / 4) (q % 4) = rw (or, oo) at (partner-joint fits told (outOf x) ox lq) in
+                let into : pl .joint (x / 16) (x / 4 % 4) ≡ Router (i / 4) (i % 4) =
+                rw ir at (partner-joint fits told (x / 4) (omega arith) li) in
+                let out : pl .joint (x / 16) (x % 4) ≡ Router (q / 4) (q % 4) =
+                rw (or, oo) at (partner-joint fits told (outOf x) ox lq) in
                 let ni = near (told .wired) into in
                 let first = leaves-answers i a (omega (arith, ni)) u in
                 let second = leaves-answers (outOf x) a ox v in
@@ -205,21 +232,25 @@ module _ {pl : Plan} {h : Head} {by : List (List ℕ)} {joints homes arrive serv
                 also-of {a = isRouterAt (y / 4) (pl .joint (x / 16) (x % 4))} (rw out (eq-eqb (4 * (q / 4) + q % 4) (y / 4) eq))
                 (any-of (A pl) pass a (first .0) (also-of {a = answerComes pl a (pl .joint (x / 16) (x / 4 % 4))} (rw into (first .1)) (also-of (rw (or, oo) at (second .1)) (rw (er, eo) at (third .1)))))
 
-        back : also (isRouterAt (y / 4) (pl .joint (x / 16) (x % 4))) (anyBelow (A pl) pass) ≡ true → edge (crossesOf sent joints (16 * R pl)) x y ≡ true
+        back : also (isRouterAt (y / 4) (pl .joint (x / 16) (x % 4))) (anyBelow (A pl) pass) ≡ true
+            → edge (crossesOf sent joints (16 * R pl)) x y ≡ true
         back e =
             let b = also-true {a = isRouterAt (y / 4) (pl .joint (x / 16) (x % 4))} e in
             let n = port-is (y / 4) (pl .joint (x / 16) (x % 4)) (b .0) in
             found (n .0) (n .1) (n .2) (n .3) (any-true (A pl) pass (b .1))
           where
-            found : (n t : ℕ) → pl .joint (x / 16) (x % 4) ≡ Router n t → 4 * n + t ≡ y / 4 → Found (A pl) pass → edge (crossesOf sent joints (16 * R pl)) x y ≡ true
+            found : (n t : ℕ) → pl .joint (x / 16) (x % 4) ≡ Router n t → 4 * n + t ≡ y / 4 → Found (A pl) pass
+                → edge (crossesOf sent joints (16 * R pl)) x y ≡ true
             found n t over p (a, la, v) =
                 let b = also-true {a = answerComes pl a (pl .joint (x / 16) (x / 4 % 4))}
                 {b = also (answerLeaves pl a (x / 16) (x % 4)) (answerLeaves pl a (y / 16) (y % 4))} v in
-                let c = also-true {a = answerLeaves pl a (x / 16) (x % 4)} {b = answerLeaves pl a (y / 16) (y % 4)} (b .1) in
+                let c =
+                also-true {a = answerLeaves pl a (x / 16) (x % 4)} {b = answerLeaves pl a (y / 16) (y % 4)} (b .1) in
                 let d = answer-comes (told .wired) a (pl .joint (x / 16) (x / 4 % 4)) (b .0) in
                 let eq : q ≡ 4 * n + t = joint-partner fits told (x / 16) (x % 4) n t over in
                 let ex : 4 * (x / 16) + x / 4 % 4 ≡ x / 4 = omega arith in
-                let ei : i ≡ 4 * d .0 + d .1 = rw ex at (joint-partner fits told (x / 16) (x / 4 % 4) (d .0) (d .1) (d .2)) in
+                let ei : i ≡ 4 * d .0 + d .1 =
+                rw ex at (joint-partner fits told (x / 16) (x / 4 % 4) (d .0) (d .1) (d .2)) in
                 let ln = near (told .wired) over in
                 let li = near (told .wired) (d .2) in
                 let ir : i / 4 ≡ d .0 = omega (arith, li) in
@@ -232,18 +263,21 @@ module _ {pl : Plan} {h : Head} {by : List (List ℕ)} {joints homes arrive serv
                 let k = in-both (getD sent i 0) (getD sent (outOf x) 0) a first second in
                 let m = not-empty (both (crossed sent joints x) (getD sent (4 * (q / 4) + y % 4) 0)) a
                 (in-both (crossed sent joints x) (getD sent (4 * (q / 4) + y % 4) 0) a k third) in
-                let z = cross-is sent joints x (omega (arith, li, room)) (omega (arith, ln, room)) (not-empty (crossed sent joints x) a k) in
+                let z =
+                cross-is sent joints x (omega (arith, li, room)) (omega (arith, ln, room)) (not-empty (crossed sent joints x) a k) in
                 parts-edge (crossesOf sent joints (16 * R pl)) x y q (maskOf sent (crossed sent joints x) (q / 4)) (cell ∙ z) (omega (arith, ln, room))
                 (mask-small sent (crossed sent joints x) (q / 4)) (eq ∙ p) (in-mask sent (crossed sent joints x) (q / 4) (y % 4) (omega arith) m)
 
-    pub answers-found : {r : Bool} → r ≡ ringTest (16 * R pl) (edge (crossesOf sent joints (16 * R pl))) → r ≡ ringTest (16 * R pl) (handEdge pl)
+    pub answers-found : {r : Bool} → r ≡ ringTest (16 * R pl) (edge (crossesOf sent joints (16 * R pl)))
+        → r ≡ ringTest (16 * R pl) (handEdge pl)
     answers-found e = e ∙ ring-alike (16 * R pl) (edge (crossesOf sent joints (16 * R pl))) (handEdge pl) hand-edges
 
   -- ---- links: where they have no ring the answers have none
   abbrev heard : List ℕ
   heard = leavesOf by arrive (livesOf serve (A pl)) (4 * R pl)
 
-  answers-heard : (k a : ℕ) → k < 4 * R pl → a < A pl → answerLeaves pl a (k / 4) (k % 4) ≡ true → has (getD heard k 0) a ≡ true
+  answers-heard : (k a : ℕ) → k < 4 * R pl → a < A pl → answerLeaves pl a (k / 4) (k % 4) ≡ true
+      → has (getD heard k 0) a ≡ true
   answers-heard k a l la u = made (answered-by (told .wired) a (k / 4) la (b .0))
     where
       b : (answered pl a (k / 4) ≡ true) × (routeTo pl (active a) (k / 4) ≡ k % 4)
@@ -253,8 +287,10 @@ module _ {pl : Plan} {h : Head} {by : List (List ℕ)} {joints homes arrive serv
       made (i, s) =
           let x : Port = record { router = k / 4; side = i } in
           let w = back-from (told .wired) a (record { router = k / 4; side = i }) s in
-          let o = way-on (onward pl (active a)) routerOf w (s .way .steps) (record { router = k / 4; side = i }) (s .way .here) in
-          let v : Walk pl (active a) (record { router = k / 4; side = i }) = rw (o .1) at (way-tail (onward pl (active a)) routerOf w (s .way .steps) (o .0)) in
+          let o =
+          way-on (onward pl (active a)) routerOf w (s .way .steps) (record { router = k / 4; side = i }) (s .way .here) in
+          let v : Walk pl (active a) (record { router = k / 4; side = i }) =
+          rw (o .1) at (way-tail (onward pl (active a)) routerOf w (s .way .steps) (o .0)) in
           let reached = arrives-of (told .wired) (active a) (record { router = k / 4; side = i }) (omega arith) v in
           let there : has (getD arrive (k / 4) 0) a ≡ true =
           told .arrivals .there (record { router = k / 4; side = i }) a (omega arith) (omega arith) ∙ rw (lt-ltb a (A pl) la) reached in
@@ -266,7 +302,8 @@ module _ {pl : Plan} {h : Head} {by : List (List ℕ)} {joints homes arrive serv
   abbrev linkAt : Crossing → ℕ
   linkAt x = 4 * x .into .router + x .out
 
-  hands-link : (x y : Crossing) → Handed (told .wired) x y → edge (linksOf heard joints (4 * R pl)) (linkAt x) (linkAt y) ≡ true
+  hands-link : (x y : Crossing) → Handed (told .wired) x y
+      → edge (linksOf heard joints (4 * R pl)) (linkAt x) (linkAt y) ≡ true
   hands-link x y g =
       let ex : (4 * x .into .router + x .out) / 4 ≡ x .into .router = omega (arith, g .here) in
       let eo : (4 * x .into .router + x .out) % 4 ≡ x .out = omega (arith, g .here) in
@@ -286,10 +323,12 @@ module _ {pl : Plan} {h : Head} {by : List (List ℕ)} {joints homes arrive serv
       (mask-small heard (getD heard (linkAt x) 0) (y .into .router)) (sym ey)
       (rw eu (in-mask heard (getD heard (linkAt x) 0) (y .into .router) (y .out) (omega (arith, g .there)) m))
 
-  pub links-clear : {r : Bool} → r ≡ ringTest (4 * R pl) (edge (linksOf heard joints (4 * R pl))) → r ≡ false → ringTest (16 * R pl) (handEdge pl) ≡ false
+  pub links-clear : {r : Bool} → r ≡ ringTest (4 * R pl) (edge (linksOf heard joints (4 * R pl))) → r ≡ false
+      → ringTest (16 * R pl) (handEdge pl) ≡ false
   links-clear e f = refuted (ringTest (16 * R pl) (handEdge pl)) (λ t. not-both (round (answer-test (told .wired) t)) (sym e ∙ f))
     where
-      step : (x y : Crossing) → Hands pl x y → Leads (4 * R pl) (edge (linksOf heard joints (4 * R pl))) (linkAt x) (linkAt y)
+      step : (x y : Crossing) → Hands pl x y
+          → Leads (4 * R pl) (edge (linksOf heard joints (4 * R pl))) (linkAt x) (linkAt y)
       step x y g =
           let k = handed (told .wired) x y g in
           record { from = omega (arith, k .here); to = omega (arith, k .there); step = hands-link x y k }
@@ -306,7 +345,8 @@ module _ {pl : Plan} {h : Head} {by : List (List ℕ)} {joints homes arrive serv
   actives : h .actives ≡ A pl
   actives = ap (λ (x : Head). x .actives) (sym (told .same))
 
-  pub walks-ring : {t l cells : List ℕ} {limit : ℕ} {r : Bool} → Spread by joints (h .routers) (startsOf homes serve (h .actives)) t
+  pub walks-ring : {t l cells : List ℕ} {limit : ℕ} {r : Bool}
+      → Spread by joints (h .routers) (startsOf homes serve (h .actives)) t
       → limit ≡ below 32 → l ≡ leavesOf by t limit (4 * h .routers) → cells ≡ trailsOf l joints (4 * h .routers)
       → r ≡ ringTest (4 * h .routers) (edge cells) → r ≡ ringTest (4 * R pl) (trailEdge pl)
   walks-ring {t} s m el ec e = walks-found t (rw (routers, actives) at s) (rw (ec, el, m, routers) at e)
@@ -332,10 +372,12 @@ pub ring-by-walks : (pl : Plan) → true ≡ ringTest (4 * R pl) (trailEdge pl) 
 unfolding hasRing
 ring-by-walks pl e = rw (← e)
 
-pub ring-by-links : (pl : Plan) → false ≡ ringTest (4 * R pl) (trailEdge pl) → ringTest (16 * R pl) (handEdge pl) ≡ false → false ≡ hasRing pl
+pub ring-by-links : (pl : Plan) → false ≡ ringTest (4 * R pl) (trailEdge pl)
+    → ringTest (16 * R pl) (handEdge pl) ≡ false → false ≡ hasRing pl
 unfolding hasRing
 ring-by-links pl e f = rw (← e, f)
 
-pub ring-by-answers : (pl : Plan) {r : Bool} → false ≡ ringTest (4 * R pl) (trailEdge pl) → r ≡ ringTest (16 * R pl) (handEdge pl) → r ≡ hasRing pl
+pub ring-by-answers : (pl : Plan) {r : Bool} → false ≡ ringTest (4 * R pl) (trailEdge pl)
+    → r ≡ ringTest (16 * R pl) (handEdge pl) → r ≡ hasRing pl
 unfolding hasRing
 ring-by-answers pl e f = rw (← e) f

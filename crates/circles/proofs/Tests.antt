@@ -24,7 +24,8 @@ use Rattle.journeys.proofs.Walks.{onward-on, walk-short, serves-of, served-of}
 use Rattle.journeys.proofs.Places.{meets-next, meets-inside, exit-inside, nack-walk}
 use Rattle.circles.specs.Rounds.{Amid, ring-amid}
 use Rattle.circles.specs.Circles.{Trails, WalkRing, Answers, Crossing, Hands, AnswerRing}
-use Rattle.circles.specs.RingTest.{wayMeets, walkMeets, walkLeaves, isRouter, trailEdge, backMeets, answered, answerLeaves, answerComes, answersPass, handEdge, hasRing}
+use Rattle.circles.specs.RingTest.{wayMeets, walkMeets, walkLeaves, isRouter, trailEdge, backMeets, answered}
+use Rattle.circles.specs.RingTest.{answerLeaves, answerComes, answersPass, handEdge, hasRing}
 use Rattle.circles.proofs.Equal.{rings-of-feeds, feeds-of-rings}
 
 -- ---- a way meets a router
@@ -38,12 +39,14 @@ pub way-meets : (pl : Plan) (e : Interface) (from : Port) (r : ℕ) → wayMeets
 unfolding wayMeets
 way-meets pl e from r t = by (any-true (R pl) (λ k. standsOn r (walked pl e k from)) t)
   where
-    by : Found (R pl) (λ k. standsOn r (walked pl e k from)) → (i : ℕ) × Meets pl e from (record { router = r; side = i })
+    by : Found (R pl) (λ k. standsOn r (walked pl e k from))
+        → (i : ℕ) × Meets pl e from (record { router = r; side = i })
     by (k, l, u) = let s = stands-at r (walked pl e k from) u in (s .0, record { steps = k; here = s .1 })
 
 -- joints lead on
 pub router-onward : (pl : Plan) (e : Interface) (x : Port) (n t : ℕ)
-    → pl .joint (x .router) (routeTo pl e (x .router)) ≡ Router n t → onward pl e x ≡ on (record { router = n; side = t })
+    → pl .joint (x .router) (routeTo pl e (x .router)) ≡ Router n t
+    → onward pl e x ≡ on (record { router = n; side = t })
 unfolding onward
 router-onward pl (active a) x n t q = rw q refl
 router-onward pl (passive p) x n t q = rw q refl
@@ -64,7 +67,8 @@ abbrev port : ℕ → Port
 port x = record { router = x / 4; side = x % 4 }
 
 module _ {pl : Plan} (wired : Wired pl) where
-  pub meets-way : (e : Interface) (from : Port) → from .router < R pl → (w : Walk pl e from) → (y : Port) → Meets pl e from y
+  pub meets-way : (e : Interface) (from : Port) → from .router < R pl → (w : Walk pl e from) → (y : Port)
+      → Meets pl e from y
       → wayMeets pl e from (y .router) ≡ true
   unfolding wayMeets
   meets-way e from h w y m =
@@ -105,7 +109,8 @@ module _ {pl : Plan} (wired : Wired pl) where
       b : (isRouter (y / 4) (pl .joint (x / 4) (x % 4)) ≡ true) × (walkLeaves pl (x / 4) (x % 4) ≡ true)
       b = also-true {a = isRouter (y / 4) (pl .joint (x / 4) (x % 4))} e
 
-      by : Found (P pl) (λ p. also (eqb (routeTo pl (passive p) (x / 4)) (x % 4)) (walkMeets pl p (x / 4))) → Trails pl (port x) (port y)
+      by : Found (P pl) (λ p. also (eqb (routeTo pl (passive p) (x / 4)) (x % 4)) (walkMeets pl p (x / 4)))
+          → Trails pl (port x) (port y)
       by (p, l, u) =
           let c = also-true u in
           let w = walk-by p (x / 4) (c .1) in
@@ -131,14 +136,16 @@ module _ {pl : Plan} (wired : Wired pl) where
     rw (f .leaves) (exit-inside wired (passive (f .p)) (home pl (active (f .a))) (f .serves .ahead) _ (f .met)),
   )
 
-  trails-edge : (x y : Port) → Trails pl x y → y .side < 4 → trailEdge pl (4 * x .router + x .side) (4 * y .router + y .side) ≡ true
+  trails-edge : (x y : Port) → Trails pl x y → y .side < 4
+      → trailEdge pl (4 * x .router + x .side) (4 * y .router + y .side) ≡ true
   unfolding trailEdge walkLeaves
   trails-edge x y f l =
       let k = trails-inside x y f in
       let ar : (4 * x .router + x .side) / 4 ≡ x .router = omega arith in
       let eo : (4 * x .router + x .side) % 4 ≡ x .side = omega arith in
       let br : (4 * y .router + y .side) / 4 ≡ y .router = omega arith in
-      let joined : pl .joint (x .router) (x .side) ≡ Router (y .router) (f .into) = ap (pl .joint (x .router)) (f .leaves) ∙ onward-on pl (passive (f .p)) _ _ (f .next) in
+      let joined : pl .joint (x .router) (x .side) ≡ Router (y .router) (f .into) =
+      ap (pl .joint (x .router)) (f .leaves) ∙ onward-on pl (passive (f .p)) _ _ (f .next) in
       rw (ar, eo, br, joined, eq-eqb (y .router) (y .router) refl)
       (any-of (P pl) (λ p. also (eqb (routeTo pl (passive p) (x .router)) (x .side)) (walkMeets pl p (x .router))) (f .p) (f .has-passive)
       (also-of (eq-eqb (routeTo pl (passive (f .p)) (x .router)) (x .side) (sym (f .leaves)))
@@ -153,7 +160,8 @@ module _ {pl : Plan} (wired : Wired pl) where
       test-of-ring (4 * R pl) (trailEdge pl)
       (ring-map (Amid (Trails pl)) (Leads (4 * R pl) (trailEdge pl)) (λ x. 4 * x .router + x .side) step (ring-amid (Trails pl) r))
     where
-      step : (x y : Port) → Amid (Trails pl) x y → Leads (4 * R pl) (trailEdge pl) (4 * x .router + x .side) (4 * y .router + y .side)
+      step : (x y : Port) → Amid (Trails pl) x y
+          → Leads (4 * R pl) (trailEdge pl) (4 * x .router + x .side) (4 * y .router + y .side)
       step x y m =
           let a = trails-inside x y (m .step) in
           let b = trails-inside y (m .after) (m .out) in
@@ -161,7 +169,8 @@ module _ {pl : Plan} (wired : Wired pl) where
 
 -- ---- answers
 module _ {pl : Plan} (wired : Wired pl) where
-  pub answered-by : (a r : ℕ) → a < A pl → answered pl a r ≡ true → (i : ℕ) × Answers pl a (record { router = r; side = i })
+  pub answered-by : (a r : ℕ) → a < A pl → answered pl a r ≡ true
+      → (i : ℕ) × Answers pl a (record { router = r; side = i })
   unfolding answered
   answered-by a r ha t =
       by (any-true (P pl) (λ p. also (served pl a p) (anyBelow (R pl) (λ k. backMeets pl a r (walked pl (passive p) k (home pl (active a)))))) t)
@@ -174,7 +183,8 @@ module _ {pl : Plan} (wired : Wired pl) where
       at p k hp s end q u = absurd (false≢true u)
       at p k hp s lost q u = absurd (false≢true u)
 
-      found : (p : ℕ) → p < P pl → Served pl a p → Found (R pl) (λ k. backMeets pl a r (walked pl (passive p) k (home pl (active a))))
+      found : (p : ℕ) → p < P pl → Served pl a p
+          → Found (R pl) (λ k. backMeets pl a r (walked pl (passive p) k (home pl (active a))))
           → (i : ℕ) × Answers pl a (record { router = r; side = i })
       found p hp s (k, l, u) = at p k hp s (walked pl (passive p) k (home pl (active a))) refl u
 
@@ -195,7 +205,8 @@ module _ {pl : Plan} (wired : Wired pl) where
   unfolding answered
   by-answers a y s =
       let h = home-inside (active a) wired (s .has-active) in
-      let o = way-on (onward pl (passive (s .p))) routerOf (s .serves .ahead) (s .met .steps) (s .start) (s .met .here) in
+      let o =
+      way-on (onward pl (passive (s .p))) routerOf (s .serves .ahead) (s .met .steps) (s .start) (s .met .here) in
       let short = walk-short wired (passive (s .p)) (home pl (active a)) (h .0) (s .serves .ahead) in
       any-of (P pl) (λ p. also (served pl a p) (anyBelow (R pl) (λ k. backMeets pl a (y .router) (walked pl (passive p) k (home pl (active a)))))) (s .p) (s .has-passive)
       (also-of (serves-of wired a (s .p) (s .has-active) (s .serves))
@@ -218,11 +229,13 @@ module _ {pl : Plan} (wired : Wired pl) where
   unfolding answerLeaves
   leaves-answer a r t = also-of (eq-eqb (routeTo pl (active a) r) (routeTo pl (active a) r) refl) t
 
-  pub answer-leaves : (a r o : ℕ) → answerLeaves pl a r o ≡ true → (answered pl a r ≡ true) × (routeTo pl (active a) r ≡ o)
+  pub answer-leaves : (a r o : ℕ) → answerLeaves pl a r o ≡ true
+      → (answered pl a r ≡ true) × (routeTo pl (active a) r ≡ o)
   unfolding answerLeaves
   answer-leaves a r o t = let b = also-true t in (b .1, eqb-true (routeTo pl (active a) r) o (b .0))
 
-  pub answer-comes : (a : ℕ) (j : Joint) → answerComes pl a j ≡ true → (n t : ℕ) × (j ≡ Router n t) × (answerLeaves pl a n t ≡ true)
+  pub answer-comes : (a : ℕ) (j : Joint) → answerComes pl a j ≡ true
+      → (n t : ℕ) × (j ≡ Router n t) × (answerLeaves pl a n t ≡ true)
   answer-comes a Nothing u = absurd (false≢true u)
   answer-comes a (Router n t) u = (n, t, refl, u)
   answer-comes a (Active n) u = absurd (false≢true u)
@@ -232,12 +245,14 @@ module _ {pl : Plan} (wired : Wired pl) where
   abbrev cross : ℕ → ℕ → ℕ → Crossing
   cross r i o = record { into = record { router = r; side = i }; out = o }
 
-  pass-hands : (r i o n t j : ℕ) → pl .joint r o ≡ Router n t → answersPass pl r i o n j ≡ true → Hands pl (cross r i o) (cross n t j)
+  pass-hands : (r i o n t j : ℕ) → pl .joint r o ≡ Router n t → answersPass pl r i o n j ≡ true
+      → Hands pl (cross r i o) (cross n t j)
   unfolding answersPass
   pass-hands r i o n t j q u =
       by (any-true (A pl) (λ a. also (answerComes pl a (pl .joint r i)) (also (answerLeaves pl a r o) (answerLeaves pl a n j))) u)
     where
-      made : (a b e : ℕ) → a < A pl → pl .joint r i ≡ Router b e → answerLeaves pl a b e ≡ true → answerLeaves pl a r o ≡ true
+      made : (a b e : ℕ) → a < A pl → pl .joint r i ≡ Router b e → answerLeaves pl a b e ≡ true
+          → answerLeaves pl a r o ≡ true
           → answerLeaves pl a n j ≡ true → Hands pl (cross r i o) (cross n t j)
       made a b e ha back first second third =
           let f = answer-leaves a b e first in
@@ -291,7 +306,8 @@ module _ {pl : Plan} (wired : Wired pl) where
       let s : Answers pl (h .a) (x .into) = answers-on (h .a) (h .before) (x .into) (h .answers) (h .enters) in
       let z : Answers pl (h .a) (y .into) = answers-on (h .a) (x .into) (y .into) s (h .goes) in
       let into = onward-on pl (active (h .a)) (h .before) (x .into) (h .enters) in
-      let named = wired .named (h .before .router) (routeTo pl (active (h .a)) (h .before .router)) (x .into .router) (x .into .side) into in
+      let named =
+      wired .named (h .before .router) (routeTo pl (active (h .a)) (h .before .router)) (x .into .router) (x .into .side) into in
       let over : pl .joint (x .into .router) (x .out) ≡ Router (y .into .router) (y .into .side) =
       ap (pl .joint (x .into .router)) (h .leaves) ∙ onward-on pl (active (h .a)) (x .into) (y .into) (h .goes) in
       let back = wired .named (x .into .router) (x .out) (y .into .router) (y .into .side) over in
@@ -316,7 +332,8 @@ module _ {pl : Plan} (wired : Wired pl) where
       let ei : (16 * x .into .router + 4 * x .into .side + x .out) / 4 % 4 ≡ x .into .side = omega (arith, h .here) in
       let eo : (16 * x .into .router + 4 * x .into .side + x .out) % 4 ≡ x .out = omega (arith, h .here) in
       let en : (16 * y .into .router + 4 * y .into .side + y .out) / 16 ≡ y .into .router = omega (arith, h .there) in
-      let et : (16 * y .into .router + 4 * y .into .side + y .out) / 4 ≡ 4 * y .into .router + y .into .side = omega (arith, h .there) in
+      let et : (16 * y .into .router + 4 * y .into .side + y .out) / 4 ≡ 4 * y .into .router + y .into .side =
+      omega (arith, h .there) in
       let ej : (16 * y .into .router + 4 * y .into .side + y .out) % 4 ≡ y .out = omega (arith, h .there) in
       rw (er, ei, eo, en, et, ej, h .over, eq-eqb (4 * y .into .router + y .into .side) (4 * y .into .router + y .into .side) refl)
       (any-of (A pl) (λ a. also (answerComes pl a (pl .joint (x .into .router) (x .into .side))) (also (answerLeaves pl a (x .into .router) (x .out)) (answerLeaves pl a (y .into .router) (y .out))))
@@ -332,7 +349,8 @@ module _ {pl : Plan} (wired : Wired pl) where
       step : (x y : Crossing) → Hands pl x y → Leads (16 * R pl) (handEdge pl) (numberOf x) (numberOf y)
       step x y h = let k = handed x y h in record { from = below x (k .here); to = below y (k .there); step = hands-edge x y k }
         where
-          below : (z : Crossing) → (z .into .router < R pl) × (z .into .side < 4) × (z .out < 4) → numberOf z < 16 * R pl
+          below : (z : Crossing) → (z .into .router < R pl) × (z .into .side < 4) × (z .out < 4)
+              → numberOf z < 16 * R pl
           below z k = omega arith
 
   -- ---- so
@@ -348,7 +366,8 @@ module _ {pl : Plan} (wired : Wired pl) where
   unfolding hasRing
   test-ring r = by (rings-of-feeds wired r)
     where
-      by : WalkRing pl ⊎ AnswerRing pl → (ringTest (4 * R pl) (trailEdge pl) || ringTest (16 * R pl) (handEdge pl)) ≡ true
+      by : WalkRing pl ⊎ AnswerRing pl
+          → (ringTest (4 * R pl) (trailEdge pl) || ringTest (16 * R pl) (handEdge pl)) ≡ true
       by (inl s) = rw (test-walk wired s) refl
       by (inr s) = rw (test-answer s) (or-right (ringTest (4 * R pl) (trailEdge pl)))
 

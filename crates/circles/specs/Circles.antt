@@ -12,7 +12,8 @@ use Rattle.paths.specs.Served.{Served}
 use Rattle.feeding.specs.Feeds.{Meets}
 
 -- ---- set-ups and tear-downs
--- the walk of a served pair leaves a router by the side x, for the router of y; this is where links, a router with the side
+-- the walk of a served pair leaves a router by the side x, for the router of y; this is where links, a router with the
+-- side
 -- by which the walk comes in, would take the place of routers
 pub record Trails (pl : Plan) (x y : Port) : Type 0 where
   pub a : ℕ
@@ -24,7 +25,8 @@ pub record Trails (pl : Plan) (x y : Port) : Type 0 where
   pub met : Meets pl (passive p) (home pl (active a)) (record { router = x .router; side = from })
   pub leaves : x .side ≡ routeTo pl (passive p) (x .router)
   pub into : ℕ
-  pub next : onward pl (passive p) (record { router = x .router; side = from }) ≡ on (record { router = y .router; side = into })
+  pub next : onward pl (passive p) (record { router = x .router; side = from })
+      ≡ on (record { router = y .router; side = into })
 
 abbrev pub WalkRing : Plan → Type 0
 WalkRing pl = Ring (Trails pl)

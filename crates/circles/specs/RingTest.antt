@@ -66,7 +66,8 @@ answerComes pl a (Passive n) = false
 -- answers to one active come in to r by side i, leave it by o and the router n by j
 unfoldable pub answersPass : Plan → ℕ → ℕ → ℕ → ℕ → ℕ → Bool
 answersPass pl r i o n j =
-    anyBelow (A pl) (λ a. also (answerComes pl a (pl .joint r i)) (also (answerLeaves pl a r o) (answerLeaves pl a n j)))
+    anyBelow (A pl)
+    (λ a. also (answerComes pl a (pl .joint r i)) (also (answerLeaves pl a r o) (answerLeaves pl a n j)))
 
 -- crossings by number, K[i,o] of r is 16r + 4i + o: answers go by the crossing x and then by the crossing y
 unfoldable pub handEdge : Plan → ℕ → ℕ → Bool

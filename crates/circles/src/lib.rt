@@ -1,5 +1,5 @@
-// Refusal 6 by routers and answers: a ring of feeding queues is a ring of sides that the walks of served pairs leave routers
-// by, or one of crossings that answers go by. Sets of destinations are words: active d, or passive d - A.
+// Refusal 6 by routers and answers: a ring of feeding queues is a ring of sides that the walks of served pairs leave
+// routers by, or one of crossings that answers go by. Sets of destinations are words: active d, or passive d - A.
 use plan::Head;
 ghost use mathlib.Core.Path.{_≡_};
 ghost use mathlib.Core.Bool.{false};
@@ -90,7 +90,8 @@ pub fn ring_found(
 ) -> bool
     requires { ⌜ Counts h ⌝ }
     ensures { λ r. ⌜ ((pl : Plan)
-        → Told pl h (now (by .entry)) (now (joints .entry)) (now (homes .entry)) (now (arrive .entry)) (now (served .entry))
+        → Told pl h (now (by .entry)) (now (joints .entry)) (now (homes .entry)) (now (arrive .entry))
+        (now (served .entry))
         → r ≡ hasRing pl) ⌝ }
 {
     if h.routers == 1 {

@@ -84,8 +84,10 @@ module _ (l joints : List ℕ) where
   unfolding crossOf
   cross-none x e h f k em z = rw (← e, lt-ltb _ 64 h, ← f, lt-ltb _ 64 k, ← em, eq-eqb _ 0 z)
 
-  pub cross-on : (x : ℕ) {i q m s v : ℕ} → i ≡ partnerOf joints (x / 4) → i < 64 → q ≡ partnerOf joints (outOf x) → q < 64
-      → m ≡ both (getD l i 0) (getD l (outOf x) 0) → m ≢ 0 → s ≡ maskOf l m (q / 4) → v ≡ 16 * q + s → v ≡ crossOf l joints x
+  pub cross-on : (x : ℕ) {i q m s v : ℕ} → i ≡ partnerOf joints (x / 4) → i < 64 → q ≡ partnerOf joints (outOf x)
+      → q < 64
+      → m ≡ both (getD l i 0) (getD l (outOf x) 0) → m ≢ 0 → s ≡ maskOf l m (q / 4) → v ≡ 16 * q + s
+      → v ≡ crossOf l joints x
   unfolding crossOf
   cross-on x e h f k em n es ev = rw (← e, lt-ltb _ 64 h, ← f, lt-ltb _ 64 k, ← em, ne-eqb _ 0 n, ← es) ev
 
@@ -174,7 +176,8 @@ noted a m n first room =
     up-keeps-at (Noted a m first) (λ x u. set u x (noteOf a (getD m x 0) (getD u x 0))) n first turn
     (record { long = refl; only = λ x d h. inl h; keeps = λ x d h. h; new = λ x h. absurd (omega arith) })
   where
-    turn : (i : ℕ) (t : List ℕ) → i < n → Noted a m first i t → Noted a m first (suc i) (set t i (noteOf a (getD m i 0) (getD t i 0)))
+    turn : (i : ℕ) (t : List ℕ) → i < n → Noted a m first i t
+        → Noted a m first (suc i) (set t i (noteOf a (getD m i 0) (getD t i 0)))
     turn i t l s = record {
       long = length-set t i v ∙ s .long;
       only = λ x d h. was x d h (test (eqb x i));
@@ -188,7 +191,8 @@ noted a m n first room =
         same : getD (set t i (noteOf a (getD m i 0) (getD t i 0))) i 0 ≡ noteOf a (getD m i 0) (getD t i 0)
         same = getD-set-same t i (noteOf a (getD m i 0) (getD t i 0)) 0 (omega (arith, s .long))
 
-        later : {x d : ℕ} → In first x d ⊎ ((d ≡ a) × (x < i) × (getD m x 0 ≢ 0)) → In first x d ⊎ ((d ≡ a) × (x < suc i) × (getD m x 0 ≢ 0))
+        later : {x d : ℕ} → In first x d ⊎ ((d ≡ a) × (x < i) × (getD m x 0 ≢ 0))
+            → In first x d ⊎ ((d ≡ a) × (x < suc i) × (getD m x 0 ≢ 0))
         later (inl h) = inl h
         later (inr (q, h, k)) = inr (q, omega arith, k)
 
@@ -204,7 +208,8 @@ noted a m n first room =
             rw e (at-row d (note-more a (getD m i 0) (getD t i 0) d (rw (e, same) at h)))
         was x d h (inr q) = later (s .only x d (rw (getD-set-other t i x (noteOf a (getD m i 0) (getD t i 0)) 0 (eqb-false x i q)) at h))
 
-        kept : (x d : ℕ) → In t x d → (eqb x i ≡ true) ⊎ (eqb x i ≡ false) → In (set t i (noteOf a (getD m i 0) (getD t i 0))) x d
+        kept : (x d : ℕ) → In t x d → (eqb x i ≡ true) ⊎ (eqb x i ≡ false)
+            → In (set t i (noteOf a (getD m i 0) (getD t i 0))) x d
         kept x d h (inl q) =
             let e = eqb-true x i q in
             rw (e, same) (note-keeps a (getD m i 0) (getD t i 0) d (rw e at h))
@@ -222,7 +227,8 @@ module _ (by : List (List ℕ)) (joints homes served : List ℕ) (n : ℕ) where
     complete = λ a h. absurd (omega arith);
   })
 
-  pub answering-more : {i : ℕ} {t u m : List ℕ} → n ≤ 16 → Spread by joints n (aloneOf homes served i) m → u ≡ notesOf i m n t
+  pub answering-more : {i : ℕ} {t u m : List ℕ} → n ≤ 16 → Spread by joints n (aloneOf homes served i) m
+      → u ≡ notesOf i m n t
       → Answering by joints homes served n i t → Answering by joints homes served n (i + 1) u
   answering-more {i} {t} {u} {m} l s e r = rw e (record {
     long = w .long ∙ r .long;
@@ -233,7 +239,8 @@ module _ (by : List (List ℕ)) (joints homes served : List ℕ) (n : ℕ) where
       w : Noted i m t n (notesOf i m n t)
       w = noted i m n t (omega (arith, r .long))
 
-      was : (x a : ℕ) → In t x a ⊎ ((a ≡ i) × (x < n) × (getD m x 0 ≢ 0)) → (a < i + 1) × (x < n) × Comes by joints homes served n a x
+      was : (x a : ℕ) → In t x a ⊎ ((a ≡ i) × (x < n) × (getD m x 0 ≢ 0))
+          → (a < i + 1) × (x < n) × Comes by joints homes served n a x
       was x a (inl h) = let q = r .sound x a h in (omega (arith, q .0), q .1, q .2)
       was x a (inr (q, h, k)) = rw q (omega arith, h, (m, s, k))
 
@@ -242,7 +249,8 @@ module _ (by : List (List ℕ)) (joints homes served : List ℕ) (n : ℕ) where
       all a (inl h) = let q = r .complete a h in (q .0, q .1, λ x b k. w .keeps x a (q .2 x b k))
       all a (inr q) = rw q (m, s, λ x b k. w .new x b k)
 
-  pub answering-done : {i k : ℕ} {t : List ℕ} → Answering by joints homes served n i t → i ≡ k → Answering by joints homes served n k t
+  pub answering-done : {i k : ℕ} {t : List ℕ} → Answering by joints homes served n i t → i ≡ k
+      → Answering by joints homes served n k t
   answering-done r e = rw (← e) r
 
   -- all rows may be looked at

@@ -18,7 +18,8 @@ use Rattle.sets.specs.Sets.{has, single, both, either, below}
 use Rattle.sets.specs.Laws.{has-single, has-below, none-has, no-member}
 use Rattle.spread.specs.Carried.{partnerOf, beyondOf, In}
 use Rattle.spread.proofs.Laws.{in-both, both-in, in-left, in-right, either-in}
-use Rattle.links.specs.Cells.{leaveOf, leavesOf, bitOf, maskOf, trailOf, trailsOf, linkOf, linksOf, crossed, crossOf, crossesOf, outOf}
+use Rattle.links.specs.Cells.{leaveOf, leavesOf, bitOf, maskOf, trailOf, trailsOf, linkOf, linksOf, crossed}
+use Rattle.links.specs.Cells.{crossOf, crossesOf, outOf}
 use Rattle.links.specs.Starts.{homeRow, startAt, startsOf, aloneOf, liveOf, livesOf}
 use Rattle.links.proofs.Laws.{mask-small, empty-at, not-empty}
 
@@ -72,7 +73,8 @@ begun homes served n =
         at d (inl h) = later (homeRow homes i) d (s .sound (homeRow homes i) d h)
         at d (inr h) = (i, omega arith, refl, h)
 
-        was : (y d : ℕ) → In (set t (homeRow homes i) v) y d → (eqb y (homeRow homes i) ≡ true) ⊎ (eqb y (homeRow homes i) ≡ false)
+        was : (y d : ℕ) → In (set t (homeRow homes i) v) y d
+            → (eqb y (homeRow homes i) ≡ true) ⊎ (eqb y (homeRow homes i) ≡ false)
             → (a : ℕ) × (a < suc i) × (homeRow homes a ≡ y) × (has (getD served a 0) d ≡ true)
         was y d h (inl q) =
             let e = eqb-true y (homeRow homes i) q in
@@ -89,18 +91,21 @@ begun homes served n =
             rw (getD-set-other t (homeRow homes i) (homeRow homes a) v 0 (eqb-false (homeRow homes a) (homeRow homes i) q)) (s .complete a d h k)
         put a d k (inr e) q = rw (e, row) (in-right (getD t (homeRow homes i) 0) (getD served i 0) d (rw e at k))
 
-pub alone-in : (homes served : List ℕ) (a y d : ℕ) → In (aloneOf homes served a) y d → (homeRow homes a ≡ y) × (has (getD served a 0) d ≡ true)
+pub alone-in : (homes served : List ℕ) (a y d : ℕ) → In (aloneOf homes served a) y d
+    → (homeRow homes a ≡ y) × (has (getD served a 0) d ≡ true)
 unfolding aloneOf
 alone-in homes served a y d h = by (test (eqb y (homeRow homes a)))
   where
-    by : (eqb y (homeRow homes a) ≡ true) ⊎ (eqb y (homeRow homes a) ≡ false) → (homeRow homes a ≡ y) × (has (getD served a 0) d ≡ true)
+    by : (eqb y (homeRow homes a) ≡ true) ⊎ (eqb y (homeRow homes a) ≡ false)
+        → (homeRow homes a ≡ y) × (has (getD served a 0) d ≡ true)
     by (inl q) =
         let e = eqb-true y (homeRow homes a) q in
         (sym e, rw (e, getD-set-same (replicate 32 0) (homeRow homes a) (getD served a 0) 0 (row-small homes a)) at h)
     by (inr q) =
         absurd (not-empty _ d (rw (getD-set-other (replicate 32 0) (homeRow homes a) y (getD served a 0) 0 (eqb-false y (homeRow homes a) q)) at h) (empty-at 32 y))
 
-pub in-alone : (homes served : List ℕ) (a d : ℕ) → has (getD served a 0) d ≡ true → In (aloneOf homes served a) (homeRow homes a) d
+pub in-alone : (homes served : List ℕ) (a d : ℕ) → has (getD served a 0) d ≡ true
+    → In (aloneOf homes served a) (homeRow homes a) d
 unfolding aloneOf
 in-alone homes served a d h = rw (getD-set-same (replicate 32 0) (homeRow homes a) (getD served a 0) 0 (row-small homes a)) h
 
@@ -116,7 +121,8 @@ in-lives served n a l h =
         in-right s (liveOf served i) a (rw (← e, ne-eqb (getD served a 0) 0 h) (has-single a a ∙ eq-eqb a a refl))
 
 -- ---- what leaves by a side
-pub leaves-at : (by : List (List ℕ)) (t : List ℕ) (limit n k : ℕ) → k < n → n ≤ 64 → getD (leavesOf by t limit n) k 0 ≡ leaveOf by t limit k
+pub leaves-at : (by : List (List ℕ)) (t : List ℕ) (limit n k : ℕ) → k < n → n ≤ 64
+    → getD (leavesOf by t limit n) k 0 ≡ leaveOf by t limit k
 unfolding leavesOf
 leaves-at by t limit n k l m = fill-at {A = ℕ} (leaveOf by t limit) n (replicate 64 0) k 0 l m
 
@@ -127,7 +133,8 @@ leave-in by t limit k d h =
     both-in (getD (getD by (k / 4) []) (k % 4) 0) (getD t (k / 4) 0) d
     (both-in (both (getD (getD by (k / 4) []) (k % 4) 0) (getD t (k / 4) 0)) limit d h .0)
 
-pub in-leave : (by : List (List ℕ)) (t : List ℕ) (limit k d : ℕ) → has (getD (getD by (k / 4) []) (k % 4) 0) d ≡ true → In t (k / 4) d
+pub in-leave : (by : List (List ℕ)) (t : List ℕ) (limit k d : ℕ) → has (getD (getD by (k / 4) []) (k % 4) 0) d ≡ true
+    → In t (k / 4) d
     → has limit d ≡ true → has (leaveOf by t limit k) d ≡ true
 unfolding leaveOf
 in-leave by t limit k d a b c =
@@ -171,7 +178,8 @@ mask-in l m q i t = by (either-in (either (bitOf l m q 0) (bitOf l m q 1)) (eith
     at : (j : ℕ) → has (bitOf l m q j) i ≡ true → both m (getD l (4 * q + i) 0) ≢ 0
     at j u = let b = bit-in l m q j i u in rw (b .0) (b .1)
 
-    two : (j k : ℕ) → (has (bitOf l m q j) i ≡ true) ⊎ (has (bitOf l m q k) i ≡ true) → both m (getD l (4 * q + i) 0) ≢ 0
+    two : (j k : ℕ) → (has (bitOf l m q j) i ≡ true) ⊎ (has (bitOf l m q k) i ≡ true)
+        → both m (getD l (4 * q + i) 0) ≢ 0
     two j k (inl u) = at j u
     two j k (inr u) = at k u
 
@@ -202,11 +210,13 @@ in-mask l m q j h n = by j h (in-bit l m q j n)
 
 -- ---- what a cell with a node tells, and what makes one
 module _ (l joints : List ℕ) where
-  pub trail-in : (k j : ℕ) → has (trailOf l joints k) j ≡ true → (getD l k 0 ≢ 0) × (partnerOf joints k < 64) × (trailOf l joints k ≡ 16 * beyondOf joints k + 15)
+  pub trail-in : (k j : ℕ) → has (trailOf l joints k) j ≡ true
+      → (getD l k 0 ≢ 0) × (partnerOf joints k < 64) × (trailOf l joints k ≡ 16 * beyondOf joints k + 15)
   unfolding trailOf
   trail-in k j t = by (test (eqb (getD l k 0) 0)) (test (ltb (partnerOf joints k) 64))
     where
-      by : (eqb (getD l k 0) 0 ≡ true) ⊎ (eqb (getD l k 0) 0 ≡ false) → (ltb (partnerOf joints k) 64 ≡ true) ⊎ (ltb (partnerOf joints k) 64 ≡ false)
+      by : (eqb (getD l k 0) 0 ≡ true) ⊎ (eqb (getD l k 0) 0 ≡ false)
+          → (ltb (partnerOf joints k) 64 ≡ true) ⊎ (ltb (partnerOf joints k) 64 ≡ false)
           → (getD l k 0 ≢ 0) × (partnerOf joints k < 64)
           × (pick (eqb (getD l k 0) 0) 0 (pick (ltb (partnerOf joints k) 64) (16 * beyondOf joints k + 15) 0) ≡ 16 * beyondOf joints k + 15)
       by (inl e) b = absurd (not-empty 0 j (rw e at t) refl)
@@ -217,7 +227,8 @@ module _ (l joints : List ℕ) where
   unfolding trailOf
   trail-is k a b = rw (ne-eqb (getD l k 0) 0 a, lt-ltb (partnerOf joints k) 64 b)
 
-  pub link-is : (k : ℕ) → partnerOf joints k < 64 → linkOf l joints k ≡ 16 * beyondOf joints k + maskOf l (getD l k 0) (beyondOf joints k)
+  pub link-is : (k : ℕ) → partnerOf joints k < 64
+      → linkOf l joints k ≡ 16 * beyondOf joints k + maskOf l (getD l k 0) (beyondOf joints k)
   unfolding linkOf
   link-is k b = rw (lt-ltb (partnerOf joints k) 64 b)
 

@@ -107,8 +107,8 @@ pub fn link_cells(l: &[u32; 64], joints: &[u8; 64], n: usize, cells: &mut [u32; 
     }
 }
 
-// The crossing x, from side x / 4 of a router to its side x % 4: to the crossings of the router beyond that some of the same
-// answers, which came in by the first, go by.
+// The crossing x, from side x / 4 of a router to its side x % 4: to the crossings of the router beyond that some of the
+// same answers, which came in by the first, go by.
 fn cross(l: &[u32; 64], joints: &[u8; 64], x: usize) -> u32
     requires { ⌜ x < 256 ⌝ }
     ensures { λ v. ⌜ v ≡ crossOf (now (l .entry)) (now (joints .entry)) x ⌝ }

@@ -1,4 +1,5 @@
--- What goes lies on no ring, what is left has a chain as long as there were sweeps; so the sweeps find a ring exactly if
+-- What goes lies on no ring, what is left has a chain as long as there were sweeps; so the sweeps find a ring exactly
+-- if
 -- there is one.
 use mathlib.Core.Path.{_≡_, refl, sym, ap, _∙_}
 use mathlib.Core.Logic.{_⊎_, inl, inr, _≢_}
@@ -14,11 +15,13 @@ use lib.Bits.{and-le-r, and-le-l, or-add-and}
 use borrow.Author.Tests.{lt-ltb, eqb-true, eqb-false, eq-eqb, ne-eqb}
 use Rattle.basis.specs.Choice.{pick, test, refuted, affirmed, not-both}
 use Rattle.basis.specs.Bounded.{Found, find, below-suc, lt-or-ge, or-cases, or-right}
-use Rattle.basis.specs.Fold.{upTo, up-none, up-more, up-done, up-keeps, up-keeps-at, fill, fill-at, fill-past, length-fill}
+use Rattle.basis.specs.Fold.{upTo, up-none, up-more, up-done, up-keeps, up-keeps-at, fill, fill-at, fill-past}
+use Rattle.basis.specs.Fold.{length-fill}
 use Rattle.basis.specs.Ring.{Ring, Leads, Chain, ring-in, still, longer, follow, ringTest, ring-of-test, test-of-ring}
 use Rattle.sets.specs.Sets.{has, single, both, either, less, below}
 use Rattle.sets.specs.Laws.{has-both, has-either, has-single, has-below, none-has, no-member, both-none}
-use Rattle.peel.specs.Cells.{groupOf, edge, isLeft, staysOf, keepOf, judgeOf, judgeAt, upOf, downOf, restOf, firstOf}
+use Rattle.peel.specs.Cells.{groupOf, edge, isLeft, staysOf, keepOf, judgeOf, judgeAt, upOf, downOf, restOf}
+use Rattle.peel.specs.Cells.{firstOf}
 
 -- ---- members
 -- a set of four that is not empty has a member
@@ -94,7 +97,8 @@ module _ (cells : List ℕ) where
   unfolding keepOf
   keep-in left x o i t = by (staysOf cells left x) refl t
     where
-      by : (b : Bool) → staysOf cells left x ≡ b → has (pick b (single o) 0) i ≡ true → (i ≡ o) × (staysOf cells left x ≡ true)
+      by : (b : Bool) → staysOf cells left x ≡ b → has (pick b (single o) 0) i ≡ true
+          → (i ≡ o) × (staysOf cells left x ≡ true)
       by true e u = (eqb-true i o (sym (has-single o i) ∙ u), e)
       by false e u = absurd (not-empty 0 i u refl)
 
@@ -113,9 +117,11 @@ module _ (cells : List ℕ) where
     unfolding judgeOf
     judge-is = let z : 4 * g + 0 ≡ 4 * g = omega arith in rw z
 
-    judge-true : (i : ℕ) → has (judgeOf cells left g) i ≡ true → (has (getD left g 0) i ≡ true) × (staysOf cells left (4 * g + i) ≡ true)
+    judge-true : (i : ℕ) → has (judgeOf cells left g) i ≡ true
+        → (has (getD left g 0) i ≡ true) × (staysOf cells left (4 * g + i) ≡ true)
     judge-true i t =
-        let b = and-eq-true-iff (has (getD left g 0) i) (has four i) .0 (sym (has-both (getD left g 0) four i) ∙ (rw judge-is at t)) in
+        let b =
+        and-eq-true-iff (has (getD left g 0) i) (has four i) .0 (sym (has-both (getD left g 0) four i) ∙ (rw judge-is at t)) in
         (b .0, by (in-either (either (digit 0) (digit 1)) (either (digit 2) (digit 3)) i (b .1)))
       where
         at : (o : ℕ) → has (digit o) i ≡ true → staysOf cells left (4 * g + i) ≡ true
@@ -125,11 +131,13 @@ module _ (cells : List ℕ) where
         two o p (inl u) = at o u
         two o p (inr u) = at p u
 
-        by : (has (either (digit 0) (digit 1)) i ≡ true) ⊎ (has (either (digit 2) (digit 3)) i ≡ true) → staysOf cells left (4 * g + i) ≡ true
+        by : (has (either (digit 0) (digit 1)) i ≡ true) ⊎ (has (either (digit 2) (digit 3)) i ≡ true)
+            → staysOf cells left (4 * g + i) ≡ true
         by (inl u) = two 0 1 (in-either (digit 0) (digit 1) i u)
         by (inr u) = two 2 3 (in-either (digit 2) (digit 3) i u)
 
-    judge-of : (i : ℕ) → i < 4 → has (getD left g 0) i ≡ true → staysOf cells left (4 * g + i) ≡ true → has (judgeOf cells left g) i ≡ true
+    judge-of : (i : ℕ) → i < 4 → has (getD left g 0) i ≡ true → staysOf cells left (4 * g + i) ≡ true
+        → has (judgeOf cells left g) i ≡ true
     judge-of i l t s =
         rw judge-is (has-both (getD left g 0) four i ∙ and-eq-true-iff (has (getD left g 0) i) (has four i) .1 (t, by i l (in-keep left (4 * g + i) i s)))
       where
@@ -160,7 +168,8 @@ module _ (cells : List ℕ) where
   pub swept-none : (first : List ℕ) → Swept first 0 0 first
   swept-none first = (up-none (judgeAt cells) first, λ e. refl)
 
-  pub swept-more : (g : ℕ) {first left : List ℕ} {gone v went all : ℕ} → Swept first g gone left → v ≡ judgeOf cells left g
+  pub swept-more : (g : ℕ) {first left : List ℕ} {gone v went all : ℕ} → Swept first g gone left
+      → v ≡ judgeOf cells left g
       → went ≡ less (getD left g 0) v → all ≡ either gone went → Swept first (g + 1) all (set left g v)
   unfolding judgeAt less
   swept-more g {first} {left} {gone} {v} {went} {all} s e f h =
@@ -178,8 +187,10 @@ module _ (cells : List ℕ) where
   unfolding upOf
   swept-done n {first = first} s e = (up-done (judgeAt cells) first (s .0) e, s .1)
 
-  pub down-more : (n i : ℕ) (first : List ℕ) {left : List ℕ} {v : ℕ} → left ≡ upTo (λ j. judgeAt cells (n - 1 - j)) i first
-      → v ≡ judgeOf cells left (n - 1 - i) → set left (n - 1 - i) v ≡ upTo (λ j. judgeAt cells (n - 1 - j)) (i + 1) first
+  pub down-more : (n i : ℕ) (first : List ℕ) {left : List ℕ} {v : ℕ}
+      → left ≡ upTo (λ j. judgeAt cells (n - 1 - j)) i first
+      → v ≡ judgeOf cells left (n - 1 - i)
+      → set left (n - 1 - i) v ≡ upTo (λ j. judgeAt cells (n - 1 - j)) (i + 1) first
   unfolding judgeAt
   down-more n i first {left} e f = up-more (λ j. judgeAt cells (n - 1 - j)) first i e (ap (set left (n - 1 - i)) f)
 
@@ -255,13 +266,15 @@ module _ (cells : List ℕ) where
             rw (eqb-true h g e) (omega (arith, judge-le left g, p .small g))
         rows h (inr e) = rw (row-other left g h (eqb-false h g e)) (p .small h)
 
-        goes : (r : Ring (Leads (4 * n) (edge cells))) (i : ℕ) → (i < r .size) ⊎ (i ≡ r .size) → staysOf cells left (r .node i) ≡ true
+        goes : (r : Ring (Leads (4 * n) (edge cells))) (i : ℕ) → (i < r .size) ⊎ (i ≡ r .size)
+            → staysOf cells left (r .node i) ≡ true
         goes r i (inl b) = next-stays left (r .node i) (r .node (suc i)) (r .linked i b .step) (p .keeps r (suc i) b)
         goes r i (inr e) =
             rw (e, r .closed) (next-stays left (r .node 0) (r .node 1) (r .linked 0 (r .some) .step) (p .keeps r 1 (r .some)))
 
     -- ---- the sweeps
-    pub peeled-down : (k : ℕ) {left after : List ℕ} → n ≤ 64 → after ≡ downOf cells n left → Peeled k left → Peeled k after
+    pub peeled-down : (k : ℕ) {left after : List ℕ} → n ≤ 64 → after ≡ downOf cells n left → Peeled k left
+        → Peeled k after
     unfolding downOf
     peeled-down k {left} {after} m e p =
         rw e (up-keeps (Peeled k) (λ i. judgeAt cells (n - 1 - i)) n left (λ i t h q. peeled-judge k (n - 1 - i) t m (omega arith) q) p)
@@ -284,7 +297,8 @@ module _ (cells : List ℕ) where
           leads = λ x b u. at x u (below-suc b);
         }
           where
-            was : (x : ℕ) → isLeft (judgeAt cells i t) x ≡ true → (isLeft t x ≡ true) × (x / 4 ≡ i → staysOf cells t x ≡ true)
+            was : (x : ℕ) → isLeft (judgeAt cells i t) x ≡ true
+                → (isLeft t x ≡ true) × (x / 4 ≡ i → staysOf cells t x ≡ true)
             was x u = judged t i x (omega (arith, q .peeled .long)) u
 
             at : (x : ℕ) → isLeft (judgeAt cells i t) x ≡ true → (x / 4 < i) ⊎ (x / 4 ≡ i) → Next left x
@@ -293,7 +307,8 @@ module _ (cells : List ℕ) where
                 let s = stays-next t x (q .peeled .small) (was x u .1 e) in
                 (s .0, s .1, q .fewer (s .0) (s .2))
 
-    pub peeled-up : (k : ℕ) {left after : List ℕ} → n ≤ 64 → after ≡ upOf cells n left → Peeled k left → Peeled (k + 1) after
+    pub peeled-up : (k : ℕ) {left after : List ℕ} → n ≤ 64 → after ≡ upOf cells n left → Peeled k left
+        → Peeled (k + 1) after
     peeled-up k {left} {after} m e p =
         let t = turned k left after m e p in
         rw add-one (record {
@@ -347,7 +362,8 @@ module _ (cells : List ℕ) where
     unfolding restOf
     rest-none left e = up-keeps-at (λ i s. s ≡ 0 → (g : ℕ) → g < i → getD left g 0 ≡ 0) (λ g s. either s (getD left g 0)) n 0 step (λ q g h. absurd (omega arith)) e
       where
-        step : (i s : ℕ) → i < n → (s ≡ 0 → (g : ℕ) → g < i → getD left g 0 ≡ 0) → either s (getD left i 0) ≡ 0 → (g : ℕ) → g < suc i → getD left g 0 ≡ 0
+        step : (i s : ℕ) → i < n → (s ≡ 0 → (g : ℕ) → g < i → getD left g 0 ≡ 0) → either s (getD left i 0) ≡ 0
+            → (g : ℕ) → g < suc i → getD left g 0 ≡ 0
         step i s h rec q g l = at (below-suc l)
           where
             at : (g < i) ⊎ (g ≡ i) → getD left g 0 ≡ 0
@@ -358,7 +374,8 @@ module _ (cells : List ℕ) where
     unfolding restOf
     rest-some left h = up-keeps (λ s. s ≢ 0 → (g : ℕ) × (getD left g 0 ≢ 0)) (λ g s. either s (getD left g 0)) n 0 step (λ q. absurd (q refl)) h
       where
-        step : (i s : ℕ) → i < n → (s ≢ 0 → (g : ℕ) × (getD left g 0 ≢ 0)) → either s (getD left i 0) ≢ 0 → (g : ℕ) × (getD left g 0 ≢ 0)
+        step : (i s : ℕ) → i < n → (s ≢ 0 → (g : ℕ) × (getD left g 0 ≢ 0)) → either s (getD left i 0) ≢ 0
+            → (g : ℕ) × (getD left g 0 ≢ 0)
         step i s l rec q = by (test (eqb (getD left i 0) 0)) (test (eqb s 0))
           where
             by : (eqb (getD left i 0) 0 ≡ true) ⊎ (eqb (getD left i 0) 0 ≡ false) → (eqb s 0 ≡ true) ⊎ (eqb s 0 ≡ false)
@@ -367,7 +384,8 @@ module _ (cells : List ℕ) where
             by (inl e) (inr f) = rec (eqb-false s 0 f)
             by (inl e) (inl f) = absurd (q (rw (eqb-true s 0 f, eqb-true (getD left i 0) 0 e) either-empty))
 
-    pub ends-none : {k : ℕ} {left : List ℕ} {rest : ℕ} → rest ≡ restOf n left → rest ≡ 0 → Peeled k left → false ≡ ringTest (4 * n) (edge cells)
+    pub ends-none : {k : ℕ} {left : List ℕ} {rest : ℕ} → rest ≡ restOf n left → rest ≡ 0 → Peeled k left
+        → false ≡ ringTest (4 * n) (edge cells)
     ends-none {k} {left} f e p = sym (refuted (ringTest (4 * n) (edge cells)) (λ t. some (ring-of-test (4 * n) (edge cells) t)))
       where
         some : Ring (Leads (4 * n) (edge cells)) → ⊥

@@ -14,7 +14,8 @@ use Rattle.basis.specs.Choice.{test, refuted, affirmed, not-both}
 use Rattle.basis.specs.Bounded.{below-suc, or-cases, or-right}
 use Rattle.sets.specs.Sets.{has, single, both, either, less, below}
 use Rattle.sets.specs.Laws.{has-both, has-either, has-less, has-single, has-below, none-has}
-use Rattle.spread.specs.Carried.{partnerOf, beyondOf, In, Leaves, Gone, Carried, Fair, Pushed, Passed, Off, Stepped, Round, Spread}
+use Rattle.spread.specs.Carried.{partnerOf, beyondOf, In, Leaves, Gone, Carried, Fair, Pushed, Passed, Off}
+use Rattle.spread.specs.Carried.{Stepped, Round, Spread}
 
 -- ---- members of sets
 none-of : (s d : ℕ) → s ≡ 0 → has s d ≡ false
@@ -42,15 +43,18 @@ not-right : (s t d : ℕ) → has (either s t) d ≡ false → has t d ≡ false
 not-right s t d e = refuted (has t d) (λ a. not-both (in-right s t d a) e)
 
 -- ---- the port beyond a port
-pub partner-some : (joints : List ℕ) (k : ℕ) {v : ℕ} → v ≡ getD joints k 0 → v / 64 ≡ 1 → (v % 64 ≡ partnerOf joints k) × (v % 64 ≤ 64)
+pub partner-some : (joints : List ℕ) (k : ℕ) {v : ℕ} → v ≡ getD joints k 0 → v / 64 ≡ 1
+    → (v % 64 ≡ partnerOf joints k) × (v % 64 ≤ 64)
 unfolding partnerOf
 partner-some joints k e q = (rw (← e, eq-eqb _ 1 q), omega arith)
 
-pub partner-none : (joints : List ℕ) (k : ℕ) {v : ℕ} → v ≡ getD joints k 0 → v / 64 ≢ 1 → (64 ≡ partnerOf joints k) × (64 ≤ 64)
+pub partner-none : (joints : List ℕ) (k : ℕ) {v : ℕ} → v ≡ getD joints k 0 → v / 64 ≢ 1
+    → (64 ≡ partnerOf joints k) × (64 ≤ 64)
 unfolding partnerOf
 partner-none joints k e q = (rw (← e, ne-eqb _ 1 q), omega arith)
 
-pub beyond-at : (joints : List ℕ) (k : ℕ) {v : ℕ} → (v ≡ partnerOf joints k) × (v ≤ 64) → (v / 4 ≡ beyondOf joints k) × (v / 4 < 32)
+pub beyond-at : (joints : List ℕ) (k : ℕ) {v : ℕ} → (v ≡ partnerOf joints k) × (v ≤ 64)
+    → (v / 4 ≡ beyondOf joints k) × (v / 4 < 32)
 beyond-at joints k (e, l) = (ap (λ (u : ℕ). u / 4) e, omega arith)
 
 module _ (by : List (List ℕ)) (joints : List ℕ) where
@@ -71,11 +75,13 @@ module _ (by : List (List ℕ)) (joints : List ℕ) where
     same = λ y a. refl;
   }
     where
-      new : (d : ℕ) → Leaves by joints x o d → In t x d → has (getD t (to x o) 0) d ≡ false → has (less m (getD t n 0)) d ≡ true
+      new : (d : ℕ) → Leaves by joints x o d → In t x d → has (getD t (to x o) 0) d ≡ false
+          → has (less m (getD t n 0)) d ≡ true
       new d a b c = has-less m (getD t n 0) d ∙ rw (em, in-both (side x o) (getD t x 0) d a b, en, c)
 
   pub pushed-some : (x o : ℕ) (t : List ℕ) {n m v s : ℕ} → length t ≡ 32 → (n ≡ to x o) × (n < 32) → o < 4
-      → m ≡ both (side x o) (getD t x 0) → v ≡ either (getD t n 0) m → s ≡ single n → Pushed by joints x o t s (set t n v)
+      → m ≡ both (side x o) (getD t x 0) → v ≡ either (getD t n 0) m → s ≡ single n
+      → Pushed by joints x o t s (set t n v)
   pushed-some x o t {n} {m} {v} {s} long (en, small) ho em ev es = record {
     long = length-set t n v;
     keeps = λ y d a. kept y d a (test (eqb y n));
@@ -92,7 +98,8 @@ module _ (by : List (List ℕ)) (joints : List ℕ) where
           rw (eqb-true y n q, row, ev) (in-left (getD t n 0) m d (rw (eqb-true y n q) at a))
       kept y d a (inr q) = rw (getD-set-other t n y v 0 (eqb-false y n q)) a
 
-      came : (k : ℕ) (f : List ℕ) → x < k → Fair by joints k f t → (y d : ℕ) → In (set t n v) y d → (eqb y n ≡ true) ⊎ (eqb y n ≡ false)
+      came : (k : ℕ) (f : List ℕ) → x < k → Fair by joints k f t → (y d : ℕ) → In (set t n v) y d
+          → (eqb y n ≡ true) ⊎ (eqb y n ≡ false)
           → (j : ℕ) × Carried by joints k f d j y
       came k f h a y d b (inr q) = a y d (rw (getD-set-other t n y v 0 (eqb-false y n q)) at b)
       came k f h a y d b (inl q) =
@@ -154,7 +161,8 @@ module _ (by : List (List ℕ)) (joints : List ℕ) where
           let s : y ≡ x = eqb-true y x q in
           rw s (p .gone o l d (rw s at u) (rw (s, p .same x (rw s at f)) at v))
       turn n a y h e f o l (inr q) d u v =
-          let off : has work y ≡ false = refuted (has work y) (λ b. not-both (has-less work (single x) y ∙ rw (b, has-single x y, q)) (rw ew at e)) in
+          let off : has work y ≡ false =
+          refuted (has work y) (λ b. not-both (has-less work (single x) y ∙ rw (b, has-single x y, q)) (rw ew at e)) in
           p .keeps (to y o) d (a y h off o l d u (rw (p .same y f) at v))
 
   -- ---- the sweeps
@@ -189,7 +197,8 @@ module _ (by : List (List ℕ)) (joints : List ℕ) where
         at x (inl l) o m d a b = s .keeps (to x o) d (r .done x l o m d a b)
         at x (inr q) o m d a b = rw q (s .gone n h (r .round .off) o m d (rw q at a) (r .kept i d (rw q at b)))
 
-    pub turned-done : {i left work : ℕ} {before t : List ℕ} → Round by joints n first k work before → Turned before i left t → i ≡ n
+    pub turned-done : {i left work : ℕ} {before t : List ℕ} → Round by joints n first k work before
+        → Turned before i left t → i ≡ n
         → Round by joints n first (k + 1) left t
     turned-done {i} {left} {work} {before} {t} was r e = record {
       long = r .round .long;

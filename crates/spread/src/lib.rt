@@ -1,5 +1,5 @@
-// What goes on from router to router: by[r][o] is the set of what leaves router r by side o, and a table of sets by router,
-// what is where at first, grows until it has all that comes to each router.
+// What goes on from router to router: by[r][o] is the set of what leaves router r by side o, and a table of sets by
+// router, what is where at first, grows until it has all that comes to each router.
 use sets::below;
 use sets::both;
 use sets::either;
@@ -75,7 +75,8 @@ fn step(by: &[[u32; 4]; 16], joints: &[u8; 64], work: u32, t: &mut [u32; 32], x:
 // A sweep up the routers.
 fn sweep_up(by: &[[u32; 4]; 16], joints: &[u8; 64], n: usize, work: u32, t: &mut [u32; 32]) -> u32
     requires { ⌜ (n ≤ 16) × (length (now t) ≡ 32) ⌝ }
-    ensures { λ left. ⌜ ((first : List ℕ) (k : ℕ) → Round (now (by .entry)) (now (joints .entry)) n first k work (now (t .entry))
+    ensures { λ left. ⌜ ((first : List ℕ) (k : ℕ)
+        → Round (now (by .entry)) (now (joints .entry)) n first k work (now (t .entry))
         → Round (now (by .entry)) (now (joints .entry)) n first (k + 1) left (now (t .exit))) ⌝ }
 {
     let mut left = work;
@@ -88,7 +89,8 @@ fn sweep_up(by: &[[u32; 4]; 16], joints: &[u8; 64], n: usize, work: u32, t: &mut
 // A sweep down the routers.
 fn sweep_down(by: &[[u32; 4]; 16], joints: &[u8; 64], n: usize, work: u32, t: &mut [u32; 32]) -> u32
     requires { ⌜ (n ≤ 16) × (length (now t) ≡ 32) ⌝ }
-    ensures { λ left. ⌜ ((first : List ℕ) (k : ℕ) → Round (now (by .entry)) (now (joints .entry)) n first k work (now (t .entry))
+    ensures { λ left. ⌜ ((first : List ℕ) (k : ℕ)
+        → Round (now (by .entry)) (now (joints .entry)) n first k work (now (t .entry))
         → Round (now (by .entry)) (now (joints .entry)) n first k left (now (t .exit))) ⌝ }
 {
     let mut left = work;
@@ -98,7 +100,8 @@ fn sweep_down(by: &[[u32; 4]; 16], joints: &[u8; 64], n: usize, work: u32, t: &m
     left
 }
 
-// All that comes to each of n routers, from what is there at first, which is nothing at the routers that are not in `from`.
+// All that comes to each of n routers, from what is there at first, which is nothing at the routers that are not in
+// `from`.
 pub fn spread(by: &[[u32; 4]; 16], joints: &[u8; 64], n: usize, from: u32, t: &mut [u32; 32])
     requires { ⌜ (n ≤ 16) × (length (now t) ≡ 32)
         × ((x : ℕ) → x < n → has from x ≡ false → getD (now t) x 0 ≡ 0) ⌝ }

@@ -1,27 +1,25 @@
 -- What the tables tell of a plan: joints, steps of ways, the walks of served pairs that come to a router, and answers.
 use mathlib.Core.Path.{_≡_, refl, sym, ap, _∙_}
 use mathlib.Core.Logic.{_⊎_, inl, inr, _≢_}
-use mathlib.Core.Bool.{Bool, true, false, _&&_, true≢false, false≢true, and-eq-true-iff}
-use mathlib.Core.List.{List, []}
+use mathlib.Core.Bool.{Bool, true, false, and-eq-true-iff}
+use mathlib.Core.List.{List}
 use Prim.Native.Nat.{ℕ, zero, suc, _+_, _*_, _-_, _/_, _%_, _≤_, _<_}
 use native.Mathlib.Omega.{arith}
 use lib.Dec.{eqb, ltb}
 use lib.ListN.{getD}
 use borrow.Author.Tests.{eqb-true, eq-eqb, lt-ltb, ltb-true}
 use Rattle.basis.specs.Choice.{pick, test}
-use Rattle.basis.specs.Walk.{Spot, on, spot, spot-none, spot-next, on-before, on-same, way-on, way-tail}
+use Rattle.basis.specs.Walk.{on, spot-none, spot-next, on-before, on-same, way-on}
 use Rattle.plan.specs.declared.Head.{Head}
-use Rattle.plan.specs.declared.Joint.{Joint}
 use Rattle.plan.specs.declared.Joint.the-variants.{Nothing, Router, Active, Passive}
 use Rattle.plan.specs.Head.{destinations}
 use Rattle.plan.specs.Plan.{Plan, Port, Interface, active, passive, R, A, P, column, Has, routeTo}
 use Rattle.plan.specs.Rules.{home}
 use Rattle.plan.specs.Tables.{jointOfByte}
-use Rattle.paths.specs.Walk.{onward, routerOf, Walk, walked}
+use Rattle.paths.specs.Walk.{onward, routerOf, walked}
 use Rattle.paths.specs.Served.{Served, served}
 use Rattle.feeding.specs.Feeds.{Meets}
 use Rattle.feeding.specs.Numbered.{Counts}
-use Rattle.wiring.specs.Wired.{Wired}
 use Rattle.wiring.proofs.Wires.{near, home-inside}
 use Rattle.journeys.proofs.Walks.{onward-on, walk-short, serves-of, served-of}
 use Rattle.journeys.proofs.Places.{meets-here, meets-next}

@@ -1,7 +1,7 @@
 -- A ring of feeding queues is a ring of walks or a ring of crossing answers, and each of these is a ring of queues.
 use mathlib.Core.Path.{_≡_, refl, sym, ap, _∙_}
 use mathlib.Core.Logic.{_⊎_, inl, inr}
-use mathlib.Core.Option.{Option, none, some}
+use mathlib.Core.Option.{some}
 use mathlib.Core.Bool.{Bool, true, false}
 use Prim.Native.Nat.{ℕ, _<_}
 use native.Mathlib.Omega.{arith}
@@ -20,7 +20,7 @@ use Rattle.wiring.specs.Wired.{Wired}
 use Rattle.journeys.specs.Visits.{Visits}
 use Rattle.journeys.proofs.Walks.{onward-on, onward-end}
 use Rattle.journeys.proofs.Places.{some-same, some-not-none, meets-next, goes-from}
-use Rattle.journeys.proofs.Fitting.{Somehow, fits-visits, visits-fit}
+use Rattle.journeys.proofs.Fitting.{fits-visits, visits-fit}
 use Rattle.circles.specs.Rounds.{Three, Amid, Both, ring-amid, ring-split, ring-strides, ring-thrice}
 use Rattle.circles.specs.Circles.{Trails, WalkRing, Crossing, Hands, AnswerRing}
 use Rattle.circles.proofs.Crossings.{Crosses, hands-crosses, crossing-ring}

@@ -1,36 +1,31 @@
 -- The cells of the tables are the edges of the tests, so the search finds a ring exactly if there is one.
-use mathlib.Core.Path.{_≡_, refl, sym, ap, _∙_}
-use mathlib.Core.Logic.{_⊎_, inl, inr, _≢_}
-use mathlib.Core.Bool.{Bool, true, false, _&&_, _||_, true≢false, false≢true, and-eq-true-iff}
-use mathlib.Core.List.{List, []}
-use Prim.Native.Nat.{ℕ, zero, suc, _+_, _*_, _-_, _/_, _%_, _≤_, _<_}
+use mathlib.Core.Path.{_≡_, sym, ap, _∙_}
+use mathlib.Core.Logic.{_≢_}
+use mathlib.Core.Bool.{Bool, true, false, and-eq-true-iff}
+use mathlib.Core.List.{List}
+use Prim.Native.Nat.{ℕ, _+_, _*_, _/_, _%_, _≤_, _<_}
 use native.Mathlib.Omega.{arith}
-use lib.Dec.{eqb, ltb}
+use lib.Dec.{eqb}
 use lib.ListN.{getD}
 use borrow.Author.Tests.{eqb-true, eq-eqb, lt-ltb}
-use Rattle.basis.specs.Choice.{also, test, also-true, also-of, refuted, same-test, not-both}
+use Rattle.basis.specs.Choice.{also, also-true, also-of, refuted, same-test, not-both}
 use Rattle.basis.specs.Bounded.{Found, anyBelow, any-true, any-of}
-use Rattle.basis.specs.Ring.{Ring, Leads, ring-map, ring-same, ringTest, ring-of-test, test-of-ring}
-use Rattle.basis.specs.Walk.{on, way-on, way-tail}
+use Rattle.basis.specs.Ring.{Leads, ring-map, ring-same, ringTest, ring-of-test, test-of-ring}
+use Rattle.basis.specs.Walk.{way-on, way-tail}
 use Rattle.plan.specs.declared.Head.{Head}
-use Rattle.plan.specs.declared.Joint.{Joint}
 use Rattle.plan.specs.declared.Joint.the-variants.{Router}
-use Rattle.plan.specs.Head.{destinations}
 use Rattle.plan.specs.Plan.{Plan, Port, active, passive, R, A, P, routeTo}
-use Rattle.plan.specs.Rules.{home, isRouterAt}
-use Rattle.plan.specs.Tables.{interfaceAt}
+use Rattle.plan.specs.Rules.{isRouterAt}
 use Rattle.paths.specs.Walk.{onward, routerOf, Walk}
-use Rattle.paths.specs.Served.{Served}
 use Rattle.feeding.specs.Numbered.{Counts}
 use Rattle.wiring.proofs.Wires.{near}
 use Rattle.journeys.proofs.Walks.{arrives-of, serves-of}
-use Rattle.journeys.proofs.Places.{walk-move}
 use Rattle.sets.specs.Sets.{has, both, below}
 use Rattle.sets.specs.Laws.{has-below}
 use Rattle.peel.specs.Cells.{groupOf, edge}
-use Rattle.spread.specs.Carried.{partnerOf, beyondOf, In, Leaves, Spread}
+use Rattle.spread.specs.Carried.{partnerOf, beyondOf, Spread}
 use Rattle.spread.proofs.Laws.{in-both, both-in}
-use Rattle.links.specs.Cells.{leaveOf, leavesOf, maskOf, trailOf, trailsOf, linkOf, linksOf, crossed, crossOf}
+use Rattle.links.specs.Cells.{leavesOf, maskOf, trailOf, trailsOf, linksOf, crossed, crossOf}
 use Rattle.links.specs.Cells.{crossesOf, outOf}
 use Rattle.links.specs.Starts.{startsOf, livesOf}
 use Rattle.links.proofs.Laws.{mask-small, not-empty}
@@ -41,8 +36,8 @@ use Rattle.circles.specs.Circles.{Answers, Crossing, Hands, AnswerRing}
 use Rattle.circles.specs.RingTest.{walkMeets, walkLeaves, isRouter, trailEdge, answered, answerLeaves}
 use Rattle.circles.specs.RingTest.{answerComes, answersPass, handEdge, hasRing}
 use Rattle.circles.specs.Told.{Told}
-use Rattle.circles.proofs.Tests.{WalkBy, walk-by, by-walk, router-is, port-is, answered-by, by-answers}
-use Rattle.circles.proofs.Tests.{back-from, start-inside, answer-leaves, answer-comes, Handed, handed}
+use Rattle.circles.proofs.Tests.{walk-by, by-walk, router-is, port-is, answered-by, by-answers}
+use Rattle.circles.proofs.Tests.{back-from, answer-leaves, answer-comes, Handed, handed}
 use Rattle.circles.proofs.Tests.{answer-test, one-router}
 use Rattle.circles.proofs.Drawn.{few, joint-partner, partner-joint, leaves-of, of-leaves, all-walker, walker-all}
 use Rattle.circles.proofs.Drawn.{answers-of, of-answers}
@@ -285,7 +280,6 @@ module _ {pl : Plan} {h : Head} {by : List (List ℕ)} {joints homes arrive serv
 
       made : (i : ℕ) × Answers pl a (record { router = k / 4; side = i }) → has (getD heard k 0) a ≡ true
       made (i, s) =
-          let x : Port = record { router = k / 4; side = i } in
           let w = back-from (told .wired) a (record { router = k / 4; side = i }) s in
           let o =
           way-on (onward pl (active a)) routerOf w (s .way .steps) (record { router = k / 4; side = i }) (s .way .here) in

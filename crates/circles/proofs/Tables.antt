@@ -1,17 +1,16 @@
 -- Load's tables of joints and homes tell what the plan of these tables says.
-use mathlib.Core.Path.{_≡_, refl, sym, ap, _∙_}
+use mathlib.Core.Path.{_≡_, refl}
 use mathlib.Core.List.{List}
-use Prim.Native.Nat.{ℕ, _+_, _*_, _/_, _≤_, _<_}
+use Prim.Native.Nat.{ℕ, _/_, _≤_, _<_}
 use native.Mathlib.Omega.{arith}
-use lib.Dec.{ltb}
 use lib.ListN.{getD, replicate}
 use borrow.Author.Tests.{lt-ltb}
-use Rattle.basis.specs.Fold.{upTo, fill, fill-at}
+use Rattle.basis.specs.Fold.{fill-at}
 use Rattle.plan.specs.declared.Head.{Head}
 use Rattle.plan.specs.Head.{destinations}
 use Rattle.plan.specs.Plan.{Plan, active, A}
 use Rattle.plan.specs.Rules.{home, portsOf, portOr0}
-use Rattle.plan.specs.Tables.{jointOfByte, tablePlan, interfaceAt, homesOf}
+use Rattle.plan.specs.Tables.{tablePlan, interfaceAt, homesOf}
 use Rattle.paths.specs.Drawn.{Sides, Arrivals, Serves}
 use Rattle.feeding.specs.Numbered.{Counts}
 use Rattle.wiring.specs.Wired.{Wired}

@@ -1,15 +1,15 @@
 -- The tests find exactly the rings.
 use mathlib.Core.Path.{_≡_, refl, sym, ap, _∙_}
 use mathlib.Core.Logic.{_⊎_, inl, inr}
-use mathlib.Core.Bool.{Bool, true, false, false≢true, _||_}
-use Prim.Native.Nat.{ℕ, zero, suc, _+_, _*_, _-_, _/_, _%_, _≤_, _<_}
+use mathlib.Core.Bool.{true, false, false≢true, _||_}
+use Prim.Native.Nat.{ℕ, _+_, _*_, _/_, _%_, _<_}
 use native.Mathlib.Omega.{arith}
 use lib.Dec.{eqb}
 use borrow.Author.Tests.{eqb-true, eq-eqb}
 use Rattle.basis.specs.Choice.{also, also-true, also-of, refuted}
 use Rattle.basis.specs.Bounded.{Found, anyBelow, any-true, any-of, or-cases, or-right}
 use Rattle.basis.specs.Walk.{Spot, on, end, lost, way-on}
-use Rattle.basis.specs.Ring.{Ring, Leads, ring-map, ringTest, ring-of-test, test-of-ring}
+use Rattle.basis.specs.Ring.{Leads, ring-map, ringTest, ring-of-test, test-of-ring}
 use Rattle.plan.specs.declared.Joint.{Joint}
 use Rattle.plan.specs.declared.Joint.the-variants.{Nothing, Router, Active, Passive}
 use Rattle.plan.specs.Plan.{Plan, Port, Interface, active, passive, R, A, P, routeTo}

@@ -1,7 +1,6 @@
 -- What a ring of feeding queues is, by routers and their sides: sides that the walks of served pairs leave routers by,
 -- each for the next one's router, or crossings that answers go by one after the other.
 use mathlib.Core.Path.{_≡_}
-use mathlib.Core.Logic.{_⊎_}
 use Prim.Native.Nat.{ℕ, _<_}
 use Rattle.basis.specs.Walk.{on}
 use Rattle.basis.specs.Ring.{Ring}

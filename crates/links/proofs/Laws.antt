@@ -2,22 +2,22 @@
 use mathlib.Core.Path.{_≡_, refl, sym, ap, _∙_}
 use mathlib.Core.Logic.{_⊎_, inl, inr, _≢_}
 use mathlib.Core.Bool.{Bool, true, false, true≢false}
-use mathlib.Core.List.{List, []}
-use Prim.Native.Nat.{ℕ, zero, suc, _+_, _*_, _/_, _%_, _≤_, _<_}
+use mathlib.Core.List.{List}
+use Prim.Native.Nat.{ℕ, zero, suc, _+_, _*_, _/_, _≤_, _<_}
 use native.Mathlib.Omega.{arith}
-use lib.Dec.{eqb, ltb}
-use lib.ListN.{getD, set, length, replicate, length-set, length-replicate}
+use lib.Dec.{eqb}
+use lib.ListN.{getD, set, length, replicate, length-set}
 use lib.Seq.{getD-set-same, getD-set-other}
 use borrow.Author.Tests.{lt-ltb, le-ltb, eqb-true, eqb-false, eq-eqb, ne-eqb}
 use Rattle.basis.specs.Choice.{pick, test, not-both}
-use Rattle.basis.specs.Bounded.{below-suc, lt-or-ge}
-use Rattle.basis.specs.Fold.{upTo, up-none, up-more, up-done, up-keeps-at}
+use Rattle.basis.specs.Bounded.{below-suc}
+use Rattle.basis.specs.Fold.{upTo, up-more, up-keeps-at}
 use Rattle.sets.specs.Sets.{has, single, both, either, below}
 use Rattle.sets.specs.Laws.{has-single, has-below, none-has, either-lt}
-use Rattle.spread.specs.Carried.{partnerOf, beyondOf, In, Spread}
+use Rattle.spread.specs.Carried.{partnerOf, In, Spread}
 use Rattle.spread.proofs.Laws.{in-left, in-right, either-in}
 use Rattle.links.specs.Cells.{bitOf, maskOf, trailOf, linkOf, crossOf, outOf}
-use Rattle.links.specs.Starts.{homeRow, startAt, startsOf, aloneOf, noteOf, notesOf, Comes, Answering, Answers}
+use Rattle.links.specs.Starts.{homeRow, startAt, startsOf, aloneOf, noteOf, notesOf, Comes, Answering}
 
 -- ---- masks are sets of four sides
 single-small : (j : ℕ) → j < 4 → single j < 16

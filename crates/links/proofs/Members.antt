@@ -1,27 +1,26 @@
 -- What is in the tables: at first, in what leaves by a side, in the cells.
 use mathlib.Core.Path.{_≡_, refl, sym, ap, _∙_}
 use mathlib.Core.Logic.{_⊎_, inl, inr, _≢_}
-use mathlib.Core.Bool.{Bool, true, false, _&&_, true≢false, false≢true, and-eq-true-iff}
+use mathlib.Core.Bool.{true, false}
 use mathlib.Core.List.{List, []}
 use Prim.Native.Nat.{ℕ, zero, suc, _+_, _*_, _/_, _%_, _^_, _≤_, _<_}
 use native.Mathlib.Nat.{pow-suc}
 use native.Mathlib.Omega.{arith}
 use lib.Dec.{eqb, ltb}
 use lib.ListN.{getD, set, length, replicate, length-set}
-use lib.Pow.{pow-pos}
 use lib.Seq.{getD-set-same, getD-set-other}
-use borrow.Author.Tests.{lt-ltb, ltb-true, ltb-false, le-ltb, eqb-true, eqb-false, eq-eqb, ne-eqb}
-use Rattle.basis.specs.Choice.{pick, test, not-both}
-use Rattle.basis.specs.Bounded.{Found, find, below-suc, lt-or-ge}
-use Rattle.basis.specs.Fold.{upTo, fill, fill-at, length-fill, up-keeps-at}
-use Rattle.sets.specs.Sets.{has, single, both, either, below}
-use Rattle.sets.specs.Laws.{has-single, has-below, none-has, no-member}
+use borrow.Author.Tests.{lt-ltb, ltb-true, eqb-true, eqb-false, eq-eqb, ne-eqb}
+use Rattle.basis.specs.Choice.{pick, test}
+use Rattle.basis.specs.Bounded.{Found, find, below-suc}
+use Rattle.basis.specs.Fold.{fill-at, length-fill, up-keeps-at}
+use Rattle.sets.specs.Sets.{has, both, either, below}
+use Rattle.sets.specs.Laws.{has-single, has-below, no-member}
 use Rattle.spread.specs.Carried.{partnerOf, beyondOf, In}
 use Rattle.spread.proofs.Laws.{in-both, both-in, in-left, in-right, either-in}
 use Rattle.links.specs.Cells.{leaveOf, leavesOf, bitOf, maskOf, trailOf, trailsOf, linkOf, linksOf, crossed}
 use Rattle.links.specs.Cells.{crossOf, crossesOf, outOf}
 use Rattle.links.specs.Starts.{homeRow, startAt, startsOf, aloneOf, liveOf, livesOf}
-use Rattle.links.proofs.Laws.{mask-small, empty-at, not-empty}
+use Rattle.links.proofs.Laws.{empty-at, not-empty}
 
 -- ---- a set that is not empty has a member
 under-pow : (n : ℕ) → n < 2 ^ n

@@ -14,7 +14,7 @@ ghost use Rattle.basis.specs.Choice.{pick};
 ghost use mathlib.Core.List.{List, []};
 ghost use Prim.Native.Nat.{ℕ, _+_, _*_, _/_, _%_, _≤_, _<_};
 ghost use lib.ListN.{getD, length};
-ghost use Rattle.feeding.specs.Numbered.{Counts};
+ghost use Rattle.plan.specs.Head.{Counts};
 ghost use Rattle.reach.specs.Reach.{Inside};
 ghost use Rattle.sets.specs.Sets.{has};
 ghost use Rattle.arrivals.specs.Pairs.{Swept, Serving, Servings, copyOf, maskOf, lengthOf, lengthsBy, Walks};

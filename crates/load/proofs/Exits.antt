@@ -13,8 +13,6 @@ use Rattle.basis.specs.Bounded.{lt-or-ge}
 use Rattle.basis.specs.Fold.{fill-at, fill-past, length-fill}
 use Rattle.sets.specs.Sets.{has}
 use Rattle.fields.specs.Bits.{fieldOf}
-use Rattle.basis.specs.Ring.{ringTest}
-use Rattle.rings.specs.Edges.{edge}
 use Rattle.kinds.specs.declared.Refusal.{Refusal}
 use Rattle.kinds.specs.declared.Refusal.the-variants.{TooShort, OutOfRange, WrongLength, BadField, BadJoint, HasRing}
 use Rattle.plan.specs.declared.Head.{Head}
@@ -23,9 +21,8 @@ use Rattle.plan.specs.Plan.{Plan, noSide, routeAt, planOf}
 use Rattle.plan.specs.Rules.{fillOk, fieldsOk, namedOk, interfacesOk, portsOf}
 use Rattle.plan.specs.Tables.{tablePlan, homesOf, rowOf, routesOf, jointsOf, jointBytesOk, routesOk}
 use Rattle.plan.specs.Marks.{Routes}
-use Rattle.feeding.specs.Edges.{cellsOf}
-use Rattle.feeding.specs.Numbered.{Counts, queuesIn, queues-in}
-use Rattle.feeding.specs.RingTest.{hasRing}
+use Rattle.plan.specs.Head.{Counts}
+use Rattle.circles.specs.RingTest.{hasRing}
 use Rattle.wiring.proofs.Heads.{head-ok, and-both}
 use Rattle.wiring.proofs.Fields.{fields-ok}
 use Rattle.wiring.specs.Wired.{Wired}
@@ -35,7 +32,9 @@ use Rattle.load.specs.declared.Loaded.{Loaded}
 use Rattle.load.specs.declared.Loaded.the-variants.{Accepted, Refused}
 use Rattle.load.specs.Load.{lengthOk, jointsOk, loadOf, loadRoutes, loadJoints, loadHomes, loadLengths}
 use Rattle.arrivals.specs.Tables.{PortsIn}
-use Rattle.arrivals.specs.Pairs.{pairWalk, lengthsOf, Tables}
+use Rattle.arrivals.specs.Pairs.{pairWalk, lengthsOf, Tables, Walks}
+use Rattle.circles.specs.Told.{Told}
+use Rattle.circles.proofs.Tables.{tables-told}
 use Rattle.arrivals.proofs.Charts.{ports-in, sides-past}
 use Rattle.load.specs.Walk.{walkOf}
 use Rattle.load.specs.Lent.{Lent, homes-at, length-at}
@@ -81,12 +80,6 @@ module _ (b : List ℕ) {h : Head} (read : h ≡ headOf b) where
 pub homes-alike : (h : Head) (routes other : List (List ℕ)) (joints : List ℕ) → homesOf (tablePlan h routes joints) ≡ homesOf (tablePlan h other joints)
 unfolding homesOf portsOf tablePlan
 homes-alike h routes other joints = refl
-
--- the ring test over the table of successors
-pub ring-of-cells : (h : Head) (t : List (List ℕ)) (j : List ℕ) {cells : List ℕ} {n : ℕ} {r : Bool}
-    → cells ≡ cellsOf (tablePlan h t j) → n ≡ queuesIn h → r ≡ ringTest n (edge cells) → r ≡ hasRing (tablePlan h t j)
-unfolding hasRing tablePlan
-ring-of-cells h t j e f g = g ∙ rw (e, f, queues-in (tablePlan h t j))
 
 -- ---- the tables that walks are swept with
 module _ (b : List ℕ) (h : Head) (rt : List (List ℕ)) (jt ht : List ℕ) (by : List (List ℕ)) where
@@ -147,6 +140,15 @@ unfolding tablePlan
 sweeps-ready h rt jt ht by few w =
     (few, ports-in (tablePlan h rt jt) by jt ht (w .chart), sides-past (tablePlan h rt jt) by jt ht (w .chart))
 
+-- and the search for a ring tells of the plan of the tables
+pub ring-told : (h : Head) (rt : List (List ℕ)) (jt ht : List ℕ) (by : List (List ℕ)) {arrive : List ℕ} {ways : List (List ℕ)}
+    {serve : List ℕ} {ring : Bool} → Counts h → ht ≡ homesOf (tablePlan h rt jt) → Tables h rt jt ht by
+    → Walks h rt jt ht by arrive ways serve → ((pl : Plan) → Told pl h by jt ht arrive serve → ring ≡ hasRing pl)
+    → ring ≡ hasRing (tablePlan h rt jt)
+ring-told h rt jt ht by few homed told walked search =
+    let w = walked told in
+    search (tablePlan h rt jt) (tables-told h rt jt few (told .chart .wired) homed (told .chart .sides) (w .0) (w .1))
+
 -- ---- Load's returns
 module _ (b : List ℕ) (t : List (List ℕ)) (j o : List ℕ) (u : List (List ℕ)) where
   abbrev Leaves : Loaded → List (List ℕ) → List ℕ → List ℕ → List (List ℕ) → Type 0
@@ -204,24 +206,37 @@ module _ (b : List ℕ) (t : List (List ℕ)) (j o : List ℕ) (u : List (List �
           unfolding loadOf
           bad-joint q = refused (rw (le-ltb (length b) 6 six, ranged, two, ← sized, three, fitted, four, matched, q))
 
-          module _ (five : named ≡ true) {ht : List ℕ} (homed : ht ≡ homesOf (tablePlan h [] jt)) {ring : Bool} (ringed : ring ≡ hasRing (tablePlan h rt jt)) where
+          -- with the walks of all pairs found, and rings searched for
+          module _ (five : named ≡ true) {ht : List ℕ} (homed : ht ≡ homesOf (tablePlan h [] jt)) {by : List (List ℕ)}
+              {fit : Bool} (read-in : Routes b h rt by fit) {arrive : List ℕ} {ways : List (List ℕ)} {serve : List ℕ}
+              (walked : Walks h rt jt ht by arrive ways serve) {ring : Bool}
+              (search : (pl : Plan) → Told pl h by jt ht arrive serve → ring ≡ hasRing pl) where
+            home-ports : ht ≡ homesOf (tablePlan h rt jt)
+            home-ports = homed ∙ homes-alike h [] rt jt
+
+            told : Tables h rt jt ht by
+            told = tables five homed read-in
+
             circled : hasRing (planOf b) ≡ ring
-            circled = sym (ring-tested b read inside joined routed ringed)
+            circled =
+                sym
+                (ring-tested b read inside joined routed
+                (ring-told h rt jt ht by (range-counts h inside) home-ports told walked search))
 
             pub has-ring : ring ≡ true → Leaves (Refused HasRing) t j o u
             unfolding loadOf
             has-ring q = refused (rw (le-ltb (length b) 6 six, ranged, two, ← sized, three, fitted, four, matched, five, circled, q))
 
-            pub accepted : {ways : List (List ℕ)} → ways ≡ lengthsOf (tablePlan h rt jt) → ring ≡ false → Leaves (Accepted h) rt jt ht ways
+            pub accepted : ring ≡ false → Leaves (Accepted h) rt jt ht ways
             unfolding loadOf
-            accepted walked q =
+            accepted q =
                 let e : Accepted h ≡ loadOf b = rw (le-ltb (length b) 6 six, ranged, two, ← sized, three, fitted, four, matched, five, circled, q, read) in
-                let same : ht ≡ homesOf (planOf b) = homes-kept b read inside joined routed (homed ∙ homes-alike h [] rt jt) in (
+                let same : ht ≡ homesOf (planOf b) = homes-kept b read inside joined routed home-ports in (
                   e,
                   routed ∙ ap (loadRoutes b t) e,
                   joined ∙ ap (loadJoints b j) e,
                   same ∙ ap (loadHomes b o) e,
-                  walked ∙ ap lengthsOf (plan-same b read inside joined routed) ∙ ap (loadLengths b u) e,
+                  walked told .2 ∙ ap lengthsOf (plan-same b read inside joined routed) ∙ ap (loadLengths b u) e,
                 )
 
 -- ---- Walk's returns

@@ -1,17 +1,20 @@
 -- What an accepted Load leaves in the lent tables: the plan of its bytes, and the port of each interface.
 use mathlib.Core.Path.{_≡_, sym, ap, _∙_}
+use mathlib.Core.Bool.{Bool, true, false}
 use mathlib.Core.List.{List, []}
-use Prim.Native.Nat.{ℕ, _≤_, _<_}
+use Prim.Native.Nat.{ℕ, _*_, _≤_, _<_}
 use native.Mathlib.Omega.{arith}
 use lib.Dec.{ltb}
 use lib.ListN.{getD, replicate, length-replicate}
 use borrow.Author.Tests.{lt-ltb}
 use Rattle.basis.specs.Choice.{pick}
-use Rattle.basis.specs.Fold.{upTo, fill, fill-at}
+use Rattle.basis.specs.Fold.{upTo, up-keeps, fill, fill-at}
 use Rattle.plan.specs.declared.Head.{Head}
-use Rattle.plan.specs.Head.{InRange, headOf, destinations}
-use Rattle.plan.specs.Plan.{Plan, A, P, planOf}
-use Rattle.plan.specs.Rules.{portsOf, portOr0}
+use Rattle.plan.specs.Head.{InRange, Counts, headOf, destinations}
+use Rattle.plan.specs.declared.Ports.{Ports}
+use Rattle.plan.specs.declared.Ports.the-variants.{Missing, One, Several}
+use Rattle.plan.specs.Plan.{Plan, Interface, R, A, P, planOf}
+use Rattle.plan.specs.Rules.{jointOfPort, leadsTo, meet, portsOf, portOr0}
 use Rattle.plan.specs.Tables.{interfaceAt, tablePlan, homesOf, routesOf, jointsOf}
 use Rattle.arrivals.specs.Pairs.{pairWalk, lengthsOf}
 use Rattle.wiring.proofs.Heads.{head-ok}
@@ -63,3 +66,26 @@ unfolding homesOf
 homes-at pl d m l =
     fill-at (λ d. portOr0 (portsOf pl (interfaceAt (pl .head) d))) (destinations (pl .head)) (replicate 32 0) d 0 l
     (rw length-replicate (omega arith))
+
+-- ---- the port of an interface is one of 64
+meet-below : (found : Bool) (i : ℕ) (t : Ports) → i < 64 → portOr0 t < 64 → portOr0 (meet found i t) < 64
+meet-below true i Missing l h = l
+meet-below false i Missing l h = h
+meet-below true i (One k) l h = omega arith
+meet-below false i (One k) l h = h
+meet-below found i Several l h = h
+
+home-below : (pl : Plan) (e : Interface) → R pl ≤ 16 → portOr0 (portsOf pl e) < 64
+unfolding portsOf
+home-below pl e h =
+    up-keeps (λ t. portOr0 t < 64) (λ i t. meet (leadsTo e (jointOfPort pl i)) i t) (4 * R pl) Missing
+    (λ i t l q. meet-below (leadsTo e (jointOfPort pl i)) i t (omega arith) q) (omega arith)
+
+pub home-small : (h : Head) (routes : List (List ℕ)) (joints : List ℕ) → Counts h → {homes : List ℕ}
+    → homes ≡ homesOf (tablePlan h routes joints) → (d : ℕ) {from : ℕ} → d < destinations h → from ≡ getD homes d 0
+    → from < 64
+unfolding tablePlan
+home-small h routes joints few known d l e =
+    let same : getD (homesOf (tablePlan h routes joints)) d 0 ≡ portOr0 (portsOf (tablePlan h routes joints) (interfaceAt h d))
+    = homes-at (tablePlan h routes joints) d (omega arith) l in
+    rw (e, known, same) (home-below (tablePlan h routes joints) (interfaceAt h d) (few .0))

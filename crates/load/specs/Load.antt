@@ -16,7 +16,7 @@ use Rattle.plan.specs.Head.{headOf, headOk, bitCount, byteCount}
 use Rattle.plan.specs.Plan.{planOf}
 use Rattle.plan.specs.Rules.{fillOk, fieldsOk, namedOk, interfacesOk}
 use Rattle.plan.specs.Tables.{routesOf, jointsOf, homesOf}
-use Rattle.feeding.specs.RingTest.{hasRing}
+use Rattle.circles.specs.RingTest.{hasRing}
 use Rattle.arrivals.specs.Pairs.{lengthsOf}
 use Rattle.load.specs.declared.Loaded.{Loaded}
 use Rattle.load.specs.declared.Loaded.the-variants.{Accepted, Refused}

@@ -12,8 +12,7 @@ ghost use Rattle.kinds.specs.Refusals.{refusalNumber};
 ghost use Rattle.plan.specs.Head.{headOf, InRange};
 ghost use Rattle.plan.specs.Rules.{namedOk, interfacesOk};
 ghost use Rattle.plan.specs.Tables.{tablePlan, homesOf};
-ghost use Rattle.feeding.specs.Numbered.{Counts};
-ghost use Rattle.feeding.specs.RingTest.{hasRing};
+ghost use Rattle.plan.specs.Head.{Counts};
 ghost use Rattle.load.specs.Load.{lengthOk, loadOf, loadNumber, loadRoutes, loadJoints, loadHomes, loadLengths};
 ghost use Rattle.load.specs.Walk.{walkOf};
 
@@ -45,15 +44,6 @@ fn joints_ok(h: Head, joints: &[u8; 64]) -> bool
         ≡ (namedOk (tablePlan h [] (now (joints .entry))) && interfacesOk (tablePlan h [] (now (joints .entry)))) ⌝ }
 {
     plan::interfaces::named_ok(h, joints) & plan::interfaces::interfaces_ok(h, joints)
-}
-
-// Whether some queues feed each other in a ring: refusal 6.
-fn ring_found(h: Head, routes: &[[u8; 32]; 16], joints: &[u8; 64], homes: &[u8; 32]) -> bool
-    requires { ⌜ Counts h × (now homes ≡ homesOf (tablePlan h (now routes) (now joints))) ⌝ }
-    ensures { λ r. ⌜ r ≡ hasRing (tablePlan h (now (routes .entry)) (now (joints .entry))) ⌝ }
-{
-    let cells = feeding::successors(routes, joints, homes, h);
-    rings::has_ring(&cells, feeding::queue_count(h))
 }
 
 // Load: the first refusal that applies, in document 01's order, or the plan's head. An accepted plan's routes, joints, homes
@@ -95,7 +85,7 @@ pub fn load(
     let mut arrive = [0u32; 32];
     let mut ways = [[0u8; 16]; 16];
     let served = arrivals::walks(h, &t, &j, &o, &by, &mut arrive, &mut ways);
-    if ring_found(h, &t, &j, &o) {
+    if circles::ring_found(&by, &j, &o, &arrive, &served, h) {
         return Loaded::Refused(Refusal::HasRing);
     }
     *routes = t;

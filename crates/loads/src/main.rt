@@ -5,7 +5,7 @@ use load::Loaded;
 use plan::Head;
 ghost use mathlib.Core.Path.{_≡_};
 ghost use Prim.Native.Nat.{_*_, _≤_, _<_};
-ghost use Rattle.feeding.specs.Numbered.{Counts};
+ghost use Rattle.plan.specs.Head.{Counts};
 
 // Writes a text.
 fn say(text: &[u8]) {

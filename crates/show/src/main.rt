@@ -10,7 +10,7 @@ ghost use mathlib.Core.Path.{_≡_};
 ghost use Prim.Native.Nat.{_≤_, _<_};
 ghost use lib.ListN.{length};
 ghost use Rattle.plan.specs.Tables.{tablePlan, homesOf};
-ghost use Rattle.feeding.specs.Numbered.{Counts};
+ghost use Rattle.plan.specs.Head.{Counts};
 
 mod hex;
 

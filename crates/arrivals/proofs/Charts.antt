@@ -112,12 +112,17 @@ module _ (by : List (List ℕ)) (homes : List ℕ) where
     where
       zeros : firstsOf by homes 0 ≡ replicate 32 0
       zeros = sym (up-none (firstStep by homes) (replicate 32 0))
-  first-has (suc n) r d ports = go (first-has n r d (λ i l. ports i (omega arith))) (same-or-not d n) (same-or-not r (getD homes n 0 / 4))
+  first-has (suc n) r d ports = go (first-has n r d (λ i l. ports i (omega arith))) (same-or-not d n)
+      (same-or-not r (getD homes n 0 / 4))
     where
-      turn : firstsOf by homes (suc n) ≡ set (firstsOf by homes n) (getD homes n 0 / 4) (either (getD (firstsOf by homes n) (getD homes n 0 / 4) 0) (both (getD (getD by (getD homes n 0 / 4) []) (getD homes n 0 % 4) 0) (single n)))
+      turn : firstsOf by homes (suc n) ≡ set (firstsOf by homes n) (getD homes n 0 / 4)
+          (either (getD (firstsOf by homes n) (getD homes n 0 / 4) 0)
+          (both (getD (getD by (getD homes n 0 / 4) []) (getD homes n 0 % 4) 0) (single n)))
       turn = up-suc (firstStep by homes) n (replicate 32 0)
 
-      here : getD (firstsOf by homes (suc n)) (getD homes n 0 / 4) 0 ≡ either (getD (firstsOf by homes n) (getD homes n 0 / 4) 0) (both (getD (getD by (getD homes n 0 / 4) []) (getD homes n 0 % 4) 0) (single n))
+      here : getD (firstsOf by homes (suc n)) (getD homes n 0 / 4) 0
+          ≡ either (getD (firstsOf by homes n) (getD homes n 0 / 4) 0)
+          (both (getD (getD by (getD homes n 0 / 4) []) (getD homes n 0 % 4) 0) (single n))
       here =
           let l = ports n (omega arith) in
           ap (λ (s : List ℕ). getD s (getD homes n 0 / 4) 0) turn
@@ -127,13 +132,17 @@ module _ (by : List (List ℕ)) (homes : List ℕ) where
       there h =
           ap (λ (s : List ℕ). getD s r 0) turn ∙ getD-set-other (firstsOf by homes n) (getD homes n 0 / 4) r _ 0 h
 
-      members : has (either (getD (firstsOf by homes n) (getD homes n 0 / 4) 0) (both (getD (getD by (getD homes n 0 / 4) []) (getD homes n 0 % 4) 0) (single n))) d
-          ≡ (has (getD (firstsOf by homes n) (getD homes n 0 / 4) 0) d || (has (getD (getD by (getD homes n 0 / 4) []) (getD homes n 0 % 4) 0) d && eqb d n))
+      members : has (either (getD (firstsOf by homes n) (getD homes n 0 / 4) 0)
+          (both (getD (getD by (getD homes n 0 / 4) []) (getD homes n 0 % 4) 0) (single n))) d
+          ≡ (has (getD (firstsOf by homes n) (getD homes n 0 / 4) 0) d ||
+          (has (getD (getD by (getD homes n 0 / 4) []) (getD homes n 0 % 4) 0) d && eqb d n))
       members =
-          has-either (getD (firstsOf by homes n) (getD homes n 0 / 4) 0) (both (getD (getD by (getD homes n 0 / 4) []) (getD homes n 0 % 4) 0) (single n)) d
+          has-either (getD (firstsOf by homes n) (getD homes n 0 / 4) 0)
+          (both (getD (getD by (getD homes n 0 / 4) []) (getD homes n 0 % 4) 0) (single n)) d
           ∙ ap (λ (q : Bool). has (getD (firstsOf by homes n) (getD homes n 0 / 4) 0) d || q)
           (has-both (getD (getD by (getD homes n 0 / 4) []) (getD homes n 0 % 4) 0) (single n) d
-          ∙ ap (λ (q : Bool). has (getD (getD by (getD homes n 0 / 4) []) (getD homes n 0 % 4) 0) d && q) (has-single n d))
+          ∙ ap (λ (q : Bool). has (getD (getD by (getD homes n 0 / 4) []) (getD homes n 0 % 4) 0) d && q)
+          (has-single n d))
 
       and-none : (b : Bool) → (b && false) ≡ false
       and-none true = refl
@@ -152,7 +161,8 @@ module _ (by : List (List ℕ)) (homes : List ℕ) where
           let old : has (getD (firstsOf by homes n) (getD homes n 0 / 4) 0) n ≡ false =
           rw (e, f, le-ltb n n (omega arith)) at rec in
           rw (e, f, lt-ltb n (suc n) (omega arith), eq-eqb (getD homes n 0 / 4) (getD homes n 0 / 4) refl, here)
-          ((rw e at members) ∙ rw (old, eq-eqb n n refl) (and-all (has (getD (getD by (getD homes n 0 / 4) []) (getD homes n 0 % 4) 0) n)))
+          ((rw e at members) ∙ rw (old, eq-eqb n n refl) (and-all
+          (has (getD (getD by (getD homes n 0 / 4) []) (getD homes n 0 % 4) 0) n)))
       go rec (inl e) (inr f) =
           let old : has (getD (firstsOf by homes n) r 0) n ≡ false = rw (e, le-ltb n n (omega arith)) at rec in
           rw (e, lt-ltb n (suc n) (omega arith), ne-eqb r (getD homes n 0 / 4) f, there f) old
@@ -223,13 +233,21 @@ module _ (pl : Plan) (by : List (List ℕ)) (joints homes : List ℕ) (w : Chart
       ∙ rw (w .past r d l, ne-eqb 7 o (λ q. omega arith)) (and-none (ltb d (destinations (pl .head))))
 
   pub charted : Charted pl by (nextsOf joints (R pl)) (firstsOf by homes (destinations (pl .head)))
-  charted = record { sides = sides′; nexts = nexts′; offs = offs′; firsts = firsts′; idle = first-idle by homes _ (R pl) ports-in sides-past (nextsOf joints (R pl)) }
+  charted = record {
+    sides = sides′;
+    nexts = nexts′;
+    offs = offs′;
+    firsts = firsts′;
+    idle = first-idle by homes _
+        (R pl) ports-in sides-past (nextsOf joints (R pl));
+  }
     where
       sides′ : (r o d : ℕ) → r < R pl → o < 4 → d < destinations (pl .head)
           → has (getD (getD by r []) o 0) d ≡ eqb (pl .route r d) o
       sides′ r o d l m k = w .sides r o d m ∙ rw (lt-ltb d (destinations (pl .head)) k)
 
-      nexts′ : (r o n t : ℕ) → r < R pl → o < 4 → pl .joint r o ≡ Router n t → getD (nextsOf joints (R pl)) (4 * r + o) 0 ≡ n
+      nexts′ : (r o n t : ℕ) → r < R pl → o < 4 → pl .joint r o ≡ Router n t
+          → getD (nextsOf joints (R pl)) (4 * r + o) 0 ≡ n
       nexts′ r o n t l m e =
           next-at joints (R pl) (4 * r + o) (w .routers) (omega arith)
           ∙ next-router (getD joints (4 * r + o) 0) (sym (w .joined r o m) ∙ e)
@@ -261,14 +279,18 @@ module _ (pl : Plan) (by : List (List ℕ)) (joints homes : List ℕ) (w : Chart
               → leadsTo (interfaceAt (pl .head) d) (pl .joint r (pl .route r d)) ≡ true
           to q =
               let p = and-parts (eqb r (getD homes d 0 / 4)) (eqb (pl .route r d) (getD homes d 0 % 4)) q in
-              let a : r ≡ home pl (interfaceAt (pl .head) d) .router = eqb-true r (getD homes d 0 / 4) (p .0) ∙ sym (home-router d k) in
-              let b : pl .route r d ≡ home pl (interfaceAt (pl .head) d) .side = eqb-true (pl .route r d) (getD homes d 0 % 4) (p .1) ∙ sym (home-side d k) in
-              ap (leadsTo (interfaceAt (pl .head) d)) (ap₂ (pl .joint) a b ∙ at .there) ∙ joint-leads (interfaceAt (pl .head) d)
+              let a : r ≡ home pl (interfaceAt (pl .head) d) .router = eqb-true r (getD homes d 0 / 4) (p .0)
+              ∙ sym (home-router d k) in
+              let b : pl .route r d ≡ home pl (interfaceAt (pl .head) d) .side = eqb-true (pl .route r d)
+              (getD homes d 0 % 4) (p .1) ∙ sym (home-side d k) in
+              ap (leadsTo (interfaceAt (pl .head) d)) (ap₂ (pl .joint) a b ∙ at .there)
+              ∙ joint-leads (interfaceAt (pl .head) d)
 
           from : leadsTo (interfaceAt (pl .head) d) (pl .joint r (pl .route r d)) ≡ true
               → (eqb r (getD homes d 0 / 4) && eqb (pl .route r d) (getD homes d 0 % 4)) ≡ true
           from q =
-              let o = at .only r (pl .route r d) (leads-joint (interfaceAt (pl .head) d) (pl .joint r (pl .route r d)) q) in
+              let o = at .only r (pl .route r d) (leads-joint (interfaceAt (pl .head) d)
+              (pl .joint r (pl .route r d)) q) in
               rw (
                 eq-eqb r (getD homes d 0 / 4) (o .0 ∙ home-router d k),
                 eq-eqb (pl .route r d) (getD homes d 0 % 4) (o .1 ∙ home-side d k),

@@ -50,7 +50,8 @@ module _ (pl : Plan) (wired : Wired pl) (a p : ℕ) (ha : a < A pl) where
       → onward (returning pl a) (passive p) y ≡ onward pl (passive p) y
   unfolding onward returning
   keeps-step y l e =
-      let there : arrives pl (active a) (record { router = y .router; side = 0 }) ≡ true = arrives-alike pl (active a) _ y refl ∙ e in
+      let there : arrives pl (active a) (record { router = y .router; side = 0 })
+      ≡ true = arrives-alike pl (active a) _ y refl ∙ e in
       rw (lt-ltb (y .router) (R pl) l, there)
 
   no-joint : (r s : ℕ) → 4 ≤ s → pl .joint r s ≡ Nothing
@@ -71,10 +72,12 @@ module _ (pl : Plan) (wired : Wired pl) (a p : ℕ) (ha : a < A pl) where
           clash : Passive n ≡ Nothing → ⊥
           clash g = let z : _≡_ {A = ℕ} 0 1 = cc in omega arith
 
-  drops-step : (y : Port) → y .router < R pl → arrives pl (active a) y ≡ false → onward (returning pl a) (passive p) y ≡ lost
+  drops-step : (y : Port) → y .router < R pl → arrives pl (active a) y ≡ false
+      → onward (returning pl a) (passive p) y ≡ lost
   unfolding onward returning
   drops-step y l e =
-      let there : arrives pl (active a) (record { router = y .router; side = 0 }) ≡ false = arrives-alike pl (active a) _ y refl ∙ e in
+      let there : arrives pl (active a) (record { router = y .router; side = 0 })
+      ≡ false = arrives-alike pl (active a) _ y refl ∙ e in
       rw (lt-ltb (y .router) (R pl) l, there, no-joint (y .router) 7 (omega arith))
 
   -- ---- walks stay on the plan's routers
@@ -85,11 +88,13 @@ module _ (pl : Plan) (wired : Wired pl) (a p : ℕ) (ha : a < A pl) where
     where
       by : (s : Spot Port) → spot (onward pl (passive p)) k (on (home pl (active a))) ≡ s → y .router < R pl
       by (on z) q = near wired (onward-on pl (passive p) z y (sym (ap (go (onward pl (passive p))) q) ∙ e)) .0
-      by end q = let c : _≡_ {A = Spot Port} end (on y) = sym (ap (go (onward pl (passive p))) q) ∙ e in absurd (clash c)
+      by end q = let c : _≡_ {A = Spot Port} end (on y) = sym (ap (go (onward pl (passive p))) q)
+          ∙ e in absurd (clash c)
         where
           clash : _≡_ {A = Spot Port} end (on y) → ⊥
           clash g = let z : _≡_ {A = ℕ} 0 1 = cc in omega arith
-      by lost q = let c : _≡_ {A = Spot Port} lost (on y) = sym (ap (go (onward pl (passive p))) q) ∙ e in absurd (clash c)
+      by lost q = let c : _≡_ {A = Spot Port} lost (on y) = sym (ap (go (onward pl (passive p))) q)
+          ∙ e in absurd (clash c)
         where
           clash : _≡_ {A = Spot Port} lost (on y) → ⊥
           clash g = let z : _≡_ {A = ℕ} 0 1 = cc in omega arith
@@ -99,10 +104,12 @@ module _ (pl : Plan) (wired : Wired pl) (a p : ℕ) (ha : a < A pl) where
   Back k = (j : ℕ) → j < k → backArrives pl a (spot (onward pl (passive p)) j (on (home pl (active a)))) ≡ true
 
   same : (k : ℕ) → Back k
-      → spot (onward (returning pl a) (passive p)) k (on (home pl (active a))) ≡ spot (onward pl (passive p)) k (on (home pl (active a)))
+      → spot (onward (returning pl a) (passive p)) k (on (home pl (active a)))
+      ≡ spot (onward pl (passive p)) k (on (home pl (active a)))
   unfolding spot
   same zero b = refl
-  same (suc k) b = ap (go (onward (returning pl a) (passive p))) (same k (λ j l. b j (omega arith))) ∙ by (spot (onward pl (passive p)) k (on (home pl (active a)))) refl
+  same (suc k) b = ap (go (onward (returning pl a) (passive p))) (same k (λ j l. b j (omega arith)))
+      ∙ by (spot (onward pl (passive p)) k (on (home pl (active a)))) refl
     where
       by : (s : Spot Port) → spot (onward pl (passive p)) k (on (home pl (active a))) ≡ s
           → go (onward (returning pl a) (passive p)) (spot (onward pl (passive p)) k (on (home pl (active a))))
@@ -111,11 +118,13 @@ module _ (pl : Plan) (wired : Wired pl) (a p : ℕ) (ha : a < A pl) where
       by end q = rw q
       by lost q = rw q
 
-  back-all : spot (onward (returning pl a) (passive p)) (R pl) (on (home pl (active a))) ≡ end → (m : ℕ) → m ≤ R pl → Back m
+  back-all : spot (onward (returning pl a) (passive p)) (R pl) (on (home pl (active a))) ≡ end → (m : ℕ) → m ≤ R pl
+      → Back m
   back-all e zero l j h = absurd (omega arith)
   back-all e (suc m) l j h = by (back-all e m (omega arith)) (below-suc h)
     where
-      last : Back m → (s : Spot Port) → spot (onward pl (passive p)) m (on (home pl (active a))) ≡ s → backArrives pl a s ≡ true
+      last : Back m → (s : Spot Port) → spot (onward pl (passive p)) m (on (home pl (active a))) ≡ s
+          → backArrives pl a s ≡ true
       last b end q = refl
       last b lost q = refl
       last b (on y) q = go′ (test (arrives pl (active a) y))
@@ -124,11 +133,15 @@ module _ (pl : Plan) (wired : Wired pl) (a p : ℕ) (ha : a < A pl) where
           go′ (inl t) = t
           go′ (inr t) =
               let f = onward (returning pl a) (passive p) in
-              let gone : spot f (suc m) (on (home pl (active a))) ≡ lost = spot-next f m (on (home pl (active a))) (same m b ∙ q) ∙ drops-step y (walk-inside m y q) t in
+              let gone : spot f (suc m) (on (home pl (active a)))
+              ≡ lost = spot-next f m (on (home pl (active a))) (same m b ∙ q)
+              ∙ drops-step y (walk-inside m y q) t in
               let at : R pl - suc m + suc m ≡ R pl = omega arith in
-              absurd (end-lost (sym e ∙ ap (λ (n : ℕ). spot f n (on (home pl (active a)))) (sym at) ∙ spot-lost f (suc m) (on (home pl (active a))) gone (R pl - suc m)))
+              absurd (end-lost (sym e ∙ ap (λ (n : ℕ). spot f n (on (home pl (active a)))) (sym at)
+              ∙ spot-lost f (suc m) (on (home pl (active a))) gone (R pl - suc m)))
 
-      by : Back m → (j < m) ⊎ (j ≡ m) → backArrives pl a (spot (onward pl (passive p)) j (on (home pl (active a)))) ≡ true
+      by : Back m → (j < m) ⊎ (j ≡ m) → backArrives pl a (spot (onward pl (passive p)) j (on (home pl (active a))))
+          ≡ true
       by b (inl k) = b j k
       by b (inr k) = rw k (last b (spot (onward pl (passive p)) m (on (home pl (active a)))) refl)
 
@@ -139,21 +152,26 @@ module _ (pl : Plan) (wired : Wired pl) (a p : ℕ) (ha : a < A pl) where
       to : served pl a p ≡ true → arrives (returning pl a) (passive p) (home pl (active a)) ≡ true
       to t =
           let b = also-true t in
-          ap isEnd (same (R pl) (λ j l. all-at (R pl) (λ k. backArrives pl a (walked pl (passive p) k (home pl (active a)))) (b .1) j l)) ∙ b .0
+          ap isEnd (same (R pl) (λ j l. all-at (R pl) (λ k. backArrives pl a
+          (walked pl (passive p) k (home pl (active a)))) (b .1) j l)) ∙ b .0
 
       back : arrives (returning pl a) (passive p) (home pl (active a)) ≡ true → served pl a p ≡ true
       back t =
           let b : Back (R pl) = back-all (end-of _ t) (R pl) (omega arith) in
-          also-of (sym (ap isEnd (same (R pl) b)) ∙ t) (all-of (R pl) (λ k. backArrives pl a (walked pl (passive p) k (home pl (active a)))) b)
+          also-of (sym (ap isEnd (same (R pl) b)) ∙ t) (all-of (R pl)
+          (λ k. backArrives pl a (walked pl (passive p) k (home pl (active a)))) b)
 
 -- ---- its tables
-module _ (pl : Plan) (by : List (List ℕ)) (joints homes arrive : List ℕ) (w : Charting pl by joints homes) (f : Arrivals pl arrive)
+module _ (pl : Plan) (by : List (List ℕ)) (joints homes arrive : List ℕ) (w : Charting pl by joints homes)
+    (f : Arrivals pl arrive)
     (a : ℕ) (ha : a < A pl) where
-  keep-in : (r : ℕ) → r < R pl → getD (keepsOf by arrive (R pl) a) r [] ≡ keptOf (getD by r []) (has (getD arrive r 0) a)
+  keep-in : (r : ℕ) → r < R pl → getD (keepsOf by arrive (R pl) a) r []
+      ≡ keptOf (getD by r []) (has (getD arrive r 0) a)
   unfolding keepsOf
   keep-in r l =
       let m = w .routers in
-      fill-at (λ i. keptOf (getD by i []) (has (getD arrive i 0) a)) (R pl) (replicate 16 (replicate 4 0)) r [] l (rw length-replicate m)
+      fill-at (λ i. keptOf (getD by i []) (has (getD arrive i 0) a)) (R pl) (replicate 16 (replicate 4 0)) r [] l
+      (rw length-replicate m)
 
   active-at : interfaceAt (pl .head) a ≡ active a
   active-at = rw (lt-ltb a (A pl) ha)
@@ -175,9 +193,11 @@ module _ (pl : Plan) (by : List (List ℕ)) (joints homes arrive : List ℕ) (w 
       off s = rw (ne-eqb 7 o (λ q. omega arith)) (and-none s)
 
       go′ : (r < R pl) ⊎ (R pl ≤ r)
-          → (arrives pl (active a) (record { router = r; side = 0 }) ≡ true) ⊎ (arrives pl (active a) (record { router = r; side = 0 }) ≡ false)
+          → (arrives pl (active a) (record { router = r; side = 0 }) ≡ true) ⊎
+          (arrives pl (active a) (record { router = r; side = 0 }) ≡ false)
           → has (getD (getD (keepsOf by arrive (R pl) a) r []) o 0) d
-          ≡ (ltb d (destinations (pl .head)) && eqb (pick (ltb r (R pl) && arrives pl (active a) (record { router = r; side = 0 })) (pl .route r d) noSide) o)
+          ≡ (ltb d (destinations (pl .head)) && eqb (pick (ltb r (R pl) && arrives pl (active a)
+          (record { router = r; side = 0 })) (pl .route r d) noSide) o)
       go′ (inl l) (inl t) =
           ap (λ (x : List ℕ). has (getD x o 0) d) (keep-in r l ∙ ap (keptOf (getD by r [])) (back-is r l ∙ t))
           ∙ w .sides r o d m ∙ rw (lt-ltb r (R pl) l, t)
@@ -186,7 +206,8 @@ module _ (pl : Plan) (by : List (List ℕ)) (joints homes arrive : List ℕ) (w 
           ∙ ap (λ (x : ℕ). has x d) (replicate-at 4 0 o) ∙ none-has d
           ∙ rw (lt-ltb r (R pl) l, t) (sym (off (ltb d (destinations (pl .head)))))
       go′ (inr l) t =
-          ap (λ (x : List ℕ). has (getD x o 0) d) (fill-past (λ i. keptOf (getD by i []) (has (getD arrive i 0) a)) (R pl) (replicate 16 (replicate 4 0)) r [] l)
+          ap (λ (x : List ℕ). has (getD x o 0) d) (fill-past (λ i. keptOf (getD by i []) (has (getD arrive i 0) a))
+          (R pl) (replicate 16 (replicate 4 0)) r [] l)
           ∙ ap (λ (x : ℕ). has x d) (replicate-row 16 4 0 r o) ∙ none-has d
           ∙ rw (le-ltb r (R pl) l) (sym (off (ltb d (destinations (pl .head)))))
 

@@ -32,14 +32,17 @@ use Rattle.arrivals.proofs.Arrive.{first-end, router-on, spot-front, re
 use Rattle.arrivals.proofs.Charts.{first-has, ports-in, sides-past, charted}
 
 -- ---- how many routers
-module _ (pl : Plan) (by : List (List ℕ)) (next first : List ℕ) (wired : Wired pl) (chart : Charted pl by next first) (d : ℕ)
+module _ (pl : Plan) (by : List (List ℕ)) (next first : List ℕ) (wired : Wired pl)
+    (chart : Charted pl by next first) (d : ℕ)
     (known : d < destinations (pl .head)) where
   far-idle : (k r : ℕ) → R pl ≤ r → farIn by next first d k r ≡ true → ⊥
   unfolding farIn
   far-idle zero r l e = true≢false (sym e ∙ chart .idle .here r d l)
-  far-idle (suc k) r l e = go (any-true 4 (λ o. has (sideSet by next r o) d && farIn by next first d k (beyond by next r o)) e)
+  far-idle (suc k) r l e = go (any-true 4 (λ o. has (sideSet by next r o) d && farIn by next first d k
+      (beyond by next r o)) e)
     where
-      go : (o : ℕ) × (o < 4) × ((has (sideSet by next r o) d && farIn by next first d k (beyond by next r o)) ≡ true) → ⊥
+      go : (o : ℕ) × (o < 4) × ((has (sideSet by next r o) d && farIn by next first d k (beyond by next r o)) ≡ true)
+          → ⊥
       go (o, m, q) = true≢false (sym (and-parts _ _ q .0) ∙ chart .idle .sides r o d l m)
 
   -- the last router of the walk, k routers after the first
@@ -52,14 +55,20 @@ module _ (pl : Plan) (by : List (List ℕ)) (next first : List ℕ) (wired : Wir
   unfolding farIn
   far-walk zero r s l e =
       (record { router = r; side = s }, spot-none _ _, first-end pl by next first wired chart d known r s l e)
-  far-walk (suc k) r s l e = go (λ n t m z. far-walk k n t m z) (any-true 4 (λ o. has (sideSet by next r o) d && farIn by next first d k (beyond by next r o)) e)
+  far-walk (suc k) r s l e = go (λ n t m z. far-walk k n t m z)
+      (any-true 4 (λ o. has (sideSet by next r o) d && farIn by next first d k (beyond by next r o)) e)
     where
       joint : (o : ℕ) → o < 4 → pl .route r d ≡ o → farIn by next first d k (beyond by next r o) ≡ true
           → ((n t : ℕ) → n < R pl → farIn by next first d k n ≡ true → Ends k n t)
           → (j : Joint) → pl .joint r o ≡ j → Ends (suc k) r s
       joint o m p z rec (Router n t) c =
-          let w = rec n t (near wired c .0) (rw (chart .nexts r o n t l m c) at z) in
-          (w .0, spot-front pl by next first wired chart d known k (record { router = r; side = s }) (on (record { router = n; side = t })) (router-on pl by next first wired chart d known r s o n t p c) ∙ w .1, w .2)
+          let w = rec n t (near wired c .0) (rw (chart .nexts r o n t l m c) at z) in (
+            w .0,
+            spot-front pl by next first wired chart d known k (record { router = r; side = s })
+                (on (record { router = n; side = t })) (router-on pl by next first wired chart d known r s o n t p c)
+                ∙ w .1,
+            w .2,
+          )
       joint o m p z rec Nothing c = absurd (far-idle k _ (chart .offs r o l m (λ n t g. clash (sym c ∙ g))) z)
         where
           clash : {n t : ℕ} → Nothing ≡ Router n t → ⊥
@@ -74,7 +83,8 @@ module _ (pl : Plan) (by : List (List ℕ)) (next first : List ℕ) (wired : Wir
           clash g = let z : _≡_ {A = ℕ} 0 1 = cc in omega arith
 
       go : ((n t : ℕ) → n < R pl → farIn by next first d k n ≡ true → Ends k n t)
-          → (o : ℕ) × (o < 4) × ((has (sideSet by next r o) d && farIn by next first d k (beyond by next r o)) ≡ true) → Ends (suc k) r s
+          → (o : ℕ) × (o < 4) × ((has (sideSet by next r o) d && farIn by next first d k (beyond by next r o))
+          ≡ true) → Ends (suc k) r s
       go rec (o, m, q) =
           let p = and-parts _ _ q in
           joint o m (eqb-true _ _ (sym (chart .sides r o d l m known) ∙ p .0)) (p .1) rec (pl .joint r o) refl
@@ -86,7 +96,8 @@ module _ (pl : Plan) (by : List (List ℕ)) (next first : List ℕ) (wired : Wir
   far-size most x {v} l (k, e, f) =
       let w = far-walk k (x .router) (x .side) l e in
       let step = onward pl (interfaceAt (pl .head) d) in
-      let way = way-of-end step routerOf (alike pl (interfaceAt (pl .head) d)) (suc k) x (spot-next step k (on x) (w .1) ∙ w .2) .0 in
+      let way = way-of-end step routerOf (alike pl (interfaceAt (pl .head) d)) (suc k) x
+      (spot-next step k (on x) (w .1) ∙ w .2) .0 in
       let inside = way-on step routerOf way k (w .0) (w .1) .0 in
       let short = walk-short wired (interfaceAt (pl .head) d) x l way in
       let less : k < R pl = omega arith in
@@ -104,28 +115,35 @@ module _ (pl : Plan) (by : List (List ℕ)) (next first : List ℕ) (wired : Wir
 module _ (pl : Plan) (by : List (List ℕ)) (joints homes : List ℕ) (w : Charting pl by joints homes) where
   side-known : (r o d : ℕ) → o < 4 → has (getD (getD by r []) o 0) d ≡ true → d < destinations (pl .head)
   side-known r o d m q =
-      ltb-true d (destinations (pl .head)) (and-parts (ltb d (destinations (pl .head))) (eqb (pl .route r d) o) (sym (w .sides r o d m) ∙ q) .0)
+      ltb-true d (destinations (pl .head)) (and-parts (ltb d (destinations (pl .head))) (eqb (pl .route r d) o)
+      (sym (w .sides r o d m) ∙ q) .0)
 
-  first-known : (r d : ℕ) → has (getD (firstsOf by homes (destinations (pl .head))) r 0) d ≡ true → d < destinations (pl .head)
+  first-known : (r d : ℕ) → has (getD (firstsOf by homes (destinations (pl .head))) r 0) d ≡ true
+      → d < destinations (pl .head)
   first-known r d q =
       ltb-true d (destinations (pl .head))
-      (and-parts (ltb d (destinations (pl .head))) _ (sym (first-has by homes (destinations (pl .head)) r d (ports-in pl by joints homes w)) ∙ q) .0)
+      (and-parts (ltb d (destinations (pl .head))) _ (sym (first-has by homes (destinations (pl .head)) r d
+      (ports-in pl by joints homes w)) ∙ q) .0)
 
-  reach-known : (k r d : ℕ) → reachIn by (nextsOf joints (R pl)) (firstsOf by homes (destinations (pl .head))) d k r ≡ true
+  reach-known : (k r d : ℕ) → reachIn by (nextsOf joints (R pl)) (firstsOf by homes (destinations (pl .head))) d k r
+      ≡ true
       → d < destinations (pl .head)
   unfolding reachIn
   reach-known zero r d q = first-known r d q
-  reach-known (suc k) r d q = go (reach-cases by (nextsOf joints (R pl)) (firstsOf by homes (destinations (pl .head))) d k r q)
+  reach-known (suc k) r d q = go (reach-cases by (nextsOf joints (R pl))
+      (firstsOf by homes (destinations (pl .head))) d k r q)
     where
       go : (has (getD (firstsOf by homes (destinations (pl .head))) r 0) d ≡ true)
           ⊎ ((o : ℕ) × (o < 4) × (has (sideSet by (nextsOf joints (R pl)) r o) d ≡ true)
-          × (reachIn by (nextsOf joints (R pl)) (firstsOf by homes (destinations (pl .head))) d k (beyond by (nextsOf joints (R pl)) r o) ≡ true))
+          × (reachIn by (nextsOf joints (R pl)) (firstsOf by homes (destinations (pl .head))) d k
+          (beyond by (nextsOf joints (R pl)) r o) ≡ true))
           → d < destinations (pl .head)
       go (inl a) = first-known r d a
       go (inr (o, m, p, z)) = side-known r o d m p
 
   pub arrivals : (t : List ℕ)
-      → Reached by (nextsOf joints (R pl)) (R pl) (below (destinations (pl .head))) (firstsOf by homes (destinations (pl .head))) t
+      → Reached by (nextsOf joints (R pl)) (R pl) (below (destinations (pl .head)))
+      (firstsOf by homes (destinations (pl .head))) t
       → Arrivals pl t
   arrivals t f = record { there = there′; known = known′ }
     where
@@ -136,7 +154,8 @@ module _ (pl : Plan) (by : List (List ℕ)) (joints homes : List ℕ) (w : Chart
           (charted pl by joints homes w) d k (below (destinations (pl .head))) t f
           (has-below (destinations (pl .head)) d ∙ lt-ltb d (destinations (pl .head)) k) x l
 
-      inside : (k r d : ℕ) → reachIn by (nextsOf joints (R pl)) (firstsOf by homes (destinations (pl .head))) d k r ≡ true
+      inside : (k r d : ℕ) → reachIn by (nextsOf joints (R pl)) (firstsOf by homes (destinations (pl .head))) d k r
+          ≡ true
           → (r < R pl) ⊎ (R pl ≤ r) → r < R pl
       inside k r d q (inl l) = l
       inside k r d q (inr l) = absurd (reach-idle by _ (R pl) _ (charted pl by joints homes w .idle) d k r l q)

@@ -48,7 +48,8 @@ passive-at pl p =
 active-at : (pl : Plan) (a : ℕ) → a < A pl → interfaceAt (pl .head) a ≡ active a
 active-at pl a l = rw (lt-ltb a (A pl) l)
 
-module _ (pl : Plan) (by : List (List ℕ)) (joints homes : List ℕ) (w : Charting pl by joints homes) (t : List ℕ) (all : ℕ)
+module _ (pl : Plan) (by : List (List ℕ)) (joints homes : List ℕ) (w : Charting pl by joints homes) (t : List ℕ)
+    (all : ℕ)
     (f : Arrivals pl t) (common : all ≡ commonOf t (below (destinations (pl .head))) (R pl)) where
   -- the home of an active
   home-at : (a : ℕ) → a < A pl → home pl (active a) .router ≡ getD homes a 0 / 4
@@ -62,7 +63,8 @@ module _ (pl : Plan) (by : List (List ℕ)) (joints homes : List ℕ) (w : Chart
 
   -- membership at the home: the walk arrives
   at-home : (pl′ : Plan) → pl′ .head ≡ pl .head → (u : List ℕ) → Arrivals pl′ u → (a p : ℕ) → a < A pl → p < P pl
-      → has (both (getD u (getD homes a 0 / 4) 0) (farOf (pl .head))) (A pl + p) ≡ arrives pl′ (passive p) (home pl (active a))
+      → has (both (getD u (getD homes a 0 / 4) 0) (farOf (pl .head))) (A pl + p)
+      ≡ arrives pl′ (passive p) (home pl (active a))
   at-home pl′ same u g a p la lp =
       let x = home pl (active a) in
       let inside : home pl (active a) .router < R pl′ = rw same (home-in a la) in
@@ -81,7 +83,8 @@ module _ (pl : Plan) (by : List (List ℕ)) (joints homes : List ℕ) (w : Chart
     where
       back : (x : Port) → x .router < R pl → arrives pl (active a) x ≡ true
       back x l =
-          let there = common-has t (below (destinations (pl .head))) (R pl) a (sym (ap (λ (u : ℕ). has u a) common) ∙ e) .1 (x .router) l in
+          let there = common-has t (below (destinations (pl .head))) (R pl) a
+          (sym (ap (λ (u : ℕ). has u a) common) ∙ e) .1 (x .router) l in
           ap (λ (i : Interface). arrives pl i x) (sym (active-at pl a la)) ∙ sym (f .there x a l (omega arith)) ∙ there
   serving-served a p v la lp (inr (inl (z, g))) =
       let none : arrives pl (passive p) (home pl (active a)) ≡ false =
@@ -90,20 +93,24 @@ module _ (pl : Plan) (by : List (List ℕ)) (joints homes : List ℕ) (w : Chart
   serving-served a p v la lp (inr (inr (u, r, g))) =
       ap (λ (x : ℕ). has x (A pl + p)) g
       ∙ at-home (returning pl a) refl u
-      (arrivals (returning pl a) (keepsOf by t (R pl) a) joints homes (kept-charting pl by joints homes t w f a la) u r) a p la lp
+      (arrivals (returning pl a) (keepsOf by t (R pl) a) joints homes
+      (kept-charting pl by joints homes t w f a la) u r) a p la lp
       ∙ sym (served-kept pl (w .wired) a p la)
 
   pub serving-known : (a d v : ℕ) → Serving by (nextsOf joints (R pl)) homes t (pl .head) all a v → has v d ≡ true
       → (A pl ≤ d) × (d < destinations (pl .head))
   serving-known a d v (inl (e, g)) q =
       far-known (pl .head) d
-      (and-parts (has (getD t (getD homes a 0 / 4) 0) d) _ (sym (has-both (getD t (getD homes a 0 / 4) 0) (farOf (pl .head)) d) ∙ sym (ap (λ (u : ℕ). has u d) g) ∙ q) .1)
+      (and-parts (has (getD t (getD homes a 0 / 4) 0) d) _ (sym
+      (has-both (getD t (getD homes a 0 / 4) 0) (farOf (pl .head)) d) ∙ sym (ap (λ (u : ℕ). has u d) g) ∙ q) .1)
   serving-known a d v (inr (inl (z, g))) q = absurd (true≢false (sym q ∙ ap (λ (u : ℕ). has u d) z ∙ none-has d))
   serving-known a d v (inr (inr (u, r, g))) q =
       far-known (pl .head) d
-      (and-parts (has (getD u (getD homes a 0 / 4) 0) d) _ (sym (has-both (getD u (getD homes a 0 / 4) 0) (farOf (pl .head)) d) ∙ sym (ap (λ (x : ℕ). has x d) g) ∙ q) .1)
+      (and-parts (has (getD u (getD homes a 0 / 4) 0) d) _ (sym
+      (has-both (getD u (getD homes a 0 / 4) 0) (farOf (pl .head)) d) ∙ sym (ap (λ (x : ℕ). has x d) g) ∙ q) .1)
 
-  pub served-pairs : (serve : List ℕ) → Servings by (nextsOf joints (R pl)) homes t (pl .head) all (A pl) serve → Serves pl serve
+  pub served-pairs : (serve : List ℕ) → Servings by (nextsOf joints (R pl)) homes t (pl .head) all (A pl) serve
+      → Serves pl serve
   served-pairs serve s = record {
     pairs = λ a p la lp. serving-served a p (getD serve a 0) la lp (s .some a la);
     known = λ a d q. known′ a d q (lt-or-ge a (A pl));
@@ -115,7 +122,8 @@ module _ (pl : Plan) (by : List (List ℕ)) (joints homes : List ℕ) (w : Chart
       known′ a d q (inr l) = absurd (true≢false (sym q ∙ ap (λ (u : ℕ). has u d) (s .none a l) ∙ none-has d))
 
   -- ---- the lengths
-  module _ (s : Span) (z : List (List ℕ)) (size : Sized by (nextsOf joints (R pl)) s (firstsOf by homes (destinations (pl .head))) t z)
+  module _ (s : Span) (z : List (List ℕ)) (size : Sized by (nextsOf joints (R pl)) s
+      (firstsOf by homes (destinations (pl .head))) t z)
       (sized : s .sized ≡ farOf (pl .head)) (column : s .column ≡ A pl) (most : P pl ≤ 16) where
     zero-at : (r p : ℕ) → p < 16 → (has (farOf (pl .head)) (A pl + p) && has (getD t r 0) (A pl + p)) ≡ false
         → getD (getD z r []) p 0 ≡ 0
@@ -126,17 +134,20 @@ module _ (pl : Plan) (by : List (List ℕ)) (joints homes : List ℕ) (w : Chart
     size-at a p la lp e =
         let x = home pl (active a) in
         let known : A pl + p < destinations (pl .head) = omega arith in
-        let far = size .some (getD homes a 0 / 4) p (omega arith) (rw (sized, column) (far-has (pl .head) p ∙ lt-ltb p (P pl) lp)) (rw column e) in
+        let far = size .some (getD homes a 0 / 4) p (omega arith)
+        (rw (sized, column) (far-has (pl .head) p ∙ lt-ltb p (P pl) lp)) (rw column e) in
         let there = rw (column, ← home-at a la) at far in
         ap (λ (r : ℕ). getD (getD z r []) p 0) (sym (home-at a la))
-        ∙ far-size pl by (nextsOf joints (R pl)) (firstsOf by homes (destinations (pl .head))) (w .wired) (charted pl by joints homes w)
+        ∙ far-size pl by (nextsOf joints (R pl)) (firstsOf by homes (destinations (pl .head))) (w .wired)
+        (charted pl by joints homes w)
         (A pl + p) known (w .routers) x (home-in a la) there
         ∙ ap (λ (i : Interface). walkSize pl i x) (passive-at pl p)
 
     module _ (serve : List ℕ) (sv : Servings by (nextsOf joints (R pl)) homes t (pl .head) all (A pl) serve) where
       -- the size, where the pair is served
       masked-at : (a p : ℕ) → a < A pl → p < 16
-          → pick (has (getD serve a 0) (A pl + p)) (getD (getD z (getD homes a 0 / 4) []) p 0) 0 ≡ pick (ltb p (P pl)) (pairWalk pl a p) 0
+          → pick (has (getD serve a 0) (A pl + p)) (getD (getD z (getD homes a 0 / 4) []) p 0) 0
+          ≡ pick (ltb p (P pl)) (pairWalk pl a p) 0
       unfolding pairWalk servedFrom
       masked-at a p la l = go (lt-or-ge p (P pl)) (test (served pl a p))
         where
@@ -146,14 +157,18 @@ module _ (pl : Plan) (by : List (List ℕ)) (joints homes : List ℕ) (w : Chart
           out k (inr q) = q
 
           go : (p < P pl) ⊎ (P pl ≤ p) → (served pl a p ≡ true) ⊎ (served pl a p ≡ false)
-              → pick (has (getD serve a 0) (A pl + p)) (getD (getD z (getD homes a 0 / 4) []) p 0) 0 ≡ pick (ltb p (P pl)) (pairWalk pl a p) 0
+              → pick (has (getD serve a 0) (A pl + p)) (getD (getD z (getD homes a 0 / 4) []) p 0) 0
+              ≡ pick (ltb p (P pl)) (pairWalk pl a p) 0
           go (inl k) (inl q) =
-              let has-it : has (getD serve a 0) (A pl + p) ≡ true = serving-served a p (getD serve a 0) la k (sv .some a la) ∙ q in
+              let has-it : has (getD serve a 0) (A pl + p) ≡ true = serving-served a p (getD serve a 0) la k
+              (sv .some a la) ∙ q in
               let there : arrives pl (passive p) (home pl (active a)) ≡ true = also-true q .0 in
-              let member = and-parts _ _ (sym (has-both (getD t (getD homes a 0 / 4) 0) (farOf (pl .head)) (A pl + p)) ∙ at-home pl refl t f a p la k ∙ there) .0 in
+              let member = and-parts _ _ (sym (has-both (getD t (getD homes a 0 / 4) 0) (farOf (pl .head))
+              (A pl + p)) ∙ at-home pl refl t f a p la k ∙ there) .0 in
               rw (has-it, lt-ltb p (P pl) k, q) (size-at a p la k member)
           go (inl k) (inr q) =
-              let has-it : has (getD serve a 0) (A pl + p) ≡ false = serving-served a p (getD serve a 0) la k (sv .some a la) ∙ q in
+              let has-it : has (getD serve a 0) (A pl + p) ≡ false = serving-served a p (getD serve a 0) la k
+              (sv .some a la) ∙ q in
               rw (has-it, lt-ltb p (P pl) k, q)
           go (inr k) q = rw (out k (test (has (getD serve a 0) (A pl + p))), le-ltb p (P pl) k)
 
@@ -175,33 +190,41 @@ module _ (pl : Plan) (by : List (List ℕ)) (joints homes : List ℕ) (w : Chart
           go (inr q) =
               rw q
               (zero-at (getD homes a 0 / 4) p l
-              (swap (has (getD t (getD homes a 0 / 4) 0) (A pl + p)) (has (farOf (pl .head)) (A pl + p)) (sym (has-both (getD t (getD homes a 0 / 4) 0) (farOf (pl .head)) (A pl + p)) ∙ ap (λ (u : ℕ). has u (A pl + p)) (sym e) ∙ q)))
+              (swap (has (getD t (getD homes a 0 / 4) 0) (A pl + p)) (has (farOf (pl .head)) (A pl + p))
+              (sym (has-both (getD t (getD homes a 0 / 4) 0) (farOf (pl .head)) (A pl + p))
+              ∙ ap (λ (u : ℕ). has u (A pl + p)) (sym e) ∙ q)))
 
       row-is : (a : ℕ) → a < A pl
-          → lengthOf z (getD homes a 0 / 4) (getD serve a 0) (both (getD t (getD homes a 0 / 4) 0) (farOf (pl .head))) (A pl)
+          → lengthOf z (getD homes a 0 / 4) (getD serve a 0)
+          (both (getD t (getD homes a 0 / 4) 0) (farOf (pl .head))) (A pl)
           ≡ upTo (fill (λ p. pick (ltb p (P pl)) (pairWalk pl a p) 0)) 16 (replicate 16 0)
       unfolding lengthOf copyOf maskOf
       row-is a la = go (test (eqb (getD serve a 0) (both (getD t (getD homes a 0 / 4) 0) (farOf (pl .head)))))
         where
           go : (eqb (getD serve a 0) (both (getD t (getD homes a 0 / 4) 0) (farOf (pl .head))) ≡ true)
               ⊎ (eqb (getD serve a 0) (both (getD t (getD homes a 0 / 4) 0) (farOf (pl .head))) ≡ false)
-              → lengthOf z (getD homes a 0 / 4) (getD serve a 0) (both (getD t (getD homes a 0 / 4) 0) (farOf (pl .head))) (A pl)
+              → lengthOf z (getD homes a 0 / 4) (getD serve a 0)
+              (both (getD t (getD homes a 0 / 4) 0) (farOf (pl .head))) (A pl)
               ≡ upTo (fill (λ p. pick (ltb p (P pl)) (pairWalk pl a p) 0)) 16 (replicate 16 0)
           go (inl q) =
               let e = eqb-true (getD serve a 0) (both (getD t (getD homes a 0 / 4) 0) (farOf (pl .head))) q in
               rw q
-              (up-same (fill (λ p. getD (getD z (getD homes a 0 / 4) []) p 0)) (fill (λ p. pick (ltb p (P pl)) (pairWalk pl a p) 0)) 16 (replicate 16 0)
+              (up-same (fill (λ p. getD (getD z (getD homes a 0 / 4) []) p 0))
+              (fill (λ p. pick (ltb p (P pl)) (pairWalk pl a p) 0)) 16 (replicate 16 0)
               (λ p u l. ap (set u p) (copied-at a p l e ∙ masked-at a p la l)))
           go (inr q) =
               rw q
-              (up-same (fill (λ p. pick (has (getD serve a 0) (A pl + p)) (getD (getD z (getD homes a 0 / 4) []) p 0) 0))
-              (fill (λ p. pick (ltb p (P pl)) (pairWalk pl a p) 0)) 16 (replicate 16 0) (λ p u l. ap (set u p) (masked-at a p la l)))
+              (up-same (fill (λ p. pick (has (getD serve a 0) (A pl + p))
+              (getD (getD z (getD homes a 0 / 4) []) p 0) 0))
+              (fill (λ p. pick (ltb p (P pl)) (pairWalk pl a p) 0)) 16 (replicate 16 0)
+              (λ p u l. ap (set u p) (masked-at a p la l)))
 
       pub lengths-are : lengthsBy z t serve homes (pl .head) ≡ lengthsOf pl
       unfolding lengthsBy lengthsOf
       lengths-are =
           up-same
-          (fill (λ a. lengthOf z (getD homes a 0 / 4) (getD serve a 0) (both (getD t (getD homes a 0 / 4) 0) (farOf (pl .head))) (A pl)))
+          (fill (λ a. lengthOf z (getD homes a 0 / 4) (getD serve a 0)
+          (both (getD t (getD homes a 0 / 4) 0) (farOf (pl .head))) (A pl)))
           (fill (λ a. upTo (fill (λ p. pick (ltb p (P pl)) (pairWalk pl a p) 0)) 16 (replicate 16 0))) (A pl)
           (replicate 16 (replicate 16 0)) (λ a u l. ap (set u a) (row-is a l))
 
@@ -212,7 +235,8 @@ default (x ∷ xs) zero a b l = refl
 default (x ∷ xs) (suc i) a b l = default xs i a b (omega arith)
 
 pub told : (h : Head) (routes : List (List ℕ)) (joints homes : List ℕ) (by : List (List ℕ)) (next : List ℕ) (s : Span)
-    → h .actives ≤ 16 → s .column ≡ h .actives → s .sized ≡ farOf h → Tables h routes joints homes by → Told by next s routes
+    → h .actives ≤ 16 → s .column ≡ h .actives → s .sized ≡ farOf h → Tables h routes joints homes by
+    → Told by next s routes
 unfolding tablePlan
 told h routes joints homes by next s most column sized w = record {
   sides = λ r o p l m k. rw column (side r o p l m k);
@@ -231,18 +255,22 @@ told h routes joints homes by next s most column sized w = record {
             ≡ eqb (getD (getD routes r []) (h .actives + p) 0) o
         go (inl b) = rw (lt-ltb (h .actives + p) (destinations h) b, at)
         go (inr b) =
-            rw (le-ltb (h .actives + p) (destinations h) b, at, w .past r (h .actives + p) b) (sym (ne-eqb 7 o (λ q. omega arith)))
+            rw (le-ltb (h .actives + p) (destinations h) b, at, w .past r (h .actives + p) b)
+            (sym (ne-eqb 7 o (λ q. omega arith)))
 
-    far : (r o p : ℕ) → o < 4 → has (getD (getD by r []) o 0) (h .actives + p) ≡ true → has (farOf h) (h .actives + p) ≡ true
+    far : (r o p : ℕ) → o < 4 → has (getD (getD by r []) o 0) (h .actives + p) ≡ true
+        → has (farOf h) (h .actives + p) ≡ true
     far r o p m q =
-        let b = and-parts (ltb (h .actives + p) (destinations h)) _ (sym (w .chart .sides r o (h .actives + p) m) ∙ q) .0 in
+        let b = and-parts (ltb (h .actives + p) (destinations h)) _
+        (sym (w .chart .sides r o (h .actives + p) m) ∙ q) .0 in
         far-has h p ∙ lt-ltb p (h .passives) (below′ b)
       where
         below′ : ltb (h .actives + p) (destinations h) ≡ true → p < h .passives
         below′ b = let l = ltb-true (h .actives + p) (destinations h) b in omega arith
 
 -- ---- what the code leaves
-pub walks-sound : (h : Head) (routes : List (List ℕ)) (joints homes : List ℕ) (by : List (List ℕ)) {next first : List ℕ} {z₀ : List (List ℕ)}
+pub walks-sound : (h : Head) (routes : List (List ℕ)) (joints homes : List ℕ) (by : List (List ℕ))
+    {next first : List ℕ} {z₀ : List (List ℕ)}
     {full far : ℕ} (t : List ℕ) (z : List (List ℕ)) {all : ℕ} {serve : List ℕ} {lengths : List (List ℕ)}
     → h .actives ≤ 16 → h .passives ≤ 16
     → next ≡ nextsOf joints (h .routers) → first ≡ firstsOf by homes (h .actives + h .passives)
@@ -252,11 +280,12 @@ pub walks-sound : (h : Head) (routes : List (List ℕ)) (joints homes : List ℕ
     → Servings by next homes t h all (h .actives) serve → lengths ≡ lengthsBy z t serve homes h
     → Walks h routes joints homes by t lengths serve
 unfolding tablePlan
-walks-sound h routes joints homes by {next} {first} {z₀} {full} {far} t z {all} {serve} {lengths} ma mp en ef ez eu er r ea g sv el w = (
-  f,
-  served-pairs pl by joints homes (w .chart) t all f common serve servings,
-  el ∙ lengths-are pl by joints homes (w .chart) t all f common s z size er refl mp serve servings,
-)
+walks-sound h routes joints homes by {next} {first} {z₀} {full} {far} t z {all} {serve}
+    {lengths} ma mp en ef ez eu er r ea g sv el w = (
+      f,
+      served-pairs pl by joints homes (w .chart) t all f common serve servings,
+      el ∙ lengths-are pl by joints homes (w .chart) t all f common s z size er refl mp serve servings,
+    )
   where
     pl : Plan
     pl = tablePlan h routes joints
@@ -281,16 +310,21 @@ walks-sound h routes joints homes by {next} {first} {z₀} {full} {far} t z {all
 
     idle : (r d : ℕ) → 17 ≤ r → has (getD (firstsOf by homes (destinations h)) r 0) d ≡ false
     idle r d l =
-        first-idle by homes (destinations h) (h .routers) ports (sides-past (tablePlan h routes joints) by joints homes (w .chart)) (nextsOf joints (h .routers)) .here r d
+        first-idle by homes (destinations h) (h .routers) ports
+        (sides-past (tablePlan h routes joints) by joints homes (w .chart)) (nextsOf joints (h .routers)) .here r d
         (omega arith)
 
-    grown : Grows by (nextsOf joints (h .routers)) routes (record { routers = h .routers; all = full; sized = far; column = h .actives })
-        (firstsOf by homes (destinations h)) (nearsOf (firstsOf by homes (destinations h)) homes (h .actives) (h .passives)) t z
+    grown : Grows by (nextsOf joints (h .routers)) routes (record
+        { routers = h .routers; all = full; sized = far; column = h .actives })
+        (firstsOf by homes (destinations h)) (nearsOf (firstsOf by homes (destinations h)) homes (h .actives)
+        (h .passives)) t z
     grown = rw (ez, ef, en) at g
 
     size : Sized by (nextsOf joints (h .routers)) (record { routers = h .routers; all = full; sized = far; column = h .actives })
         (firstsOf by homes (destinations h)) t z
     size =
         grown (firstsOf by homes (destinations h))
-        (told h routes joints homes by (nextsOf joints (h .routers)) (record { routers = h .routers; all = full; sized = far; column = h .actives }) ma refl er w)
-        (sized-start by (nextsOf joints (h .routers)) homes h (record { routers = h .routers; all = full; sized = far; column = h .actives }) er refl mp ports idle)
+        (told h routes joints homes by (nextsOf joints (h .routers))
+        (record { routers = h .routers; all = full; sized = far; column = h .actives }) ma refl er w)
+        (sized-start by (nextsOf joints (h .routers)) homes h
+        (record { routers = h .routers; all = full; sized = far; column = h .actives }) er refl mp ports idle)

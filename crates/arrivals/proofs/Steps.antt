@@ -20,10 +20,12 @@ use Rattle.arrivals.specs.Pairs.{Swept, Serving, Servings, lengthOf, len
 pub first-step : (by : List (List ℕ)) (homes : List ℕ) (d : ℕ) (t : List ℕ) {k v : ℕ} → k ≡ getD homes d 0
     → v ≡ firstOf by (getD t (k / 4) 0) k d → set t (k / 4) v ≡ firstStep by homes d t
 unfolding firstStep
-first-step by homes d t {k} e f = ap (set t (k / 4)) f ∙ ap (λ (i : ℕ). set t (i / 4) (firstOf by (getD t (i / 4) 0) i d)) e
+first-step by homes d t {k} e f = ap (set t (k / 4)) f ∙ ap (λ (i : ℕ). set t (i / 4)
+    (firstOf by (getD t (i / 4) 0) i d)) e
 
 pub near-step : (t homes : List ℕ) (actives p : ℕ) (z : List (List ℕ)) {k v : ℕ} → k ≡ getD homes (actives + p) 0
-    → v ≡ nearOf (getD t (k / 4) 0) (actives + p) → set z (k / 4) (set (getD z (k / 4) []) p v) ≡ nearStep t homes actives p z
+    → v ≡ nearOf (getD t (k / 4) 0) (actives + p) → set z (k / 4) (set (getD z (k / 4) []) p v)
+    ≡ nearStep t homes actives p z
 unfolding nearStep
 near-step t homes actives p z {k} e f =
     ap (λ (x : ℕ). set z (k / 4) (set (getD z (k / 4) []) p x)) f
@@ -32,7 +34,12 @@ near-step t homes actives p z {k} e f =
 -- ---- a turn of the loop over actives
 module _ (by : List (List ℕ)) (next homes arrive : List ℕ) (h : Head) (all : ℕ) where
   pub servings-none : Servings by next homes arrive h all 0 (replicate 16 0)
-  servings-none = record { long = length-replicate 16 zero; some = λ a l. absurd (omega arith); none = λ a l. replicate-at 16 0 a }
+  servings-none = record {
+    long = length-replicate 16 zero;
+    some = λ a l. absurd
+        (omega arith);
+    none = λ a l. replicate-at 16 0 a;
+  }
 
   pub servings-more : (n : ℕ) {t : List ℕ} {w : ℕ} → n < 16 → Servings by next homes arrive h all n t
       → Serving by next homes arrive h all n w → Servings by next homes arrive h all (n + 1) (set t n w)
@@ -55,7 +62,8 @@ pub keeps-past : (by : List (List ℕ)) (arrive : List ℕ) (routers a r o d : �
     → has (getD (getD (keepsOf by arrive routers a) r []) o 0) d ≡ false
 unfolding keepsOf
 keeps-past by arrive routers a r o d l m =
-    ap (λ (x : List ℕ). has (getD x o 0) d) (fill-past (λ i. keptOf (getD by i []) (has (getD arrive i 0) a)) routers (replicate 16 (replicate 4 0)) r [] l)
+    ap (λ (x : List ℕ). has (getD x o 0) d) (fill-past (λ i. keptOf (getD by i [])
+    (has (getD arrive i 0) a)) routers (replicate 16 (replicate 4 0)) r [] l)
     ∙ ap (λ (x : ℕ). has x d) (replicate-row 16 4 0 r o) ∙ none-has d
 
 -- ---- what a call leaves, by the tests made
@@ -66,17 +74,25 @@ serving-all by next homes arrive h all a e f g i j =
     inl (sym f ∙ g, j ∙ ap₂ (λ (x y : ℕ). both (getD arrive (x / 4) 0) y) e i)
 
 pub serving-none : (by : List (List ℕ)) (next homes arrive : List ℕ) (h : Head) (all a : ℕ) {k w far : ℕ}
-    → k ≡ getD homes a 0 → far ≡ farOf h → w ≡ both (getD arrive (k / 4) 0) far → w ≡ 0 → Serving by next homes arrive h all a w
+    → k ≡ getD homes a 0 → far ≡ farOf h → w ≡ both (getD arrive (k / 4) 0) far → w ≡ 0
+    → Serving by next homes arrive h all a w
 serving-none by next homes arrive h all a e i j z =
     inr (inl (z, j ∙ ap₂ (λ (x y : ℕ). both (getD arrive (x / 4) 0) y) e i))
 
 pub serving-swept : (by : List (List ℕ)) (next homes arrive : List ℕ) (h : Head) (all a : ℕ) {k w : ℕ}
     → k ≡ getD homes a 0 → Swept by next homes arrive h a (k / 4) w → Serving by next homes arrive h all a w
-serving-swept by next homes arrive h all a e s = inr (inr (s .0, s .1, s .2 ∙ ap (λ (x : ℕ). both (getD (s .0) (x / 4) 0) (farOf h)) e))
+serving-swept by next homes arrive h all a e s = inr (inr (
+  s .0,
+  s .1,
+  s .2
+      ∙ ap (λ (x : ℕ). both (getD (s .0) (x / 4) 0) (farOf h)) e,
+))
 
-pub swept-by : (by : List (List ℕ)) (next homes arrive : List ℕ) (h : Head) (a x : ℕ) {kept : List (List ℕ)} {first t : List ℕ} {n w far : ℕ}
+pub swept-by : (by : List (List ℕ)) (next homes arrive : List ℕ) (h : Head) (a x : ℕ) {kept : List (List ℕ)}
+    {first t : List ℕ} {n w far : ℕ}
     → kept ≡ keepsOf by arrive (h .routers) a → first ≡ firstsOf kept homes (h .actives + h .passives)
-    → n ≡ below (h .actives + h .passives) → Reached kept next (h .routers) n first t → far ≡ farOf h → w ≡ both (getD t x 0) far
+    → n ≡ below (h .actives + h .passives) → Reached kept next (h .routers) n first t → far ≡ farOf h → w
+    ≡ both (getD t x 0) far
     → Swept by next homes arrive h a x w
 swept-by by next homes arrive h a x {t = t} e f g r i j =
     (t, rw (f, e, g) at r, j ∙ ap (both (getD t x 0)) i)
@@ -88,8 +104,10 @@ length-step z arrive served homes a column far {k} e f g =
     g ∙ ap (λ (x : ℕ). lengthOf z (k / 4) (getD served a 0) x column) f
     ∙ ap (λ (k : ℕ). lengthOf z (k / 4) (getD served a 0) (both (getD arrive (k / 4) 0) far) column) e
 
-pub lengths-done : (z : List (List ℕ)) (arrive served homes : List ℕ) (h : Head) (a : ℕ) {far : ℕ} {t : List (List ℕ)} → far ≡ farOf h
-    → t ≡ upTo (fill (λ i. lengthOf z (getD homes i 0 / 4) (getD served i 0) (both (getD arrive (getD homes i 0 / 4) 0) far) (h .actives))) a (replicate 16 (replicate 16 0))
+pub lengths-done : (z : List (List ℕ)) (arrive served homes : List ℕ) (h : Head) (a : ℕ) {far : ℕ}
+    {t : List (List ℕ)} → far ≡ farOf h
+    → t ≡ upTo (fill (λ i. lengthOf z (getD homes i 0 / 4) (getD served i 0)
+    (both (getD arrive (getD homes i 0 / 4) 0) far) (h .actives))) a (replicate 16 (replicate 16 0))
     → a ≡ h .actives → t ≡ lengthsBy z arrive served homes h
 unfolding lengthsBy
 lengths-done z arrive served homes h a e f g = f ∙ rw (e, g)

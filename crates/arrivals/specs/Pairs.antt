@@ -65,7 +65,8 @@ unfoldable pub lengthsBy : List (List ℕ) → List ℕ → List ℕ → List �
 lengthsBy z arrive serve homes h =
     upTo
     (fill
-    (λ a. lengthOf z (getD homes a 0 / 4) (getD serve a 0) (both (getD arrive (getD homes a 0 / 4) 0) (farOf h)) (h .actives)))
+    (λ a. lengthOf z (getD homes a 0 / 4) (getD serve a 0) (both (getD arrive (getD homes a 0 / 4) 0) (farOf h))
+    (h .actives)))
     (h .actives) (replicate 16 (replicate 16 0))
 
 -- ---- a plan's tables are right

@@ -40,7 +40,8 @@ nearOf s d = pick (has s d) 1 0
 unfoldable pub nearStep : List ℕ → List ℕ → ℕ → ℕ → List (List ℕ) → List (List ℕ)
 nearStep t homes actives p z =
     set z (getD homes (actives + p) 0 / 4)
-    (set (getD z (getD homes (actives + p) 0 / 4) []) p (nearOf (getD t (getD homes (actives + p) 0 / 4) 0) (actives + p)))
+    (set (getD z (getD homes (actives + p) 0 / 4) []) p (nearOf (getD t (getD homes (actives + p) 0 / 4) 0)
+    (actives + p)))
 
 -- by router and passive: 1 where it is one step away
 unfoldable pub nearsOf : List ℕ → List ℕ → ℕ → ℕ → List (List ℕ)

@@ -25,13 +25,15 @@ use Rattle.load.specs.Load.{loadOf, loadRoutes, loadJoints, loadHomes, l
 use Rattle.load.specs.Rules.{passes}
 
 -- the lent tables of an accepted plan: they give the plan of the bytes, and the ports of its interfaces
-pub record Lent (b : List ℕ) (h : Head) (routes : List (List ℕ)) (joints homes : List ℕ) (lengths : List (List ℕ)) : Type 0 where
+pub record Lent (b : List ℕ) (h : Head) (routes : List (List ℕ)) (joints homes : List ℕ)
+    (lengths : List (List ℕ)) : Type 0 where
   pub range : InRange h
   pub plan : tablePlan h routes joints ≡ planOf b
   pub ports : homes ≡ homesOf (tablePlan h routes joints)
   pub walks : lengths ≡ lengthsOf (tablePlan h routes joints)
 
-pub lent : (b : List ℕ) (t : List (List ℕ)) (j o : List ℕ) (u : List (List ℕ)) {h : Head} {l : Loaded} {routes : List (List ℕ)} {joints homes : List ℕ}
+pub lent : (b : List ℕ) (t : List (List ℕ)) (j o : List ℕ) (u : List (List ℕ)) {h : Head} {l : Loaded}
+    {routes : List (List ℕ)} {joints homes : List ℕ}
     {lengths : List (List ℕ)} → l ≡ loadOf b → l ≡ Accepted h
     → routes ≡ loadRoutes b t (loadOf b) → joints ≡ loadJoints b j (loadOf b) → homes ≡ loadHomes b o (loadOf b)
     → lengths ≡ loadLengths b u (loadOf b) → Lent b h routes joints homes lengths
@@ -55,8 +57,10 @@ pub length-at : (pl : Plan) (a p : ℕ) → A pl ≤ 16 → P pl ≤ 16 → a < 
 unfolding lengthsOf
 length-at pl a p ma mp la lp =
     ap (λ (row : List ℕ). getD row p 0)
-    (fill-at (λ i. upTo (fill (λ q. pick (ltb q (P pl)) (pairWalk pl i q) 0)) 16 (replicate 16 0)) (A pl) (replicate 16 (replicate 16 0)) a [] la (rw length-replicate ma))
-    ∙ fill-at (λ q. pick (ltb q (P pl)) (pairWalk pl a q) 0) 16 (replicate 16 0) p 0 (omega arith) (rw length-replicate (omega arith))
+    (fill-at (λ i. upTo (fill (λ q. pick (ltb q (P pl)) (pairWalk pl i q) 0)) 16 (replicate 16 0)) (A pl)
+    (replicate 16 (replicate 16 0)) a [] la (rw length-replicate ma))
+    ∙ fill-at (λ q. pick (ltb q (P pl)) (pairWalk pl a q) 0) 16 (replicate 16 0) p 0 (omega arith)
+    (rw length-replicate (omega arith))
     ∙ rw (lt-ltb p (P pl) lp)
 
 -- ---- the table of homes

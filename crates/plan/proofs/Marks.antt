@@ -105,7 +105,8 @@ module _ (g : ℕ → ℕ) (small : (i : ℕ) → g i < 8) (d : ℕ) where
   marks-has zero v j b l = rw (none-has (8 * v + j), le-ltb j 0 (omega arith))
   marks-has (suc m) v j b l = by (marks-has m v j (omega arith) l) (same-or-not j m)
     where
-      step : has (marksOf g d (suc m)) (8 * v + j) ≡ (has (marksOf g d m) (8 * v + j) || eqb (8 * v + j) (8 * g (d + m) + m))
+      step : has (marksOf g d (suc m)) (8 * v + j) ≡ (has (marksOf g d m) (8 * v + j) || eqb (8 * v + j)
+          (8 * g (d + m) + m))
       step =
           has-either (marksOf g d m) (single (8 * g (d + m) + m)) (8 * v + j)
           ∙ ap (λ (q : Bool). has (marksOf g d m) (8 * v + j) || q) (has-single (8 * g (d + m) + m) (8 * v + j))
@@ -121,8 +122,10 @@ module _ (g : ℕ → ℕ) (small : (i : ℕ) → g i < 8) (d : ℕ) where
       by rec (inl e) =
           step ∙ rw (rec, e, le-ltb m m (omega arith), lt-ltb m (suc m) (omega arith)) (digit (g (d + m)))
       by rec (inr e) =
-          let off : eqb (8 * v + j) (8 * g (d + m) + m) ≡ false = ne-eqb (8 * v + j) (8 * g (d + m) + m) (λ q. e (omega arith)) in
-          step ∙ rw (rec, off, ltb-alike j m j (suc m) (λ q. omega arith) (λ q. omega arith)) (or-none (ltb j (suc m) && eqb (g (d + j)) v))
+          let off : eqb (8 * v + j) (8 * g (d + m) + m) ≡ false = ne-eqb (8 * v + j) (8 * g (d + m) + m)
+          (λ q. e (omega arith)) in
+          step ∙ rw (rec, off, ltb-alike j m j (suc m) (λ q. omega arith) (λ q. omega arith))
+          (or-none (ltb j (suc m) && eqb (g (d + j)) v))
 
   -- ---- sets of columns by side
   pub side-more : (m o s w : ℕ) → m ≤ 8 → Side g d o s → w ≡ marksOf g d m → Side g (d + m) o (either s (partOf w o d))
@@ -132,16 +135,19 @@ module _ (g : ℕ → ℕ) (small : (i : ℕ) → g i < 8) (d : ℕ) where
       by : (i < d) ⊎ (d ≤ i) → (i - d < 8) ⊎ (8 ≤ i - d)
           → (has s i || has (w / 2 ^ (8 * o) % 256 * 2 ^ d) i) ≡ (ltb i (d + m) && eqb (g i) o)
       by (inl l) c =
-          rw (f i, has-under (w / 2 ^ (8 * o) % 256) d i l, lt-ltb i d l, lt-ltb i (d + m) (omega arith)) (or-none (eqb (g i) o))
+          rw (f i, has-under (w / 2 ^ (8 * o) % 256) d i l, lt-ltb i d l, lt-ltb i (d + m) (omega arith))
+          (or-none (eqb (g i) o))
       by (inr l) (inl c) =
           let is : d + (i - d) ≡ i = omega arith in
           let place : i - d + 8 * o ≡ 8 * o + (i - d) = omega arith in
           rw (f i, le-ltb i d l)
           (has-up (w / 2 ^ (8 * o) % 256) d i l ∙ has-cut 8 (w / 2 ^ (8 * o)) (i - d) c ∙ has-down w (8 * o) (i - d)
           ∙ ap₂ has e place ∙ marks-has m o (i - d) b c
-          ∙ ap₂ (λ (x : Bool) (y : ℕ). x && eqb (g y) o) (ltb-alike (i - d) m i (d + m) (λ q. omega arith) (λ q. omega arith)) is)
+          ∙ ap₂ (λ (x : Bool) (y : ℕ). x && eqb (g y) o) (ltb-alike (i - d) m i (d + m) (λ q. omega arith)
+          (λ q. omega arith)) is)
       by (inr l) (inr c) =
-          rw (f i, le-ltb i d l, le-ltb i (d + m) (omega arith)) (has-up (w / 2 ^ (8 * o) % 256) d i l ∙ has-gone 8 (w / 2 ^ (8 * o)) (i - d) c)
+          rw (f i, le-ltb i d l, le-ltb i (d + m) (omega arith))
+          (has-up (w / 2 ^ (8 * o) % 256) d i l ∙ has-gone 8 (w / 2 ^ (8 * o)) (i - d) c)
 
   -- ---- no side 4, 5 or 6
   odd-route : (v : ℕ) → v < 8 → routeOk v ≡ false → (4 ≤ v) × (v < 7)
@@ -167,12 +173,14 @@ module _ (g : ℕ → ℕ) (small : (i : ℕ) → g i < 8) (d : ℕ) where
 
   pub fits-marks : (m w : ℕ) → m ≤ 8 → w ≡ marksOf g d m → fitsOf w ≡ allBelow m (λ j. routeOk (g (d + j)))
   unfolding fitsOf
-  fits-marks m w b e = rw e (same-test (eqb (marksOf g d m / 2 ^ 32 % 16777216) 0) (allBelow m (λ j. routeOk (g (d + j)))) to from)
+  fits-marks m w b e = rw e (same-test (eqb (marksOf g d m / 2 ^ 32 % 16777216) 0)
+      (allBelow m (λ j. routeOk (g (d + j)))) to from)
     where
       to : eqb (marksOf g d m / 2 ^ 32 % 16777216) 0 ≡ true → allBelow m (λ j. routeOk (g (d + j))) ≡ true
       to q = all-of m (λ j. routeOk (g (d + j))) (λ j l. at j l (test (routeOk (g (d + j)))))
         where
-          at : (j : ℕ) → j < m → (routeOk (g (d + j)) ≡ true) ⊎ (routeOk (g (d + j)) ≡ false) → routeOk (g (d + j)) ≡ true
+          at : (j : ℕ) → j < m → (routeOk (g (d + j)) ≡ true) ⊎ (routeOk (g (d + j)) ≡ false) → routeOk (g (d + j))
+              ≡ true
           at j l (inl t) = t
           at j l (inr t) =
               let odd = odd-route (g (d + j)) (small (d + j)) t in
@@ -181,24 +189,29 @@ module _ (g : ℕ → ℕ) (small : (i : ℕ) → g i < 8) (d : ℕ) where
               let place : (8 * (g (d + j) - 4) + j) % 8 ≡ j = omega arith in
               let side : 4 + (8 * (g (d + j) - 4) + j) / 8 ≡ g (d + j) = omega (arith, odd .0) in
               let set′ : has (marksOf g d m / 2 ^ 32 % 2 ^ 24) (8 * (g (d + j) - 4) + j) ≡ true =
-              digit-at m (8 * (g (d + j) - 4) + j) b below ∙ rw (place, side, lt-ltb j m l) (eq-eqb (g (d + j)) (g (d + j)) refl) in
+              digit-at m (8 * (g (d + j) - 4) + j) b below ∙ rw (place, side, lt-ltb j m l)
+              (eq-eqb (g (d + j)) (g (d + j)) refl) in
               absurd
               (true≢false
-              (sym set′ ∙ ap (λ (x : ℕ). has x (8 * (g (d + j) - 4) + j)) (eqb-true (marksOf g d m / 2 ^ 32 % 16777216) 0 q)
+              (sym set′ ∙ ap (λ (x : ℕ). has x (8 * (g (d + j) - 4) + j))
+              (eqb-true (marksOf g d m / 2 ^ 32 % 16777216) 0 q)
               ∙ none-has (8 * (g (d + j) - 4) + j)))
 
       from : allBelow m (λ j. routeOk (g (d + j))) ≡ true → eqb (marksOf g d m / 2 ^ 32 % 16777216) 0 ≡ true
       from q =
           eq-eqb (marksOf g d m / 2 ^ 32 % 16777216) 0
-          (no-member 24 (marksOf g d m / 2 ^ 32 % 2 ^ 24) (mod-lt (marksOf g d m / 2 ^ 32) (pow-pos 24)) (λ i l. digit-at m i b l ∙ none i l (lt-or-ge (i % 8) m)))
+          (no-member 24 (marksOf g d m / 2 ^ 32 % 2 ^ 24) (mod-lt (marksOf g d m / 2 ^ 32) (pow-pos 24))
+          (λ i l. digit-at m i b l ∙ none i l (lt-or-ge (i % 8) m)))
         where
-          none : (i : ℕ) → i < 24 → (i % 8 < m) ⊎ (m ≤ i % 8) → (ltb (i % 8) m && eqb (g (d + i % 8)) (4 + i / 8)) ≡ false
+          none : (i : ℕ) → i < 24 → (i % 8 < m) ⊎ (m ≤ i % 8) → (ltb (i % 8) m && eqb (g (d + i % 8)) (4 + i / 8))
+              ≡ false
           none i l (inr c) = rw (le-ltb (i % 8) m c)
           none i l (inl c) =
               let ok = all-at m (λ j. routeOk (g (d + j))) q (i % 8) c in
               rw (lt-ltb (i % 8) m c)
               (refuted (eqb (g (d + i % 8)) (4 + i / 8))
-              (λ t. let v = eqb-true (g (d + i % 8)) (4 + i / 8) t in fit-route (g (d + i % 8)) ok (omega arith) (omega arith)))
+              (λ t. let v = eqb-true (g (d + i % 8)) (4 + i / 8) t in fit-route (g (d + i % 8)) ok (omega arith)
+              (omega arith)))
 
 -- ---- the side of a column
 pub side-small : (b : List ℕ) (at d : ℕ) → sideAt b at d < 8
@@ -206,7 +219,8 @@ unfolding sideAt
 side-small b at d = field-lt b (at + 3 * d) 3
 
 -- ---- a block, column by column
-pub puts-of : (b : List ℕ) (at d j : ℕ) (row : List ℕ) (w : ℕ) {row′ : List ℕ} {v w′ : ℕ} → v ≡ fieldOf b (at + 3 * (d + j)) 3
+pub puts-of : (b : List ℕ) (at d j : ℕ) (row : List ℕ) (w : ℕ) {row′ : List ℕ} {v w′ : ℕ} → v
+    ≡ fieldOf b (at + 3 * (d + j)) 3
     → (row′ ≡ set row (d + j) v) × (w′ ≡ either w (single (8 * v + j))) → Puts (sideAt b at) d j row w row′ w′
 unfolding sideAt
 puts-of b at d j row w e f =
@@ -280,7 +294,15 @@ module _ (g : ℕ → ℕ) (small : (i : ℕ) → g i < 8) (n : ℕ) (first : Li
   unfolding upTo
   read-none =
       rw (covered-start n)
-      (record { filled = refl; side0 = none 0; side1 = none 1; side2 = none 2; side3 = none 3; fit = sym (all-none (λ i. routeOk (g i))) })
+      (record {
+        filled = refl;
+        side0 = none 0;
+        side1 = none 1;
+        side2 = none 2;
+        side3 = none 3;
+        fit = sym
+            (all-none (λ i. routeOk (g i)));
+      })
 
   pub read-more : (i : ℕ) {row row′ : List ℕ} {a b c e m w a′ b′ c′ e′ pa pb pc pe : ℕ} {ok ok′ fit : Bool} → 8 * i < n
       → Read i row a b c e ok → m ≡ atMost (n - 8 * i) → m ≤ 8 → Block g (8 * i) m row row′ w
@@ -288,7 +310,8 @@ module _ (g : ℕ → ℕ) (small : (i : ℕ) → g i < 8) (n : ℕ) (first : Li
       → pc ≡ partOf w 2 (8 * i) → c′ ≡ either c pc → pe ≡ partOf w 3 (8 * i) → e′ ≡ either e pe
       → fit ≡ fitsOf w → ok′ ≡ (ok && fit)
       → Read (i + 1) row′ a′ b′ c′ e′ ok′
-  read-more i {row} {row′} {a} {b} {c} {e} {m} {w} {a′} {b′} {c′} {e′} {ok = ok} {ok′ = ok′} l r em lm (filled, marked) qa ra qb rb qc rc qe re qf rf =
+  read-more i {row} {row′} {a} {b} {c} {e} {m} {w} {a′} {b′} {c′} {e′} {ok = ok} {ok′ = ok′} l r em lm
+      (filled, marked) qa ra qb rb qc rc qe re qf rf =
       rw (covered-next n i l, ← em)
       (record {
         filled = filled first (was .filled);
@@ -313,7 +336,8 @@ module _ (g : ℕ → ℕ) (small : (i : ℕ) → g i < 8) (n : ℕ) (first : Li
 
   pub read-done : (i : ℕ) {row : List ℕ} {a b c e : ℕ} {ok : Bool} (sides : List ℕ) → length sides ≡ 4 → n ≤ 8 * i
       → Read i row a b c e ok → Row g n first row (set (set (set (set sides 0 a) 1 b) 2 c) 3 e) ok
-  read-done i {row} {a} {b} {c} {e} {ok} sides four l r = record { four = long 3 e (set (set (set sides 0 a) 1 b) 2 c) three; filled = was .filled; sets = at; fit = was .fit }
+  read-done i {row} {a} {b} {c} {e} {ok} sides four l r = record
+      { four = long 3 e (set (set (set sides 0 a) 1 b) 2 c) three; filled = was .filled; sets = at; fit = was .fit }
     where
       was : Reads n row a b c e ok
       was = rw (covered-all n i l) at r
@@ -352,5 +376,6 @@ module _ (g : ℕ → ℕ) (small : (i : ℕ) → g i < 8) (n : ℕ) (first : Li
             getD-set-same (set (set sides 0 a) 1 b) 2 c 0 (rw two (omega arith)),
           )
           (was .side2)
-      at (suc (suc (suc zero))) k = rw (getD-set-same (set (set (set sides 0 a) 1 b) 2 c) 3 e 0 (rw three (omega arith))) (was .side3)
+      at (suc (suc (suc zero))) k = rw (getD-set-same (set (set (set sides 0 a) 1 b) 2 c) 3 e 0
+          (rw three (omega arith))) (was .side3)
       at (suc (suc (suc (suc o)))) k = absurd (omega arith)

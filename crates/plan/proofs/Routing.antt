@@ -67,7 +67,8 @@ module _ (b : List ℕ) (n start : ℕ) where
   rows-none t by (e, f) = record {
     table = e;
     long = ap length f ∙ length-replicate 16 (replicate {A = ℕ} 4 0);
-    four = λ x l. ap (λ (y : List (List ℕ)). length (getD y x [])) f ∙ ap length (same-at 16 (replicate {A = ℕ} 4 0) [] x l) ∙ length-replicate 4 zero;
+    four = λ x l. ap (λ (y : List (List ℕ)). length (getD y x [])) f
+        ∙ ap length (same-at 16 (replicate {A = ℕ} 4 0) [] x l) ∙ length-replicate 4 zero;
     sides = λ x o d l. rw (f, le-ltb x 0 (omega arith)) (ap (λ (y : ℕ). has y d) (rows-else 16 4 0 x o) ∙ none-has d);
     fit = sym (all-none (λ x. allBelow n (λ d. routeOk (sideAt b (at x) d))));
   }
@@ -103,34 +104,42 @@ module _ (b : List ℕ) (n start : ℕ) where
           → has (getD (getD (set by r sides) x []) o 0) d
           ≡ (ltb x (r + 1) && (ltb d n && eqb (sideAt b (at x) d) o))
       put x o d m (inl e) =
-          rw (e, getD-set-same by r sides [] (rw (w .long) (omega arith)), lt-ltb r (r + 1) (omega arith)) (new .sets o m d)
+          rw (e, getD-set-same by r sides [] (rw (w .long) (omega arith)), lt-ltb r (r + 1) (omega arith))
+          (new .sets o m d)
       put x o d m (inr e) =
-          rw (getD-set-other by r x sides [] e, ltb-alike x (r + 1) x r (λ q. omega arith) (λ q. omega arith)) (w .sides x o d m)
+          rw (getD-set-other by r x sides [] e, ltb-alike x (r + 1) x r (λ q. omega arith) (λ q. omega arith))
+          (w .sides x o d m)
 
-pub rows-done : (b : List ℕ) (h : Head) → destinations h ≤ 32 → h .routers ≤ 16 → (r : ℕ) {t by : List (List ℕ)} {ok : Bool}
+pub rows-done : (b : List ℕ) (h : Head) → destinations h ≤ 32 → h .routers ≤ 16
+    → (r : ℕ) {t by : List (List ℕ)} {ok : Bool}
     → r ≡ h .routers → Rows b (destinations h) (routesAt h) r t by ok → Routes b h t by ok
 unfolding routesOf routesOk rowOk rowOf sideAt
 rows-done b h few routers r {t} {by} {ok} e w = record { table = table′; sides = side; fit = w .fit ∙ rw e fit′ }
   where
     table′ : t ≡ routesOf b h
-    table′ = up-done (fill (λ x. rowOf b (destinations h) (at b (destinations h) (routesAt h) x))) (replicate 16 (replicate 32 noSide)) (w .table) e
+    table′ = up-done (fill (λ x. rowOf b (destinations h) (at b (destinations h) (routesAt h) x)))
+        (replicate 16 (replicate 32 noSide)) (w .table) e
 
     row-at : (x : ℕ) → x < h .routers → getD t x [] ≡ rowOf b (destinations h) (at b (destinations h) (routesAt h) x)
     row-at x l =
         ap (λ (y : List (List ℕ)). getD y x []) table′
-        ∙ fill-at (λ q. rowOf b (destinations h) (at b (destinations h) (routesAt h) q)) (h .routers) (replicate 16 (replicate 32 noSide)) x [] l
+        ∙ fill-at (λ q. rowOf b (destinations h) (at b (destinations h) (routesAt h) q)) (h .routers)
+        (replicate 16 (replicate 32 noSide)) x [] l
         (rw length-replicate routers)
 
-    entry : (x d : ℕ) → x < h .routers → d < destinations h → getD (getD t x []) d noSide ≡ fieldOf b (at b (destinations h) (routesAt h) x + 3 * d) 3
+    entry : (x d : ℕ) → x < h .routers → d < destinations h → getD (getD t x []) d noSide
+        ≡ fieldOf b (at b (destinations h) (routesAt h) x + 3 * d) 3
     entry x d l m =
         ap (λ (y : List ℕ). getD y d noSide) (row-at x l)
-        ∙ fill-at (λ c. fieldOf b (at b (destinations h) (routesAt h) x + 3 * c) 3) (destinations h) (replicate 32 noSide) d noSide m (rw length-replicate few)
+        ∙ fill-at (λ c. fieldOf b (at b (destinations h) (routesAt h) x + 3 * c) 3) (destinations h)
+        (replicate 32 noSide) d noSide m (rw length-replicate few)
 
     past : (x d : ℕ) → h .routers ≤ x → getD (getD t x []) d noSide ≡ noSide
     past x d l =
         ap (λ (y : List (List ℕ)). getD (getD y x []) d noSide) table′
         ∙ ap (λ (y : List ℕ). getD y d noSide)
-        (fill-past (λ q. rowOf b (destinations h) (at b (destinations h) (routesAt h) q)) (h .routers) (replicate 16 (replicate 32 noSide)) x [] l)
+        (fill-past (λ q. rowOf b (destinations h) (at b (destinations h) (routesAt h) q)) (h .routers)
+        (replicate 16 (replicate 32 noSide)) x [] l)
         ∙ rows-else 16 32 noSide x d
 
     side : (x o d : ℕ) → o < 4
@@ -138,7 +147,8 @@ rows-done b h few routers r {t} {by} {ok} e w = record { table = table′; sides
     side x o d m = w .sides x o d m ∙ rw e (go (lt-or-ge x (h .routers)) (lt-or-ge d (destinations h)))
       where
         go : (x < h .routers) ⊎ (h .routers ≤ x) → (d < destinations h) ⊎ (destinations h ≤ d)
-            → (ltb x (h .routers) && (ltb d (destinations h) && eqb (fieldOf b (at b (destinations h) (routesAt h) x + 3 * d) 3) o))
+            → (ltb x (h .routers) && (ltb d (destinations h) && eqb
+            (fieldOf b (at b (destinations h) (routesAt h) x + 3 * d) 3) o))
             ≡ (ltb d (destinations h) && eqb (getD (getD t x []) d noSide) o)
         go (inl l) (inl k) = rw (lt-ltb x (h .routers) l, lt-ltb d (destinations h) k, entry x d l k)
         go (inl l) (inr k) = rw (lt-ltb x (h .routers) l, le-ltb d (destinations h) k)
@@ -146,10 +156,13 @@ rows-done b h few routers r {t} {by} {ok} e w = record { table = table′; sides
             rw (le-ltb x (h .routers) l, lt-ltb d (destinations h) k, past x d l) (sym (ne-eqb 7 o (λ q. omega arith)))
         go (inr l) (inr k) = rw (le-ltb x (h .routers) l, le-ltb d (destinations h) k)
 
-    fit′ : allBelow (h .routers) (λ x. allBelow (destinations h) (λ d. routeOk (sideAt b (at b (destinations h) (routesAt h) x) d)))
+    fit′ : allBelow (h .routers) (λ x. allBelow (destinations h)
+        (λ d. routeOk (sideAt b (at b (destinations h) (routesAt h) x) d)))
         ≡ allBelow (h .routers) (λ x. allBelow (destinations h) (λ d. routeOk (getD (getD t x []) d noSide)))
     fit′ =
-        all-same (h .routers) (λ x. allBelow (destinations h) (λ d. routeOk (sideAt b (at b (destinations h) (routesAt h) x) d)))
+        all-same (h .routers) (λ x. allBelow (destinations h)
+        (λ d. routeOk (sideAt b (at b (destinations h) (routesAt h) x) d)))
         (λ x. allBelow (destinations h) (λ d. routeOk (getD (getD t x []) d noSide)))
-        (λ x l. all-same (destinations h) (λ d. routeOk (sideAt b (at b (destinations h) (routesAt h) x) d)) (λ d. routeOk (getD (getD t x []) d noSide))
+        (λ x l. all-same (destinations h) (λ d. routeOk (sideAt b (at b (destinations h) (routesAt h) x) d))
+        (λ d. routeOk (getD (getD t x []) d noSide))
         (λ d k. ap routeOk (sym (entry x d l k))))

@@ -26,7 +26,8 @@ marksOf g d m = upTo (λ j s. either s (single (8 * g (d + j) + j))) m 0
 
 -- one column more
 abbrev pub Puts : (ℕ → ℕ) → ℕ → ℕ → List ℕ → ℕ → List ℕ → ℕ → Type 0
-Puts g d j row marks row′ marks′ = (row′ ≡ set row (d + j) (g (d + j))) × (marks′ ≡ either marks (single (8 * g (d + j) + j)))
+Puts g d j row marks row′ marks′ = (row′ ≡ set row (d + j) (g (d + j))) ×
+    (marks′ ≡ either marks (single (8 * g (d + j) + j)))
 
 -- m columns from d on are put into a row that has those below d
 abbrev pub Block : (ℕ → ℕ) → ℕ → ℕ → List ℕ → List ℕ → ℕ → Type 0

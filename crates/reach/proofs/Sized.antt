@@ -56,7 +56,8 @@ share-at sides column o far own p l =
     (rw length-replicate (omega arith))
 
 module _ (by : List (List ℕ)) (next : List ℕ) (routes : List (List ℕ)) (s : Span) (first t : List ℕ) (z : List (List ℕ))
-    (told : Told by next s routes) (sized : Sized by next s first t z) (x : ℕ) (inside : x < 16) (p : ℕ) (place : p < 16) where
+    (told : Told by next s routes) (sized : Sized by next s first t z) (x : ℕ) (inside : x < 16) (p : ℕ)
+    (place : p < 16) where
   -- the size is right; or none is known yet after the sides below o
   abbrev Right : ℕ → Type 0
   Right v =
@@ -108,7 +109,8 @@ module _ (by : List (List ℕ)) (next : List ℕ) (routes : List (List ℕ)) (s 
             pull-through by next t x (s .column + p) o l there b,
             (
               suc (f .0),
-              any-of 4 (λ i. has (sideSet by next x i) (s .column + p) && farIn by next first (s .column + p) (f .0) (beyond by next x i))
+              any-of 4 (λ i. has (sideSet by next x i) (s .column + p) && farIn by next first (s .column + p) (f .0)
+                  (beyond by next x i))
                   o l (rw (there, f .1)),
               longer-least (f .0) _ (f .2),
             ),
@@ -118,11 +120,14 @@ module _ (by : List (List ℕ)) (next : List ℕ) (routes : List (List ℕ)) (s 
   -- one side more
   turn : (o v : ℕ) → o < 4 → Right v ⊎ Blank o v
       → Right (sizeOf (getD (getD routes x []) (s .column + p) 0) o (getD (getD z (beyond by next x o) []) p 0) v)
-      ⊎ Blank (suc o) (sizeOf (getD (getD routes x []) (s .column + p) 0) o (getD (getD z (beyond by next x o) []) p 0) v)
+      ⊎ Blank (suc o) (sizeOf (getD (getD routes x []) (s .column + p) 0) o
+      (getD (getD z (beyond by next x o) []) p 0) v)
   unfolding sizeOf
-  turn o v l w = go w (test (eqb (getD (getD routes x []) (s .column + p) 0) o)) (test (eqb (getD (getD z (beyond by next x o) []) p 0) 0))
+  turn o v l w = go w (test (eqb (getD (getD routes x []) (s .column + p) 0) o))
+      (test (eqb (getD (getD z (beyond by next x o) []) p 0) 0))
     where
-      keep : Blank o v → (eqb (getD (getD routes x []) (s .column + p) 0) o ≡ true → getD (getD z (beyond by next x o) []) p 0 ≡ 0)
+      keep : Blank o v → (eqb (getD (getD routes x []) (s .column + p) 0) o ≡ true
+          → getD (getD z (beyond by next x o) []) p 0 ≡ 0)
           → Blank (suc o) v
       keep (a, b, e) f = (a, b, λ i m q. at i m q (same-or-not i o))
         where
@@ -132,10 +137,13 @@ module _ (by : List (List ℕ)) (next : List ℕ) (routes : List (List ℕ)) (s 
           at i m q (inr other) = e i (omega arith) q
 
       go : Right v ⊎ Blank o v
-          → (eqb (getD (getD routes x []) (s .column + p) 0) o ≡ true) ⊎ (eqb (getD (getD routes x []) (s .column + p) 0) o ≡ false)
-          → (eqb (getD (getD z (beyond by next x o) []) p 0) 0 ≡ true) ⊎ (eqb (getD (getD z (beyond by next x o) []) p 0) 0 ≡ false)
+          → (eqb (getD (getD routes x []) (s .column + p) 0) o ≡ true) ⊎
+          (eqb (getD (getD routes x []) (s .column + p) 0) o ≡ false)
+          → (eqb (getD (getD z (beyond by next x o) []) p 0) 0 ≡ true) ⊎
+          (eqb (getD (getD z (beyond by next x o) []) p 0) 0 ≡ false)
           → Right (sizeOf (getD (getD routes x []) (s .column + p) 0) o (getD (getD z (beyond by next x o) []) p 0) v)
-          ⊎ Blank (suc o) (sizeOf (getD (getD routes x []) (s .column + p) 0) o (getD (getD z (beyond by next x o) []) p 0) v)
+          ⊎ Blank (suc o) (sizeOf (getD (getD routes x []) (s .column + p) 0) o
+          (getD (getD z (beyond by next x o) []) p 0) v)
       go (inl r) (inr a) b = rw a (inl r)
       go (inl r) (inl a) (inl b) = rw (a, b) (inl r)
       go (inl r) (inl a) (inr b) = rw (a, b) (inl (onward o l a (eqb-false _ _ b)))
@@ -155,17 +163,22 @@ module _ (by : List (List ℕ)) (next : List ℕ) (routes : List (List ℕ)) (s 
       let second = shareOf sides c 1 (getD z (getD next (4 * x + 1) 0) []) first′ in
       let third = shareOf sides c 2 (getD z (getD next (4 * x + 2) 0) []) second in
       let zero-side : 4 * x + 0 ≡ 4 * x = omega arith in
-      let a0 = rw (← share-at sides c 0 (getD z (getD next (4 * x + 0) 0) []) z0 p place, zero-side) at (turn 0 (getD z0 p 0) (omega arith) begins) in
-      let a1 = rw (← share-at sides c 1 (getD z (getD next (4 * x + 1) 0) []) first′ p place) at (turn 1 (getD first′ p 0) (omega arith) a0) in
-      let a2 = rw (← share-at sides c 2 (getD z (getD next (4 * x + 2) 0) []) second p place) at (turn 2 (getD second p 0) (omega arith) a1) in
-      rw (share-at sides c 3 (getD z (getD next (4 * x + 3) 0) []) third p place) (turn 3 (getD third p 0) (omega arith) a2)
+      let a0 = rw (← share-at sides c 0 (getD z (getD next (4 * x + 0) 0) []) z0 p place, zero-side) at
+      (turn 0 (getD z0 p 0) (omega arith) begins) in
+      let a1 = rw (← share-at sides c 1 (getD z (getD next (4 * x + 1) 0) []) first′ p place) at
+      (turn 1 (getD first′ p 0) (omega arith) a0) in
+      let a2 = rw (← share-at sides c 2 (getD z (getD next (4 * x + 2) 0) []) second p place) at
+      (turn 2 (getD second p 0) (omega arith) a1) in
+      rw (share-at sides c 3 (getD z (getD next (4 * x + 3) 0) []) third p place)
+      (turn 3 (getD third p 0) (omega arith) a2)
 
   -- so the row that is put is right for what x reaches now
   row-some : has (s .sized) (s .column + p) ≡ true → has (pullOf by next t x) (s .column + p) ≡ true
       → Far by next first (s .column + p) x (getD (rowOf (getD routes x []) (s .column) next z x) p 0)
   row-some a b = go whole
     where
-      side-of : (o : ℕ) × (o < 4) × ((has (sideSet by next x o) (s .column + p) && has (getD t (beyond by next x o) 0) (s .column + p)) ≡ true)
+      side-of : (o : ℕ) × (o < 4) × ((has (sideSet by next x o) (s .column + p) && has
+          (getD t (beyond by next x o) 0) (s .column + p)) ≡ true)
           → ((i : ℕ) → i < 4 → eqb (getD (getD routes x []) (s .column + p) 0) i ≡ true
           → getD (getD z (beyond by next x i) []) p 0 ≡ 0) → ⊥
       side-of (o, l, q) e =
@@ -174,7 +187,8 @@ module _ (by : List (List ℕ)) (next : List ℕ) (routes : List (List ℕ)) (s 
 
       gone : Blank 4 (getD (rowOf (getD routes x []) (s .column) next z x) p 0)
           → (has (getD t x 0) (s .column + p) ≡ true)
-          ⊎ (anyBelow 4 (λ o. has (sideSet by next x o) (s .column + p) && has (getD t (beyond by next x o) 0) (s .column + p)) ≡ true) → ⊥
+          ⊎ (anyBelow 4 (λ o. has (sideSet by next x o) (s .column + p) && has (getD t (beyond by next x o) 0)
+          (s .column + p)) ≡ true) → ⊥
       gone (e, n, f) (inl q) = true≢false (rw (a, q) at n)
       gone (e, n, f) (inr q) = side-of (any-true 4 _ q) f
 
@@ -195,7 +209,8 @@ module _ (by : List (List ℕ)) (next : List ℕ) (routes : List (List ℕ)) (s 
       go (inr k) = k .0
 
 -- ---- a step of a sweep
-module _ (by : List (List ℕ)) (next : List ℕ) (routes : List (List ℕ)) (s : Span) (t : List ℕ) (z : List (List ℕ)) (x : ℕ)
+module _ (by : List (List ℕ)) (next : List ℕ) (routes : List (List ℕ)) (s : Span) (t : List ℕ) (z : List (List ℕ))
+    (x : ℕ)
     (inside : x < 16) where
   -- nothing new is sized
   pub grows-same : both (less (pullOf by next t x) (getD t x 0)) (s .sized) ≡ 0
@@ -215,16 +230,19 @@ module _ (by : List (List ℕ)) (next : List ℕ) (routes : List (List ℕ)) (s 
           by′ (inr q) =
               absurd
               (true≢false
-              (sym (has-both (less (pullOf by next t x) (getD t x 0)) (s .sized) d ∙ rw (has-less (pullOf by next t x) (getD t x 0) d, a, b, q))
+              (sym (has-both (less (pullOf by next t x) (getD t x 0)) (s .sized) d
+              ∙ rw (has-less (pullOf by next t x) (getD t x 0) d, a, b, q))
               ∙ ap (λ (u : ℕ). has u d) e ∙ none-has d))
 
-      older : (r p : ℕ) → has (s .sized) (s .column + p) ≡ true → has (getD (sweepAt by next x t) r 0) (s .column + p) ≡ true
+      older : (r p : ℕ) → has (s .sized) (s .column + p) ≡ true
+          → has (getD (sweepAt by next x t) r 0) (s .column + p) ≡ true
           → (r ≡ x) ⊎ (r ≡ x → ⊥) → has (getD t r 0) (s .column + p) ≡ true
       older r p a b (inl q) =
           rw q (old (s .column + p) a (rw (q, sweep-same by next t x (rw (w .long) (omega arith))) at b))
       older r p a b (inr q) = rw (sweep-other by next t x r q) at b
 
-      alike : (r p : ℕ) → (has (s .sized) (s .column + p) && has (getD (sweepAt by next x t) r 0) (s .column + p)) ≡ false
+      alike : (r p : ℕ) → (has (s .sized) (s .column + p) && has (getD (sweepAt by next x t) r 0) (s .column + p))
+          ≡ false
           → (has (s .sized) (s .column + p) && has (getD t r 0) (s .column + p)) ≡ false
       alike r p q = by′ (test (has (getD t r 0) (s .column + p))) (test (has (s .sized) (s .column + p)))
         where
@@ -234,10 +252,15 @@ module _ (by : List (List ℕ)) (next : List ℕ) (routes : List (List ℕ)) (s 
           by′ b (inr a) = rw a
           by′ (inr b) (inl a) = rw (a, b)
           by′ (inl b) (inl a) =
-              absurd (true≢false (rw (a, sweep-grows by next t x r (s .column + p) (rw (w .long) (omega arith)) b) at q))
+              absurd (true≢false (rw (
+                a,
+                sweep-grows by next t x r (s .column + p)
+                    (rw (w .long) (omega arith)) b,
+              ) at q))
 
   -- the row of x is put anew
-  pub grows-row : Grows by next routes s t z (sweepAt by next x t) (set z x (rowOf (getD routes x []) (s .column) next z x))
+  pub grows-row : Grows by next routes s t z (sweepAt by next x t)
+      (set z x (rowOf (getD routes x []) (s .column) next z x))
   grows-row first told w = record {
     rows = length-set z x (rowOf (getD routes x []) (s .column) next z x) ∙ w .rows;
     long = sweep-length by next t x ∙ w .long;
@@ -248,35 +271,43 @@ module _ (by : List (List ℕ)) (next : List ℕ) (routes : List (List ℕ)) (s 
       row : List ℕ
       row = rowOf (getD routes x []) (s .column) next z x
 
-      here : getD (set z x (rowOf (getD routes x []) (s .column) next z x)) x [] ≡ rowOf (getD routes x []) (s .column) next z x
+      here : getD (set z x (rowOf (getD routes x []) (s .column) next z x)) x []
+          ≡ rowOf (getD routes x []) (s .column) next z x
       here = getD-set-same z x (rowOf (getD routes x []) (s .column) next z x) [] (rw (w .rows) (omega arith))
 
       swept : getD (sweepAt by next x t) x 0 ≡ pullOf by next t x
       swept = sweep-same by next t x (rw (w .long) (omega arith))
 
-      none′ : (r p : ℕ) → p < 16 → (has (s .sized) (s .column + p) && has (getD (sweepAt by next x t) r 0) (s .column + p)) ≡ false
+      none′ : (r p : ℕ) → p < 16 → (has (s .sized) (s .column + p) && has (getD (sweepAt by next x t) r 0)
+          (s .column + p)) ≡ false
           → (r ≡ x) ⊎ (r ≡ x → ⊥) → getD (getD (set z x (rowOf (getD routes x []) (s .column) next z x)) r []) p 0 ≡ 0
-      none′ r p l q (inl same) = rw (same, here) (row-none by next routes s first t z told w x inside p l (rw (same, swept) at q))
+      none′ r p l q (inl same) = rw (same, here) (row-none by next routes s first t z told w x inside p l
+          (rw (same, swept) at q))
       none′ r p l q (inr other) =
           rw (getD-set-other z x r (rowOf (getD routes x []) (s .column) next z x) [] other)
           (w .none r p l (rw (sweep-other by next t x r other) at q))
 
       some′ : (r p : ℕ) → p < 16 → has (s .sized) (s .column + p) ≡ true
           → has (getD (sweepAt by next x t) r 0) (s .column + p) ≡ true → (r ≡ x) ⊎ (r ≡ x → ⊥)
-          → Far by next first (s .column + p) r (getD (getD (set z x (rowOf (getD routes x []) (s .column) next z x)) r []) p 0)
-      some′ r p l a b (inl same) = rw (same, here) (row-some by next routes s first t z told w x inside p l a (rw (same, swept) at b))
+          → Far by next first (s .column + p) r (getD (getD (set z x
+          (rowOf (getD routes x []) (s .column) next z x)) r []) p 0)
+      some′ r p l a b (inl same) = rw (same, here) (row-some by next routes s first t z told w x inside p l a
+          (rw (same, swept) at b))
       some′ r p l a b (inr other) =
           rw (getD-set-other z x r (rowOf (getD routes x []) (s .column) next z x) [] other)
           (w .some r p l a (rw (sweep-other by next t x r other) at b))
 
 -- one growth after another
-pub grows-on : (by : List (List ℕ)) (next : List ℕ) (routes : List (List ℕ)) (s : Span) {t u v : List ℕ} {y z w : List (List ℕ)}
+pub grows-on : (by : List (List ℕ)) (next : List ℕ) (routes : List (List ℕ)) (s : Span) {t u v : List ℕ}
+    {y z w : List (List ℕ)}
     → Grows by next routes s t y u z → Grows by next routes s u z v w → Grows by next routes s t y v w
 grows-on by next routes s f g = λ first told a. g first told (f first told a)
 
 -- what a step leaves where nothing new is sized, and where the row is put anew
-pub stepped-same : (by : List (List ℕ)) (next : List ℕ) (routes : List (List ℕ)) (s : Span) (t : List ℕ) (z : List (List ℕ)) (x : ℕ)
-    {v new both′ : ℕ} → x < 16 → v ≡ pullOf by next t x → new ≡ less v (getD t x 0) → both′ ≡ both new (s .sized) → both′ ≡ 0
+pub stepped-same : (by : List (List ℕ)) (next : List ℕ) (routes : List (List ℕ)) (s : Span) (t : List ℕ)
+    (z : List (List ℕ)) (x : ℕ)
+    {v new both′ : ℕ} → x < 16 → v ≡ pullOf by next t x → new ≡ less v (getD t x 0) → both′ ≡ both new (s .sized)
+    → both′ ≡ 0
     → (set t x v ≡ sweepAt by next x t) × (new ≡ changeOf by next t x) × Grows by next routes s t z (set t x v) z
 unfolding sweepAt changeOf
 stepped-same by next routes s t z x {new = new} l e f g h =
@@ -286,10 +317,12 @@ stepped-same by next routes s t z x {new = new} l e f g h =
       rw e (grows-same by next routes s t z x l (ap (λ (u : ℕ). both u (s .sized)) new-is ∙ sym g ∙ h)),
     )
 
-pub stepped-row : (by : List (List ℕ)) (next : List ℕ) (routes : List (List ℕ)) (s : Span) (t : List ℕ) (z : List (List ℕ)) (x : ℕ)
+pub stepped-row : (by : List (List ℕ)) (next : List ℕ) (routes : List (List ℕ)) (s : Span) (t : List ℕ)
+    (z : List (List ℕ)) (x : ℕ)
     {v new : ℕ} {row : List ℕ} → x < 16 → v ≡ pullOf by next t x → new ≡ less v (getD t x 0)
     → row ≡ rowOf (getD routes x []) (s .column) next z x
-    → (set t x v ≡ sweepAt by next x t) × (new ≡ changeOf by next t x) × Grows by next routes s t z (set t x v) (set z x row)
+    → (set t x v ≡ sweepAt by next x t) × (new ≡ changeOf by next t x) × Grows by next routes s t z (set t x v)
+    (set z x row)
 unfolding sweepAt changeOf
 stepped-row by next routes s t z x {new = new} l e f g =
     let new-is : less (pullOf by next t x) (getD t x 0) ≡ new = rw (← e) (sym f) in

@@ -25,6 +25,10 @@ pub refuted : (b : Bool) → (b ≡ true → ⊥) → b ≡ false
 refuted true h = absurd (h refl)
 refuted false h = refl
 
+pub affirmed : (b : Bool) → (b ≡ false → ⊥) → b ≡ true
+affirmed true h = refl
+affirmed false h = absurd (h refl)
+
 -- two tests that hold together are one value
 pub same-test : (a b : Bool) → (a ≡ true → b ≡ true) → (b ≡ true → a ≡ true) → a ≡ b
 same-test true b f g = sym (f refl)

@@ -18,13 +18,13 @@ use Rattle.plan.specs.Plan.{Plan, planOf, R, A, P, S}
 use Rattle.plan.specs.Rules.{Filled, FieldsFit, JointsMatch, fillOk, fieldsOk, namedOk, interfacesOk}
 use Rattle.feeding.specs.Queue.{Queue, activeIn, passiveIn, activeOut, passiveOut}
 use Rattle.feeding.specs.Feeds.{FeedRing}
-use Rattle.feeding.specs.RingTest.{hasRing}
+use Rattle.circles.specs.RingTest.{hasRing}
 use Rattle.wiring.specs.Wired.{Wired}
 use Rattle.wiring.proofs.Heads.{head-ok, ok-head, and-both, and-of}
 use Rattle.wiring.proofs.Fields.{fill-ok, ok-fill, fields-ok, ok-fields}
 use Rattle.wiring.proofs.Wires.{wired, plan-match, match-plan}
 use Rattle.journeys.proofs.Walks.{serves-of, served-of}
-use Rattle.journeys.proofs.Rings.{ring-test, test-ring}
+use Rattle.circles.proofs.Tests.{ring-test, test-ring}
 use Rattle.load.specs.Load.{lengthOk, jointsOk}
 use Rattle.machine.specs.Capacity.{capacity}
 use Rattle.machine.specs.State.{State}
@@ -233,4 +233,4 @@ module _ (p : List ℕ) where
           → Decides (hasRing (planOf p)) (FeedRing (planOf p))
       rings range fields j =
           let w : Wired (planOf p) = wired p fields (j .0) (j .1) in
-          record { holds = ring-test w (head-range p range); passes = test-ring w (head-range p range) }
+          record { holds = ring-test w; passes = test-ring w }

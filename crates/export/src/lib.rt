@@ -11,7 +11,8 @@ pub extern "C" fn pandabrass_load(plan: &[u8]) -> u32
     let mut routes = [[7u8; 32]; 16];
     let mut joints = [0u8; 64];
     let mut homes = [0u8; 32];
-    let l = load::load(plan, &mut routes, &mut joints, &mut homes);
+    let mut lengths = [[0u8; 16]; 16];
+    let l = load::load(plan, &mut routes, &mut joints, &mut homes, &mut lengths);
     load::load_number(l) as u32
 }
 

@@ -1,6 +1,3 @@
 pub mod Queue
 pub mod Role
 pub mod Feeds
-pub mod Edges
-pub mod Numbered
-pub mod RingTest

@@ -1,35 +1,43 @@
 -- Load's tests as the code makes them are those of its definition; its returns, in the order of the code; and Walk's returns.
-use mathlib.Core.Path.{_≡_, refl, sym, ap, ap₂, _∙_}
+use mathlib.Core.Path.{_≡_, refl, sym, ap, ap₂, subst, _∙_}
+use mathlib.Core.Logic.{_⊎_, inl, inr}
 use mathlib.Core.Bool.{Bool, true, false, not, _&&_}
 use mathlib.Core.List.{List, []}
-use Prim.Native.Nat.{ℕ, _+_, _-_, _/_, _≤_, _<_}
+use Prim.Native.Nat.{ℕ, zero, suc, _+_, _*_, _/_, _≤_, _<_}
 use native.Mathlib.Omega.{arith}
-use lib.Dec.{ltb}
-use lib.ListN.{length, getD}
+use lib.Dec.{eqb, ltb}
+use lib.ListN.{length, getD, replicate, length-replicate}
 use borrow.Author.Tests.{lt-ltb, le-ltb, eq-eqb, ne-eqb}
-use Rattle.basis.specs.Choice.{also-true}
-use Rattle.basis.specs.Ring.{ringTest}
-use Rattle.rings.specs.Edges.{edge}
+use Rattle.basis.specs.Choice.{pick, pick-same}
+use Rattle.basis.specs.Bounded.{lt-or-ge}
+use Rattle.basis.specs.Fold.{fill-at, fill-past, length-fill}
+use Rattle.sets.specs.Sets.{has}
+use Rattle.fields.specs.Bits.{fieldOf}
 use Rattle.kinds.specs.declared.Refusal.{Refusal}
 use Rattle.kinds.specs.declared.Refusal.the-variants.{TooShort, OutOfRange, WrongLength, BadField, BadJoint, HasRing}
 use Rattle.plan.specs.declared.Head.{Head}
-use Rattle.plan.specs.Head.{InRange, headOf, headOk, bitCount, byteCount}
-use Rattle.plan.specs.Plan.{Plan, active, passive, planOf}
-use Rattle.plan.specs.Rules.{fillOk, fieldsOk, namedOk, interfacesOk, portOf, portsOf, home}
-use Rattle.plan.specs.Tables.{interfaceAt, tablePlan, homesOf, routesOf, jointsOf, jointBytesOk, routesOk}
-use Rattle.paths.specs.Walk.{arrives}
-use Rattle.paths.specs.Served.{servedFrom}
-use Rattle.paths.specs.Steps.{sizeOr0}
-use Rattle.feeding.specs.Edges.{cellsOf}
-use Rattle.feeding.specs.Numbered.{Counts, queuesIn, queues-in}
-use Rattle.feeding.specs.RingTest.{hasRing}
-use Rattle.wiring.proofs.Heads.{head-ok}
+use Rattle.plan.specs.Head.{InRange, headOf, headOk, destinations, routesAt, bitCount, byteCount}
+use Rattle.plan.specs.Plan.{Plan, noSide, routeAt, planOf}
+use Rattle.plan.specs.Rules.{fillOk, fieldsOk, namedOk, interfacesOk, portsOf}
+use Rattle.plan.specs.Tables.{tablePlan, homesOf, rowOf, routesOf, jointsOf, jointBytesOk, routesOk}
+use Rattle.plan.specs.Marks.{Routes}
+use Rattle.plan.specs.Head.{Counts}
+use Rattle.circles.specs.RingTest.{hasRing}
+use Rattle.wiring.proofs.Heads.{head-ok, and-both}
+use Rattle.wiring.proofs.Fields.{fields-ok}
+use Rattle.wiring.specs.Wired.{Wired}
+use Rattle.wiring.proofs.Wires.{wired}
 use Rattle.wiring.proofs.Tables.{tables-ok, table-plan, named-alike, interfaces-alike}
 use Rattle.load.specs.declared.Loaded.{Loaded}
 use Rattle.load.specs.declared.Loaded.the-variants.{Accepted, Refused}
-use Rattle.load.specs.Load.{lengthOk, jointsOk, loadOf, loadRoutes, loadJoints, loadHomes}
-use Rattle.load.specs.Walk.{pairWalk, walkOf}
-use Rattle.load.specs.Lent.{Lent, active-home}
+use Rattle.load.specs.Load.{lengthOk, jointsOk, loadOf, loadRoutes, loadJoints, loadHomes, loadLengths}
+use Rattle.arrivals.specs.Tables.{PortsIn}
+use Rattle.arrivals.specs.Pairs.{pairWalk, lengthsOf, Tables, Walks}
+use Rattle.circles.specs.Told.{Told}
+use Rattle.circles.proofs.Tables.{tables-told}
+use Rattle.arrivals.proofs.Charts.{ports-in, sides-past}
+use Rattle.load.specs.Walk.{walkOf}
+use Rattle.load.specs.Lent.{Lent, homes-at, length-at}
 
 -- ---- a head in range
 pub range-counts : (h : Head) → InRange h → Counts h
@@ -73,21 +81,85 @@ pub homes-alike : (h : Head) (routes other : List (List ℕ)) (joints : List ℕ
 unfolding homesOf portsOf tablePlan
 homes-alike h routes other joints = refl
 
--- the ring test over the table of successors
-pub ring-of-cells : (h : Head) (t : List (List ℕ)) (j : List ℕ) {cells : List ℕ} {n : ℕ} {r : Bool}
-    → cells ≡ cellsOf (tablePlan h t j) → n ≡ queuesIn h → r ≡ ringTest n (edge cells) → r ≡ hasRing (tablePlan h t j)
-unfolding hasRing tablePlan
-ring-of-cells h t j e f g = g ∙ rw (e, f, queues-in (tablePlan h t j))
+-- ---- the tables that walks are swept with
+module _ (b : List ℕ) (h : Head) (rt : List (List ℕ)) (jt ht : List ℕ) (by : List (List ℕ)) where
+  row-long : InRange h → rt ≡ routesOf b h → (r : ℕ) → r < 16 → length (getD rt r []) ≡ 32
+  unfolding routesOf rowOf
+  row-long range routed r l = go (lt-or-ge r (h .routers))
+    where
+      most : h .routers ≤ 16
+      most = range .routers .1
+
+      rest : (n i : ℕ) → i < n → length (getD (replicate n (replicate 32 noSide)) i []) ≡ 32
+      rest zero i q = absurd (omega arith)
+      rest (suc n) zero q = length-replicate 32 noSide
+      rest (suc n) (suc i) q = rest n i (omega arith)
+
+      go : (r < h .routers) ⊎ (h .routers ≤ r) → length (getD rt r []) ≡ 32
+      go (inl k) =
+          ap (λ (x : List (List ℕ)). length (getD x r [])) routed
+          ∙ ap length (fill-at (λ i. rowOf b (destinations h) (routesAt h + 3 * (destinations h * i))) (h .routers) (replicate 16 (replicate 32 noSide)) r [] k (rw length-replicate most))
+          ∙ length-fill (λ d. fieldOf b (routesAt h + 3 * (destinations h * r) + 3 * d) 3) (destinations h) (replicate 32 noSide)
+          ∙ length-replicate 32 noSide
+      go (inr k) =
+          ap (λ (x : List (List ℕ)). length (getD x r [])) routed
+          ∙ ap length (fill-past (λ i. rowOf b (destinations h) (routesAt h + 3 * (destinations h * i))) (h .routers) (replicate 16 (replicate 32 noSide)) r [] k)
+          ∙ rest 16 r l
+
+  pub tables-of : h ≡ headOf b → InRange h → tablePlan h rt jt ≡ planOf b → Wired (planOf b) → rt ≡ routesOf b h
+      → ht ≡ homesOf (tablePlan h rt jt)
+      → ((r o d : ℕ) → o < 4 → has (getD (getD by r []) o 0) d ≡ (ltb d (destinations h) && eqb (getD (getD rt r []) d noSide) o))
+      → Tables h rt jt ht by
+  unfolding tablePlan planOf
+  tables-of read range same wires routed homed sides = record {
+    chart = record {
+      wired = subst Wired (sym same) wires;
+      routers = range .routers .1;
+      few = few;
+      joined = λ r o l. rw (lt-ltb o 4 l);
+      ports = λ d l. ap (λ (x : List ℕ). getD x d 0) homed ∙ homes-at (tablePlan h rt jt) d few l;
+      sides = sides;
+      past = λ r d l. route r d ∙ rw (le-ltb r (headOf b .routers) (rw (← read) l));
+    };
+    rows = row-long range routed;
+    past = λ r d l. route r d ∙ rw (le-ltb d (destinations (headOf b)) (rw (← read) l)) (pick-same (ltb r (headOf b .routers)) noSide);
+  }
+    where
+      few : destinations h ≤ 32
+      few = let a = range .actives .1 in let p = range .passives .1 in omega arith
+
+      route : (r d : ℕ) → getD (getD rt r []) d noSide
+          ≡ pick (ltb r (headOf b .routers)) (pick (ltb d (destinations (headOf b))) (fieldOf b (routeAt (headOf b) r d) 3) noSide) noSide
+      route r d = ap (λ (pl : Plan). pl .route r d) same
+
+-- so walks can be swept
+pub sweeps-ready : (h : Head) (rt : List (List ℕ)) (jt ht : List ℕ) (by : List (List ℕ)) → Counts h → Tables h rt jt ht by
+    → Counts h × PortsIn ht (h .actives + h .passives)
+    × ((r o d : ℕ) → h .routers ≤ r → o < 4 → has (getD (getD by r []) o 0) d ≡ false)
+unfolding tablePlan
+sweeps-ready h rt jt ht by few w =
+    (few, ports-in (tablePlan h rt jt) by jt ht (w .chart), sides-past (tablePlan h rt jt) by jt ht (w .chart))
+
+-- and the search for a ring tells of the plan of the tables
+pub ring-told : (h : Head) (rt : List (List ℕ)) (jt ht : List ℕ) (by : List (List ℕ)) {arrive : List ℕ} {ways : List (List ℕ)}
+    {serve : List ℕ} {ring : Bool} → Counts h → ht ≡ homesOf (tablePlan h rt jt) → Tables h rt jt ht by
+    → Walks h rt jt ht by arrive ways serve → ((pl : Plan) → Told pl h by jt ht arrive serve → ring ≡ hasRing pl)
+    → ring ≡ hasRing (tablePlan h rt jt)
+ring-told h rt jt ht by few homed told walked search =
+    let w = walked told in
+    search (tablePlan h rt jt) (tables-told h rt jt few (told .chart .wired) homed (told .chart .sides) (w .0) (w .1))
 
 -- ---- Load's returns
-module _ (b : List ℕ) (t : List (List ℕ)) (j o : List ℕ) where
-  abbrev Leaves : Loaded → List (List ℕ) → List ℕ → List ℕ → Type 0
-  Leaves l routes joints homes = (l ≡ loadOf b) × (routes ≡ loadRoutes b t (loadOf b)) × (joints ≡ loadJoints b j (loadOf b)) × (homes ≡ loadHomes b o (loadOf b))
+module _ (b : List ℕ) (t : List (List ℕ)) (j o : List ℕ) (u : List (List ℕ)) where
+  abbrev Leaves : Loaded → List (List ℕ) → List ℕ → List ℕ → List (List ℕ) → Type 0
+  Leaves l routes joints homes lengths =
+      (l ≡ loadOf b) × (routes ≡ loadRoutes b t (loadOf b)) × (joints ≡ loadJoints b j (loadOf b))
+      × (homes ≡ loadHomes b o (loadOf b)) × (lengths ≡ loadLengths b u (loadOf b))
 
-  refused : {w : Refusal} → Refused w ≡ loadOf b → Leaves (Refused w) t j o
-  refused e = (e, ap (loadRoutes b t) e, ap (loadJoints b j) e, ap (loadHomes b o) e)
+  refused : {w : Refusal} → Refused w ≡ loadOf b → Leaves (Refused w) t j o u
+  refused e = (e, ap (loadRoutes b t) e, ap (loadJoints b j) e, ap (loadHomes b o) e, ap (loadLengths b u) e)
 
-  pub too-short : length b < 6 → Leaves (Refused TooShort) t j o
+  pub too-short : length b < 6 → Leaves (Refused TooShort) t j o u
   unfolding loadOf
   too-short l = refused (rw (lt-ltb (length b) 6 l))
 
@@ -95,12 +167,12 @@ module _ (b : List ℕ) (t : List (List ℕ)) (j o : List ℕ) where
     ranged : headOk (headOf b) ≡ ranges
     ranged = ap headOk (sym read) ∙ sym range
 
-    pub out-of-range : ranges ≡ false → Leaves (Refused OutOfRange) t j o
+    pub out-of-range : ranges ≡ false → Leaves (Refused OutOfRange) t j o u
     unfolding loadOf
     out-of-range q = refused (rw (le-ltb (length b) 6 six, ranged, q))
 
     module _ (two : ranges ≡ true) {size : Bool} (sized : size ≡ lengthOk b) where
-      pub wrong-length : size ≡ false → Leaves (Refused WrongLength) t j o
+      pub wrong-length : size ≡ false → Leaves (Refused WrongLength) t j o u
       unfolding loadOf
       wrong-length q = refused (rw (le-ltb (length b) 6 six, ranged, two, ← sized, q))
 
@@ -112,7 +184,7 @@ module _ (b : List ℕ) (t : List (List ℕ)) (j o : List ℕ) where
         fitted : fieldsOk b ≡ fields
         fitted = sym (fields-tested b read inside joined routed fielded)
 
-        pub bad-field : fields ≡ false → Leaves (Refused BadField) t j o
+        pub bad-field : fields ≡ false → Leaves (Refused BadField) t j o u
         unfolding loadOf
         bad-field q = refused (rw (le-ltb (length b) 6 six, ranged, two, ← sized, three, fitted, q))
 
@@ -120,44 +192,54 @@ module _ (b : List ℕ) (t : List (List ℕ)) (j o : List ℕ) where
           matched : jointsOk b ≡ named
           matched = sym (joints-tested b read inside joined jointed)
 
-          pub bad-joint : named ≡ false → Leaves (Refused BadJoint) t j o
+          -- the tables are those of a plan whose joints match
+          pub tables : named ≡ true → {ht : List ℕ} → ht ≡ homesOf (tablePlan h [] jt) → {by : List (List ℕ)} {fit : Bool} → Routes b h rt by fit
+              → Tables h rt jt ht by
+          unfolding jointsOk
+          tables five {ht} homed {by} read-in =
+              let plan = plan-same b read inside joined routed in
+              let passed = and-both (matched ∙ five) in
+              tables-of b h rt jt ht by read inside plan (wired b (fields-ok b (fitted ∙ four)) (passed .0) (passed .1)) routed
+              (homed ∙ homes-alike h [] rt jt) (read-in .sides)
+
+          pub bad-joint : named ≡ false → Leaves (Refused BadJoint) t j o u
           unfolding loadOf
           bad-joint q = refused (rw (le-ltb (length b) 6 six, ranged, two, ← sized, three, fitted, four, matched, q))
 
-          module _ (five : named ≡ true) {ht : List ℕ} (homed : ht ≡ homesOf (tablePlan h [] jt)) {ring : Bool} (ringed : ring ≡ hasRing (tablePlan h rt jt)) where
-            circled : hasRing (planOf b) ≡ ring
-            circled = sym (ring-tested b read inside joined routed ringed)
+          -- with the walks of all pairs found, and rings searched for
+          module _ (five : named ≡ true) {ht : List ℕ} (homed : ht ≡ homesOf (tablePlan h [] jt)) {by : List (List ℕ)}
+              {fit : Bool} (read-in : Routes b h rt by fit) {arrive : List ℕ} {ways : List (List ℕ)} {serve : List ℕ}
+              (walked : Walks h rt jt ht by arrive ways serve) {ring : Bool}
+              (search : (pl : Plan) → Told pl h by jt ht arrive serve → ring ≡ hasRing pl) where
+            home-ports : ht ≡ homesOf (tablePlan h rt jt)
+            home-ports = homed ∙ homes-alike h [] rt jt
 
-            pub has-ring : ring ≡ true → Leaves (Refused HasRing) t j o
+            told : Tables h rt jt ht by
+            told = tables five homed read-in
+
+            circled : hasRing (planOf b) ≡ ring
+            circled =
+                sym
+                (ring-tested b read inside joined routed
+                (ring-told h rt jt ht by (range-counts h inside) home-ports told walked search))
+
+            pub has-ring : ring ≡ true → Leaves (Refused HasRing) t j o u
             unfolding loadOf
             has-ring q = refused (rw (le-ltb (length b) 6 six, ranged, two, ← sized, three, fitted, four, matched, five, circled, q))
 
-            pub accepted : ring ≡ false → Leaves (Accepted h) rt jt ht
+            pub accepted : ring ≡ false → Leaves (Accepted h) rt jt ht ways
             unfolding loadOf
             accepted q =
                 let e : Accepted h ≡ loadOf b = rw (le-ltb (length b) 6 six, ranged, two, ← sized, three, fitted, four, matched, five, circled, q, read) in
-                let same : ht ≡ homesOf (planOf b) = homes-kept b read inside joined routed (homed ∙ homes-alike h [] rt jt) in
-                (e, routed ∙ ap (loadRoutes b t) e, joined ∙ ap (loadJoints b j) e, same ∙ ap (loadHomes b o) e)
+                let same : ht ≡ homesOf (planOf b) = homes-kept b read inside joined routed home-ports in (
+                  e,
+                  routed ∙ ap (loadRoutes b t) e,
+                  joined ∙ ap (loadJoints b j) e,
+                  same ∙ ap (loadHomes b o) e,
+                  walked told .2 ∙ ap lengthsOf (plan-same b read inside joined routed) ∙ ap (loadLengths b u) e,
+                )
 
 -- ---- Walk's returns
-module _ (h : Head) (t : List (List ℕ)) (j : List ℕ) (few : Counts h) {o : List ℕ} (ports : o ≡ homesOf (tablePlan h t j)) (a p : ℕ) (la : a < h .actives)
-    {from : ℕ} (start : from ≡ getD o a 0) {s : Bool} (tested : s ≡ servedFrom (tablePlan h t j) a p (portOf from)) where
-  started : home (tablePlan h t j) (active a) ≡ portOf from
-  unfolding tablePlan
-  started = active-home (tablePlan h t j) a (omega arith) la ∙ ap portOf (sym (start ∙ ap (λ (x : List ℕ). getD x a 0) ports))
-
-  pub pair-unserved : s ≡ false → 0 ≡ pairWalk (tablePlan h t j) a p
-  unfolding pairWalk
-  pair-unserved q = rw (started, ← tested, q)
-
-  pub pair-served : {n : ℕ} → s ≡ true → n ≡ sizeOr0 (tablePlan h t j) (interfaceAt h (h .actives + p)) (portOf from) → n ≡ pairWalk (tablePlan h t j) a p
-  unfolding pairWalk sizeOr0 servedFrom
-  pair-served q e =
-      let there : arrives (tablePlan h t j) (passive p) (portOf from) ≡ true = also-true (sym tested ∙ q) .0 in
-      let past : ltb (h .actives + p) (h .actives) ≡ false = le-ltb (h .actives + p) (h .actives) (omega arith) in
-      let same : h .actives + p - h .actives ≡ p = omega arith in
-      e ∙ rw (started, ← tested, q, past, same, there)
-
 module _ (b : List ℕ) (a p : ℕ) {l : Loaded} (known : l ≡ loadOf b) where
   pub walk-refused : {w : Refusal} → l ≡ Refused w → 0 ≡ walkOf b a p
   unfolding walkOf
@@ -172,6 +254,11 @@ module _ (b : List ℕ) (a p : ℕ) {l : Loaded} (known : l ≡ loadOf b) where
     unfolding walkOf
     walk-no-passive la k = rw (← known, told, lt-ltb a (h .actives) la, le-ltb p (h .passives) k)
 
-    pub walk-of-pair : {t : List (List ℕ)} {j o : List ℕ} {n : ℕ} → Lent b h t j o → a < h .actives → p < h .passives → n ≡ pairWalk (tablePlan h t j) a p → n ≡ walkOf b a p
-    unfolding walkOf
-    walk-of-pair lent la lp e = e ∙ rw (← known, told, lt-ltb a (h .actives) la, lt-ltb p (h .passives) lp) (ap (λ (x : Plan). pairWalk x a p) (lent .plan))
+    pub walk-of-pair : {t : List (List ℕ)} {j o : List ℕ} {u : List (List ℕ)} {n : ℕ} → Lent b h t j o u → a < h .actives → p < h .passives
+        → n ≡ getD (getD u a []) p 0 → n ≡ walkOf b a p
+    unfolding walkOf tablePlan
+    walk-of-pair {t} {j} {o} {u} lent la lp e =
+        let ma = lent .range .actives .1 in
+        let mp = lent .range .passives .1 in
+        e ∙ ap (λ (x : List (List ℕ)). getD (getD x a []) p 0) (lent .walks) ∙ length-at (tablePlan h t j) a p ma mp la lp
+        ∙ rw (← known, told, lt-ltb a (h .actives) la, lt-ltb p (h .passives) lp) (ap (λ (x : Plan). pairWalk x a p) (lent .plan))

@@ -16,7 +16,8 @@ use Rattle.plan.specs.Head.{headOf, headOk, bitCount, byteCount}
 use Rattle.plan.specs.Plan.{planOf}
 use Rattle.plan.specs.Rules.{fillOk, fieldsOk, namedOk, interfacesOk}
 use Rattle.plan.specs.Tables.{routesOf, jointsOf, homesOf}
-use Rattle.feeding.specs.RingTest.{hasRing}
+use Rattle.circles.specs.RingTest.{hasRing}
+use Rattle.arrivals.specs.Pairs.{lengthsOf}
 use Rattle.load.specs.declared.Loaded.{Loaded}
 use Rattle.load.specs.declared.Loaded.the-variants.{Accepted, Refused}
 
@@ -55,3 +56,8 @@ loadJoints b t (Refused w) = t
 abbrev pub loadHomes : List ℕ → List ℕ → Loaded → List ℕ
 loadHomes b t (Accepted h) = homesOf (planOf b)
 loadHomes b t (Refused w) = t
+
+-- the lengths of the pairs' walks, by active and passive
+abbrev pub loadLengths : List ℕ → List (List ℕ) → Loaded → List (List ℕ)
+loadLengths b t (Accepted h) = lengthsOf (planOf b)
+loadLengths b t (Refused w) = t

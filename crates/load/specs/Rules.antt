@@ -15,12 +15,12 @@ use Rattle.plan.specs.Head.{headOf, headOk, InRange, bitCount, byteCount}
 use Rattle.plan.specs.Plan.{Plan, planOf}
 use Rattle.plan.specs.Rules.{Filled, FieldsFit, JointsMatch, fillOk, fieldsOk, namedOk, interfacesOk}
 use Rattle.feeding.specs.Feeds.{FeedRing}
-use Rattle.feeding.specs.RingTest.{hasRing}
+use Rattle.circles.specs.RingTest.{hasRing}
 use Rattle.wiring.proofs.Heads.{head-ok, ok-head, and-both, and-of}
 use Rattle.wiring.proofs.Fields.{fill-ok, ok-fill, fields-ok, ok-fields}
 use Rattle.wiring.specs.Wired.{Wired}
 use Rattle.wiring.proofs.Wires.{wired, plan-match, match-plan}
-use Rattle.journeys.proofs.Rings.{ring-test, test-ring}
+use Rattle.circles.proofs.Tests.{ring-test, test-ring}
 use Rattle.load.specs.declared.Loaded.{Loaded}
 use Rattle.load.specs.declared.Loaded.the-variants.{Accepted, Refused}
 use Rattle.load.specs.Load.{lengthOk, jointsOk, loadOf, loadNumber}
@@ -87,10 +87,6 @@ pub passed-wired : (b : List ℕ) → Passes b → Wired (planOf b)
 unfolding jointsOk
 passed-wired b p = let j = and-both (p .joints) in wired b (fields-ok b (p .fields)) (j .0) (j .1)
 
-plan-head : (b : List ℕ) → InRange (headOf b) → InRange (planOf b .head)
-unfolding planOf
-plan-head b r = r
-
 pub obeys-passed : (b : List ℕ) → Passes b → Obeys b
 unfolding lengthOk jointsOk
 obeys-passed b p =
@@ -104,7 +100,7 @@ obeys-passed b p =
       filled = fill-ok b (l .1);
       fields = fields-ok b (p .fields);
       joints = plan-match b (j .0) (j .1);
-      ringless = λ r. true≢false (sym (test-ring (passed-wired b p) (plan-head b range) r) ∙ p .ringless);
+      ringless = λ r. true≢false (sym (test-ring (passed-wired b p) r) ∙ p .ringless);
     }
 
 pub passed-obeys : (b : List ℕ) → Obeys b → Passes b
@@ -118,7 +114,7 @@ passed-obeys b o =
       size = and-of (eq-eqb (length b) (byteCount (headOf b)) (o .size)) (ok-fill b (o .filled));
       fields = ok-fields b (o .fields);
       joints = and-of (j .0) (j .1);
-      ringless = refuted (hasRing (planOf b)) (λ t. o .ringless (ring-test w (plan-head b (o .ranges)) t));
+      ringless = refuted (hasRing (planOf b)) (λ t. o .ringless (ring-test w t));
     }
 
 -- Load accepts a byte string exactly if it obeys every plan rule

@@ -3,17 +3,11 @@ use mathlib.Core.List.{List}
 use Prim.Native.Nat.{ℕ}
 use lib.Dec.{ltb}
 use Rattle.basis.specs.Choice.{pick}
-use Rattle.plan.specs.Plan.{Plan, active, passive, planOf}
-use Rattle.plan.specs.Rules.{home}
-use Rattle.paths.specs.Walk.{walkSize}
-use Rattle.paths.specs.Served.{served}
+use Rattle.plan.specs.Plan.{planOf}
+use Rattle.arrivals.specs.Pairs.{pairWalk}
 use Rattle.load.specs.declared.Loaded.{Loaded}
 use Rattle.load.specs.declared.Loaded.the-variants.{Accepted, Refused}
 use Rattle.load.specs.Load.{loadOf}
-
--- the number of routers on the walk of a pair that is served, else 0
-unfoldable pub pairWalk : Plan → ℕ → ℕ → ℕ
-pairWalk pl a p = pick (served pl a p) (walkSize pl (passive p) (home pl (active a))) 0
 
 -- by Load's answer: 0 where the plan does not load or a number is out of range
 abbrev pub walkBy : List ℕ → ℕ → ℕ → Loaded → ℕ

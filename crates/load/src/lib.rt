@@ -2,18 +2,19 @@
 use kinds::Hub;
 use kinds::Refusal;
 use plan::Head;
+use plan::routes::NO_SIDE;
 ghost use mathlib.Core.Path.{_≡_};
 ghost use mathlib.Core.Bool.{_&&_};
 ghost use mathlib.Core.List.{[]};
 ghost use Prim.Native.Nat.{_<_};
+ghost use lib.ListN.{getD};
 ghost use Rattle.kinds.specs.Refusals.{refusalNumber};
 ghost use Rattle.plan.specs.Head.{headOf, InRange};
 ghost use Rattle.plan.specs.Rules.{namedOk, interfacesOk};
-ghost use Rattle.plan.specs.Tables.{jointBytesOk, routesOk, tablePlan, homesOf};
-ghost use Rattle.feeding.specs.Numbered.{Counts};
-ghost use Rattle.feeding.specs.RingTest.{hasRing};
-ghost use Rattle.load.specs.Load.{lengthOk, loadOf, loadNumber, loadRoutes, loadJoints, loadHomes};
-ghost use Rattle.load.specs.Walk.{pairWalk, walkOf};
+ghost use Rattle.plan.specs.Tables.{tablePlan, homesOf};
+ghost use Rattle.plan.specs.Head.{Counts};
+ghost use Rattle.load.specs.Load.{lengthOk, loadOf, loadNumber, loadRoutes, loadJoints, loadHomes, loadLengths};
+ghost use Rattle.load.specs.Walk.{walkOf};
 
 // The fewest bytes in which counts and capacities fit.
 const HEAD_BYTES: usize = 6;
@@ -36,14 +37,6 @@ fn length_ok(plan: &[u8], h: Head) -> bool
     plan::counts::fill_ok(plan, bits)
 }
 
-// Whether each joint's and each route's fields are in range: refusal 4.
-fn fields_ok(h: Head, joints: &[u8; 64], routes: &[[u8; 32]; 16]) -> bool
-    requires { ⌜ Counts h ⌝ }
-    ensures { λ r. ⌜ r ≡ (jointBytesOk h (now (joints .entry)) && routesOk h (now (routes .entry))) ⌝ }
-{
-    plan::joints::joint_bytes_ok(h, joints) & plan::routes::routes_ok(h, routes)
-}
-
 // Whether router joints are named back by another router, and each interface has exactly one joint: refusal 5.
 fn joints_ok(h: Head, joints: &[u8; 64]) -> bool
     requires { ⌜ Counts h ⌝ }
@@ -53,27 +46,20 @@ fn joints_ok(h: Head, joints: &[u8; 64]) -> bool
     plan::interfaces::named_ok(h, joints) & plan::interfaces::interfaces_ok(h, joints)
 }
 
-// Whether some queues feed each other in a ring: refusal 6.
-fn ring_found(h: Head, routes: &[[u8; 32]; 16], joints: &[u8; 64], homes: &[u8; 32]) -> bool
-    requires { ⌜ Counts h × (now homes ≡ homesOf (tablePlan h (now routes) (now joints))) ⌝ }
-    ensures { λ r. ⌜ r ≡ hasRing (tablePlan h (now (routes .entry)) (now (joints .entry))) ⌝ }
-{
-    let cells = feeding::successors(routes, joints, homes, h);
-    rings::has_ring(&cells, feeding::queue_count(h))
-}
-
-// Load: the first refusal that applies, in document 01's order, or the plan's head. An accepted plan's routes, joints and
-// homes are then in the lent tables; a refusal leaves these as they were.
+// Load: the first refusal that applies, in document 01's order, or the plan's head. An accepted plan's routes, joints, homes
+// and lengths of walks are then in the lent tables; a refusal leaves these as they were.
 pub fn load(
     plan: &[u8],
     routes: &mut [[u8; 32]; 16],
     joints: &mut [u8; 64],
     homes: &mut [u8; 32],
+    lengths: &mut [[u8; 16]; 16],
 ) -> Loaded
     ensures { λ l. ⌜ (l ≡ loadOf (now (plan .entry)))
         × (now (routes .exit) ≡ loadRoutes (now (plan .entry)) (now (routes .entry)) (loadOf (now (plan .entry))))
         × (now (joints .exit) ≡ loadJoints (now (plan .entry)) (now (joints .entry)) (loadOf (now (plan .entry))))
-        × (now (homes .exit) ≡ loadHomes (now (plan .entry)) (now (homes .entry)) (loadOf (now (plan .entry)))) ⌝ }
+        × (now (homes .exit) ≡ loadHomes (now (plan .entry)) (now (homes .entry)) (loadOf (now (plan .entry))))
+        × (now (lengths .exit) ≡ loadLengths (now (plan .entry)) (now (lengths .entry)) (loadOf (now (plan .entry)))) ⌝ }
 {
     if plan.len() < HEAD_BYTES {
         return Loaded::Refused(Refusal::TooShort);
@@ -86,20 +72,26 @@ pub fn load(
         return Loaded::Refused(Refusal::WrongLength);
     }
     let j = plan::joints::joints(plan, h);
-    let t = plan::routes::routes(plan, h);
-    if !fields_ok(h, &j, &t) {
+    let mut t = [[NO_SIDE; 32]; 16];
+    let mut by = [[0u32; 4]; 16];
+    let fit = plan::routes::routes(plan, h, &mut t, &mut by);
+    if !(plan::joints::joint_bytes_ok(h, &j) & fit) {
         return Loaded::Refused(Refusal::BadField);
     }
     if !joints_ok(h, &j) {
         return Loaded::Refused(Refusal::BadJoint);
     }
     let o = plan::interfaces::homes(h, &j);
-    if ring_found(h, &t, &j, &o) {
+    let mut arrive = [0u32; 32];
+    let mut ways = [[0u8; 16]; 16];
+    let served = arrivals::walks(h, &t, &j, &o, &by, &mut arrive, &mut ways);
+    if circles::ring_found(&by, &j, &o, &arrive, &served, h) {
         return Loaded::Refused(Refusal::HasRing);
     }
     *routes = t;
     *joints = j;
     *homes = o;
+    *lengths = ways;
     Loaded::Accepted(h)
 }
 
@@ -136,31 +128,12 @@ pub fn load_number(l: Loaded) -> u8
     }
 }
 
-// A byte as an index.
-fn wide(x: u8) -> usize
-    ensures { λ v. ⌜ v ≡ x ⌝ }
-{
-    x as usize
-}
-
 // The number of routers on a pair's walk, or 0 where the pair is not served.
-pub fn pair_walk(
-    routes: &[[u8; 32]; 16],
-    joints: &[u8; 64],
-    homes: &[u8; 32],
-    h: Head,
-    a: usize,
-    p: usize,
-) -> Hub
-    requires { ⌜ Counts h × (a < h .actives) × (p < h .passives)
-        × (now homes ≡ homesOf (tablePlan h (now routes) (now joints))) ⌝ }
-    ensures { λ r. ⌜ r .0 ≡ pairWalk (tablePlan h (now (routes .entry)) (now (joints .entry))) a p ⌝ }
+pub fn pair_walk(lengths: &[[u8; 16]; 16], a: usize, p: usize) -> Hub
+    requires { ⌜ (a < 16) × (p < 16) ⌝ }
+    ensures { λ r. ⌜ r .0 ≡ getD (getD (now (lengths .entry)) a []) p 0 ⌝ }
 {
-    let from = wide(homes[a]);
-    if !paths::served_from(routes, joints, h, a, p, from) {
-        return Hub(0);
-    }
-    paths::walk_size(routes, joints, h, h.actives + p, from)
+    Hub(lengths[a][p])
 }
 
 // The number of routers on a served pair's walk; 0 where the plan does not load, a number is out of range or the pair is
@@ -171,7 +144,8 @@ pub fn walk(plan: &[u8], active: usize, passive: usize) -> Hub
     let mut routes = [[7u8; 32]; 16];
     let mut joints = [0u8; 64];
     let mut homes = [0u8; 32];
-    let l = load(plan, &mut routes, &mut joints, &mut homes);
+    let mut lengths = [[0u8; 16]; 16];
+    let l = load(plan, &mut routes, &mut joints, &mut homes, &mut lengths);
     let Loaded::Accepted(h) = l else {
         return Hub(0);
     };
@@ -181,5 +155,5 @@ pub fn walk(plan: &[u8], active: usize, passive: usize) -> Hub
     if h.passives <= passive {
         return Hub(0);
     }
-    pair_walk(&routes, &joints, &homes, h, active, passive)
+    pair_walk(&lengths, active, passive)
 }

@@ -5,8 +5,7 @@ use load::Loaded;
 use plan::Head;
 ghost use mathlib.Core.Path.{_≡_};
 ghost use Prim.Native.Nat.{_*_, _≤_, _<_};
-ghost use Rattle.plan.specs.Tables.{tablePlan, homesOf};
-ghost use Rattle.feeding.specs.Numbered.{Counts};
+ghost use Rattle.plan.specs.Head.{Counts};
 
 // Writes a text.
 fn say(text: &[u8]) {
@@ -26,32 +25,26 @@ fn one(walk: Hub) -> usize
 }
 
 // How many pairs of an active are served.
-fn served_of(
-    routes: &[[u8; 32]; 16],
-    joints: &[u8; 64],
-    homes: &[u8; 32],
-    h: Head,
-    a: usize,
-) -> usize
-    requires { ⌜ Counts h × (a < h .actives) × (now homes ≡ homesOf (tablePlan h (now routes) (now joints))) ⌝ }
+fn served_of(lengths: &[[u8; 16]; 16], h: Head, a: usize) -> usize
+    requires { ⌜ Counts h × (a < h .actives) ⌝ }
     ensures { λ n. ⌜ n ≤ 16 ⌝ }
 {
     let passives = h.passives;
     let mut n: usize = 0;
     for p in 0..passives {
-        n += one(load::pair_walk(routes, joints, homes, h, a, p));
+        n += one(load::pair_walk(lengths, a, p));
     }
     n
 }
 
 // How many pairs are served.
-fn served(routes: &[[u8; 32]; 16], joints: &[u8; 64], homes: &[u8; 32], h: Head) -> usize
-    requires { ⌜ Counts h × (now homes ≡ homesOf (tablePlan h (now routes) (now joints))) ⌝ }
+fn served(lengths: &[[u8; 16]; 16], h: Head) -> usize
+    requires { ⌜ Counts h ⌝ }
 {
     let actives = h.actives;
     let mut n: usize = 0;
     for a in 0..actives {
-        n += served_of(routes, joints, homes, h, a);
+        n += served_of(lengths, h, a);
     }
     n
 }
@@ -61,16 +54,17 @@ fn run(name: &[u8], plan: &[u8]) {
     let mut routes = [[7u8; 32]; 16];
     let mut joints = [0u8; 64];
     let mut homes = [0u8; 32];
+    let mut lengths = [[0u8; 16]; 16];
     say(name);
     say(b" ");
-    let l = load::load(plan, &mut routes, &mut joints, &mut homes);
+    let l = load::load(plan, &mut routes, &mut joints, &mut homes, &mut lengths);
     number(load::load_number(l) as usize);
     let Loaded::Accepted(h) = l else {
         say(b"\n");
         return;
     };
     say(b", ");
-    number(served(&routes, &joints, &homes, h));
+    number(served(&lengths, h));
     say(b" of ");
     number(h.actives * h.passives);
     say(b" pairs served\n");

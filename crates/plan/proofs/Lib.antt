@@ -1,3 +1,5 @@
 pub mod Bytes
+pub mod Marks
+pub mod Routing
 pub mod JointLaws
 pub mod PortLaws

@@ -73,3 +73,7 @@ bitCount h = routesAt h + 3 * (h .routers * destinations h)
 
 abbrev pub byteCount : Head → ℕ
 byteCount h = (bitCount h + 7) / 8
+
+-- the counts are at most 16
+abbrev pub Counts : Head → Type 0
+Counts h = (h .routers ≤ 16) × (h .actives ≤ 16) × (h .passives ≤ 16)

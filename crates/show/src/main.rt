@@ -10,7 +10,7 @@ ghost use mathlib.Core.Path.{_≡_};
 ghost use Prim.Native.Nat.{_≤_, _<_};
 ghost use lib.ListN.{length};
 ghost use Rattle.plan.specs.Tables.{tablePlan, homesOf};
-ghost use Rattle.feeding.specs.Numbered.{Counts};
+ghost use Rattle.plan.specs.Head.{Counts};
 
 mod hex;
 
@@ -140,6 +140,7 @@ fn show_pair(
     routes: &[[u8; 32]; 16],
     joints: &[u8; 64],
     homes: &[u8; 32],
+    lengths: &[[u8; 16]; 16],
     h: Head,
     a: usize,
     p: usize,
@@ -147,7 +148,7 @@ fn show_pair(
     requires { ⌜ Counts h × (a < h .actives) × (p < h .passives)
         × (now homes ≡ homesOf (tablePlan h (now routes) (now joints))) ⌝ }
 {
-    let n = load::pair_walk(routes, joints, homes, h, a, p);
+    let n = load::pair_walk(lengths, a, p);
     if n.0 == 0 {
         return;
     }
@@ -159,23 +160,36 @@ fn show_pair(
 }
 
 // Writes the walks of an active's served pairs.
-fn show_active(routes: &[[u8; 32]; 16], joints: &[u8; 64], homes: &[u8; 32], h: Head, a: usize)
+fn show_active(
+    routes: &[[u8; 32]; 16],
+    joints: &[u8; 64],
+    homes: &[u8; 32],
+    lengths: &[[u8; 16]; 16],
+    h: Head,
+    a: usize,
+)
     requires { ⌜ Counts h × (a < h .actives) × (now homes ≡ homesOf (tablePlan h (now routes) (now joints))) ⌝ }
 {
     let passives = h.passives;
     for p in 0..passives {
-        show_pair(routes, joints, homes, h, a, p);
+        show_pair(routes, joints, homes, lengths, h, a, p);
     }
 }
 
 // Writes the walks of all served pairs.
-fn show_pairs(routes: &[[u8; 32]; 16], joints: &[u8; 64], homes: &[u8; 32], h: Head)
+fn show_pairs(
+    routes: &[[u8; 32]; 16],
+    joints: &[u8; 64],
+    homes: &[u8; 32],
+    lengths: &[[u8; 16]; 16],
+    h: Head,
+)
     requires { ⌜ Counts h × (now homes ≡ homesOf (tablePlan h (now routes) (now joints))) ⌝ }
 {
     say(b"served pairs and their walks:\n");
     let actives = h.actives;
     for a in 0..actives {
-        show_active(routes, joints, homes, h, a);
+        show_active(routes, joints, homes, lengths, h, a);
     }
 }
 
@@ -199,7 +213,8 @@ fn show(plan: &[u8]) {
     let mut routes = [[7u8; 32]; 16];
     let mut joints = [0u8; 64];
     let mut homes = [0u8; 32];
-    let l = load::load(plan, &mut routes, &mut joints, &mut homes);
+    let mut lengths = [[0u8; 16]; 16];
+    let l = load::load(plan, &mut routes, &mut joints, &mut homes, &mut lengths);
     let Loaded::Accepted(h) = l else {
         show_refusal(load::load_number(l));
         return;
@@ -207,7 +222,7 @@ fn show(plan: &[u8]) {
     show_counts(h);
     show_capacities(h);
     show_joints(&joints, h);
-    show_pairs(&routes, &joints, &homes, h);
+    show_pairs(&routes, &joints, &homes, &lengths, h);
 }
 
 // Shows the plan that the first n bytes of a buffer are.

@@ -83,3 +83,13 @@ pub fn compare_family(random: &mut Random, tally: &mut Tally) {
     let bytes = damage::noise(random);
     compare(&bytes, random, tally);
 }
+
+/// Plans with a ring of one kind, of routers and then of K queues, and near misses of each.
+pub fn compare_rings(random: &mut Random, tally: &mut Tally) {
+    for answers in [false, true] {
+        let ringed = rings::of_one_kind(random, answers).encode();
+        compare(&ringed, random, tally);
+        let near = rings::near_miss(random, answers).encode();
+        compare(&near, random, tally);
+    }
+}

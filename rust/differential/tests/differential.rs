@@ -1,6 +1,6 @@
 //! The proved Load and walks give the model's answers.
 
-use differential::{compare, compare_family, Tally};
+use differential::{compare, compare_family, compare_rings, Tally};
 use model::generate::Random;
 use model::named;
 
@@ -59,4 +59,14 @@ fn random_plans() {
     println!("{tally:?}");
     assert!(tally.answers.iter().all(|&count| count >= 500), "{tally:?}");
     assert!(tally.walks[1] >= 10_000, "{tally:?}");
+}
+
+#[test]
+fn rings_of_one_kind_and_near_misses() {
+    let mut random = Random::new(2026);
+    let mut tally = Tally::default();
+    for _ in 0..1_500 {
+        compare_rings(&mut random, &mut tally);
+    }
+    assert_eq!((tally.answers[0], tally.answers[6]), (3_000, 3_000), "{tally:?}");
 }

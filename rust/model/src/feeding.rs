@@ -201,24 +201,42 @@ impl<'a> Feeding<'a> {
         self.fed[x.index(self.plan)].as_slice().contains(&(y.index(self.plan) as u16))
     }
 
-    /// Whether some queues feed each other in a ring: taking away, again and again, the queues
-    /// that no queue feeds leaves some over.
+    /// Whether some queues feed each other in a ring.
     pub fn has_ring(&self) -> bool {
+        self.has_ring_among(|_| true)
+    }
+
+    /// Whether there is a ring of queues other than K, and whether there is one of K: set-ups and
+    /// tear-downs go round, or answers do.
+    pub fn rings(&self) -> [bool; 2] {
+        let crosses =
+            |at: usize| at < PER_ROUTER * self.plan.routers() && at % PER_ROUTER > SIDES + SIDES;
+        [self.has_ring_among(|at| !crosses(at)), self.has_ring_among(crosses)]
+    }
+
+    /// Whether some of these queues feed each other in a ring: taking away, again and again, those
+    /// that none of them feeds leaves some over.
+    fn has_ring_among(&self, kept: impl Fn(usize) -> bool) -> bool {
+        let fed = |from: usize| {
+            let fed = self.fed[from].as_slice().iter().map(|&to| usize::from(to));
+            fed.filter(|&to| kept(to))
+        };
+        let queues: Vec<usize> = (0..self.fed.len()).filter(|&at| kept(at)).collect();
         let mut feeders = vec![0_u16; self.fed.len()];
-        for &to in self.fed.iter().flat_map(Fed::as_slice) {
-            feeders[usize::from(to)] += 1;
+        for to in queues.iter().flat_map(|&from| fed(from)) {
+            feeders[to] += 1;
         }
-        let mut unfed: Vec<usize> = (0..feeders.len()).filter(|&at| feeders[at] == 0).collect();
+        let mut unfed: Vec<usize> = queues.iter().copied().filter(|&at| feeders[at] == 0).collect();
         let mut taken = 0;
         while let Some(from) = unfed.pop() {
             taken += 1;
-            for to in self.fed[from].as_slice().iter().map(|&to| usize::from(to)) {
+            for to in fed(from) {
                 feeders[to] -= 1;
                 if feeders[to] == 0 {
                     unfed.push(to);
                 }
             }
         }
-        taken < self.fed.len()
+        taken < queues.len()
     }
 }

@@ -172,3 +172,21 @@ fn generated_plans_are_of_all_sizes_and_fates() {
     assert!(answers.iter().all(|&count| count > 1_000), "{answers:?}");
     println!("answers {answers:?}, pairs unserved and served {pairs:?}");
 }
+
+#[test]
+fn rings_are_of_routers_or_of_answers() {
+    let mut random = Random::new(41);
+    for turn in 0..2_000 {
+        let fields =
+            if turn % 2 == 0 { good::joined(&mut random) } else { rings::ringed(&mut random) };
+        let plan = Plan::join(fields).expect("joined");
+        let feeding = Feeding::of(&plan);
+        assert_eq!(feeding.has_ring(), feeding.rings().contains(&true));
+    }
+    for answers in [false, true] {
+        for _ in 0..200 {
+            assert_eq!(answer(&rings::of_one_kind(&mut random, answers).encode()), 6);
+            assert_eq!(answer(&rings::near_miss(&mut random, answers).encode()), 0);
+        }
+    }
+}

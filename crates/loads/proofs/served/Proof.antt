@@ -7,10 +7,10 @@ use Rattle.loads.proofs.served.Lts as lts
 use Rattle.loads.proofs.served_of.Reads as served-of-reads
 
 abbrev Inv-loop : tie.InvT-loop
-Inv-loop routes joints homes h actives n₀ a₀ n a = (a ≤ actives) × (n ≤ 16 * a)
+Inv-loop lengths h actives n₀ a₀ n a = (a ≤ actives) × (n ≤ 16 * a)
 
 abbrev μ-loop : tie.MeasureT-loop
-μ-loop routes joints homes h actives n₀ a₀ n a = actives - a
+μ-loop lengths h actives n₀ a₀ n a = actives - a
 
 -- src/main.rt:53:5
 loop-holds : tie.Need-loop-holds Inv-loop μ-loop

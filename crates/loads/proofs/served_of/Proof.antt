@@ -8,10 +8,10 @@ use Rattle.load.proofs.pair_walk.Reads as pair-walk-reads
 use Rattle.loads.proofs.one.Reads as one-reads
 
 abbrev Inv-loop : tie.InvT-loop
-Inv-loop routes joints homes h a passives n₀ p₀ n p = (p ≤ passives) × (n ≤ p)
+Inv-loop lengths a passives n₀ p₀ n p = (p ≤ passives) × (n ≤ p)
 
 abbrev μ-loop : tie.MeasureT-loop
-μ-loop routes joints homes h a passives n₀ p₀ n p = passives - p
+μ-loop lengths a passives n₀ p₀ n p = passives - p
 
 -- src/main.rt:41:5
 loop-holds : tie.Need-loop-holds Inv-loop μ-loop

@@ -7,10 +7,10 @@ use Rattle.show.proofs.show_active.Lts as lts
 use Rattle.show.proofs.show_pair.Reads as show-pair-reads
 
 abbrev Inv-loop : tie.InvT-loop
-Inv-loop routes joints homes h a passives p₀ p = p ≤ passives
+Inv-loop routes joints homes lengths h a passives p₀ p = p ≤ passives
 
 abbrev μ-loop : tie.MeasureT-loop
-μ-loop routes joints homes h a passives p₀ p = passives - p
+μ-loop routes joints homes lengths h a passives p₀ p = passives - p
 
 -- src/main.rt:167:5
 loop-holds : tie.Need-loop-holds Inv-loop μ-loop

@@ -1,4 +1,4 @@
-use Rattle.feeding.proofs.Pairs.{home-small}
+use Rattle.load.specs.Lent.{home-small}
 use native.Mathlib.Omega.{arith}
 use borrow.Author.Needs.{needs}
 use Rattle.show.proofs.show_pair.Statement.{statement}

@@ -8,10 +8,10 @@ use Rattle.show.proofs.say.Reads as say-reads
 use Rattle.show.proofs.show_active.Reads as show-active-reads
 
 abbrev Inv-loop : tie.InvT-loop
-Inv-loop routes joints homes h actives a₀ a = a ≤ actives
+Inv-loop routes joints homes lengths h actives a₀ a = a ≤ actives
 
 abbrev μ-loop : tie.MeasureT-loop
-μ-loop routes joints homes h actives a₀ a = actives - a
+μ-loop routes joints homes lengths h actives a₀ a = actives - a
 
 -- src/main.rt:176:9
 slice-aggregate-say : tie.Need-slice-aggregate-say Inv-loop μ-loop

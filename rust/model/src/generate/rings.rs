@@ -1,7 +1,10 @@
-//! Plans with a ring of feeding queues: crossing set-ups, and rings among answers alone.
+//! Plans with a ring of feeding queues: crossing set-ups, rings of routers alone, rings among
+//! answers alone, and plans that miss a ring by one route.
 
 use super::{Draft, Random};
+use crate::feeding::Feeding;
 use crate::fields::Fields;
+use crate::plan::Plan;
 
 /// A line of routers, an active and a passive at each end, set-ups crossing both ways.
 pub fn crossing(routers: usize, slots: usize, capacity: usize) -> Draft {
@@ -47,4 +50,67 @@ pub fn ringed(random: &mut Random) -> Fields {
         answers_around(routers, &starts, slots, capacity)
     };
     draft.fields().clone()
+}
+
+/// `routers` in a ring (side 0 leads on, side 1 back) and pairs along it: each set-up goes on by up
+/// to `reach` routers, its answers go back or on around.
+fn pairs_around(random: &mut Random, routers: usize, reach: usize) -> Draft {
+    let mut draft = Draft::new(routers, random.within(2..=32), random.within(1..=7));
+    for router in 0..routers {
+        draft.join((router, 0), ((router + 1) % routers, 1));
+    }
+    let mut pairs = 0;
+    for start in (0..routers).filter(|_| random.chance(4, 5)).collect::<Vec<_>>() {
+        let length = random.within(1..=reach.min(routers - 1));
+        let end = (start + length) % routers;
+        let (Some(&out), Some(&into)) =
+            (draft.free_sides(start).first(), draft.free_sides(end).first())
+        else {
+            continue;
+        };
+        draft.active(start, out).passive(end, into);
+        let back = usize::from(random.chance(1, 2));
+        for router in 0..routers {
+            draft.route_active(router, pairs, if router == start { out } else { back });
+        }
+        for step in 0..length {
+            draft.route_passive((start + step) % routers, pairs, 0);
+        }
+        draft.route_passive(end, pairs, into);
+        pairs += 1;
+    }
+    draft
+}
+
+/// A plan with a ring of K queues and no other, or with a ring of routers and none of K.
+pub fn of_one_kind(random: &mut Random, answers: bool) -> Fields {
+    loop {
+        let routers = random.within(3..=9);
+        let fields = pairs_around(random, routers, if answers { 3 } else { 2 }).fields().clone();
+        let plan = if fields.actives == 0 { None } else { Plan::join(fields).ok() };
+        if let Some(plan) = plan {
+            if Feeding::of(&plan).rings() == [!answers, answers] {
+                return plan.fields().clone();
+            }
+        }
+    }
+}
+
+/// A plan that loads and differs from one with a ring of that kind in one route.
+pub fn near_miss(random: &mut Random, answers: bool) -> Fields {
+    loop {
+        let ringed = of_one_kind(random, answers);
+        for _ in 0..40 {
+            let mut fields = ringed.clone();
+            let router = random.below(fields.routers.len());
+            let router = &mut fields.routers[router];
+            let routes =
+                if random.chance(1, 2) { &mut router.to_active } else { &mut router.to_passive };
+            let at = random.below(routes.len());
+            routes[at] = random.pick(&[None, Some(0), Some(1), Some(2), Some(3)]).unwrap_or(None);
+            if Plan::load(&fields.encode()).is_ok() {
+                return fields;
+            }
+        }
+    }
 }

@@ -1,79 +1,84 @@
-use borrow.Author.Needs.{needs}
-use Rattle.plan.specs.Tables.{rowOf, routesOf}
-use Rattle.basis.specs.Fold.{upTo, fill, up-none, up-fill, up-done}
-use native.Mathlib.Nat.{mul-le-mul-right}
-use native.Mathlib.Omega.{arith}
-use lib.ListN.{length, length-set}
-use Prim.Native.Nat.{_≤_, _-_, _+_, _*_}
 use mathlib.Core.Path.{_≡_}
+use Prim.Native.Nat.{_+_, _-_, _≤_, _*_}
+use borrow.Author.Needs.{needs}
+use native.Mathlib.Omega.{arith}
+use native.Mathlib.Nat.{mul-le-mul-right}
+use Rattle.plan.proofs.Routing.{Rows, rows-none, rows-more, rows-done}
 use Rattle.plan.proofs.routes.routes.Statement.{statement}
 use Rattle.plan.proofs.routes.routes.Tie as tie
+use Rattle.plan.proofs.routes.routes.Reads as reads
+use Rattle.plan.proofs.routes.routes.Lts as lts
+use Rattle.plan.proofs.routes.read_row.Reads as read-row-reads
 
 abbrev Inv-loop : tie.InvT-loop
-Inv-loop plan n at routers t₀ r₀ t r =
-    (r ≤ routers) × (t ≡ upTo (fill (λ k. rowOf plan n (at + 3 * (n * k)))) r t₀) × (length t ≡ 16)
+Inv-loop plan t₀ by₀ n at routers ok₀ r₀ t by ok r = (r ≤ routers) × Rows plan n at r t by ok
 
 abbrev μ-loop : tie.MeasureT-loop
-μ-loop plan n at routers t₀ r₀ t r = routers - r
+μ-loop plan t₀ by₀ n at routers ok₀ r₀ t by ok r = routers - r
 
+-- src/routes.rt:148:13
 add-n : tie.Need-add-n Inv-loop μ-loop
 add-n c = search needs
 
+-- src/routes.rt:149:26
 mul-at : tie.Need-mul-at Inv-loop μ-loop
 mul-at c = search needs
 
+-- src/routes.rt:149:14
 add-at : tie.Need-add-at Inv-loop μ-loop
 add-at c = search needs
 
+-- src/routes.rt:152:5
 loop-holds : tie.Need-loop-holds Inv-loop μ-loop
-loop-holds c = (omega arith, up-none _ _, search needs)
+loop-holds c = (omega arith, rows-none _ _ _ _ _ (c .before .before .before .pre .3))
 
-mul-row : tie.Need-mul-row Inv-loop μ-loop
-mul-row c =
-    let h : c .before .before .before .before .before .args .h .actives
-    + c .before .before .before .before .before .args .h .passives ≤ 32 = omega arith in
-    omega (arith, mul-le-mul-right (c .before .loop .r) h)
+-- src/routes.rt:153:56
+mul-read-row : tie.Need-mul-read-row Inv-loop μ-loop
+mul-read-row c = let h : c .before .before .before .before .before .args .h .actives + c .before .before .before .before .before .args .h .passives ≤ 32 = omega arith in record { fits = omega (arith, mul-le-mul-right (c .before .loop .r) h) }
 
-mul-row-2 : tie.Need-mul-row-2 Inv-loop μ-loop
-mul-row-2 c =
-    let h : c .before .before .before .before .before .args .h .actives
-    + c .before .before .before .before .before .args .h .passives ≤ 32 = omega arith in
-    omega (arith, mul-le-mul-right (c .before .loop .r) h)
+-- src/routes.rt:153:42
+mul-read-row-2 : tie.Need-mul-read-row-2 Inv-loop μ-loop
+mul-read-row-2 c = let h : c .before .before .before .before .before .args .h .actives + c .before .before .before .before .before .args .h .passives ≤ 32 = omega arith in record { fits = omega (arith, mul-le-mul-right (c .before .loop .r) h) }
 
-add-row : tie.Need-add-row Inv-loop μ-loop
-add-row c =
-    let h : c .before .before .before .before .before .args .h .actives
-    + c .before .before .before .before .before .args .h .passives ≤ 32 = omega arith in
-    omega (arith, mul-le-mul-right (c .before .loop .r) h)
+-- src/routes.rt:153:37
+add-read-row : tie.Need-add-read-row Inv-loop μ-loop
+add-read-row c = let h : c .before .before .before .before .before .args .h .actives + c .before .before .before .before .before .args .h .passives ≤ 32 = omega arith in record { fits = omega (arith, mul-le-mul-right (c .before .loop .r) h) }
 
-row-requires : tie.Need-row-requires Inv-loop μ-loop
-row-requires c κs =
-    let h : c .before .before .before .before .before .args .h .actives
-    + c .before .before .before .before .before .args .h .passives ≤ 32 = omega arith in
-    omega (arith, mul-le-mul-right (c .before .loop .r) h)
+-- src/routes.rt:153:64
+mul-read-row-3 : tie.Need-mul-read-row-3 Inv-loop μ-loop
+mul-read-row-3 c = record { fits = omega arith }
 
-mul-t : tie.Need-mul-t Inv-loop μ-loop
-mul-t c = search needs
+-- src/routes.rt:153:64
+index-1-read-row : tie.Need-index-1-read-row Inv-loop μ-loop
+index-1-read-row c = omega arith
 
-array-set-from-t : tie.Need-array-set-from-t Inv-loop μ-loop
-array-set-from-t c = search needs
+-- src/routes.rt:153:75
+mul-read-row-4 : tie.Need-mul-read-row-4 Inv-loop μ-loop
+mul-read-row-4 c = record { fits = omega arith }
 
+-- src/routes.rt:153:75
+index-1-read-row-2 : tie.Need-index-1-read-row-2 Inv-loop μ-loop
+index-1-read-row-2 c = omega arith
+
+-- src/routes.rt:153:19
+read-row-requires : tie.Need-read-row-requires Inv-loop μ-loop
+read-row-requires c κs = let h : c .before .before .before .before .before .before .before .args .h .actives + c .before .before .before .before .before .before .before .args .h .passives ≤ 32 = omega arith in (omega arith, omega (arith, mul-le-mul-right (c .before .before .before .loop .r) h), c .before .before .before .loop .inv .1 .four _ (omega arith))
+
+-- src/routes.rt:152:9
 add-r : tie.Need-add-r Inv-loop μ-loop
-add-r c = search needs
+add-r c = record { fits = omega arith }
 
+-- src/routes.rt:152:5
 loop-less : tie.Need-loop-less Inv-loop μ-loop
-loop-less c = search needs
+loop-less c = omega arith
 
+-- src/routes.rt:152:5
 loop-again : tie.Need-loop-again Inv-loop μ-loop
-loop-again c = (
-  omega arith,
-  up-fill _ _ _ (c .before .before .loop .inv .1) (c .row .ensures),
-  simp length-set (c .before .before .loop .inv .2),
-)
+loop-again c = (omega arith, rows-more _ _ _ _ (omega arith) (c .before .before .before .before .loop .inv .1) (c .read-row .ensures))
 
+-- src/routes.rt:144:1
 returns : tie.Need-returns Inv-loop μ-loop
-unfolding routesOf
-returns c = up-done _ _ (c .before .loop .inv .1) (omega arith)
+returns c = rows-done _ _ (omega arith) (omega arith) _ (omega arith) (c .before .loop .inv .1)
 
 pub routes-spec : {M : Type 1} → statement M
 routes-spec =
@@ -85,12 +90,14 @@ routes-spec =
     mul-at
     add-at
     loop-holds
-    mul-row
-    mul-row-2
-    add-row
-    row-requires
-    mul-t
-    array-set-from-t
+    mul-read-row
+    mul-read-row-2
+    add-read-row
+    mul-read-row-3
+    index-1-read-row
+    mul-read-row-4
+    index-1-read-row-2
+    read-row-requires
     add-r
     loop-less
     loop-again

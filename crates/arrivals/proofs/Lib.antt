@@ -1,0 +1,8 @@
+pub mod Steps
+pub mod Arrive
+pub mod Everywhere
+pub mod Charts
+pub mod Sizes
+pub mod Returning
+pub mod Start
+pub mod Sound

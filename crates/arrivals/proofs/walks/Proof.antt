@@ -1,0 +1,73 @@
+use lib.ListN.{length}
+use mathlib.Core.Path.{ap, _∙_}
+use native.Mathlib.Omega.{arith}
+use Rattle.arrivals.proofs.Charts.{nexts-inside, first-idle, firsts-long}
+use Rattle.arrivals.proofs.Sound.{walks-sound}
+use borrow.Author.Needs.{needs}
+use Rattle.arrivals.proofs.walks.Statement.{statement}
+use Rattle.arrivals.proofs.walks.Tie as tie
+use Rattle.arrivals.proofs.walks.Reads as reads
+use Rattle.arrivals.proofs.walks.Lts as lts
+use Rattle.arrivals.proofs.far_of.Reads as far-of-reads
+use Rattle.arrivals.proofs.firsts.Reads as firsts-reads
+use Rattle.arrivals.proofs.lengths_of.Reads as lengths-of-reads
+use Rattle.arrivals.proofs.nears.Reads as nears-reads
+use Rattle.arrivals.proofs.nexts.Reads as nexts-reads
+use Rattle.arrivals.proofs.serves.Reads as serves-reads
+use Rattle.reach.proofs.reach.Reads as reach-reads
+use Rattle.sets.proofs.below.Reads as below-reads
+
+-- src/lib.rt:274:13
+add-n : tie.Need-add-n
+add-n c = search needs
+
+-- src/lib.rt:275:16
+nexts-requires : tie.Need-nexts-requires
+nexts-requires c κs = search needs
+
+-- src/lib.rt:276:17
+firsts-requires : tie.Need-firsts-requires
+firsts-requires c κs = search needs
+
+-- src/lib.rt:277:17
+nears-requires : tie.Need-nears-requires
+nears-requires c κs = search needs
+
+-- src/lib.rt:280:14
+below-requires : tie.Need-below-requires
+below-requires c κs = search needs
+
+-- src/lib.rt:281:16
+far-of-requires : tie.Need-far-of-requires
+far-of-requires c κs = search needs
+
+-- src/lib.rt:284:9
+reach-requires : tie.Need-reach-requires
+reach-requires c κs = (c .before .before .before .before .before .before .before .before .before .before .pre .0 .0, c .before .before .before .before .before .before .before .before .before .before .pre .0 .1, rw (c .before .before .before .before .before .before .before .before .nexts .ensures) (nexts-inside _ _ (c .before .before .before .before .before .before .before .before .before .before .pre .0 .0)), rw (c .before .before .before .before .before .before .before .firsts .ensures) (first-idle _ _ _ _ (c .before .before .before .before .before .before .before .before .before .before .pre .1) (c .before .before .before .before .before .before .before .before .before .before .pre .2) _), ap length (c .before .before .before .before .before .before .before .firsts .ensures) ∙ firsts-long _ _ _)
+
+-- src/lib.rt:285:13
+serves-requires : tie.Need-serves-requires
+serves-requires c κs = (c .before .before .before .before .before .before .before .before .before .before .before .before .before .pre .0, c .before .before .before .before .before .before .before .before .before .before .before .before .before .pre .1, rw (c .before .before .before .before .before .before .before .before .before .before .before .nexts .ensures) (nexts-inside _ _ (c .before .before .before .before .before .before .before .before .before .before .before .before .before .pre .0 .0)))
+
+-- src/lib.rt:286:16
+lengths-of-requires : tie.Need-lengths-of-requires
+lengths-of-requires c κs = search needs
+
+-- src/lib.rt:260:1
+returns : tie.Need-returns
+returns c = walks-sound _ _ _ _ _ _ _ (c .before .before .before .before .before .before .before .before .before .before .before .before .before .before .before .before .before .before .pre .0 .1) (c .before .before .before .before .before .before .before .before .before .before .before .before .before .before .before .before .before .before .pre .0 .2) (c .before .before .before .before .before .before .before .before .before .before .before .before .before .before .before .before .nexts .ensures) (c .before .before .before .before .before .before .before .before .before .before .before .before .before .before .before .firsts .ensures) (c .before .before .before .before .before .before .before .before .before .before .before .before .before .nears .ensures) (c .before .before .before .before .before .before .before .before .before .before .before .before .below .ensures) (c .before .before .before .before .before .before .before .before .before .before .before .far-of .ensures) (c .before .before .before .before .before .before .before .reach .ensures .0) (c .before .before .before .before .before .before .before .reach .ensures .1) (c .before .before .before .before .before .before .before .reach .ensures .2) (c .before .before .before .before .serves .ensures) (c .lengths-of .ensures)
+
+pub walks-spec : {M : Type 1} → statement M
+walks-spec =
+    tie.close
+    (tie.spec
+    add-n
+    nexts-requires
+    firsts-requires
+    nears-requires
+    below-requires
+    far-of-requires
+    reach-requires
+    serves-requires
+    lengths-of-requires
+    returns)

@@ -1,0 +1,60 @@
+-- The tables that walks are swept with: the router beyond each side, the destinations one step away, and the sets by side
+-- of the routers that have a way back.
+use mathlib.Core.Path.{_≡_}
+use mathlib.Core.Bool.{Bool}
+use mathlib.Core.List.{List, []}
+use Prim.Native.Nat.{ℕ, _+_, _*_, _/_, _%_, _<_}
+use lib.Dec.{eqb}
+use lib.ListN.{getD, set, replicate}
+use Rattle.basis.specs.Choice.{pick}
+use Rattle.basis.specs.Fold.{upTo, fill}
+use Rattle.sets.specs.Sets.{has, single, both, either, less, below}
+use Rattle.plan.specs.declared.Head.{Head}
+use Rattle.plan.specs.Head.{destinations}
+
+-- the router that a joint's byte leads to, or 16
+unfoldable pub nextOf : ℕ → ℕ
+nextOf v = pick (eqb (v / 64) 1) (v / 4 % 16) 16
+
+unfoldable pub nextsOf : List ℕ → ℕ → List ℕ
+nextsOf joints routers = upTo (fill (λ k. nextOf (getD joints k 0))) (4 * routers) (replicate 64 16)
+
+-- every destination's port is one of 64
+abbrev pub PortsIn : List ℕ → ℕ → Type 0
+PortsIn homes n = (d : ℕ) → d < n → getD homes d 0 < 64
+
+-- the set of port k's router, with d where the router's side for d is that port's
+unfoldable pub firstOf : List (List ℕ) → ℕ → ℕ → ℕ → ℕ
+firstOf by t k d = either t (both (getD (getD by (k / 4) []) (k % 4) 0) (single d))
+
+unfoldable pub firstStep : List (List ℕ) → List ℕ → ℕ → List ℕ → List ℕ
+firstStep by homes d t = set t (getD homes d 0 / 4) (firstOf by (getD t (getD homes d 0 / 4) 0) (getD homes d 0) d)
+
+-- by router: the destinations one step away
+unfoldable pub firstsOf : List (List ℕ) → List ℕ → ℕ → List ℕ
+firstsOf by homes n = upTo (firstStep by homes) n (replicate 32 0)
+
+unfoldable pub nearOf : ℕ → ℕ → ℕ
+nearOf s d = pick (has s d) 1 0
+
+unfoldable pub nearStep : List ℕ → List ℕ → ℕ → ℕ → List (List ℕ) → List (List ℕ)
+nearStep t homes actives p z =
+    set z (getD homes (actives + p) 0 / 4)
+    (set (getD z (getD homes (actives + p) 0 / 4) []) p (nearOf (getD t (getD homes (actives + p) 0 / 4) 0)
+    (actives + p)))
+
+-- by router and passive: 1 where it is one step away
+unfoldable pub nearsOf : List ℕ → List ℕ → ℕ → ℕ → List (List ℕ)
+nearsOf t homes actives passives = upTo (nearStep t homes actives) passives (replicate 17 (replicate 16 0))
+
+-- the sets by side of the routers from which the walk back to active a arrives
+abbrev pub keptOf : List ℕ → Bool → List ℕ
+keptOf row keep = pick keep row (replicate 4 0)
+
+unfoldable pub keepsOf : List (List ℕ) → List ℕ → ℕ → ℕ → List (List ℕ)
+keepsOf by arrive routers a =
+    upTo (fill (λ r. keptOf (getD by r []) (has (getD arrive r 0) a))) routers (replicate 16 (replicate 4 0))
+
+-- the destinations that are passives
+unfoldable pub farOf : Head → ℕ
+farOf h = less (below (destinations h)) (below (h .actives))

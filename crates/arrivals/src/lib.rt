@@ -1,0 +1,300 @@
+// All walks of a plan at once: at which destinations the walk from each router arrives, which pairs are served, and how long
+// their walks are.
+use plan::Head;
+use reach::Span;
+use sets::below;
+use sets::both;
+use sets::either;
+use sets::has;
+use sets::less;
+use sets::single;
+ghost use mathlib.Core.Path.{_≡_};
+ghost use mathlib.Core.Bool.{false};
+ghost use Rattle.basis.specs.Choice.{pick};
+ghost use mathlib.Core.List.{List, []};
+ghost use Prim.Native.Nat.{ℕ, _+_, _*_, _/_, _%_, _≤_, _<_};
+ghost use lib.ListN.{getD, length};
+ghost use Rattle.plan.specs.Head.{Counts};
+ghost use Rattle.reach.specs.Reach.{Inside};
+ghost use Rattle.sets.specs.Sets.{has};
+ghost use Rattle.arrivals.specs.Pairs.{Swept, Serving, Servings, copyOf, maskOf, lengthOf, lengthsBy, Walks};
+ghost use Rattle.arrivals.specs.Tables.{nextOf, nextsOf, PortsIn, firstOf, firstsOf, nearOf, nearsOf, keptOf, keepsOf, farOf};
+
+// No router beyond a side.
+const NO_ROUTER: u8 = 16;
+
+// A byte as an index.
+fn index(x: u8) -> usize
+    ensures { λ v. ⌜ v ≡ x ⌝ }
+{
+    x as usize
+}
+
+// The router that a joint's byte leads to, or 16.
+fn next_of(v: u8) -> u8
+    ensures { λ n. ⌜ n ≡ nextOf v ⌝ }
+{
+    if v / 64 == 1 { v / 4 % 16 } else { NO_ROUTER }
+}
+
+// The router beyond each port, or 16.
+fn nexts(joints: &[u8; 64], routers: usize) -> [u8; 64]
+    requires { ⌜ routers ≤ 16 ⌝ }
+    ensures { λ t. ⌜ t ≡ nextsOf (now (joints .entry)) routers ⌝ }
+{
+    let n = 4 * routers;
+    let mut t = [NO_ROUTER; 64];
+    for k in 0..n {
+        t[k] = next_of(joints[k]);
+    }
+    t
+}
+
+// The port of a destination.
+fn port(homes: &[u8; 32], d: usize, n: usize) -> usize
+    requires { ⌜ (d < n) × (n ≤ 32) × PortsIn (now homes) n ⌝ }
+    ensures { λ k. ⌜ (k ≡ getD (now (homes .entry)) d 0) × (k < 64) ⌝ }
+{
+    index(homes[d])
+}
+
+// A router's set with the destination of one of its ports, where its side for the destination is that port's.
+fn first_of(by: &[[u32; 4]; 16], t: u32, k: usize, d: usize) -> u32
+    requires { ⌜ (k < 64) × (d < 32) ⌝ }
+    ensures { λ s. ⌜ s ≡ firstOf (now (by .entry)) t k d ⌝ }
+{
+    either(t, both(by[k / 4][k % 4], single(d)))
+}
+
+// By router: the destinations that are one step away.
+fn firsts(by: &[[u32; 4]; 16], homes: &[u8; 32], n: usize) -> [u32; 32]
+    requires { ⌜ (n ≤ 32) × PortsIn (now homes) n ⌝ }
+    ensures { λ t. ⌜ t ≡ firstsOf (now (by .entry)) (now (homes .entry)) n ⌝ }
+{
+    let mut t = [0u32; 32];
+    for d in 0..n {
+        let k = port(homes, d, n);
+        t[k / 4] = first_of(by, t[k / 4], k, d);
+    }
+    t
+}
+
+// 1 where a destination is one step away, else 0.
+fn near_of(s: u32, d: usize) -> u8
+    requires { ⌜ d < 32 ⌝ }
+    ensures { λ v. ⌜ v ≡ nearOf s d ⌝ }
+{
+    if has(s, d) { 1 } else { 0 }
+}
+
+// By router and passive: 1 where the passive is one step away.
+fn nears(t: &[u32; 32], homes: &[u8; 32], actives: usize, passives: usize) -> [[u8; 16]; 17]
+    requires { ⌜ (actives ≤ 16) × (passives ≤ 16) × PortsIn (now homes) (actives + passives) ⌝ }
+    ensures { λ z. ⌜ z ≡ nearsOf (now (t .entry)) (now (homes .entry)) actives passives ⌝ }
+{
+    let mut z = [[0u8; 16]; 17];
+    for p in 0..passives {
+        let k = port(homes, actives + p, actives + passives);
+        z[k / 4][p] = near_of(t[k / 4], actives + p);
+    }
+    z
+}
+
+// A router's sets by side, or none.
+fn kept(row: [u32; 4], keep: bool) -> [u32; 4]
+    ensures { λ t. ⌜ t ≡ keptOf row keep ⌝ }
+{
+    if keep { row } else { [0u32; 4] }
+}
+
+// The sets by side of the routers from which the walk back to an active arrives; none of the others.
+fn keeps(by: &[[u32; 4]; 16], arrive: &[u32; 32], routers: usize, a: usize) -> [[u32; 4]; 16]
+    requires { ⌜ (routers ≤ 16) × (a < 32) ⌝ }
+    ensures { λ t. ⌜ t ≡ keepsOf (now (by .entry)) (now (arrive .entry)) routers a ⌝ }
+{
+    let mut t = [[0u32; 4]; 16];
+    for r in 0..routers {
+        t[r] = kept(by[r], has(arrive[r], a));
+    }
+    t
+}
+
+// The destinations that are passives.
+fn far_of(h: Head) -> u32
+    requires { ⌜ Counts h ⌝ }
+    ensures { λ s. ⌜ s ≡ farOf h ⌝ }
+{
+    less(below(h.actives + h.passives), below(h.actives))
+}
+
+// The passives that an active is served with, where some router lacks a way back to it: by a sweep over the routers that have one.
+fn swept(
+    by: &[[u32; 4]; 16],
+    next: &[u8; 64],
+    routes: &[[u8; 32]; 16],
+    homes: &[u8; 32],
+    arrive: &[u32; 32],
+    h: Head,
+    a: usize,
+    x: usize,
+) -> u32
+    requires { ⌜ Counts h × (a < h .actives) × (x < 16) × PortsIn (now homes) (h .actives + h .passives) × Inside (now next) ⌝ }
+    ensures { λ w. ⌜ Swept (now (by .entry)) (now (next .entry)) (now (homes .entry)) (now (arrive .entry)) h a x w ⌝ }
+{
+    let n = h.actives + h.passives;
+    let kept = keeps(by, arrive, h.routers, a);
+    let mut t = firsts(&kept, homes, n);
+    let mut z = [[0u8; 16]; 17];
+    let s = Span {
+        routers: h.routers,
+        all: below(n),
+        sized: 0,
+        column: h.actives,
+    };
+    reach::reach(&kept, next, routes, s, &mut t, &mut z);
+    both(t[x], far_of(h))
+}
+
+// The passives that an active is served with. Where every router has a way back to it, they are those at which its walk arrives;
+// where its walk arrives at none, there are none.
+fn serve(
+    by: &[[u32; 4]; 16],
+    next: &[u8; 64],
+    routes: &[[u8; 32]; 16],
+    homes: &[u8; 32],
+    arrive: &[u32; 32],
+    h: Head,
+    all: u32,
+    a: usize,
+) -> u32
+    requires { ⌜ Counts h × (a < h .actives) × PortsIn (now homes) (h .actives + h .passives) × Inside (now next) ⌝ }
+    ensures { λ w. ⌜ Serving (now (by .entry)) (now (next .entry)) (now (homes .entry)) (now (arrive .entry)) h all a w ⌝ }
+{
+    let x = port(homes, a, h.actives + h.passives) / 4;
+    let v = both(arrive[x], far_of(h));
+    if has(all, a) {
+        return v;
+    }
+    if v == 0 {
+        return v;
+    }
+    swept(by, next, routes, homes, arrive, h, a, x)
+}
+
+// By active: the passives that it is served with.
+fn serves(
+    by: &[[u32; 4]; 16],
+    next: &[u8; 64],
+    routes: &[[u8; 32]; 16],
+    homes: &[u8; 32],
+    arrive: &[u32; 32],
+    h: Head,
+    all: u32,
+) -> [u32; 16]
+    requires { ⌜ Counts h × PortsIn (now homes) (h .actives + h .passives) × Inside (now next) ⌝ }
+    ensures { λ t. ⌜ Servings (now (by .entry)) (now (next .entry)) (now (homes .entry)) (now (arrive .entry)) h all (h .actives) t ⌝ }
+{
+    let actives = h.actives;
+    let mut t = [0u32; 16];
+    for a in 0..actives {
+        t[a] = serve(by, next, routes, homes, arrive, h, all, a);
+    }
+    t
+}
+
+// A router's sizes.
+fn copied(z: &[[u8; 16]; 17], x: usize) -> [u8; 16]
+    requires { ⌜ x < 17 ⌝ }
+    ensures { λ t. ⌜ t ≡ copyOf (now (z .entry)) x ⌝ }
+{
+    let mut t = [0u8; 16];
+    for p in 0..16 {
+        t[p] = z[x][p];
+    }
+    t
+}
+
+// A size, or 0.
+fn size_if(served: bool, size: u8) -> u8
+    ensures { λ v. ⌜ v ≡ pick served size 0 ⌝ }
+{
+    if served { size } else { 0 }
+}
+
+// A router's sizes for the passives of a set, else 0.
+fn masked(z: &[[u8; 16]; 17], x: usize, w: u32, column: usize) -> [u8; 16]
+    requires { ⌜ (x < 17) × (column ≤ 16) ⌝ }
+    ensures { λ t. ⌜ t ≡ maskOf (now (z .entry)) x w column ⌝ }
+{
+    let mut t = [0u8; 16];
+    for p in 0..16 {
+        t[p] = size_if(has(w, column + p), z[x][p]);
+    }
+    t
+}
+
+// The lengths of the walks of an active at router x that is served with w, where its walks arrive at v.
+fn length_row(z: &[[u8; 16]; 17], x: usize, w: u32, v: u32, column: usize) -> [u8; 16]
+    requires { ⌜ (x < 17) × (column ≤ 16) ⌝ }
+    ensures { λ t. ⌜ t ≡ lengthOf (now (z .entry)) x w v column ⌝ }
+{
+    if w == v {
+        return copied(z, x);
+    }
+    masked(z, x, w, column)
+}
+
+// By active and passive: the length of a served pair's walk, else 0.
+fn lengths_of(
+    z: &[[u8; 16]; 17],
+    arrive: &[u32; 32],
+    served: &[u32; 16],
+    homes: &[u8; 32],
+    h: Head,
+) -> [[u8; 16]; 16]
+    requires { ⌜ Counts h × PortsIn (now homes) (h .actives + h .passives) ⌝ }
+    ensures { λ t. ⌜ t ≡ lengthsBy (now (z .entry)) (now (arrive .entry)) (now (served .entry)) (now (homes .entry)) h ⌝ }
+{
+    let n = h.actives + h.passives;
+    let actives = h.actives;
+    let far = far_of(h);
+    let mut t = [[0u8; 16]; 16];
+    for a in 0..actives {
+        let x = port(homes, a, n) / 4;
+        t[a] = length_row(z, x, served[a], both(arrive[x], far), actives);
+    }
+    t
+}
+
+// All walks: where they arrive, by router; how long those of served pairs are, by active and passive; and which pairs are
+// served, by active.
+pub fn walks(
+    h: Head,
+    routes: &[[u8; 32]; 16],
+    joints: &[u8; 64],
+    homes: &[u8; 32],
+    by: &[[u32; 4]; 16],
+    arrive: &mut [u32; 32],
+    lengths: &mut [[u8; 16]; 16],
+) -> [u32; 16]
+    requires { ⌜ Counts h × PortsIn (now homes) (h .actives + h .passives)
+        × ((r o d : ℕ) → h .routers ≤ r → o < 4 → has (getD (getD (now by) r []) o 0) d ≡ false) ⌝ }
+    ensures { λ w. ⌜ Walks h (now (routes .entry)) (now (joints .entry)) (now (homes .entry)) (now (by .entry))
+        (now (arrive .exit)) (now (lengths .exit)) w ⌝ }
+{
+    let n = h.actives + h.passives;
+    let next = nexts(joints, h.routers);
+    let mut t = firsts(by, homes, n);
+    let mut z = nears(&t, homes, h.actives, h.passives);
+    let s = Span {
+        routers: h.routers,
+        all: below(n),
+        sized: far_of(h),
+        column: h.actives,
+    };
+    let all = reach::reach(by, &next, routes, s, &mut t, &mut z);
+    let w = serves(by, &next, routes, homes, &t, h, all);
+    *lengths = lengths_of(&z, &t, &w, homes, h);
+    *arrive = t;
+    w
+}

@@ -1,0 +1,4 @@
+pub mod Rounds
+pub mod Circles
+pub mod RingTest
+pub mod Told

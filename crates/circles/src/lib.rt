@@ -1,0 +1,107 @@
+// Refusal 6 by routers and answers: a ring of feeding queues is a ring of sides that the walks of served pairs leave
+// routers by, or one of crossings that answers go by. Sets of destinations are words: active d, or passive d - A.
+use plan::Head;
+ghost use mathlib.Core.Path.{_≡_};
+ghost use mathlib.Core.Bool.{false};
+ghost use mathlib.Core.List.{List};
+ghost use Prim.Native.Nat.{ℕ, _*_};
+ghost use Rattle.basis.specs.Ring.{ringTest};
+ghost use Rattle.plan.specs.Plan.{Plan, R};
+ghost use Rattle.plan.specs.Head.{Counts};
+ghost use Rattle.circles.specs.RingTest.{trailEdge, handEdge, hasRing};
+ghost use Rattle.circles.specs.Told.{Told};
+
+// Whether the walks of served pairs go round.
+fn walks_ring(
+    by: &[[u32; 4]; 16],
+    joints: &[u8; 64],
+    homes: &[u8; 32],
+    served: &[u32; 16],
+    h: Head,
+) -> bool
+    requires { ⌜ Counts h ⌝ }
+    ensures { λ r. ⌜ ((pl : Plan) (arrive : List ℕ)
+        → Told pl h (now (by .entry)) (now (joints .entry)) (now (homes .entry)) arrive (now (served .entry))
+        → r ≡ ringTest (4 * R pl) (trailEdge pl)) ⌝ }
+{
+    let n = h.routers;
+    let mut used = [0u32; 32];
+    links::starts::carried(by, joints, homes, served, n, h.actives, &mut used);
+    let mut gone = [0u32; 64];
+    links::leaves(by, &used, sets::below(32), 4 * n, &mut gone);
+    let mut cells = [0u32; 64];
+    links::trail_cells(&gone, joints, 4 * n, &mut cells);
+    peel::has_ring(&cells, n)
+}
+
+// Whether answers might go round, if every router sent some to each served active that it reaches: a quick look.
+fn links_ring(
+    by: &[[u32; 4]; 16],
+    joints: &[u8; 64],
+    arrive: &[u32; 32],
+    served: &[u32; 16],
+    h: Head,
+) -> bool
+    requires { ⌜ Counts h ⌝ }
+    ensures { λ r. ⌜ ((pl : Plan) (homes : List ℕ)
+        → Told pl h (now (by .entry)) (now (joints .entry)) homes (now (arrive .entry)) (now (served .entry))
+        → r ≡ false → ringTest (16 * R pl) (handEdge pl) ≡ false) ⌝ }
+{
+    let n = h.routers;
+    let live = links::starts::live(served, h.actives);
+    let mut gone = [0u32; 64];
+    links::leaves(by, arrive, live, 4 * n, &mut gone);
+    let mut cells = [0u32; 64];
+    links::link_cells(&gone, joints, 4 * n, &mut cells);
+    peel::has_ring(&cells, n)
+}
+
+// Whether answers go round.
+fn answers_ring(
+    by: &[[u32; 4]; 16],
+    joints: &[u8; 64],
+    homes: &[u8; 32],
+    served: &[u32; 16],
+    h: Head,
+) -> bool
+    requires { ⌜ Counts h ⌝ }
+    ensures { λ r. ⌜ ((pl : Plan) (arrive : List ℕ)
+        → Told pl h (now (by .entry)) (now (joints .entry)) (now (homes .entry)) arrive (now (served .entry))
+        → r ≡ ringTest (16 * R pl) (handEdge pl)) ⌝ }
+{
+    let n = h.routers;
+    let mut sent = [0u32; 32];
+    links::starts::answers(by, joints, homes, served, n, h.actives, &mut sent);
+    let mut gone = [0u32; 64];
+    links::leaves(by, &sent, sets::below(32), 4 * n, &mut gone);
+    let mut cells = [0u32; 256];
+    links::cross_cells(&gone, joints, 16 * n, &mut cells);
+    peel::has_ring(&cells, 4 * n)
+}
+
+// Whether some queues feed each other in a ring, for tables that tell what a plan says.
+pub fn ring_found(
+    by: &[[u32; 4]; 16],
+    joints: &[u8; 64],
+    homes: &[u8; 32],
+    arrive: &[u32; 32],
+    served: &[u32; 16],
+    h: Head,
+) -> bool
+    requires { ⌜ Counts h ⌝ }
+    ensures { λ r. ⌜ ((pl : Plan)
+        → Told pl h (now (by .entry)) (now (joints .entry)) (now (homes .entry)) (now (arrive .entry))
+        (now (served .entry))
+        → r ≡ hasRing pl) ⌝ }
+{
+    if h.routers == 1 {
+        return false;
+    }
+    if walks_ring(by, joints, homes, served, h) {
+        return true;
+    }
+    if links_ring(by, joints, arrive, served, h) {
+        return answers_ring(by, joints, homes, served, h);
+    }
+    false
+}

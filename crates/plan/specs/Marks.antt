@@ -1,0 +1,68 @@
+-- How the code reads routes: eight at a time into marks, of which sets of columns by side are made.
+use mathlib.Core.Path.{_≡_}
+use mathlib.Core.Bool.{Bool, _&&_}
+use mathlib.Core.List.{List, []}
+use Prim.Native.Nat.{ℕ, _+_, _*_, _/_, _%_, _^_, _<_}
+use lib.Dec.{eqb, ltb}
+use lib.ListN.{getD, set, length, replicate}
+use Rattle.basis.specs.Choice.{pick}
+use Rattle.basis.specs.Bounded.{allBelow}
+use Rattle.basis.specs.Fold.{upTo, fill}
+use Rattle.sets.specs.Sets.{has, single, either}
+use Rattle.fields.specs.Bits.{fieldOf}
+use Rattle.plan.specs.declared.Head.{Head}
+use Rattle.plan.specs.Head.{destinations}
+use Rattle.plan.specs.Plan.{noSide}
+use Rattle.plan.specs.Rules.{routeOk}
+use Rattle.plan.specs.Tables.{routesOf, routesOk}
+
+-- the side that a row, whose bits start at a position, gives for a column
+unfoldable pub sideAt : List ℕ → ℕ → ℕ → ℕ
+sideAt b at d = fieldOf b (at + 3 * d) 3
+
+-- the marks of m columns from d on: digit 8 v + j is set where the j-th of them has the side v
+unfoldable pub marksOf : (ℕ → ℕ) → ℕ → ℕ → ℕ
+marksOf g d m = upTo (λ j s. either s (single (8 * g (d + j) + j))) m 0
+
+-- one column more
+abbrev pub Puts : (ℕ → ℕ) → ℕ → ℕ → List ℕ → ℕ → List ℕ → ℕ → Type 0
+Puts g d j row marks row′ marks′ = (row′ ≡ set row (d + j) (g (d + j))) ×
+    (marks′ ≡ either marks (single (8 * g (d + j) + j)))
+
+-- m columns from d on are put into a row that has those below d
+abbrev pub Block : (ℕ → ℕ) → ℕ → ℕ → List ℕ → List ℕ → ℕ → Type 0
+Block g d m row row′ marks =
+    ((s : List ℕ) → row ≡ upTo (fill g) d s → row′ ≡ upTo (fill g) (d + m) s) × (marks ≡ marksOf g d m)
+
+-- the columns of marks from d on whose side is o; whether none has the side 4, 5 or 6
+unfoldable pub partOf : ℕ → ℕ → ℕ → ℕ
+partOf marks o d = marks / 2 ^ (8 * o) % 256 * 2 ^ d
+
+unfoldable pub fitsOf : ℕ → Bool
+fitsOf marks = eqb (marks / 2 ^ 32 % 16777216) 0
+
+unfoldable pub atMost : ℕ → ℕ
+atMost n = pick (ltb n 8) n 8
+
+-- the columns below k whose side is o
+abbrev pub Side : (ℕ → ℕ) → ℕ → ℕ → ℕ → Type 0
+Side g k o s = (i : ℕ) → has s i ≡ (ltb i k && eqb (g i) o)
+
+-- a row of n columns, its sets by side, and whether each column has a side or none
+pub record Row (g : ℕ → ℕ) (n : ℕ) (row row′ sides : List ℕ) (ok : Bool) : Type 0 where
+  pub four : length sides ≡ 4
+  pub filled : row′ ≡ upTo (fill g) n row
+  pub sets : (o : ℕ) → o < 4 → Side g n o (getD sides o 0)
+  pub fit : ok ≡ allBelow n (λ i. routeOk (g i))
+
+-- ---- all routers
+-- the tables before any route is read
+abbrev pub NoRoutes : List (List ℕ) → List (List ℕ) → Type 0
+NoRoutes t by = (t ≡ replicate 16 (replicate 32 noSide)) × (by ≡ replicate 16 (replicate 4 0))
+
+-- the route table, the destinations by router and side, and refusal 4's test of routes
+pub record Routes (b : List ℕ) (h : Head) (t by : List (List ℕ)) (ok : Bool) : Type 0 where
+  pub table : t ≡ routesOf b h
+  pub sides : (r o d : ℕ) → o < 4
+      → has (getD (getD by r []) o 0) d ≡ (ltb d (destinations h) && eqb (getD (getD t r []) d noSide) o)
+  pub fit : ok ≡ routesOk h t

@@ -11,7 +11,8 @@ use lib.ListN.{getD}
 use borrow.Author.Tests.{eqb-true, eq-eqb, ltb-true, ltb-false}
 use Rattle.basis.specs.Choice.{pick, test, same-test}
 use Rattle.basis.specs.Bounded.{lt-or-ge}
-use Rattle.basis.specs.Walk.{Spot, on, end, lost, spot, isEnd, end-of, on-end, on-lost, end-lost, spot-next, spot-none, spot-end, spot-lost, spot-add, way-of-end}
+use Rattle.basis.specs.Walk.{Spot, on, end, lost, spot, isEnd, end-of, on-end, on-lost, end-lost, spot-next, spot-none}
+use Rattle.basis.specs.Walk.{spot-end, spot-lost, spot-add, way-of-end}
 use Rattle.plan.specs.declared.Joint.{Joint}
 use Rattle.plan.specs.declared.Joint.the-variants.{Nothing, Router, Active, Passive}
 use Rattle.plan.specs.declared.Head.{Head}

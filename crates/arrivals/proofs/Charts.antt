@@ -168,7 +168,8 @@ module _ (by : List (List ℕ)) (homes : List ℕ) where
           rw (e, lt-ltb n (suc n) (omega arith), ne-eqb r (getD homes n 0 / 4) f, there f) old
       go rec (inr e) (inl f) =
           rw (f, ltb-alike d (suc n) d n (λ q. omega arith) (λ q. omega arith), here)
-          (members ∙ rw (ne-eqb d n e, and-none (has (getD (getD by (getD homes n 0 / 4) []) (getD homes n 0 % 4) 0) d))
+          (members
+          ∙ rw (ne-eqb d n e, and-none (has (getD (getD by (getD homes n 0 / 4) []) (getD homes n 0 % 4) 0) d))
           (or-none (has (getD (firstsOf by homes n) (getD homes n 0 / 4) 0) d) ∙ rw f at rec))
       go rec (inr e) (inr f) = rw (ltb-alike d (suc n) d n (λ q. omega arith) (λ q. omega arith), there f) rec
 

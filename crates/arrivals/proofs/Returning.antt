@@ -1,4 +1,5 @@
--- A pair is served exactly if the walk arrives in the plan whose routers without a way back to the active give no side.
+-- A pair is served exactly if the walk arrives in the plan whose routers without a way back to the active give no
+-- side.
 use mathlib.Core.Path.{_≡_, refl, sym, ap, _∙_}
 use mathlib.Core.Logic.{_⊎_, inl, inr}
 use mathlib.Core.Bool.{Bool, true, false, _&&_, true≢false, false≢true}
@@ -11,7 +12,8 @@ use borrow.Author.Tests.{lt-ltb, le-ltb, ltb-true, ltb-false, ne-eqb}
 use Rattle.basis.specs.Choice.{pick, also, also-true, also-of, test, same-test, not-both}
 use Rattle.basis.specs.Bounded.{allBelow, all-at, all-of, lt-or-ge, below-suc}
 use Rattle.basis.specs.Fold.{fill-at, fill-past}
-use Rattle.basis.specs.Walk.{Spot, on, end, lost, spot, spot-none, spot-next, spot-lost, isEnd, end-of, end-lost, on-same, go}
+use Rattle.basis.specs.Walk.{Spot, on, end, lost, spot, spot-none, spot-next, spot-lost, isEnd, end-of, end-lost}
+use Rattle.basis.specs.Walk.{on-same, go}
 use Rattle.plan.specs.declared.Joint.{Joint}
 use Rattle.plan.specs.declared.Joint.the-variants.{Nothing, Router, Active, Passive}
 use Rattle.plan.specs.Head.{destinations}
@@ -210,10 +212,6 @@ module _ (pl : Plan) (by : List (List ℕ)) (joints homes arrive : List ℕ) (w 
           (R pl) (replicate 16 (replicate 4 0)) r [] l)
           ∙ ap (λ (x : ℕ). has x d) (replicate-row 16 4 0 r o) ∙ none-has d
           ∙ rw (le-ltb r (R pl) l) (sym (off (ltb d (destinations (pl .head)))))
-
-  home-same : (e : Interface) → home (returning pl a) e ≡ home pl e
-  unfolding home portsOf returning
-  home-same e = refl
 
   kept-wired : Wired (returning pl a)
   unfolding returning home portsOf

@@ -28,7 +28,8 @@ use Rattle.reach.specs.Sizes.{Sized, Told, Grows}
 use Rattle.reach.proofs.Sweeps.{and-parts, common-has}
 use Rattle.arrivals.specs.Tables.{nextsOf, firstsOf, nearsOf, keepsOf, farOf}
 use Rattle.arrivals.specs.Charted.{Charting}
-use Rattle.arrivals.specs.Pairs.{pairWalk, lengthsOf, Swept, Serving, Servings, copyOf, maskOf, lengthOf, lengthsBy, Tables, Walks}
+use Rattle.arrivals.specs.Pairs.{pairWalk, lengthsOf, Swept, Serving, Servings, copyOf, maskOf, lengthOf}
+use Rattle.arrivals.specs.Pairs.{lengthsBy, Tables, Walks}
 use Rattle.arrivals.proofs.Charts.{ports-in, sides-past, charted, first-idle}
 use Rattle.arrivals.proofs.Sizes.{far-size, arrivals}
 use Rattle.arrivals.proofs.Returning.{returning, served-kept, kept-charting}
@@ -74,8 +75,8 @@ module _ (pl : Plan) (by : List (List ℕ)) (joints homes : List ℕ) (w : Chart
       ∙ g .there x (A pl + p) inside (rw same (omega arith))
       ∙ ap (λ (e : Interface). arrives pl′ e x) (ap (λ (h : Head). interfaceAt h (A pl + p)) same ∙ passive-at pl p)
 
-  pub serving-served : (a p v : ℕ) → a < A pl → p < P pl → Serving by (nextsOf joints (R pl)) homes t (pl .head) all a v
-      → has v (A pl + p) ≡ served pl a p
+  pub serving-served : (a p v : ℕ) → a < A pl → p < P pl
+      → Serving by (nextsOf joints (R pl)) homes t (pl .head) all a v → has v (A pl + p) ≡ served pl a p
   unfolding returning servedFrom
   serving-served a p v la lp (inl (e, g)) =
       ap (λ (u : ℕ). has u (A pl + p)) g ∙ at-home pl refl t f a p la lp
@@ -320,7 +321,8 @@ walks-sound h routes joints homes by {next} {first} {z₀} {full} {far} t z {all
         (h .passives)) t z
     grown = rw (ez, ef, en) at g
 
-    size : Sized by (nextsOf joints (h .routers)) (record { routers = h .routers; all = full; sized = far; column = h .actives })
+    size : Sized by (nextsOf joints (h .routers))
+        (record { routers = h .routers; all = full; sized = far; column = h .actives })
         (firstsOf by homes (destinations h)) t z
     size =
         grown (firstsOf by homes (destinations h))

@@ -1,5 +1,5 @@
--- Tables of sets that say what a plan says: the destinations by side, the router beyond each side, and the destinations
--- that are one step away.
+-- Tables of sets that say what a plan says: the destinations by side, the router beyond each side, and the
+-- destinations that are one step away.
 use mathlib.Core.Path.{_≡_}
 use mathlib.Core.List.{List}
 use Prim.Native.Nat.{ℕ, _+_, _*_, _≤_, _<_}

@@ -41,7 +41,8 @@ module _ (by : List (List ℕ)) (next homes arrive : List ℕ) (h : Head) where
       (firstsOf (keepsOf by arrive (h .routers) a) homes (h .actives + h .passives)) t
       × (w ≡ both (getD t x 0) (farOf h))
 
-  -- active a's passives: those at which its walk arrives, if all routers return to it or there are none; else by a sweep
+  -- active a's passives: those at which its walk arrives, if all routers return to it or there are none; else by a
+  -- sweep
   abbrev pub Serving : ℕ → ℕ → ℕ → Type 0
   Serving all a w =
       ((has all a ≡ true) × (w ≡ both (getD arrive (getD homes a 0 / 4) 0) (farOf h)))

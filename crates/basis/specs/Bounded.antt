@@ -83,16 +83,6 @@ unfolding anyBelow
 any-same zero f g h = refl
 any-same (suc n) f g h = ap₂ (λ (a b : Bool). a || b) (h n (omega arith)) (any-same n f g (λ i l. h i (omega arith)))
 
--- a loop that looks for one that passes: none below i so far, and one more turn
-pub any-none : (f : ℕ → Bool) → anyBelow 0 f ≡ false
-unfolding anyBelow
-any-none f = refl
-
-pub any-more : (f : ℕ → Bool) (i : ℕ) {b : Bool} → anyBelow i f ≡ false → b ≡ f i → b ≡ false
-    → anyBelow (i + 1) f ≡ false
-unfolding anyBelow
-any-more f i e g h = rw (add-one, ← g, h, e)
-
 -- ---- every number below n passes
 unfoldable pub allBelow : ℕ → (ℕ → Bool) → Bool
 allBelow zero f = true

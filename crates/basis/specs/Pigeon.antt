@@ -79,10 +79,3 @@ pigeon (suc n) f h = by (λ g k. pigeon n g k) (find (suc n) (λ i. eqb (f i) (f
                 pair (inl a) (inr b) = omega (arith, t .same, o1, o2)
                 pair (inr a) (inl b) = omega (arith, t .same, o1, o2)
                 pair (inr a) (inr b) = omega (arith, t .same)
-
--- a list longer than n, all below n, has two equal elements
-pub pigeon-list : (n : ℕ) (xs : List ℕ) → n < length xs → ((i : ℕ) → i < length xs → getD xs i 0 < n)
-    → Twice (λ i. getD xs i 0) (length xs)
-pigeon-list n xs l h =
-    let t = pigeon n (λ i. getD xs i 0) (λ i k. h i (omega arith)) in
-    record { first = t .first; second = t .second; order = t .order; bound = omega arith; same = t .same }

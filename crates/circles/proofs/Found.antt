@@ -30,7 +30,8 @@ use Rattle.links.specs.Cells.{crossesOf, outOf}
 use Rattle.links.specs.Starts.{startsOf, livesOf}
 use Rattle.links.proofs.Laws.{mask-small, not-empty}
 use Rattle.links.proofs.Members.{member, in-lives, leaves-at, leave-in, in-leave, cell-group, cell-has, four-has}
-use Rattle.links.proofs.Members.{mask-in, in-mask, trail-in, trail-is, link-is, cross-in, cross-is, trails-at, links-at}
+use Rattle.links.proofs.Members.{mask-in, in-mask, trail-in, trail-is, link-is, cross-in, cross-is, trails-at}
+use Rattle.links.proofs.Members.{links-at}
 use Rattle.links.proofs.Members.{crosses-at}
 use Rattle.circles.specs.Circles.{Answers, Crossing, Hands, AnswerRing}
 use Rattle.circles.specs.RingTest.{walkMeets, walkLeaves, isRouter, trailEdge, answered, answerLeaves}
@@ -39,7 +40,8 @@ use Rattle.circles.specs.Told.{Told}
 use Rattle.circles.proofs.Tests.{walk-by, by-walk, router-is, port-is, answered-by, by-answers}
 use Rattle.circles.proofs.Tests.{back-from, answer-leaves, answer-comes, Handed, handed}
 use Rattle.circles.proofs.Tests.{answer-test, one-router}
-use Rattle.circles.proofs.Drawn.{few, joint-partner, partner-joint, leaves-of, of-leaves, all-walker, walker-all}
+use Rattle.circles.proofs.Drawn.{few, joint-partner, partner-joint, leaves-of, of-leaves, all-walker}
+use Rattle.circles.proofs.Drawn.{walker-all}
 use Rattle.circles.proofs.Drawn.{answers-of, of-answers}
 
 -- ---- tests of relations that agree
@@ -83,13 +85,16 @@ module _ {pl : Plan} {h : Head} {by : List (List ℕ)} {joints homes arrive serv
             leave-in by t (below 32) k d (rw (leaves-at by t (below 32) (4 * R pl) k l (omega (arith, room))) at u) in
             let w = all-walker fits told t spread (k / 4) d (omega arith) (b .1) in
             let r = of-leaves fits told (k / 4) (k % 4) d (omega arith) (b .0) .1 in
-            any-of (P pl) (λ p. also (eqb (routeTo pl (passive p) (k / 4)) (k % 4)) (walkMeets pl p (k / 4))) (w .p) (w .has-passive)
+            any-of (P pl) (λ p. also (eqb (routeTo pl (passive p) (k / 4)) (k % 4)) (walkMeets pl p (k / 4))) (w .p)
+            (w .has-passive)
             (also-of (eq-eqb (routeTo pl (passive (w .p)) (k / 4)) (k % 4) (rw (w .column-is) at r))
-            (by-walk (told .wired) (w .p) (k / 4) (record { a = w .a; has = w .has-active; serves = w .serves; side = w .side; met = w .met })))
+            (by-walk (told .wired) (w .p) (k / 4)
+            (record { a = w .a; has = w .has-active; serves = w .serves; side = w .side; met = w .met })))
 
     walk-leaves : (k : ℕ) → k < 4 * R pl → walkLeaves pl (k / 4) (k % 4) ≡ true → getD trailed k 0 ≢ 0
     unfolding walkLeaves
-    walk-leaves k l u = found (any-true (P pl) (λ p. also (eqb (routeTo pl (passive p) (k / 4)) (k % 4)) (walkMeets pl p (k / 4))) u)
+    walk-leaves k l u =
+        found (any-true (P pl) (λ p. also (eqb (routeTo pl (passive p) (k / 4)) (k % 4)) (walkMeets pl p (k / 4))) u)
       where
         found : Found (P pl) (λ p. also (eqb (routeTo pl (passive p) (k / 4)) (k % 4)) (walkMeets pl p (k / 4)))
             → getD trailed k 0 ≢ 0
@@ -99,8 +104,10 @@ module _ {pl : Plan} {h : Head} {by : List (List ℕ)} {joints homes arrive serv
             let r : pl .route (k / 4) (A pl + p) ≡ k % 4 = eqb-true (routeTo pl (passive p) (k / 4)) (k % 4) (b .0) in
             not-empty (getD trailed k 0) (A pl + p)
             (rw (leaves-at by t (below 32) (4 * R pl) k l (omega (arith, room)))
-            (in-leave by t (below 32) k (A pl + p) (leaves-of fits told (k / 4) (k % 4) (A pl + p) (omega arith) (omega arith) r)
-            (walker-all fits told t spread (w .a) p (w .has) hp (w .serves) (record { router = k / 4; side = w .side }) (w .met))
+            (in-leave by t (below 32) k (A pl + p)
+            (leaves-of fits told (k / 4) (k % 4) (A pl + p) (omega arith) (omega arith) r)
+            (walker-all fits told t spread (w .a) p (w .has) hp (w .serves) (record { router = k / 4; side = w .side })
+            (w .met))
             (has-below 32 (A pl + p) ∙ lt-ltb (A pl + p) 32 (omega (arith, room)))))
 
     trail-edges : (x y : ℕ) → x < 4 * R pl → y < 4 * R pl
@@ -117,8 +124,10 @@ module _ {pl : Plan} {h : Head} {by : List (List ℕ)} {joints homes arrive serv
             let b = edge-parts (trailsOf trailed joints (4 * R pl)) x y e in
             let c = trail-in trailed joints x (y % 4) (rw cell at (b .1)) in
             let g : beyondOf joints x ≡ y / 4 =
-            sym (cell-group (beyondOf joints x) 15 (omega (arith, c .1)) (omega arith)) ∙ ap groupOf (sym (cell ∙ c .2)) ∙ b .0 in
-            also-of {a = isRouter (y / 4) (pl .joint (x / 4) (x % 4))} (rw (partner-joint fits told x lx (c .1)) (eq-eqb (beyondOf joints x) (y / 4) g)) (leaves-walk x lx (c .0))
+            sym (cell-group (beyondOf joints x) 15 (omega (arith, c .1)) (omega arith))
+            ∙ ap groupOf (sym (cell ∙ c .2)) ∙ b .0 in
+            also-of {a = isRouter (y / 4) (pl .joint (x / 4) (x % 4))}
+            (rw (partner-joint fits told x lx (c .1)) (eq-eqb (beyondOf joints x) (y / 4) g)) (leaves-walk x lx (c .0))
 
         back : also (isRouter (y / 4) (pl .joint (x / 4) (x % 4))) (walkLeaves pl (x / 4) (x % 4)) ≡ true
             → edge (trailsOf trailed joints (4 * R pl)) x y ≡ true
@@ -131,7 +140,8 @@ module _ {pl : Plan} {h : Head} {by : List (List ℕ)} {joints homes arrive serv
             let n = near (told .wired) (j .1) in
             let g : beyondOf joints x ≡ y / 4 = omega (arith, n) in
             let c = trail-is trailed joints x (walk-leaves x lx (b .1)) (omega (arith, n, room)) in
-            parts-edge (trailsOf trailed joints (4 * R pl)) x y (beyondOf joints x) 15 (cell ∙ c) (omega (arith, n, room)) (omega arith) g (four-has (y % 4) (omega arith))
+            parts-edge (trailsOf trailed joints (4 * R pl)) x y (beyondOf joints x) 15 (cell ∙ c)
+            (omega (arith, n, room)) (omega arith) g (four-has (y % 4) (omega arith))
 
     pub walks-found : {r : Bool} → r ≡ ringTest (4 * R pl) (edge (trailsOf trailed joints (4 * R pl)))
         → r ≡ ringTest (4 * R pl) (trailEdge pl)
@@ -149,8 +159,11 @@ module _ {pl : Plan} {h : Head} {by : List (List ℕ)} {joints homes arrive serv
         let b =
         leave-in by t (below 32) k a (rw (leaves-at by t (below 32) (4 * R pl) k l (omega (arith, room))) at u) in
         let s = answers-of fits told t answers (k / 4) a (omega arith) (b .1) in
-        let r = of-leaves fits told (k / 4) (k % 4) a (omega arith) (b .0) .1 in
-        (s .0, also-of (eq-eqb (routeTo pl (active a) (k / 4)) (k % 4) r) (by-answers (told .wired) a (record { router = k / 4; side = s .1 .0 }) (s .1 .1)))
+        let r = of-leaves fits told (k / 4) (k % 4) a (omega arith) (b .0) .1 in (
+          s .0,
+          also-of (eq-eqb (routeTo pl (active a) (k / 4)) (k % 4) r)
+              (by-answers (told .wired) a (record { router = k / 4; side = s .1 .0 }) (s .1 .1)),
+        )
 
     answers-leave : (k a : ℕ) → k < 4 * R pl → a < A pl → answerLeaves pl a (k / 4) (k % 4) ≡ true
         → has (getD sent k 0) a ≡ true
@@ -189,7 +202,8 @@ module _ {pl : Plan} {h : Head} {by : List (List ℕ)} {joints homes arrive serv
         q = partnerOf joints (outOf x)
 
         pass : ℕ → Bool
-        pass a = also (answerComes pl a (pl .joint (x / 16) (x / 4 % 4))) (also (answerLeaves pl a (x / 16) (x % 4)) (answerLeaves pl a (y / 16) (y % 4)))
+        pass a = also (answerComes pl a (pl .joint (x / 16) (x / 4 % 4)))
+            (also (answerLeaves pl a (x / 16) (x % 4)) (answerLeaves pl a (y / 16) (y % 4)))
 
         there : edge (crossesOf sent joints (16 * R pl)) x y ≡ true
             → also (isRouterAt (y / 4) (pl .joint (x / 16) (x % 4))) (anyBelow (A pl) pass) ≡ true
@@ -198,11 +212,14 @@ module _ {pl : Plan} {h : Head} {by : List (List ℕ)} {joints homes arrive serv
             let c = cross-in sent joints x (y % 4) (rw cell at (b .1)) in
             let s = mask-small sent (crossed sent joints x) (beyondOf joints (outOf x)) in
             let g : q ≡ y / 4 =
-            sym (cell-group q (maskOf sent (crossed sent joints x) (beyondOf joints (outOf x))) (c .1) s) ∙ ap groupOf (sym (cell ∙ c .2)) ∙ b .0 in
+            sym (cell-group q (maskOf sent (crossed sent joints x) (beyondOf joints (outOf x))) (c .1) s)
+            ∙ ap groupOf (sym (cell ∙ c .2)) ∙ b .0 in
             let m : has (maskOf sent (crossed sent joints x) (beyondOf joints (outOf x))) (y % 4) ≡ true =
-            sym (cell-has q (maskOf sent (crossed sent joints x) (beyondOf joints (outOf x))) (y % 4) (omega arith)) ∙ (rw (cell, c .2) at (b .1)) in
+            sym (cell-has q (maskOf sent (crossed sent joints x) (beyondOf joints (outOf x))) (y % 4) (omega arith))
+            ∙ (rw (cell, c .2) at (b .1)) in
             let d =
-            member (both (crossed sent joints x) (getD sent (4 * beyondOf joints (outOf x) + y % 4) 0)) (mask-in sent (crossed sent joints x) (beyondOf joints (outOf x)) (y % 4) m) in
+            member (both (crossed sent joints x) (getD sent (4 * beyondOf joints (outOf x) + y % 4) 0))
+            (mask-in sent (crossed sent joints x) (beyondOf joints (outOf x)) (y % 4) m) in
             let f =
             both-in (crossed sent joints x) (getD sent (4 * beyondOf joints (outOf x) + y % 4) 0) (d .0) (d .1) in
             let k = both-in (getD sent i 0) (getD sent (outOf x) 0) (d .0) (f .0) in
@@ -224,8 +241,10 @@ module _ {pl : Plan} {h : Head} {by : List (List ℕ)} {joints homes arrive serv
                 let er : (4 * (q / 4) + y % 4) / 4 ≡ y / 16 = omega arith in
                 let eo : (4 * (q / 4) + y % 4) % 4 ≡ y % 4 = omega arith in
                 let eq : 4 * (q / 4) + q % 4 ≡ y / 4 = omega arith in
-                also-of {a = isRouterAt (y / 4) (pl .joint (x / 16) (x % 4))} (rw out (eq-eqb (4 * (q / 4) + q % 4) (y / 4) eq))
-                (any-of (A pl) pass a (first .0) (also-of {a = answerComes pl a (pl .joint (x / 16) (x / 4 % 4))} (rw into (first .1)) (also-of (rw (or, oo) at (second .1)) (rw (er, eo) at (third .1)))))
+                also-of {a = isRouterAt (y / 4) (pl .joint (x / 16) (x % 4))}
+                (rw out (eq-eqb (4 * (q / 4) + q % 4) (y / 4) eq))
+                (any-of (A pl) pass a (first .0) (also-of {a = answerComes pl a (pl .joint (x / 16) (x / 4 % 4))}
+                (rw into (first .1)) (also-of (rw (or, oo) at (second .1)) (rw (er, eo) at (third .1)))))
 
         back : also (isRouterAt (y / 4) (pl .joint (x / 16) (x % 4))) (anyBelow (A pl) pass) ≡ true
             → edge (crossesOf sent joints (16 * R pl)) x y ≡ true
@@ -259,9 +278,12 @@ module _ {pl : Plan} {h : Head} {by : List (List ℕ)} {joints homes arrive serv
                 let m = not-empty (both (crossed sent joints x) (getD sent (4 * (q / 4) + y % 4) 0)) a
                 (in-both (crossed sent joints x) (getD sent (4 * (q / 4) + y % 4) 0) a k third) in
                 let z =
-                cross-is sent joints x (omega (arith, li, room)) (omega (arith, ln, room)) (not-empty (crossed sent joints x) a k) in
-                parts-edge (crossesOf sent joints (16 * R pl)) x y q (maskOf sent (crossed sent joints x) (q / 4)) (cell ∙ z) (omega (arith, ln, room))
-                (mask-small sent (crossed sent joints x) (q / 4)) (eq ∙ p) (in-mask sent (crossed sent joints x) (q / 4) (y % 4) (omega arith) m)
+                cross-is sent joints x (omega (arith, li, room)) (omega (arith, ln, room))
+                (not-empty (crossed sent joints x) a k) in
+                parts-edge (crossesOf sent joints (16 * R pl)) x y q (maskOf sent (crossed sent joints x) (q / 4))
+                (cell ∙ z) (omega (arith, ln, room))
+                (mask-small sent (crossed sent joints x) (q / 4)) (eq ∙ p)
+                (in-mask sent (crossed sent joints x) (q / 4) (y % 4) (omega arith) m)
 
     pub answers-found : {r : Bool} → r ≡ ringTest (16 * R pl) (edge (crossesOf sent joints (16 * R pl)))
         → r ≡ ringTest (16 * R pl) (handEdge pl)
@@ -282,16 +304,19 @@ module _ {pl : Plan} {h : Head} {by : List (List ℕ)} {joints homes arrive serv
       made (i, s) =
           let w = back-from (told .wired) a (record { router = k / 4; side = i }) s in
           let o =
-          way-on (onward pl (active a)) routerOf w (s .way .steps) (record { router = k / 4; side = i }) (s .way .here) in
+          way-on (onward pl (active a)) routerOf w (s .way .steps) (record { router = k / 4; side = i })
+          (s .way .here) in
           let v : Walk pl (active a) (record { router = k / 4; side = i }) =
           rw (o .1) at (way-tail (onward pl (active a)) routerOf w (s .way .steps) (o .0)) in
           let reached = arrives-of (told .wired) (active a) (record { router = k / 4; side = i }) (omega arith) v in
           let there : has (getD arrive (k / 4) 0) a ≡ true =
-          told .arrivals .there (record { router = k / 4; side = i }) a (omega arith) (omega arith) ∙ rw (lt-ltb a (A pl) la) reached in
+          told .arrivals .there (record { router = k / 4; side = i }) a (omega arith) (omega arith)
+          ∙ rw (lt-ltb a (A pl) la) reached in
           let live = in-lives serve (A pl) a la (not-empty (getD serve a 0) (A pl + s .p)
           (told .serves .pairs a (s .p) la (s .has-passive) ∙ serves-of (told .wired) a (s .p) la (s .serves))) in
           rw (leaves-at by arrive (livesOf serve (A pl)) (4 * R pl) k l (omega (arith, room)))
-          (in-leave by arrive (livesOf serve (A pl)) k a (leaves-of fits told (k / 4) (k % 4) a (omega arith) (omega arith) (b .1)) there live)
+          (in-leave by arrive (livesOf serve (A pl)) k a
+          (leaves-of fits told (k / 4) (k % 4) a (omega arith) (omega arith) (b .1)) there live)
 
   abbrev linkAt : Crossing → ℕ
   linkAt x = 4 * x .into .router + x .out
@@ -312,14 +337,17 @@ module _ {pl : Plan} {h : Head} {by : List (List ℕ)} {joints homes arrive serv
       let m = not-empty (both (getD heard (linkAt x) 0) (getD heard (4 * y .into .router + y .out) 0)) (g .a)
       (in-both (getD heard (linkAt x) 0) (getD heard (4 * y .into .router + y .out) 0) (g .a) first second) in
       let z = link-is heard joints (linkAt x) (omega (arith, g .there, room)) in
-      parts-edge (linksOf heard joints (4 * R pl)) (linkAt x) (linkAt y) (y .into .router) (maskOf heard (getD heard (linkAt x) 0) (y .into .router))
-      (links-at heard joints (4 * R pl) (linkAt x) lx (omega (arith, room)) ∙ (rw bq at z)) (omega (arith, g .there, room))
+      parts-edge (linksOf heard joints (4 * R pl)) (linkAt x) (linkAt y) (y .into .router)
+      (maskOf heard (getD heard (linkAt x) 0) (y .into .router))
+      (links-at heard joints (4 * R pl) (linkAt x) lx (omega (arith, room)) ∙ (rw bq at z))
+      (omega (arith, g .there, room))
       (mask-small heard (getD heard (linkAt x) 0) (y .into .router)) (sym ey)
       (rw eu (in-mask heard (getD heard (linkAt x) 0) (y .into .router) (y .out) (omega (arith, g .there)) m))
 
   pub links-clear : {r : Bool} → r ≡ ringTest (4 * R pl) (edge (linksOf heard joints (4 * R pl))) → r ≡ false
       → ringTest (16 * R pl) (handEdge pl) ≡ false
-  links-clear e f = refuted (ringTest (16 * R pl) (handEdge pl)) (λ t. not-both (round (answer-test (told .wired) t)) (sym e ∙ f))
+  links-clear e f =
+      refuted (ringTest (16 * R pl) (handEdge pl)) (λ t. not-both (round (answer-test (told .wired) t)) (sym e ∙ f))
     where
       step : (x y : Crossing) → Hands pl x y
           → Leads (4 * R pl) (edge (linksOf heard joints (4 * R pl))) (linkAt x) (linkAt y)

@@ -119,7 +119,8 @@ Ahead pl a p (inQueue (K r i o)) n = ⊥
 abbrev pub Returns : Plan → ℕ → ℕ → ℕ → Port → Type 0
 Returns pl a p n y =
     (Meets pl (active a) (home pl (passive p)) y × (n ≡ span pl a p))
-    ⊎ ((x z : Port) × (walked pl (passive p) n (home pl (active a)) ≡ on x) × (onward pl (active a) x ≡ on z) × Meets pl (active a) z y)
+    ⊎ ((x z : Port) × (walked pl (passive p) n (home pl (active a)) ≡ on x) × (onward pl (active a) x ≡ on z)
+    × Meets pl (active a) z y)
 
 -- an answer that set out from the passive, n the walk's length, or as a NACK from the unit of the n-th router
 unfoldable pub Back : Plan → ℕ → ℕ → Place → ℕ → Type 0

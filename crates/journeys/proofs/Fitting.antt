@@ -1,4 +1,5 @@
--- A packet that fits where it leaves a queue visits that queue, and where a packet visits a queue one of some kind and hub fits.
+-- A packet that fits where it leaves a queue visits that queue, and where a packet visits a queue one of some kind and
+-- hub fits.
 use mathlib.Core.Path.{_≡_, refl, sym, ap, _∙_}
 use mathlib.Core.Logic.{_⊎_, inl, inr}
 use Prim.Native.Nat.{ℕ, zero, suc, _+_, _≤_, _<_}
@@ -10,7 +11,8 @@ use Rattle.plan.specs.Plan.{Plan, Port, active, passive, routeTo}
 use Rattle.plan.specs.Rules.{home}
 use Rattle.paths.specs.Walk.{onward, walked}
 use Rattle.feeding.specs.Queue.{Queue, activeOut, activeIn, passiveIn, passiveOut, U, Q, F, K}
-use Rattle.feeding.specs.Feeds.{Heading, ahead, back, headingOf, Place, inQueue, handledAt, Meets, Stands, span, Ahead, Returns, Back, Fits, leavesFrom}
+use Rattle.feeding.specs.Feeds.{Heading, ahead, back, headingOf, Place, inQueue, handledAt, Meets, Stands, span, Ahead}
+use Rattle.feeding.specs.Feeds.{Returns, Back, Fits, leavesFrom}
 use Rattle.journeys.specs.Visits.{OnWalk, Comes, Visits}
 
 module _ (pl : Plan) (a p : ℕ) where
@@ -46,11 +48,6 @@ module _ (pl : Plan) (a p : ℕ) where
   fits-visits Ack hub x (f, e) = back-visits x hub f
   fits-visits Nack hub x f = back-visits x hub f
 
-  -- a set-up fits wherever something heading for the passive goes, a NACK wherever an answer goes
-  abbrev someKind : Heading → Kind
-  someKind ahead = Setup
-  someKind back = Nack
-
   pub record Somehow (h : Heading) (x : Queue) : Type 0 where
     pub kind : Kind
     pub hub : ℕ
@@ -65,8 +62,10 @@ module _ (pl : Plan) (a p : ℕ) where
   unfolding Visits Ahead Back
   visits-fit ahead (activeOut x) v = record { kind = Setup; hub = 0; heads = refl; fits = (v, refl) }
   visits-fit ahead (U r i) v = record { kind = Setup; hub = v .steps; heads = refl; fits = v .here }
-  visits-fit ahead (Q r) (i, v) = record { kind = Setup; hub = suc (v .steps); heads = refl; fits = (i, v .steps, v .here, refl) }
-  visits-fit ahead (F r o) ((i, v), q) = record { kind = Setup; hub = suc (v .steps); heads = refl; fits = (i, v .steps, v .here, refl, q) }
+  visits-fit ahead (Q r) (i, v) =
+      record { kind = Setup; hub = suc (v .steps); heads = refl; fits = (i, v .steps, v .here, refl) }
+  visits-fit ahead (F r o) ((i, v), q) =
+      record { kind = Setup; hub = suc (v .steps); heads = refl; fits = (i, v .steps, v .here, refl, q) }
   visits-fit ahead (passiveIn x) v = record { kind = Setup; hub = span pl a p; heads = refl; fits = (v, refl) }
   visits-fit ahead (activeIn x) v = absurd v
   visits-fit ahead (passiveOut x) v = absurd v
@@ -74,7 +73,9 @@ module _ (pl : Plan) (a p : ℕ) where
   visits-fit back (passiveOut x) v = record { kind = Nack; hub = span pl a p; heads = refl; fits = (v, refl) }
   visits-fit back (Q r) (i, v) = record { kind = Nack; hub = v .steps; heads = refl; fits = (i, v .here) }
   visits-fit back (F r o) ((i, v), q) = record { kind = Nack; hub = v .steps; heads = refl; fits = (i, v .here, q) }
-  visits-fit back (K r i o) (v, q) = let c = returns (record { router = r; side = i }) v in record { kind = Nack; hub = c .0; heads = refl; fits = (c .1, q) }
+  visits-fit back (K r i o) (v, q) =
+      let c = returns (record { router = r; side = i }) v in
+      record { kind = Nack; hub = c .0; heads = refl; fits = (c .1, q) }
   visits-fit back (activeIn x) v = record { kind = Nack; hub = 0; heads = refl; fits = (v, omega arith) }
   visits-fit back (activeOut x) v = absurd v
   visits-fit back (passiveIn x) v = absurd v

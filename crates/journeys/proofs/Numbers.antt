@@ -9,7 +9,8 @@ use borrow.Author.Tests.{lt-ltb, le-ltb, eq-eqb, ne-eqb}
 use Rattle.basis.specs.Choice.{pick}
 use Rattle.basis.specs.Bounded.{lt-or-ge}
 use Rattle.plan.specs.Plan.{Plan, R, A, P}
-use Rattle.feeding.specs.Queue.{Queue, activeOut, activeIn, passiveIn, passiveOut, U, Q, F, K, Exists, rank, outs, routerBase, inBase, number, queues, senderAt, inRouter, queueAt}
+use Rattle.feeding.specs.Queue.{Queue, activeOut, activeIn, passiveIn, passiveOut, U, Q, F, K, Exists, rank, outs}
+use Rattle.feeding.specs.Queue.{routerBase, inBase, number, queues, senderAt, inRouter, queueAt}
 
 module _ (pl : Plan) where
   -- the k-th queue of router r
@@ -19,7 +20,14 @@ module _ (pl : Plan) where
       let n : ℕ = routerBase pl r + k in
       let d : (routerBase pl r + k - outs pl) / 21 ≡ r = omega arith in
       let m : (routerBase pl r + k - outs pl) % 21 ≡ k = omega arith in
-      rw (le-ltb (routerBase pl r + k) (A pl) (omega arith), le-ltb (routerBase pl r + k) (outs pl) (omega arith), lt-ltb (routerBase pl r + k) (inBase pl) (omega arith), queueAt, d, m)
+      rw (
+        le-ltb (routerBase pl r + k) (A pl) (omega arith),
+        le-ltb (routerBase pl r + k) (outs pl) (omega arith),
+        lt-ltb (routerBase pl r + k) (inBase pl) (omega arith),
+        queueAt,
+        d,
+        m,
+      )
 
   -- the sender of rank j at side o
   sender-queue : (r o j : ℕ) → r < R pl → o < 4 → j < 4 → queueAt pl (routerBase pl r + 5 + 4 * o + j) ≡ senderAt r o j
@@ -56,7 +64,8 @@ module _ (pl : Plan) where
   unfolding number queueAt
   queue-at (activeOut a) h = rw (lt-ltb a (A pl) h, queueAt)
   queue-at (passiveOut p) h =
-      rw (le-ltb (A pl + p) (A pl) (omega arith), lt-ltb (A pl + p) (outs pl) (omega arith), queueAt) (ap passiveOut (omega arith))
+      rw (le-ltb (A pl + p) (A pl) (omega arith), lt-ltb (A pl + p) (outs pl) (omega arith), queueAt)
+      (ap passiveOut (omega arith))
   queue-at (U r i) (h, l) = router-queue r i h (omega arith) ∙ rw (lt-ltb i 4 l)
   queue-at (Q r) h = router-queue r 4 h (omega arith)
   queue-at (F r o) (h, l) = sender-queue r o 0 h l (omega arith)

@@ -6,7 +6,8 @@ use Prim.Native.Nat.{ℕ, zero, suc, _+_, _-_, _≤_, _<_}
 use native.Mathlib.Nat.{suc-add, zero-add}
 use native.Mathlib.Omega.{arith}
 use Rattle.basis.specs.Bounded.{below-suc}
-use Rattle.basis.specs.Walk.{Spot, on, end, lost, spot, on-end, on-lost, spot-next, spot-none, Way, way-at, way-on, way-tail}
+use Rattle.basis.specs.Walk.{Spot, on, end, lost, spot, on-end, on-lost, spot-next, spot-none, Way, way-at, way-on}
+use Rattle.basis.specs.Walk.{way-tail}
 use Rattle.plan.specs.declared.Joint.{Joint}
 use Rattle.plan.specs.declared.Joint.the-variants.{Nothing, Router, Active, Passive}
 use Rattle.plan.specs.Plan.{Plan, Port, Interface, active, passive, R, A, P, Has, jointOf, routeTo}
@@ -38,20 +39,25 @@ router-not q = let z : _≡_ {A = ℕ} 0 1 = cc in omega arith
 pub meets-here : (pl : Plan) (e : Interface) (x : Port) → Meets pl e x x
 meets-here pl e x = record { steps = 0; here = spot-none (onward pl e) (on x) }
 
-abbrev pub meets-next : (pl : Plan) (e : Interface) (from y z : Port) → Meets pl e from y → onward pl e y ≡ on z → Meets pl e from z
-meets-next pl e from y z m q = record { steps = suc (m .steps); here = spot-next (onward pl e) (m .steps) (on from) (m .here) ∙ q }
+abbrev pub meets-next : (pl : Plan) (e : Interface) (from y z : Port) → Meets pl e from y → onward pl e y ≡ on z
+    → Meets pl e from z
+meets-next pl e from y z m q =
+    record { steps = suc (m .steps); here = spot-next (onward pl e) (m .steps) (on from) (m .here) ∙ q }
 
 -- a walk that arrives goes on from each router that it meets, or is there
-pub goes-from : (pl : Plan) (e : Interface) (from : Port) (w : Walk pl e from) (y : Port) → Meets pl e from y → ((z : Port) × (onward pl e y ≡ on z)) ⊎ (onward pl e y ≡ end)
+pub goes-from : (pl : Plan) (e : Interface) (from : Port) (w : Walk pl e from) (y : Port) → Meets pl e from y
+    → ((z : Port) × (onward pl e y ≡ on z)) ⊎ (onward pl e y ≡ end)
 goes-from pl e from w y m = by (leadsOn (way-on (onward pl e) routerOf w (m .steps) y (m .here)))
   where
-    leadsOn : (m .steps < w .size) × (w .stop (m .steps) ≡ y) → ((suc (m .steps) < w .size) ⊎ (suc (m .steps) ≡ w .size)) × (w .stop (m .steps) ≡ y)
+    leadsOn : (m .steps < w .size) × (w .stop (m .steps) ≡ y)
+        → ((suc (m .steps) < w .size) ⊎ (suc (m .steps) ≡ w .size)) × (w .stop (m .steps) ≡ y)
     leadsOn (h, q) = (cases (m .steps) h, q)
       where
         cases : (k : ℕ) → k < w .size → (suc k < w .size) ⊎ (suc k ≡ w .size)
         cases k l = below-suc {i = suc k} {n = w .size} (omega arith)
 
-    by : ((suc (m .steps) < w .size) ⊎ (suc (m .steps) ≡ w .size)) × (w .stop (m .steps) ≡ y) → ((z : Port) × (onward pl e y ≡ on z)) ⊎ (onward pl e y ≡ end)
+    by : ((suc (m .steps) < w .size) ⊎ (suc (m .steps) ≡ w .size)) × (w .stop (m .steps) ≡ y)
+        → ((z : Port) × (onward pl e y ≡ on z)) ⊎ (onward pl e y ≡ end)
     by (inl l, q) = inl (w .stop (suc (m .steps)), rw q at (w .goes (m .steps) l))
     by (inr l, q) = inr (rw q at (w .ends (m .steps) l))
 
@@ -78,8 +84,11 @@ walk-move pl e x y same w =
 
 module _ {pl : Plan} (wired : Wired pl) where
   -- the routers and sides that a walk meets are the plan's
-  pub meets-inside : (e : Interface) (from : Port) (w : Walk pl e from) → (from .router < R pl) × (from .side < 4) → (y : Port) → Meets pl e from y → (y .router < R pl) × (y .side < 4)
-  meets-inside e from w h y m = let o = way-on (onward pl e) routerOf w (m .steps) y (m .here) in rw (o .1) at (at (m .steps) (o .0))
+  pub meets-inside : (e : Interface) (from : Port) (w : Walk pl e from) → (from .router < R pl) × (from .side < 4)
+      → (y : Port) → Meets pl e from y → (y .router < R pl) × (y .side < 4)
+  meets-inside e from w h y m =
+      let o = way-on (onward pl e) routerOf w (m .steps) y (m .here) in
+      rw (o .1) at (at (m .steps) (o .0))
     where
       at : (k : ℕ) → k < w .size → (w .stop k .router < R pl) × (w .stop k .side < 4)
       at zero l = rw (w .begins) h
@@ -100,15 +109,19 @@ module _ {pl : Plan} (wired : Wired pl) where
   home-joined e h n = joined-not e (sym (wired .joined e h .there) ∙ n)
 
   -- the side out is one of the four
-  pub exit-inside : (e : Interface) (from : Port) (w : Walk pl e from) (y : Port) → Meets pl e from y → routeTo pl e (y .router) < 4
+  pub exit-inside : (e : Interface) (from : Port) (w : Walk pl e from) (y : Port) → Meets pl e from y
+      → routeTo pl e (y .router) < 4
   exit-inside e from w y m = by (goes-from pl e from w y m)
     where
       by : ((z : Port) × (onward pl e y ≡ on z)) ⊎ (onward pl e y ≡ end) → routeTo pl e (y .router) < 4
-      by (inl (z, q)) = wired .inside (y .router) (routeTo pl e (y .router)) (λ n. router-not (sym (onward-on pl e y z q) ∙ n)) .1
-      by (inr q) = wired .inside (y .router) (routeTo pl e (y .router)) (λ n. joined-not e (sym (onward-end pl e y q) ∙ n)) .1
+      by (inl (z, q)) =
+          wired .inside (y .router) (routeTo pl e (y .router)) (λ n. router-not (sym (onward-on pl e y z q) ∙ n)) .1
+      by (inr q) =
+          wired .inside (y .router) (routeTo pl e (y .router)) (λ n. joined-not e (sym (onward-end pl e y q) ∙ n)) .1
 
   -- the side out is not the side in
-  pub meets-turns : (e : Interface) (from : Port) (w : Walk pl e from) → routeTo pl e (from .router) ≢ from .side → (y : Port) → Meets pl e from y → y .side ≢ routeTo pl e (y .router)
+  pub meets-turns : (e : Interface) (from : Port) (w : Walk pl e from) → routeTo pl e (from .router) ≢ from .side
+      → (y : Port) → Meets pl e from y → y .side ≢ routeTo pl e (y .router)
   meets-turns e from w first y m =
       let o = way-on (onward pl e) routerOf w (m .steps) y (m .here) in
       λ q. (rw (o .1) at (turns wired e from w first (m .steps) (o .0))) (sym q)
@@ -120,17 +133,24 @@ module _ {pl : Plan} (wired : Wired pl) where
         let n : ℕ = s .ahead .size - 1 in
         let last : suc (s .ahead .size - 1) ≡ s .ahead .size = omega (arith, s .ahead .some) in
         let z : Port = s .ahead .stop (s .ahead .size - 1) in
-        let e = onward-end pl (passive p) (s .ahead .stop (s .ahead .size - 1)) (s .ahead .ends (s .ahead .size - 1) last) in
-        let same = wired .joined (passive p) hp .only (s .ahead .stop (s .ahead .size - 1) .router) (routeTo pl (passive p) (s .ahead .stop (s .ahead .size - 1) .router)) e in
-        walk-move pl (active a) (s .ahead .stop (s .ahead .size - 1)) (home pl (passive p)) (same .0) (s .back (s .ahead .size - 1) (omega (arith, s .ahead .some)))
+        let e = onward-end pl (passive p) (s .ahead .stop (s .ahead .size - 1))
+        (s .ahead .ends (s .ahead .size - 1) last) in
+        let same = wired .joined (passive p) hp .only (s .ahead .stop (s .ahead .size - 1) .router)
+        (routeTo pl (passive p) (s .ahead .stop (s .ahead .size - 1) .router)) e in
+        walk-move pl (active a) (s .ahead .stop (s .ahead .size - 1)) (home pl (passive p)) (same .0)
+        (s .back (s .ahead .size - 1) (omega (arith, s .ahead .some)))
 
     -- from each router on the walk the walk back arrives
     pub nack-walk : (x : Port) → Meets pl (passive p) (home pl (active a)) x → Walk pl (active a) x
-    nack-walk x m = let o = way-on (onward pl (passive p)) routerOf (s .ahead) (m .steps) x (m .here) in rw (o .1) at (s .back (m .steps) (o .0))
+    nack-walk x m =
+        let o = way-on (onward pl (passive p)) routerOf (s .ahead) (m .steps) x (m .here) in
+        rw (o .1) at (s .back (m .steps) (o .0))
 
     -- and on from the router behind it
-    pub next-walk : (x z : Port) → Meets pl (passive p) (home pl (active a)) x → onward pl (active a) x ≡ on z → Walk pl (active a) z
-    next-walk x z m q = by (way-on (onward pl (active a)) routerOf w 1 z (spot-next (onward pl (active a)) 0 (on x) (spot-none (onward pl (active a)) (on x)) ∙ q))
+    pub next-walk : (x z : Port) → Meets pl (passive p) (home pl (active a)) x → onward pl (active a) x ≡ on z
+        → Walk pl (active a) z
+    next-walk x z m q = by (way-on (onward pl (active a)) routerOf w 1 z
+        (spot-next (onward pl (active a)) 0 (on x) (spot-none (onward pl (active a)) (on x)) ∙ q))
       where
         w : Walk pl (active a) x
         w = nack-walk x m
@@ -152,15 +172,23 @@ module _ {pl : Plan} (wired : Wired pl) where
     passive-not q = let z : _≡_ {A = ℕ} 0 1 = cc in omega arith
 
     -- an answer that comes in to a router crosses it to another side
-    pub returns-cross : (y : Port) → Comes pl a p y → Exists pl (K (y .router) (y .side) (routeTo pl (active a) (y .router)))
+    pub returns-cross : (y : Port) → Comes pl a p y
+        → Exists pl (K (y .router) (y .side) (routeTo pl (active a) (y .router)))
     returns-cross y (inl m) =
-        let i = meets-inside (active a) (home pl (passive p)) back-walk (home-inside (passive p) wired hp) y m in
-        (i .0, i .1, exit-inside (active a) (home pl (passive p)) back-walk y m, meets-turns (active a) (home pl (passive p)) back-walk (home-turns wired (active a) (passive p) hp passive-not back-walk) y m)
+        let i = meets-inside (active a) (home pl (passive p)) back-walk (home-inside (passive p) wired hp) y m in (
+          i .0,
+          i .1,
+          exit-inside (active a) (home pl (passive p)) back-walk y m,
+          meets-turns (active a)
+              (home pl (passive p)) back-walk (home-turns wired (active a) (passive p) hp passive-not back-walk) y m,
+        )
     returns-cross y (inr (x, z, m, q, n)) =
         let w = next-walk x z m q in
         let v = nack-walk x m in
-        let o = way-on (onward pl (active a)) routerOf v 1 z (spot-next (onward pl (active a)) 0 (on x) (spot-none (onward pl (active a)) (on x)) ∙ q) in
-        let first : routeTo pl (active a) (z .router) ≢ z .side = rw (o .1) at (turns-later wired (active a) x v 0 (o .0)) in
+        let o = way-on (onward pl (active a)) routerOf v 1 z
+        (spot-next (onward pl (active a)) 0 (on x) (spot-none (onward pl (active a)) (on x)) ∙ q) in
+        let first : routeTo pl (active a) (z .router) ≢ z .side =
+        rw (o .1) at (turns-later wired (active a) x v 0 (o .0)) in
         let i = meets-inside (active a) z w (near wired (onward-on pl (active a) x z q)) y n in
         (i .0, i .1, exit-inside (active a) z w y n, meets-turns (active a) z w first y n)
 
@@ -181,15 +209,18 @@ module _ {pl : Plan} (wired : Wired pl) where
     may-exist ahead (activeOut x) m = rw m ha
     may-exist ahead (U r i) m = walk-inside (record { router = r; side = i }) m
     may-exist ahead (Q r) (i, m) = walk-inside (record { router = r; side = i }) m .0
-    may-exist ahead (F r o) ((i, m), q) =
-        (walk-inside (record { router = r; side = i }) m .0, rw q (exit-inside (passive p) (home pl (active a)) (s .ahead) (record { router = r; side = i }) m))
+    may-exist ahead (F r o) ((i, m), q) = (
+      walk-inside (record { router = r; side = i }) m .0,
+      rw q (exit-inside (passive p) (home pl (active a)) (s .ahead) (record { router = r; side = i }) m),
+    )
     may-exist ahead (passiveIn x) m = rw m hp
     may-exist ahead (activeIn x) m = absurd m
     may-exist ahead (passiveOut x) m = absurd m
     may-exist ahead (K r i o) m = absurd m
     may-exist back (passiveOut x) m = rw m hp
     may-exist back (Q r) (i, m) = walk-inside (record { router = r; side = i }) m .0
-    may-exist back (F r o) ((i, m), q) = (walk-inside (record { router = r; side = i }) m .0, rw q (nack-exit (record { router = r; side = i }) m))
+    may-exist back (F r o) ((i, m), q) =
+        (walk-inside (record { router = r; side = i }) m .0, rw q (nack-exit (record { router = r; side = i }) m))
     may-exist back (K r i o) (m, q) = rw q (returns-cross (record { router = r; side = i }) m)
     may-exist back (activeIn x) m = rw m ha
     may-exist back (activeOut x) m = absurd m
@@ -201,7 +232,8 @@ module _ {pl : Plan} (wired : Wired pl) where
     crosses y z (inl m) q = inl (meets-next pl (active a) (home pl (passive p)) y z m q)
     crosses y z (inr (x, u, m, r, n)) q = inr (x, u, m, r, meets-next pl (active a) u y z n q)
 
-    pub returns-on : (y : Port) → Comes pl a p y → ((z : Port) × (onward pl (active a) y ≡ on z)) ⊎ (onward pl (active a) y ≡ end)
+    pub returns-on : (y : Port) → Comes pl a p y → ((z : Port) × (onward pl (active a) y ≡ on z))
+        ⊎ (onward pl (active a) y ≡ end)
     returns-on y (inl m) = goes-from pl (active a) (home pl (passive p)) back-walk y m
     returns-on y (inr (x, z, m, q, n)) = goes-from pl (active a) z (next-walk x z m q) y n
 
@@ -216,21 +248,25 @@ module _ {pl : Plan} (wired : Wired pl) where
         x = record { router = r; side = i }
 
         by : ((z : Port) × (onward pl (passive p) x ≡ on z)) ⊎ (onward pl (passive p) x ≡ end) → Visits pl ahead a p y
-        by (inl (z, g)) = rw (← some-same (rw (e, onward-on pl (passive p) x z g) at q)) (meets-next pl (passive p) (home pl (active a)) x z m g)
+        by (inl (z, g)) = rw (← some-same (rw (e, onward-on pl (passive p) x z g) at q))
+            (meets-next pl (passive p) (home pl (active a)) x z m g)
         by (inr g) = rw (← some-same (rw (e, onward-end pl (passive p) x g) at q)) refl
     may-next ahead (passiveIn x) y m q = absurd (some-not-none q)
     may-next ahead (activeIn x) y m q = absurd m
     may-next ahead (passiveOut x) y m q = absurd m
     may-next ahead (K r i o) y m q = absurd m
-    may-next back (passiveOut x) y m q = rw (← some-same q) (rw m (inl (meets-here pl (active a) (home pl (passive p))), refl))
+    may-next back (passiveOut x) y m q =
+        rw (← some-same q) (rw m (inl (meets-here pl (active a) (home pl (passive p))), refl))
     may-next back (Q r) y m q = rw (← some-same q) (m, refl)
-    may-next back (F r o) y ((i, m), e) q = by (goes-from pl (active a) x (nack-walk x m) x (meets-here pl (active a) x))
+    may-next back (F r o) y ((i, m), e) q =
+        by (goes-from pl (active a) x (nack-walk x m) x (meets-here pl (active a) x))
       where
         x : Port
         x = record { router = r; side = i }
 
         by : ((z : Port) × (onward pl (active a) x ≡ on z)) ⊎ (onward pl (active a) x ≡ end) → Visits pl back a p y
-        by (inl (z, g)) = rw (← some-same (rw (e, onward-on pl (active a) x z g) at q)) (inr (x, z, m, g, meets-here pl (active a) z), refl)
+        by (inl (z, g)) = rw (← some-same (rw (e, onward-on pl (active a) x z g) at q))
+            (inr (x, z, m, g, meets-here pl (active a) z), refl)
         by (inr g) = rw (← some-same (rw (e, onward-end pl (active a) x g) at q)) refl
     may-next back (K r i o) y (m, e) q = by (returns-on x m)
       where

@@ -1,4 +1,5 @@
--- Walks of a plan whose joints match: the test finds exactly the walks that arrive; a served pair's walks; the side in is never the side out.
+-- Walks of a plan whose joints match: the test finds exactly the walks that arrive; a served pair's walks; the side in
+-- is never the side out.
 use mathlib.Core.Path.{_≡_, refl, sym, ap, ap₂, _∙_}
 use mathlib.Core.Logic.{_⊎_, inl, inr, _≢_}
 use mathlib.Core.Bool.{Bool, true, false, false≢true}
@@ -8,7 +9,8 @@ use lib.Dec.{eqb}
 use borrow.Author.Tests.{eqb-true, eq-eqb}
 use Rattle.basis.specs.Choice.{pick, also, test, also-true, also-of}
 use Rattle.basis.specs.Bounded.{lt-or-ge, allBelow, all-at, all-of}
-use Rattle.basis.specs.Walk.{Spot, on, end, lost, spot, isEnd, end-of, on-end, on-lost, on-same, end-lost, Way, way-at, way-on, way-over, way-tail, way-short, end-of-way, way-of-end, count-is, spot-next}
+use Rattle.basis.specs.Walk.{Spot, on, end, lost, spot, isEnd, end-of, on-end, on-lost, on-same, end-lost, Way, way-at}
+use Rattle.basis.specs.Walk.{way-on, way-over, way-tail, way-short, end-of-way, way-of-end, count-is, spot-next}
 use Rattle.plan.specs.declared.Joint.{Joint}
 use Rattle.plan.specs.declared.Joint.the-variants.{Nothing, Router, Active, Passive}
 use Rattle.plan.specs.Plan.{Plan, Port, Interface, active, passive, R, A, P, Has, jointOf, routeTo}
@@ -35,7 +37,9 @@ joint-leads (passive p) = eq-eqb p p refl
 
 into-on : (j : Joint) (y : Port) → into j ≡ on y → j ≡ Router (y .router) (y .side)
 into-on Nothing y q = cc
-into-on (Router n t) y q = let p : record { router = n; side = t } ≡ y = cc in ap (λ (u : Port). Router (u .router) (u .side)) p
+into-on (Router n t) y q =
+    let p : record { router = n; side = t } ≡ y = cc in
+    ap (λ (u : Port). Router (u .router) (u .side)) p
 into-on (Active n) y q = cc
 into-on (Passive n) y q = cc
 
@@ -60,19 +64,16 @@ through-end e j q = by (test (leadsTo e j))
     by (inr t) = absurd (into-end j (rw (t, pick) at q))
 
 -- the walk goes on: the side given for e is joined to that router, at the side by which the walk comes in
-pub onward-on : (pl : Plan) (e : Interface) (x y : Port) → onward pl e x ≡ on y → pl .joint (x .router) (routeTo pl e (x .router)) ≡ Router (y .router) (y .side)
+pub onward-on : (pl : Plan) (e : Interface) (x y : Port) → onward pl e x ≡ on y
+    → pl .joint (x .router) (routeTo pl e (x .router)) ≡ Router (y .router) (y .side)
 unfolding onward
 onward-on pl e x y q = through-on e (pl .joint (x .router) (routeTo pl e (x .router))) y q
 
 -- the walk is there: the side given for e is joined to e
-pub onward-end : (pl : Plan) (e : Interface) (x : Port) → onward pl e x ≡ end → pl .joint (x .router) (routeTo pl e (x .router)) ≡ jointOf e
+pub onward-end : (pl : Plan) (e : Interface) (x : Port) → onward pl e x ≡ end
+    → pl .joint (x .router) (routeTo pl e (x .router)) ≡ jointOf e
 unfolding onward
 onward-end pl e x q = through-end e (pl .joint (x .router) (routeTo pl e (x .router))) q
-
--- and back: where the side given is joined to e, the walk is there; where it is joined to a router, it goes on
-pub end-onward : (pl : Plan) (e : Interface) (x : Port) → pl .joint (x .router) (routeTo pl e (x .router)) ≡ jointOf e → onward pl e x ≡ end
-unfolding onward
-end-onward pl e x q = rw (q, joint-leads e, pick)
 
 -- a step depends on the router alone
 pub alike : (pl : Plan) (e : Interface) (x y : Port) → routerOf x ≡ routerOf y → onward pl e x ≡ onward pl e y
@@ -81,7 +82,8 @@ alike pl e x y q = ap (λ (r : ℕ). through e (pl .joint r (routeTo pl e r))) q
 
 module _ {pl : Plan} (wired : Wired pl) where
   -- ---- the test finds the walks that arrive
-  pub stops-inside : (e : Interface) (from : Port) (w : Walk pl e from) → from .router < R pl → (k : ℕ) → k < w .size → w .stop k .router < R pl
+  pub stops-inside : (e : Interface) (from : Port) (w : Walk pl e from) → from .router < R pl → (k : ℕ) → k < w .size
+      → w .stop k .router < R pl
   stops-inside e from w h zero l = rw (w .begins) h
   stops-inside e from w h (suc k) l =
       near wired (onward-on pl e (w .stop k) (w .stop (suc k)) (w .goes k l)) .0
@@ -99,11 +101,13 @@ module _ {pl : Plan} (wired : Wired pl) where
   walk-short e from h w = way-short (onward pl e) routerOf w (R pl) (stops-inside e from w h)
 
   -- the number of routers that the test counts is the walk's
-  pub size-is : (e : Interface) (from : Port) → from .router < R pl → (w : Walk pl e from) → walkSize pl e from ≡ w .size
+  pub size-is : (e : Interface) (from : Port) → from .router < R pl → (w : Walk pl e from)
+      → walkSize pl e from ≡ w .size
   unfolding walkSize
   size-is e from h w =
       let s : suc (w .size - 1) ≡ w .size = omega (arith, w .some) in
-      count-is (onward pl e) (w .size - 1) (on from) (w .stop (w .size - 1)) (way-at (onward pl e) routerOf w (w .size - 1) (omega (arith, w .some))) (w .ends (w .size - 1) s)
+      count-is (onward pl e) (w .size - 1) (on from) (w .stop (w .size - 1))
+      (way-at (onward pl e) routerOf w (w .size - 1) (omega (arith, w .some))) (w .ends (w .size - 1) s)
       (R pl) (omega (arith, walk-short e from h w, w .some))
       ∙ s
 
@@ -121,7 +125,8 @@ module _ {pl : Plan} (wired : Wired pl) where
       at : (k : ℕ) (t : Spot Port) → walked pl (passive p) k x ≡ t → backArrives pl a t ≡ true
       at k (on y) q =
           let o = way-on (onward pl (passive p)) routerOf (s .ahead) k y q in
-          arrives-of (active a) y (rw (← o .1) (stops-inside (passive p) x (s .ahead) h k (o .0))) (rw (o .1) at (s .back k (o .0)))
+          arrives-of (active a) y (rw (← o .1) (stops-inside (passive p) x (s .ahead) h k (o .0)))
+          (rw (o .1) at (s .back k (o .0)))
       at k end q = refl
       at k lost q = refl
 
@@ -144,4 +149,5 @@ module _ {pl : Plan} (wired : Wired pl) where
       back′ : (k : ℕ) → k < w .size → Walk pl (active a) (w .stop k)
       back′ k l =
           let short = walk-short (passive p) x (home-inside (active a) wired ha .0) w in
-          walk-of (active a) (w .stop k) (rw (way-at (onward pl (passive p)) routerOf w k l) at (all-at (R pl) (λ i. backArrives pl a (walked pl (passive p) i x)) (both .1) k (omega arith)))
+          walk-of (active a) (w .stop k) (rw (way-at (onward pl (passive p)) routerOf w k l) at (all-at (R pl)
+          (λ i. backArrives pl a (walked pl (passive p) i x)) (both .1) k (omega arith)))

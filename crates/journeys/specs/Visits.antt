@@ -18,7 +18,8 @@ OnWalk pl a p r = (i : ℕ) × Meets pl (passive p) (home pl (active a)) (record
 abbrev pub Comes : Plan → ℕ → ℕ → Port → Type 0
 Comes pl a p y =
     Meets pl (active a) (home pl (passive p)) y
-    ⊎ ((x z : Port) × Meets pl (passive p) (home pl (active a)) x × (onward pl (active a) x ≡ on z) × Meets pl (active a) z y)
+    ⊎ ((x z : Port) × Meets pl (passive p) (home pl (active a)) x × (onward pl (active a) x ≡ on z)
+    × Meets pl (active a) z y)
 
 unfoldable pub Visits : Plan → Heading → ℕ → ℕ → Queue → Type 0
 Visits pl ahead a p (activeOut x) = x ≡ a

@@ -1,7 +1,9 @@
 -- Document 01's number of each refusal.
 use Prim.Native.Nat.{ℕ}
 use Rattle.kinds.specs.declared.Refusal.{Refusal}
-use Rattle.kinds.specs.declared.Refusal.the-variants.{TooShort, OutOfRange, WrongLength, BadField, BadJoint, HasRing, NotState, WrongPhase, BadNumber, NotServed, NoAllowance, QueueFull, QueueEmpty, FlagUp, Unmarked}
+use Rattle.kinds.specs.declared.Refusal.the-variants.{TooShort, OutOfRange, WrongLength, BadField, BadJoint}
+use Rattle.kinds.specs.declared.Refusal.the-variants.{HasRing, NotState, WrongPhase, BadNumber, NotServed}
+use Rattle.kinds.specs.declared.Refusal.the-variants.{NoAllowance, QueueFull, QueueEmpty, FlagUp, Unmarked}
 
 abbrev pub refusalNumber : Refusal → ℕ
 refusalNumber TooShort = 1

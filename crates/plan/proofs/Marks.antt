@@ -1,5 +1,5 @@
--- Marks of a block of columns: which digits are set, what sets of columns by side are made of them, and the rows that are
--- read block by block.
+-- Marks of a block of columns: which digits are set, what sets of columns by side are made of them, and the rows that
+-- are read block by block.
 use mathlib.Core.Path.{_≡_, refl, sym, ap, ap₂, _∙_}
 use mathlib.Core.Logic.{_⊎_, inl, inr}
 use mathlib.Core.Bool.{Bool, true, false, _&&_, _||_, true≢false, false≢true}
@@ -325,7 +325,8 @@ module _ (g : ℕ → ℕ) (small : (i : ℕ) → g i < 8) (n : ℕ) (first : Li
       was : Reads (8 * i) row a b c e ok
       was = rw (covered-in n i l) at r
 
-      part : (o s t : ℕ) {p : ℕ} → p ≡ partOf w o (8 * i) → t ≡ either s p → Side g (8 * i) o s → Side g (8 * i + m) o t
+      part : (o s t : ℕ) {p : ℕ} → p ≡ partOf w o (8 * i) → t ≡ either s p → Side g (8 * i) o s
+          → Side g (8 * i + m) o t
       part o s t q f h j =
           ap (λ (x : ℕ). has x j) (f ∙ ap (either s) q) ∙ side-more g small (8 * i) m o s w lm h marked j
 

@@ -19,7 +19,8 @@ use Rattle.sets.specs.Laws.{has-both, has-less, none-has}
 use Rattle.reach.specs.declared.Span.{Span}
 use Rattle.reach.specs.Reach.{sideSet, beyond, pullOf, sweepAt, changeOf}
 use Rattle.reach.specs.Sizes.{longer, sizeOf, shareOf, rowOf, farIn, Far, Sized, Told, Grows}
-use Rattle.reach.proofs.Sweeps.{and-parts, same-or-not, has-pull, pull-own, pull-through, sweep-same, sweep-other, sweep-length, sweep-grows}
+use Rattle.reach.proofs.Sweeps.{and-parts, same-or-not, has-pull, pull-own, pull-through, sweep-same}
+use Rattle.reach.proofs.Sweeps.{sweep-other, sweep-length, sweep-grows}
 
 -- ---- one router more
 longer-least : (k v : ℕ) → v ≡ pick (ltb (k + 1) 16) (k + 1) 16
@@ -55,7 +56,8 @@ share-at sides column o far own p l =
     fill-at (λ i. sizeOf (getD sides (column + i) 0) o (getD far i 0) (getD own i 0)) 16 (replicate 16 0) p 0 l
     (rw length-replicate (omega arith))
 
-module _ (by : List (List ℕ)) (next : List ℕ) (routes : List (List ℕ)) (s : Span) (first t : List ℕ) (z : List (List ℕ))
+module _ (by : List (List ℕ)) (next : List ℕ) (routes : List (List ℕ)) (s : Span) (first t : List ℕ)
+    (z : List (List ℕ))
     (told : Told by next s routes) (sized : Sized by next s first t z) (x : ℕ) (inside : x < 16) (p : ℕ)
     (place : p < 16) where
   -- the size is right; or none is known yet after the sides below o

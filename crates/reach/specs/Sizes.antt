@@ -52,8 +52,8 @@ module _ (by : List (List ℕ)) (next : List ℕ) where
     pub some : (r p : ℕ) → p < 16 → has (s .sized) (s .column + p) ≡ true → has (getD t r 0) (s .column + p) ≡ true
         → Far first (s .column + p) r (getD (getD z r []) p 0)
 
-  -- routes, by router and destination, say the same as the sets by side; only destinations that are sized have one from
-  -- the column on
+  -- routes, by router and destination, say the same as the sets by side; only destinations that are sized have one
+  -- from the column on
   pub record Told (s : Span) (routes : List (List ℕ)) : Type 0 where
     pub sides : (r o p : ℕ) → r < 16 → o < 4 → p < 16
         → has (sideSet by next r o) (s .column + p) ≡ eqb (getD (getD routes r []) (s .column + p) 0) o

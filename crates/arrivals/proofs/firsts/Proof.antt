@@ -57,7 +57,11 @@ loop-less c = search needs
 
 -- src/lib.rt:71:5
 loop-again : tie.Need-loop-again Inv-loop μ-loop
-loop-again c = (omega arith, up-more _ _ _ (c .before .before .before .loop .inv .1) (first-step _ _ _ _ (c .before .port .ensures .0) (c .first-of .ensures)))
+loop-again c = (
+  omega arith,
+  up-more _ _ _ (c .before .before .before .loop .inv .1)
+      (first-step _ _ _ _ (c .before .port .ensures .0) (c .first-of .ensures)),
+)
 
 -- src/lib.rt:66:1
 returns : tie.Need-returns Inv-loop μ-loop

@@ -68,7 +68,12 @@ loop-less c = search needs
 
 -- src/lib.rt:112:5
 loop-again : tie.Need-loop-again Inv-loop μ-loop
-loop-again c = (omega arith, up-fill _ _ _ (c .before .before .before .before .before .loop .inv .1) (c .kept .ensures ∙ ap (keptOf _) (c .before .has .ensures)), simp length-set (c .before .before .before .before .before .loop .inv .2))
+loop-again c = (
+  omega arith,
+  up-fill _ _ _ (c .before .before .before .before .before .loop .inv .1) (c .kept .ensures ∙ ap
+      (keptOf _) (c .before .has .ensures)),
+  simp length-set (c .before .before .before .before .before .loop .inv .2),
+)
 
 -- src/lib.rt:107:1
 returns : tie.Need-returns Inv-loop μ-loop

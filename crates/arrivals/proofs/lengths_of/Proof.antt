@@ -21,7 +21,8 @@ use Rattle.sets.proofs.both.Reads as both-reads
 abbrev Inv-loop : tie.InvT-loop
 Inv-loop z arrive served homes n actives far t₀ a₀ t a =
     (a ≤ actives)
-    × (t ≡ upTo (fill (λ i. lengthOf z (getD homes i 0 / 4) (getD served i 0) (both (getD arrive (getD homes i 0 / 4) 0) far) actives)) a t₀)
+    × (t ≡ upTo (fill (λ i. lengthOf z (getD homes i 0 / 4) (getD served i 0)
+    (both (getD arrive (getD homes i 0 / 4) 0) far) actives)) a t₀)
     × (length t ≡ 16)
 
 abbrev μ-loop : tie.MeasureT-loop
@@ -41,7 +42,9 @@ loop-holds c = (omega arith, up-none _ _, search needs)
 
 -- src/lib.rt:252:17
 port-requires : tie.Need-port-requires Inv-loop μ-loop
-port-requires c κs = let m = c .before .before .before .before .pre .0 in (omega arith, omega (arith, m .1, m .2), c .before .before .before .before .pre .1)
+port-requires c κs =
+    let m = c .before .before .before .before .pre .0 in
+    (omega arith, omega (arith, m .1, m .2), c .before .before .before .before .pre .1)
 
 -- src/lib.rt:253:33
 mul-length-row : tie.Need-mul-length-row Inv-loop μ-loop
@@ -65,15 +68,21 @@ both-requires c κs = search needs
 
 -- src/lib.rt:253:16
 length-row-requires : tie.Need-length-row-requires Inv-loop μ-loop
-length-row-requires c κs = let m = c .before .before .before .before .before .before .before .before .pre .0 .1 in (omega (arith, c .before .before .before .port .ensures .1), omega arith)
+length-row-requires c κs =
+    let m = c .before .before .before .before .before .before .before .before .pre .0 .1 in
+    (omega (arith, c .before .before .before .port .ensures .1), omega arith)
 
 -- src/lib.rt:253:9
 mul-t : tie.Need-mul-t Inv-loop μ-loop
-mul-t c = let m = c .before .before .before .before .before .before .before .before .before .pre .0 .1 in record { fits = omega arith }
+mul-t c =
+    let m = c .before .before .before .before .before .before .before .before .before .pre .0 .1 in
+    record { fits = omega arith }
 
 -- src/lib.rt:253:9
 array-set-from-t : tie.Need-array-set-from-t Inv-loop μ-loop
-array-set-from-t c = let m = c .before .before .before .before .before .before .before .before .before .pre .0 .1 in omega arith
+array-set-from-t c =
+    let m = c .before .before .before .before .before .before .before .before .before .pre .0 .1 in
+    omega arith
 
 -- src/lib.rt:251:9
 add-a : tie.Need-add-a Inv-loop μ-loop
@@ -85,7 +94,19 @@ loop-less c = search needs
 
 -- src/lib.rt:251:5
 loop-again : tie.Need-loop-again Inv-loop μ-loop
-loop-again c = (omega arith, up-fill _ _ _ (c .before .before .before .before .before .before .loop .inv .1) (length-step (c .before .before .before .before .before .before .before .before .before .args .z .now) (c .before .before .before .before .before .before .before .before .before .args .arrive .now) (c .before .before .before .before .before .before .before .before .before .args .served .now) (c .before .before .before .before .before .before .before .before .before .args .homes .now) (c .before .before .before .before .before .before .loop .a) (c .before .before .before .before .before .before .before .before .before .args .h .actives) (c .before .before .before .before .before .before .before .far-of .result) (c .before .before .before .before .port .ensures .0) (c .before .both .ensures) (c .length-row .ensures)), simp length-set (c .before .before .before .before .before .before .loop .inv .2))
+loop-again c = (
+  omega arith,
+  up-fill _ _ _ (c .before .before .before .before .before .before .loop .inv .1)
+      (length-step (c .before .before .before .before .before .before .before .before .before .args .z .now)
+      (c .before .before .before .before .before .before .before .before .before .args .arrive .now)
+      (c .before .before .before .before .before .before .before .before .before .args .served .now)
+      (c .before .before .before .before .before .before .before .before .before .args .homes .now)
+      (c .before .before .before .before .before .before .loop .a)
+      (c .before .before .before .before .before .before .before .before .before .args .h .actives)
+      (c .before .before .before .before .before .before .before .far-of .result)
+      (c .before .before .before .before .port .ensures .0) (c .before .both .ensures) (c .length-row .ensures)),
+  simp length-set (c .before .before .before .before .before .before .loop .inv .2),
+)
 
 -- src/lib.rt:243:1
 returns : tie.Need-returns Inv-loop μ-loop

@@ -65,7 +65,12 @@ loop-less c = search needs
 
 -- src/lib.rt:229:5
 loop-again : tie.Need-loop-again Inv-loop μ-loop
-loop-again c = (omega arith, up-fill _ _ _ (c .before .before .before .before .loop .inv .1) (c .size-if .ensures ∙ rw (c .before .before .has .ensures)), simp length-set (c .before .before .before .before .loop .inv .2))
+loop-again c = (
+  omega arith,
+  up-fill _ _ _ (c .before .before .before .before .loop .inv .1) (c .size-if .ensures
+      ∙ rw (c .before .before .has .ensures)),
+  simp length-set (c .before .before .before .before .loop .inv .2),
+)
 
 -- src/lib.rt:224:1
 returns : tie.Need-returns Inv-loop μ-loop

@@ -73,7 +73,11 @@ loop-less c = search needs
 
 -- src/lib.rt:92:5
 loop-again : tie.Need-loop-again Inv-loop μ-loop
-loop-again c = (omega arith, up-more _ _ _ (c .before .before .before .before .loop .inv .1) (near-step _ _ _ _ _ (c .before .before .port .ensures .0) (c .near-of .ensures)))
+loop-again c = (
+  omega arith,
+  up-more _ _ _ (c .before .before .before .before .loop .inv .1)
+      (near-step _ _ _ _ _ (c .before .before .port .ensures .0) (c .near-of .ensures)),
+)
 
 -- src/lib.rt:87:1
 returns : tie.Need-returns Inv-loop μ-loop

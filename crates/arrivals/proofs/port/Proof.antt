@@ -16,7 +16,9 @@ index-requires c κs = search needs
 
 -- src/lib.rt:50:1
 returns : tie.Need-returns
-returns c = let l = c .before .before .pre .2 (c .before .before .args .d) (c .before .before .pre .0) in (c .index .ensures, rw (c .index .ensures) l)
+returns c =
+    let l = c .before .before .pre .2 (c .before .before .args .d) (c .before .before .pre .0) in
+    (c .index .ensures, rw (c .index .ensures) l)
 
 pub port-spec : {M : Type 1} → statement M
 port-spec = tie.close (tie.spec element-copy-out-index index-requires returns)

@@ -40,11 +40,14 @@ has-requires c κs = search needs
 
 -- src/lib.rt:176:9
 returns : tie.Need-returns
-returns c = serving-all _ _ _ _ _ _ _ (c .before .before .before .before .before .port .ensures .0) (c .before .has .ensures) (c .if1 .taken) (c .before .before .before .far-of .ensures) (c .before .before .both .ensures)
+returns c =
+    serving-all _ _ _ _ _ _ _ (c .before .before .before .before .before .port .ensures .0) (c .before .has .ensures)
+    (c .if1 .taken) (c .before .before .before .far-of .ensures) (c .before .before .both .ensures)
 
 -- src/lib.rt:179:9
 returns-2 : tie.Need-returns-2
-returns-2 c = serving-none _ _ _ _ _ _ _ (c .before .before .before .before .before .before .port .ensures .0) (c .before .before .before .before .far-of .ensures) (c .before .before .before .both .ensures) (c .if2 .taken)
+returns-2 c = serving-none _ _ _ _ _ _ _ (c .before .before .before .before .before .before .port .ensures .0)
+    (c .before .before .before .before .far-of .ensures) (c .before .before .before .both .ensures) (c .if2 .taken)
 
 -- src/lib.rt:181:5
 swept-requires : tie.Need-swept-requires
@@ -52,7 +55,8 @@ swept-requires c κs = search needs
 
 -- src/lib.rt:160:1
 returns-3 : tie.Need-returns-3
-returns-3 c = serving-swept _ _ _ _ _ _ _ (c .before .before .before .before .before .before .before .port .ensures .0) (c .swept .ensures)
+returns-3 c = serving-swept _ _ _ _ _ _ _ (c .before .before .before .before .before .before .before .port .ensures .0)
+    (c .swept .ensures)
 
 pub serve-spec : {M : Type 1} → statement M
 serve-spec =

@@ -44,7 +44,11 @@ loop-less c = search needs
 
 -- src/lib.rt:198:5
 loop-again : tie.Need-loop-again Inv-loop μ-loop
-loop-again c = (omega arith, servings-more _ _ _ _ _ _ _ (let m = c .before .before .before .pre .0 .1 in omega arith) (c .before .before .loop .inv .1) (c .serve .ensures))
+loop-again c = (
+  omega arith,
+  servings-more _ _ _ _ _ _ _ (let m = c .before .before .before .pre .0 .1 in omega arith)
+      (c .before .before .loop .inv .1) (c .serve .ensures),
+)
 
 -- src/lib.rt:184:1
 returns : tie.Need-returns Inv-loop μ-loop

@@ -33,7 +33,19 @@ below-requires c κs = search needs
 
 -- src/lib.rt:154:5
 reach-requires : tie.Need-reach-requires
-reach-requires c κs = (c .before .before .before .before .before .before .before .before .pre .0 .0, c .before .before .before .before .before .before .before .before .pre .0 .1, c .before .before .before .before .before .before .before .before .pre .4, rw (c .before .before .before .before .firsts .ensures, c .before .before .before .before .before .before .keeps .ensures) (first-idle _ _ _ _ (c .before .before .before .before .before .before .before .before .pre .3) (λ r o d l m. keeps-past _ _ _ _ r o d l m) _), ap length (c .before .before .before .before .firsts .ensures) ∙ firsts-long _ _ _)
+reach-requires c κs = (
+  c .before .before .before .before .before .before .before .before .pre .0 .0,
+  c .before .before .before .before .before .before .before .before .pre .0 .1,
+  c .before .before .before .before .before .before .before .before .pre .4,
+  rw (
+    c .before .before .before .before .firsts .ensures,
+    c .before .before .before .before .before .before .keeps .ensures,
+  ) (first-idle _ _ _ _
+      (c .before .before .before .before .before .before .before .before .pre .3)
+      (λ r o d l m. keeps-past _ _ _ _ r o d
+      l m) _),
+  ap length (c .before .before .before .before .firsts .ensures) ∙ firsts-long _ _ _,
+)
 
 -- src/lib.rt:155:10
 mul-both : tie.Need-mul-both
@@ -53,7 +65,11 @@ both-requires c κs = search needs
 
 -- src/lib.rt:131:1
 returns : tie.Need-returns
-returns c = swept-by _ _ _ _ _ _ _ (c .before .before .before .before .before .before .before .before .before .keeps .ensures) (c .before .before .before .before .before .before .before .firsts .ensures) (c .before .before .before .before .before .before .below .ensures) (c .before .before .reach .ensures .0) (c .before .far-of .ensures) (c .both .ensures)
+returns c =
+    swept-by _ _ _ _ _ _ _ (c .before .before .before .before .before .before .before .before .before .keeps .ensures)
+    (c .before .before .before .before .before .before .before .firsts .ensures)
+    (c .before .before .before .before .before .before .below .ensures) (c .before .before .reach .ensures .0)
+    (c .before .far-of .ensures) (c .both .ensures)
 
 pub swept-spec : {M : Type 1} → statement M
 swept-spec =

@@ -47,7 +47,12 @@ has-ring-requires c κs = (omega arith, let e = trails-long _ _ _ (c .before .tr
 
 -- src/lib.rt:15:1
 returns : tie.Need-returns
-returns c = λ pl arrive told. walks-ring (c .before .before .before .before .before .before .before .before .before .before .before .pre) told (c .before .before .before .before .before .before .before .before .before .carried .ensures) (c .before .before .before .before .before .before .before .below .ensures) (c .before .before .before .before .before .leaves .ensures) (c .before .before .trail-cells .ensures) (c .has-ring .ensures)
+returns c = λ pl arrive told.
+    walks-ring (c .before .before .before .before .before .before .before .before .before .before .before .pre) told
+    (c .before .before .before .before .before .before .before .before .before .carried .ensures)
+    (c .before .before .before .before .before .before .before .below .ensures)
+    (c .before .before .before .before .before .leaves .ensures) (c .before .before .trail-cells .ensures)
+    (c .has-ring .ensures)
 
 pub walks-ring-spec : {M : Type 1} → statement M
 walks-ring-spec =

@@ -31,7 +31,8 @@ cell-requires c κs = (omega arith, c .mask .ensures .1)
 
 -- src/lib.rt:99:9
 returns : tie.Need-returns
-returns c = link-on _ _ _ (c .before .before .before .before .partner .ensures .0) (c .before .before .before .if1 .taken) (c .before .mask .ensures .0) (c .cell .ensures)
+returns c = link-on _ _ _ (c .before .before .before .before .partner .ensures .0)
+    (c .before .before .before .if1 .taken) (c .before .mask .ensures .0) (c .cell .ensures)
 
 -- src/lib.rt:93:1
 returns-2 : tie.Need-returns-2

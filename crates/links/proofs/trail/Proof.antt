@@ -30,7 +30,8 @@ cell-requires c κs = search needs
 
 -- src/lib.rt:76:9
 returns-2 : tie.Need-returns-2
-returns-2 c = trail-on _ _ _ (c .before .before .before .if1 .left) (c .before .before .partner .ensures .0) (c .before .if2 .taken) (c .cell .ensures)
+returns-2 c = trail-on _ _ _ (c .before .before .before .if1 .left) (c .before .before .partner .ensures .0)
+    (c .before .if2 .taken) (c .cell .ensures)
 
 -- src/lib.rt:67:1
 returns-3 : tie.Need-returns-3

@@ -70,7 +70,14 @@ say-requires-4 c κs = search needs
 
 -- src/main.rt:73:12
 served-requires : tie.Need-served-requires
-served-requires c κs = let t = (lent _ _ _ _ _ (c .before .before .before .before .before .before .before .before .load .ensures .0) (c .before .before .before .before .l .given .1) (c .before .before .before .before .before .before .before .before .load .ensures .1) (c .before .before .before .before .before .before .before .before .load .ensures .2) (c .before .before .before .before .before .before .before .before .load .ensures .3) (c .before .before .before .before .before .before .before .before .load .ensures .4)) in (t .range .routers .1, t .range .actives .1, t .range .passives .1)
+served-requires c κs =
+    let t = (lent _ _ _ _ _ (c .before .before .before .before .before .before .before .before .load .ensures .0)
+    (c .before .before .before .before .l .given .1)
+    (c .before .before .before .before .before .before .before .before .load .ensures .1)
+    (c .before .before .before .before .before .before .before .before .load .ensures .2)
+    (c .before .before .before .before .before .before .before .before .load .ensures .3)
+    (c .before .before .before .before .before .before .before .before .load .ensures .4)) in
+    (t .range .routers .1, t .range .actives .1, t .range .passives .1)
 
 -- src/main.rt:73:5
 number-requires-2 : tie.Need-number-requires-2
@@ -86,7 +93,16 @@ say-requires-5 c κs = search needs
 
 -- src/main.rt:75:12
 mul-number : tie.Need-mul-number
-mul-number c = let t = lent _ _ _ _ _ (c .before .before .before .before .before .before .before .before .before .before .before .before .before .load .ensures .0) (c .before .before .before .before .before .before .before .before .before .l .given .1) (c .before .before .before .before .before .before .before .before .before .before .before .before .before .load .ensures .1) (c .before .before .before .before .before .before .before .before .before .before .before .before .before .load .ensures .2) (c .before .before .before .before .before .before .before .before .before .before .before .before .before .load .ensures .3) (c .before .before .before .before .before .before .before .before .before .before .before .before .before .load .ensures .4) in omega (arith, mul-le-mul (t .range .actives .1) (t .range .passives .1))
+mul-number c =
+    let t =
+    lent _ _ _ _ _ (c .before .before .before .before .before .before .before .before .before .before .before .before
+    .before .load .ensures .0) (c .before .before .before .before .before .before .before .before .before .l .given .1)
+    (c .before .before .before .before .before .before .before .before .before .before .before .before .before .load
+    .ensures .1) (c .before .before .before .before .before .before .before .before .before .before .before .before
+    .before .load .ensures .2) (c .before .before .before .before .before .before .before .before .before .before
+    .before .before .before .load .ensures .3) (c .before .before .before .before .before .before .before .before
+    .before .before .before .before .before .load .ensures .4) in
+    omega (arith, mul-le-mul (t .range .actives .1) (t .range .passives .1))
 
 -- src/main.rt:75:5
 number-requires-3 : tie.Need-number-requires-3

@@ -77,7 +77,8 @@ pub launch-in-round-0 : watch planT side1 (passiveIn 0 ∷ activeIn 0 ∷ []) la
     ++ steady bookedSide nowhere
     ++ steady bookedSide nowhere
     -- round 7: the ACK has come, and is consumed
-    ++ after done bookedSide waitsAtActive ∷ after done bookedSide waitsAtActive ∷ after (taken ack) bookedSide nowhere ∷ []
+    ++ after done bookedSide waitsAtActive ∷ after done bookedSide waitsAtActive ∷ after (taken ack) bookedSide nowhere
+    ∷ []
 unfolding watch
 launch-in-round-0 = refl
 
@@ -120,6 +121,7 @@ pub launch-in-round-1 : watch planT slotAndSide1 (F 0 1 ∷ passiveIn 0 ∷ []) 
     -- round 5: the current slot is 1, which is free: the Write sends it
     ++ after done (1 ∷ bookedSide) inF ∷ after done (1 ∷ bookedSide) inF ∷ after done (0 ∷ bookedSide) nowhere ∷ []
     -- round 6: it has reached the passive, by the Read
-    ++ after done (0 ∷ bookedSide) hasReached ∷ after done (0 ∷ bookedSide) hasReached ∷ after done (1 ∷ bookedSide) hasReached ∷ []
+    ++ after done (0 ∷ bookedSide) hasReached ∷ after done (0 ∷ bookedSide) hasReached
+    ∷ after done (1 ∷ bookedSide) hasReached ∷ []
 unfolding watch
 launch-in-round-1 = refl

@@ -9,7 +9,8 @@ use Rattle.packets.specs.declared.Packet.{Packet}
 use Rattle.feeding.specs.Queue.{Q}
 use Rattle.machine.specs.State.{State}
 use Rattle.machine.specs.Calls.{Call, read, execute, write, launch, reply}
-use Rattle.machine.specs.Runs.Watch.{round, manyRounds, inWrite, packet, entryIn, creditIn, flagIn, after, moments}
+use Rattle.machine.specs.Runs.Watch.{round, manyRounds, inWrite, packet, entryIn, creditIn, flagIn, after}
+use Rattle.machine.specs.Runs.Watch.{moments}
 use Rattle.plan.specs.Samples.{narrowThere}
 use Rattle.packets.specs.Answers.{done}
 

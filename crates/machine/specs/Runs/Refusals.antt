@@ -8,7 +8,8 @@ use Rattle.packets.specs.declared.Packet.{Packet}
 use Rattle.feeding.specs.Queue.{activeOut, activeIn, passiveIn, passiveOut, U}
 use Rattle.machine.specs.State.{State}
 use Rattle.machine.specs.Calls.{Call, read, execute, write, launch, reply, consume}
-use Rattle.machine.specs.Runs.Watch.{manyRounds, inWrite, packet, slotIn, allowanceIn, flagIn, after, moments, watch}
+use Rattle.machine.specs.Runs.Watch.{manyRounds, inWrite, packet, slotIn, allowanceIn, flagIn, after, moments}
+use Rattle.machine.specs.Runs.Watch.{watch}
 use Rattle.machine.specs.Runs.FirstBookings.{launchedSetup, setup, ack}
 use Rattle.plan.specs.Samples.{planT, widerT, allSides}
 use Rattle.packets.specs.Answers.{refused, done, taken}

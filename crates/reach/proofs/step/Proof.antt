@@ -40,7 +40,8 @@ both-requires c κs = search needs
 
 -- src/lib.rt:73:9
 returns : tie.Need-returns
-returns c = stepped-same _ _ _ _ _ _ _ (omega arith) (c .before .before .before .before .pull .ensures) (c .before .before .less .ensures) (c .before .both .ensures) (c .if1 .taken)
+returns c = stepped-same _ _ _ _ _ _ _ (omega arith) (c .before .before .before .before .pull .ensures)
+    (c .before .before .less .ensures) (c .before .both .ensures) (c .if1 .taken)
 
 -- src/lib.rt:75:23
 mul-row : tie.Need-mul-row
@@ -64,7 +65,9 @@ element-set-from-z c = search needs
 
 -- src/lib.rt:54:1
 returns-2 : tie.Need-returns-2
-returns-2 c = stepped-row _ _ _ _ _ _ _ (omega arith) (c .before .before .before .before .before .before .before .pull .ensures) (c .before .before .before .before .before .less .ensures) (c .row .ensures)
+returns-2 c =
+    stepped-row _ _ _ _ _ _ _ (omega arith) (c .before .before .before .before .before .before .before .pull .ensures)
+    (c .before .before .before .before .before .less .ensures) (c .row .ensures)
 
 pub step-spec : {M : Type 1} → statement M
 step-spec =

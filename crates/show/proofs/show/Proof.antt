@@ -46,11 +46,24 @@ show-capacities-requires c κs = search needs
 
 -- src/main.rt:208:5
 show-joints-requires : tie.Need-show-joints-requires
-show-joints-requires c κs = lent _ _ _ _ _ (c .before .before .before .before .before .before .load .ensures .0) (c .before .before .before .before .l .given .1) (c .before .before .before .before .before .before .load .ensures .1) (c .before .before .before .before .before .before .load .ensures .2) (c .before .before .before .before .before .before .load .ensures .3) (c .before .before .before .before .before .before .load .ensures .4) .range .routers .1
+show-joints-requires c κs = lent _ _ _ _ _ (c .before .before .before .before .before .before .load .ensures .0)
+    (c .before .before .before .before .l .given .1)
+    (c .before .before .before .before .before .before .load .ensures .1)
+    (c .before .before .before .before .before .before .load .ensures .2)
+    (c .before .before .before .before .before .before .load .ensures .3)
+    (c .before .before .before .before .before .before .load .ensures .4) .range .routers .1
 
 -- src/main.rt:209:5
 show-pairs-requires : tie.Need-show-pairs-requires
-show-pairs-requires c κs = let t = lent _ _ _ _ _ (c .before .before .before .before .before .before .before .before .before .before .before .load .ensures .0) (c .before .before .before .before .before .before .before .before .before .l .given .1) (c .before .before .before .before .before .before .before .before .before .before .before .load .ensures .1) (c .before .before .before .before .before .before .before .before .before .before .before .load .ensures .2) (c .before .before .before .before .before .before .before .before .before .before .before .load .ensures .3) (c .before .before .before .before .before .before .before .before .before .before .before .load .ensures .4) in ((t .range .routers .1, t .range .actives .1, t .range .passives .1), t .ports)
+show-pairs-requires c κs =
+    let t = lent _ _ _ _ _
+    (c .before .before .before .before .before .before .before .before .before .before .before .load .ensures .0)
+    (c .before .before .before .before .before .before .before .before .before .l .given .1)
+    (c .before .before .before .before .before .before .before .before .before .before .before .load .ensures .1)
+    (c .before .before .before .before .before .before .before .before .before .before .before .load .ensures .2)
+    (c .before .before .before .before .before .before .before .before .before .before .before .load .ensures .3)
+    (c .before .before .before .before .before .before .before .before .before .before .before .load .ensures .4) in
+    ((t .range .routers .1, t .range .actives .1, t .range .passives .1), t .ports)
 
 -- src/main.rt:197:1
 returns-2 : tie.Need-returns-2

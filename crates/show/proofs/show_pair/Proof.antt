@@ -61,7 +61,16 @@ cast-show-walk c = search needs
 
 -- src/main.rt:153:5
 show-walk-requires : tie.Need-show-walk-requires
-show-walk-requires c κs = (omega arith, omega arith, home-small _ _ _ (c .before .before .before .before .before .before .before .before .before .before .before .before .before .pre .0) (c .before .before .before .before .before .before .before .before .before .before .before .before .before .pre .3) _ (omega arith) (c .before .before .before .before .before .before .before .before .wide .ensures))
+show-walk-requires c κs = (
+  omega arith,
+  omega arith,
+  home-small _ _ _
+      (c .before .before .before .before .before .before .before .before .before .before .before .before .before .pre
+      .0)
+      (c .before .before .before .before .before .before .before .before .before .before .before .before .before .pre
+      .3)
+      _ (omega arith) (c .before .before .before .before .before .before .before .before .wide .ensures),
+)
 
 -- src/main.rt:135:1
 returns-2 : tie.Need-returns-2

@@ -49,7 +49,12 @@ slice-aggregate-count-3 c = search needs
 
 -- src/main.rt:121:34
 side-out-requires : tie.Need-side-out-requires
-side-out-requires c κs = let l = on-of-walk _ _ _ _ _ _ (c .before .before .before .before .before .before .before .before .before .before .pre .2) (c .before .before .before .before .before .before .before .before .before .stands .ensures) (c .before .before .before .before .before .before .before .s .given .1) .1 in (omega arith, omega arith)
+side-out-requires c κs =
+    let l =
+    on-of-walk _ _ _ _ _ _ (c .before .before .before .before .before .before .before .before .before .before .pre .2)
+    (c .before .before .before .before .before .before .before .before .before .stands .ensures)
+    (c .before .before .before .before .before .before .before .s .given .1) .1 in
+    (omega arith, omega arith)
 
 -- src/main.rt:121:29
 wide-requires : tie.Need-wide-requires

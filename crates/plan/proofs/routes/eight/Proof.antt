@@ -37,11 +37,21 @@ one-requires-7 c κs = search needs
 
 -- src/routes.rt:62:5
 one-requires-8 : tie.Need-one-requires-8
-one-requires-8 c κs = let p = c .before .before .before .before .before .before .before .before .before .before .before .before .before .before .before .before .pre in (p .0, omega (arith, p .1), omega arith, omega (arith, p .2))
+one-requires-8 c κs =
+    let p = c .before .before .before .before .before .before .before .before .before .before .before .before .before
+    .before .before .before .pre in
+    (p .0, omega (arith, p .1), omega arith, omega (arith, p .2))
 
 -- src/routes.rt:51:1
 returns : tie.Need-returns
-returns c = block-more _ _ 7 (block-more _ _ 6 (block-more _ _ 5 (block-more _ _ 4 (block-more _ _ 3 (block-more _ _ 2 (block-more _ _ 1 (block-more _ _ 0 (block-none _ _ _) (c .before .before .before .before .before .before .before .before .before .before .before .before .before .before .one .ensures)) (c .before .before .before .before .before .before .before .before .before .before .before .before .one2 .ensures)) (c .before .before .before .before .before .before .before .before .before .before .one3 .ensures)) (c .before .before .before .before .before .before .before .before .one4 .ensures)) (c .before .before .before .before .before .before .one5 .ensures)) (c .before .before .before .before .one6 .ensures)) (c .before .before .one7 .ensures)) (c .one8 .ensures)
+returns c = block-more _ _ 7 (block-more _ _ 6 (block-more _ _ 5 (block-more _ _ 4
+    (block-more _ _ 3 (block-more _ _ 2 (block-more _ _ 1 (block-more _ _ 0 (block-none _ _ _) (c .before .before
+    .before .before .before .before .before .before .before .before .before .before .before .before .one .ensures))
+    (c .before .before .before .before .before .before .before .before .before .before .before .before .one2 .ensures))
+    (c .before .before .before .before .before .before .before .before .before .before .one3 .ensures))
+    (c .before .before .before .before .before .before .before .before .one4 .ensures))
+    (c .before .before .before .before .before .before .one5 .ensures))
+    (c .before .before .before .before .one6 .ensures)) (c .before .before .one7 .ensures)) (c .one8 .ensures)
 
 pub eight-spec : {M : Type 1} → statement M
 eight-spec =

@@ -44,7 +44,11 @@ add-put c = record { fits = omega arith }
 -- src/routes.rt:73:9
 put-requires : tie.Need-put-requires Inv-loop μ-loop
 unfolding sideAt
-put-requires c κs = let l = side-small (c .before .before .before .before .before .args .plan .now) (c .before .before .before .before .before .args .at) (c .before .before .before .before .before .args .d + c .before .before .before .loop .j) in (omega arith, omega arith, rw (c .before .field .ensures) l)
+put-requires c κs =
+    let l = side-small
+    (c .before .before .before .before .before .args .plan .now) (c .before .before .before .before .before .args .at)
+    (c .before .before .before .before .before .args .d + c .before .before .before .loop .j) in
+    (omega arith, omega arith, rw (c .before .field .ensures) l)
 
 -- src/routes.rt:71:9
 add-j : tie.Need-add-j Inv-loop μ-loop
@@ -56,11 +60,19 @@ loop-less c = omega arith
 
 -- src/routes.rt:71:5
 loop-again : tie.Need-loop-again Inv-loop μ-loop
-loop-again c = (omega arith, block-more _ _ _ (c .before .before .before .before .loop .inv .1) (puts-of _ _ (c .before .before .before .before .before .before .args .d) (c .before .before .before .before .loop .j) (c .before .before .before .before .loop .row) (c .before .before .before .before .loop .marks) (c .before .before .field .ensures) (c .put .ensures)))
+loop-again c = (
+  omega arith,
+  block-more _ _ _ (c .before .before .before .before .loop .inv .1)
+      (puts-of _ _ (c .before .before .before .before .before .before .args .d)
+      (c .before .before .before .before .loop .j) (c .before .before .before .before .loop .row)
+      (c .before .before .before .before .loop .marks) (c .before .before .field .ensures) (c .put .ensures)),
+)
 
 -- src/routes.rt:66:1
 returns : tie.Need-returns Inv-loop μ-loop
-returns c = let e : c .before .loop .j ≡ c .before .before .before .args .n = omega arith in rw (← e) (c .before .loop .inv .1)
+returns c =
+    let e : c .before .loop .j ≡ c .before .before .before .args .n = omega arith in
+    rw (← e) (c .before .loop .inv .1)
 
 pub few-spec : {M : Type 1} → statement M
 few-spec =

@@ -33,11 +33,16 @@ add-put c = search needs
 -- src/routes.rt:47:5
 put-requires : tie.Need-put-requires
 unfolding sideAt
-put-requires c κs = let l = side-small (c .before .before .before .args .plan .now) (c .before .before .before .args .at) (c .before .before .before .args .d + c .before .before .before .args .place) in (omega arith, omega arith, rw (c .before .route-inside .ensures) l)
+put-requires c κs =
+    let l = side-small (c .before .before .before .args .plan .now) (c .before .before .before .args .at)
+    (c .before .before .before .args .d + c .before .before .before .args .place) in
+    (omega arith, omega arith, rw (c .before .route-inside .ensures) l)
 
 -- src/routes.rt:42:1
 returns : tie.Need-returns
-returns c = puts-of _ _ (c .before .before .before .before .args .d) (c .before .before .before .before .args .place) (c .before .before .before .before .args .row .now) (c .before .before .before .before .args .marks) (c .before .before .route-inside .ensures) (c .put .ensures)
+returns c = puts-of _ _ (c .before .before .before .before .args .d) (c .before .before .before .before .args .place)
+    (c .before .before .before .before .args .row .now) (c .before .before .before .before .args .marks)
+    (c .before .before .route-inside .ensures) (c .put .ensures)
 
 pub one-spec : {M : Type 1} → statement M
 one-spec =

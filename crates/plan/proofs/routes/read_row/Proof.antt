@@ -92,7 +92,22 @@ loop-less c = omega arith
 
 -- src/routes.rt:126:5
 loop-again : tie.Need-loop-again Inv-loop μ-loop
-loop-again c = (omega arith, read-more _ (side-small _ _) _ _ (c .before .before .before .before .before .before .before .before .before .before .before .before .before .loop .i) (omega arith) (c .before .before .before .before .before .before .before .before .before .before .before .before .before .loop .inv .1) (c .before .before .before .before .before .before .before .before .before .before .before .at-most .ensures .0) (c .before .before .before .before .before .before .before .before .before .before .before .at-most .ensures .1) (c .before .before .before .before .before .before .before .before .before .block .ensures) (c .before .before .before .before .before .before .before .before .part .ensures) (c .before .before .before .before .before .before .before .either .ensures) (c .before .before .before .before .before .before .part2 .ensures) (c .before .before .before .before .before .either2 .ensures) (c .before .before .before .before .part3 .ensures) (c .before .before .before .either3 .ensures) (c .before .before .part4 .ensures) (c .before .either4 .ensures) (c .fits2 .ensures) refl)
+loop-again c = (
+  omega arith,
+  read-more _ (side-small _ _) _ _ (c .before .before .before
+      .before .before .before .before .before .before .before .before .before .before .loop .i) (omega arith)
+      (c .before
+      .before .before .before .before .before .before .before .before .before .before .before .before .loop .inv .1)
+      (c .before .before .before .before .before .before .before .before .before .before .before .at-most .ensures .0)
+      (c .before .before .before .before .before .before .before .before .before .before .before .at-most .ensures .1)
+      (c .before .before .before .before .before .before .before .before .before .block .ensures)
+      (c .before .before .before .before .before .before .before .before .part .ensures)
+      (c .before .before .before .before .before .before .before .either .ensures)
+      (c .before .before .before .before .before .before .part2 .ensures)
+      (c .before .before .before .before .before .either2 .ensures) (c .before .before .before .before .part3 .ensures)
+      (c .before .before .before .either3 .ensures) (c .before .before .part4 .ensures) (c .before .either4 .ensures)
+      (c .fits2 .ensures) refl,
+)
 
 -- src/routes.rt:135:5
 element-write-sides : tie.Need-element-write-sides Inv-loop μ-loop
@@ -112,7 +127,8 @@ element-write-sides-4 c = search needs
 
 -- src/routes.rt:116:1
 returns : tie.Need-returns Inv-loop μ-loop
-returns c = read-done _ (side-small _ _) _ _ _ (c .before .before .before .args .sides .now) (c .before .before .before .pre .2) (omega arith) (c .before .loop .inv .1)
+returns c = read-done _ (side-small _ _) _ _ _ (c .before .before .before .args .sides .now)
+    (c .before .before .before .pre .2) (omega arith) (c .before .loop .inv .1)
 
 pub read-row-spec : {M : Type 1} → statement M
 read-row-spec =

@@ -16,7 +16,9 @@ index-requires c κs = search needs
 
 -- src/sizes.rt:49:1
 returns : tie.Need-returns
-returns c = let l = c .before .before .pre .1 (c .before .before .args .port) (omega arith) in (c .index .ensures, rw (c .index .ensures) (omega arith))
+returns c =
+    let l = c .before .before .pre .1 (c .before .before .args .port) (omega arith) in
+    (c .index .ensures, rw (c .index .ensures) (omega arith))
 
 pub beyond-spec : {M : Type 1} → statement M
 beyond-spec = tie.close (tie.spec element-copy-out-index index-requires returns)

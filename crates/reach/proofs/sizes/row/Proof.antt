@@ -110,7 +110,19 @@ share-requires-4 c κs = search needs
 -- src/sizes.rt:57:1
 returns : tie.Need-returns
 unfolding rowOf
-returns c = rw (c .share4 .ensures, c .before .before .share3 .ensures, c .before .before .before .before .share2 .ensures, c .before .before .before .before .before .before .share .ensures, c .before .before .before .before .before .before .before .before .before .beyond4 .ensures .0, c .before .before .before .before .before .before .before .before .before .before .beyond3 .ensures .0, c .before .before .before .before .before .before .before .before .before .before .before .beyond2 .ensures .0, c .before .before .before .before .before .before .before .before .before .before .before .before .beyond .ensures .0)
+returns c =
+    rw (
+      c .share4 .ensures,
+      c .before .before .share3 .ensures,
+      c .before .before .before .before .share2 .ensures,
+      c .before .before .before .before .before .before .share .ensures,
+      c .before .before .before .before .before .before .before .before .before .beyond4 .ensures .0,
+      c .before .before .before .before .before .before .before .before .before .before .beyond3 .ensures .0,
+      c .before
+          .before .before .before .before .before .before .before .before .before .before .beyond2 .ensures .0,
+      c .before
+          .before .before .before .before .before .before .before .before .before .before .before .beyond .ensures .0,
+    )
 
 pub row-spec : {M : Type 1} → statement M
 row-spec =

@@ -13,7 +13,8 @@ use Rattle.reach.proofs.sizes.size_of.Reads as size-of-reads
 
 abbrev Inv-loop : tie.InvT-loop
 Inv-loop sides column o far own t₀ p₀ t p =
-    (p ≤ 16) × (t ≡ upTo (fill (λ k. sizeOf (getD sides (column + k) 0) o (getD far k 0) (getD own k 0))) p t₀) × (length t ≡ 16)
+    (p ≤ 16) × (t ≡ upTo (fill (λ k. sizeOf (getD sides (column + k) 0) o (getD far k 0) (getD own k 0))) p t₀)
+    × (length t ≡ 16)
 
 abbrev μ-loop : tie.MeasureT-loop
 μ-loop sides column o far own t₀ p₀ t p = 16 - p
@@ -56,7 +57,11 @@ loop-less c = search needs
 
 -- src/sizes.rt:34:5
 loop-again : tie.Need-loop-again Inv-loop μ-loop
-loop-again c = (omega arith, up-fill _ _ _ (c .before .before .before .loop .inv .1) (c .size-of .ensures), simp length-set (c .before .before .before .loop .inv .2))
+loop-again c = (
+  omega arith,
+  up-fill _ _ _ (c .before .before .before .loop .inv .1) (c .size-of .ensures),
+  simp length-set (c .before .before .before .loop .inv .2),
+)
 
 -- src/sizes.rt:29:1
 returns : tie.Need-returns Inv-loop μ-loop

@@ -1,17 +1,16 @@
 -- What is reached by the tables is what the walks of the plan reach.
 use mathlib.Core.Path.{_≡_, refl, sym, ap, _∙_}
 use mathlib.Core.Logic.{_⊎_, inl, inr}
-use mathlib.Core.Bool.{Bool, true, false, true≢false}
+use mathlib.Core.Bool.{Bool, true, false}
 use mathlib.Core.List.{List}
-use Prim.Native.Nat.{ℕ, zero, suc, _+_, _-_, _≤_, _<_}
+use Prim.Native.Nat.{ℕ, zero, suc, _+_, _<_}
 use native.Mathlib.Numerals.{add-one}
 use native.Mathlib.Omega.{arith}
-use lib.Dec.{eqb, ltb}
+use lib.Dec.{ltb}
 use lib.ListN.{getD}
-use borrow.Author.Tests.{eqb-true, eq-eqb, ltb-true, ltb-false}
-use Rattle.basis.specs.Choice.{pick, test, same-test}
-use Rattle.basis.specs.Bounded.{lt-or-ge}
-use Rattle.basis.specs.Walk.{Spot, on, end, lost, spot, isEnd, end-of, on-end, on-lost, end-lost, spot-next, spot-none}
+use borrow.Author.Tests.{eqb-true, eq-eqb, ltb-false}
+use Rattle.basis.specs.Choice.{test, same-test}
+use Rattle.basis.specs.Walk.{Spot, on, end, lost, spot, end-of, on-end, end-lost, spot-next, spot-none}
 use Rattle.basis.specs.Walk.{spot-end, spot-lost, spot-add, way-of-end}
 use Rattle.plan.specs.declared.Joint.{Joint}
 use Rattle.plan.specs.declared.Joint.the-variants.{Nothing, Router, Active, Passive}
@@ -20,7 +19,7 @@ use Rattle.plan.specs.Head.{destinations}
 use Rattle.plan.specs.Plan.{Plan, Port, Interface, active, passive, R, A, routeTo, column}
 use Rattle.plan.specs.Rules.{leadsTo}
 use Rattle.plan.specs.Tables.{interfaceAt}
-use Rattle.paths.specs.Walk.{into, through, onward, routerOf, walked, arrives}
+use Rattle.paths.specs.Walk.{into, through, onward, routerOf, arrives}
 use Rattle.wiring.specs.Wired.{Wired}
 use Rattle.wiring.proofs.Wires.{near}
 use Rattle.journeys.proofs.Walks.{alike, arrives-of, onward-on}

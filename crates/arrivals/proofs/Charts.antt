@@ -1,9 +1,9 @@
 -- The tables of a plan whose joints match say what the plan says.
 use mathlib.Core.Path.{_≡_, refl, sym, ap, ap₂, _∙_}
 use mathlib.Core.Logic.{_⊎_, inl, inr}
-use mathlib.Core.Bool.{Bool, true, false, _&&_, _||_, true≢false, false≢true}
+use mathlib.Core.Bool.{Bool, true, false, _&&_, _||_, false≢true}
 use mathlib.Core.List.{List, []}
-use Prim.Native.Nat.{ℕ, zero, suc, _+_, _-_, _*_, _/_, _%_, _≤_, _<_}
+use Prim.Native.Nat.{ℕ, zero, suc, _+_, _*_, _/_, _%_, _≤_, _<_}
 use native.Mathlib.Omega.{arith}
 use lib.Dec.{eqb, ltb}
 use lib.ListN.{getD, set, length, length-set, replicate, length-replicate}
@@ -15,8 +15,8 @@ use Rattle.basis.specs.Fold.{upTo, up-none, up-suc, fill-at, fill-past}
 use Rattle.plan.specs.declared.Joint.{Joint}
 use Rattle.plan.specs.declared.Joint.the-variants.{Nothing, Router, Active, Passive}
 use Rattle.plan.specs.Head.{destinations}
-use Rattle.plan.specs.Plan.{Plan, Port, Interface, active, passive, R, A, P, Has, jointOf, jointFrom}
-use Rattle.plan.specs.Rules.{leadsTo, portOf, portOr0, portsOf, home, JoinedAt}
+use Rattle.plan.specs.Plan.{Plan, Interface, active, passive, R, A, Has, jointOf}
+use Rattle.plan.specs.Rules.{leadsTo, home, JoinedAt}
 use Rattle.plan.specs.Tables.{interfaceAt, jointOfByte}
 use Rattle.wiring.specs.Wired.{Wired}
 use Rattle.wiring.proofs.Wires.{home-inside}
@@ -24,8 +24,7 @@ use Rattle.wiring.proofs.Tables.{replicate-at}
 use Rattle.journeys.proofs.Walks.{joint-leads}
 use Rattle.sets.specs.Sets.{has, single, both, either}
 use Rattle.sets.specs.Laws.{has-both, has-either, has-single, none-has}
-use Rattle.paths.specs.Drawn.{Sides}
-use Rattle.reach.specs.Reach.{Inside, Idle, sideSet, beyond}
+use Rattle.reach.specs.Reach.{Inside, Idle}
 use Rattle.reach.proofs.Sweeps.{and-parts, same-or-not}
 use Rattle.arrivals.specs.Tables.{nextOf, nextsOf, PortsIn, firstOf, firstStep, firstsOf}
 use Rattle.arrivals.specs.Charted.{Charted, Charting}

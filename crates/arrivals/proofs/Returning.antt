@@ -2,25 +2,25 @@
 -- side.
 use mathlib.Core.Path.{_≡_, refl, sym, ap, _∙_}
 use mathlib.Core.Logic.{_⊎_, inl, inr}
-use mathlib.Core.Bool.{Bool, true, false, _&&_, true≢false, false≢true}
+use mathlib.Core.Bool.{Bool, true, false, _&&_}
 use mathlib.Core.List.{List, []}
-use Prim.Native.Nat.{ℕ, zero, suc, _+_, _-_, _*_, _≤_, _<_}
+use Prim.Native.Nat.{ℕ, zero, suc, _+_, _-_, _≤_, _<_}
 use native.Mathlib.Omega.{arith}
 use lib.Dec.{eqb, ltb}
 use lib.ListN.{getD, replicate, length-replicate}
-use borrow.Author.Tests.{lt-ltb, le-ltb, ltb-true, ltb-false, ne-eqb}
-use Rattle.basis.specs.Choice.{pick, also, also-true, also-of, test, same-test, not-both}
-use Rattle.basis.specs.Bounded.{allBelow, all-at, all-of, lt-or-ge, below-suc}
+use borrow.Author.Tests.{lt-ltb, le-ltb, ne-eqb}
+use Rattle.basis.specs.Choice.{pick, also-true, also-of, test, same-test}
+use Rattle.basis.specs.Bounded.{all-at, all-of, lt-or-ge, below-suc}
 use Rattle.basis.specs.Fold.{fill-at, fill-past}
-use Rattle.basis.specs.Walk.{Spot, on, end, lost, spot, spot-none, spot-next, spot-lost, isEnd, end-of, end-lost}
+use Rattle.basis.specs.Walk.{Spot, on, end, lost, spot, spot-next, spot-lost, isEnd, end-of, end-lost}
 use Rattle.basis.specs.Walk.{on-same, go}
 use Rattle.plan.specs.declared.Joint.{Joint}
 use Rattle.plan.specs.declared.Joint.the-variants.{Nothing, Router, Active, Passive}
 use Rattle.plan.specs.Head.{destinations}
-use Rattle.plan.specs.Plan.{Plan, Port, Interface, active, passive, R, A, noSide, routeTo, jointOf, Has}
-use Rattle.plan.specs.Rules.{leadsTo, home, portsOf, portOr0, JoinedAt}
+use Rattle.plan.specs.Plan.{Plan, Port, Interface, active, passive, R, A, noSide, Has}
+use Rattle.plan.specs.Rules.{home, portsOf}
 use Rattle.plan.specs.Tables.{interfaceAt}
-use Rattle.paths.specs.Walk.{into, through, onward, walked, arrives}
+use Rattle.paths.specs.Walk.{onward, walked, arrives}
 use Rattle.paths.specs.Alike.{arrives-alike}
 use Rattle.paths.specs.Served.{served, servedFrom, backArrives, backsArrive}
 use Rattle.paths.specs.Drawn.{Sides, Arrivals}

@@ -1,16 +1,16 @@
 -- What the sweeps leave: the destinations at which each router's walk arrives, and how many routers its walk has.
-use mathlib.Core.Path.{_≡_, refl, sym, ap, _∙_}
+use mathlib.Core.Path.{_≡_, refl, sym, _∙_}
 use mathlib.Core.Logic.{_⊎_, inl, inr}
-use mathlib.Core.Bool.{Bool, true, false, _&&_, true≢false}
+use mathlib.Core.Bool.{Bool, true, _&&_, true≢false}
 use mathlib.Core.List.{List, []}
-use Prim.Native.Nat.{ℕ, zero, suc, _+_, _-_, _*_, _≤_, _<_}
+use Prim.Native.Nat.{ℕ, zero, suc, _+_, _≤_, _<_}
 use native.Mathlib.Omega.{arith}
 use lib.Dec.{eqb, ltb}
 use lib.ListN.{getD}
 use borrow.Author.Tests.{eqb-true, lt-ltb, ltb-true, le-ltb}
 use Rattle.basis.specs.Choice.{pick}
-use Rattle.basis.specs.Bounded.{anyBelow, any-true, lt-or-ge}
-use Rattle.basis.specs.Walk.{Spot, on, end, spot, spot-next, spot-none, way-of-end, way-on, count-is}
+use Rattle.basis.specs.Bounded.{any-true, lt-or-ge}
+use Rattle.basis.specs.Walk.{on, end, spot, spot-next, spot-none, way-of-end, way-on, count-is}
 use Rattle.plan.specs.declared.Joint.{Joint}
 use Rattle.plan.specs.declared.Joint.the-variants.{Nothing, Router, Active, Passive}
 use Rattle.plan.specs.Head.{destinations}
@@ -23,13 +23,13 @@ use Rattle.wiring.proofs.Wires.{near}
 use Rattle.journeys.proofs.Walks.{alike, walk-short}
 use Rattle.sets.specs.Sets.{has, below}
 use Rattle.sets.specs.Laws.{has-below}
-use Rattle.reach.specs.Reach.{sideSet, beyond, reachIn, Idle, Reached}
+use Rattle.reach.specs.Reach.{sideSet, beyond, reachIn, Reached}
 use Rattle.reach.specs.Sizes.{farIn, Far}
 use Rattle.reach.proofs.Sweeps.{and-parts, reach-cases, reach-idle}
 use Rattle.arrivals.specs.Tables.{nextsOf, firstsOf}
 use Rattle.arrivals.specs.Charted.{Charted, Charting}
 use Rattle.arrivals.proofs.Arrive.{first-end, router-on, spot-front, reached-arrives}
-use Rattle.arrivals.proofs.Charts.{first-has, ports-in, sides-past, charted}
+use Rattle.arrivals.proofs.Charts.{first-has, ports-in, charted}
 
 -- ---- how many routers
 module _ (pl : Plan) (by : List (List ℕ)) (next first : List ℕ) (wired : Wired pl)

@@ -1,9 +1,9 @@
 -- The tables that the sweeps leave are the plan's arrivals, served pairs and lengths.
-use mathlib.Core.Path.{_≡_, refl, sym, ap, ap₂, _∙_}
+use mathlib.Core.Path.{_≡_, refl, sym, ap, _∙_}
 use mathlib.Core.Logic.{_⊎_, inl, inr}
-use mathlib.Core.Bool.{Bool, true, false, _&&_, true≢false, false≢true}
+use mathlib.Core.Bool.{Bool, true, false, _&&_, true≢false}
 use mathlib.Core.List.{List, [], _∷_}
-use Prim.Native.Nat.{ℕ, zero, suc, _+_, _-_, _*_, _/_, _≤_, _<_}
+use Prim.Native.Nat.{ℕ, zero, suc, _+_, _-_, _/_, _≤_, _<_}
 use native.Mathlib.Omega.{arith}
 use lib.Dec.{eqb, ltb}
 use lib.ListN.{getD, set, length, replicate}
@@ -18,17 +18,17 @@ use Rattle.plan.specs.Rules.{home, portOr0, portsOf}
 use Rattle.plan.specs.Tables.{interfaceAt, tablePlan}
 use Rattle.paths.specs.Walk.{arrives, walkSize}
 use Rattle.paths.specs.Served.{served, servedFrom}
-use Rattle.paths.specs.Drawn.{Sides, Arrivals, Serves}
+use Rattle.paths.specs.Drawn.{Arrivals, Serves}
 use Rattle.wiring.proofs.Wires.{home-inside}
 use Rattle.sets.specs.Sets.{has, both, below}
 use Rattle.sets.specs.Laws.{has-both, none-has}
 use Rattle.reach.specs.declared.Span.{Span}
-use Rattle.reach.specs.Reach.{sideSet, Reached, commonOf}
+use Rattle.reach.specs.Reach.{Reached, commonOf}
 use Rattle.reach.specs.Sizes.{Sized, Told, Grows}
 use Rattle.reach.proofs.Sweeps.{and-parts, common-has}
 use Rattle.arrivals.specs.Tables.{nextsOf, firstsOf, nearsOf, keepsOf, farOf}
 use Rattle.arrivals.specs.Charted.{Charting}
-use Rattle.arrivals.specs.Pairs.{pairWalk, lengthsOf, Swept, Serving, Servings, copyOf, maskOf, lengthOf}
+use Rattle.arrivals.specs.Pairs.{pairWalk, lengthsOf, Serving, Servings, copyOf, maskOf, lengthOf}
 use Rattle.arrivals.specs.Pairs.{lengthsBy, Tables, Walks}
 use Rattle.arrivals.proofs.Charts.{ports-in, sides-past, charted, first-idle}
 use Rattle.arrivals.proofs.Sizes.{far-size, arrivals}

@@ -1,21 +1,21 @@
 -- The table of sizes before the first sweep: 1 where a passive is one step away.
-use mathlib.Core.Path.{_≡_, refl, sym, ap, ap₂, _∙_}
+use mathlib.Core.Path.{_≡_, refl, sym, ap, _∙_}
 use mathlib.Core.Logic.{_⊎_, inl, inr}
 use mathlib.Core.Bool.{Bool, true, false, not, _&&_, true≢false}
 use mathlib.Core.List.{List, [], _∷_}
-use Prim.Native.Nat.{ℕ, zero, suc, _+_, _-_, _*_, _/_, _%_, _≤_, _<_}
+use Prim.Native.Nat.{ℕ, zero, suc, _+_, _/_, _≤_, _<_}
 use native.Mathlib.Omega.{arith}
 use lib.Dec.{eqb, ltb}
 use lib.ListN.{getD, set, length, length-set, replicate, length-replicate}
 use lib.Seq.{getD-set-same, getD-set-other}
-use borrow.Author.Tests.{eqb-true, eq-eqb, ne-eqb, lt-ltb, le-ltb, ltb-true, ltb-false}
+use borrow.Author.Tests.{eq-eqb, ne-eqb, lt-ltb, le-ltb, ltb-true}
 use Rattle.basis.specs.Choice.{pick, test}
 use Rattle.basis.specs.Bounded.{lt-or-ge}
 use Rattle.basis.specs.Fold.{upTo, up-none, up-suc}
 use Rattle.plan.specs.declared.Head.{Head}
 use Rattle.plan.specs.Head.{destinations}
 use Rattle.wiring.proofs.Tables.{replicate-row}
-use Rattle.sets.specs.Sets.{has, less, below}
+use Rattle.sets.specs.Sets.{has, below}
 use Rattle.sets.specs.Laws.{has-less, has-below}
 use Rattle.reach.specs.declared.Span.{Span}
 use Rattle.reach.specs.Sizes.{farIn, Far, Sized}

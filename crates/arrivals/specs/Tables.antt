@@ -1,6 +1,5 @@
 -- The tables that walks are swept with: the router beyond each side, the destinations one step away, and the sets by
 -- side of the routers that have a way back.
-use mathlib.Core.Path.{_≡_}
 use mathlib.Core.Bool.{Bool}
 use mathlib.Core.List.{List, []}
 use Prim.Native.Nat.{ℕ, _+_, _*_, _/_, _%_, _<_}

@@ -1,12 +1,11 @@
 -- What is among the elements of a list; lists put together in a loop.
-use mathlib.Core.Path.{_≡_, refl, sym, ap, _∙_}
+use mathlib.Core.Path.{_≡_}
 use mathlib.Core.Logic.{_⊎_, inl, inr}
 use mathlib.Core.List.{List, [], _∷_, _++_}
-use Prim.Native.Nat.{ℕ, zero, suc, _+_, _≤_, _<_}
+use Prim.Native.Nat.{ℕ, zero, suc, _<_}
 use native.Mathlib.Nat.{not-suc-le-zero}
 use native.Mathlib.Omega.{arith}
 use Rattle.basis.specs.Bounded.{below-suc}
-use Rattle.basis.specs.Fold.{upTo}
 
 abbrev pub In : {X : Type 0} → X → List X → Type 0
 In x [] = ⊥

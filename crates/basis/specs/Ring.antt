@@ -1,5 +1,5 @@
 -- Chains and rings of a relation, and a test that finds a ring of a tested relation between the numbers below n.
-use mathlib.Core.Path.{_≡_, refl, sym, ap, ap₂, _∙_}
+use mathlib.Core.Path.{_≡_, refl, sym, ap, _∙_}
 use mathlib.Core.List.{List}
 use lib.ListN.{getD}
 use mathlib.Core.Logic.{_⊎_, inl, inr}
@@ -7,7 +7,7 @@ use mathlib.Core.Bool.{Bool, true, false, _&&_, and-eq-true-iff}
 use Prim.Native.Nat.{ℕ, zero, suc, _+_, _-_, _≤_, _<_}
 use native.Mathlib.Nat.{not-suc-le-zero, add-suc, add-zero, add-sub-of-le}
 use native.Mathlib.Omega.{arith}
-use Rattle.basis.specs.Bounded.{Found, below-suc, anyBelow, any-true, any-of, any-same}
+use Rattle.basis.specs.Bounded.{Found, below-suc, anyBelow, any-true, any-of}
 use Rattle.basis.specs.Pigeon.{Twice, pigeon}
 use Rattle.basis.specs.Tab.{tab, getD-tab}
 

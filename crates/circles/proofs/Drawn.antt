@@ -17,7 +17,7 @@ use Rattle.plan.specs.Plan.{Plan, Port, Interface, active, passive, R, A, P, co
 use Rattle.plan.specs.Rules.{home}
 use Rattle.plan.specs.Tables.{jointOfByte}
 use Rattle.paths.specs.Walk.{onward, routerOf, walked}
-use Rattle.paths.specs.Served.{Served, served}
+use Rattle.paths.specs.Served.{Served}
 use Rattle.feeding.specs.Feeds.{Meets}
 use Rattle.plan.specs.Head.{Counts}
 use Rattle.wiring.proofs.Wires.{near, home-inside}

@@ -14,7 +14,7 @@ use Rattle.basis.specs.Ring.{Leads, ring-map, ring-same, ringTest, ring-of-test
 use Rattle.basis.specs.Walk.{way-on, way-tail}
 use Rattle.plan.specs.declared.Head.{Head}
 use Rattle.plan.specs.declared.Joint.the-variants.{Router}
-use Rattle.plan.specs.Plan.{Plan, Port, active, passive, R, A, P, routeTo}
+use Rattle.plan.specs.Plan.{Plan, active, passive, R, A, P, routeTo}
 use Rattle.plan.specs.Rules.{isRouterAt}
 use Rattle.paths.specs.Walk.{onward, routerOf, Walk}
 use Rattle.plan.specs.Head.{Counts}

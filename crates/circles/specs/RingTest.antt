@@ -1,6 +1,6 @@
 -- Refusal 6 as a test: the two rings, of sides that walks leave by and of crossings, by their numbers.
 use mathlib.Core.Bool.{Bool, false, _||_}
-use Prim.Native.Nat.{ℕ, _+_, _*_, _/_, _%_}
+use Prim.Native.Nat.{ℕ, _*_, _/_, _%_}
 use lib.Dec.{eqb}
 use Rattle.basis.specs.Choice.{also}
 use Rattle.basis.specs.Bounded.{anyBelow}

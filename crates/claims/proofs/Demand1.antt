@@ -1,6 +1,6 @@
 -- Demand 1, proved: every answer is told by the first of the call's conditions, and what is not refused is accepted.
 use mathlib.Core.Path.{_≡_, refl, sym, ap, _∙_}
-use mathlib.Core.Logic.{_≢_, _⊎_, inl, inr}
+use mathlib.Core.Logic.{_≢_}
 use mathlib.Core.Bool.{Bool, true, false, not}
 use mathlib.Core.List.{List, [], _∷_, _++_}
 use mathlib.Core.Option.{Option, none, some}
@@ -11,19 +11,19 @@ use lib.ListN.{length}
 use Rattle.basis.specs.Choice.{pick, pick-out}
 use Rattle.kinds.specs.declared.Refusal.{Refusal}
 use Rattle.kinds.specs.declared.Refusal.the-variants.{NotState}
-use Rattle.kinds.specs.Conditions.{Condition, First, NoneHolds}
+use Rattle.kinds.specs.Conditions.{Condition, NoneHolds}
 use Rattle.packets.specs.declared.Answer.{Answer}
 use Rattle.packets.specs.declared.Answer.the-variants.{Refused, Done}
 use Rattle.plan.specs.declared.Head.{Head}
 use Rattle.plan.specs.Head.{headOf}
 use Rattle.plan.specs.Plan.{Plan, planOf}
-use Rattle.journeys.proofs.Places.{some-same, some-not-none}
+use Rattle.journeys.proofs.Places.{some-not-none}
 use Rattle.load.specs.declared.Loaded.{Loaded}
 use Rattle.load.specs.declared.Loaded.the-variants.{Accepted, Refused as Unloaded}
 use Rattle.load.specs.Load.{loadOf}
 use Rattle.machine.specs.State.{start}
 use Rattle.machine.specs.Guards.{Guard, guard, refusalOf}
-use Rattle.machine.specs.Calls.{Call, Outcome, guards, accepted, decided, call}
+use Rattle.machine.specs.Calls.{Call, guards, accepted, decided, call}
 use Rattle.theory.proofs.Does.{accepted-not}
 use Rattle.layout.specs.Rows.{past}
 use Rattle.layout.specs.Offsets.{size}
@@ -34,7 +34,7 @@ use Rattle.claims.specs.Calls.{Given, given, isState, onPlan, stored, on
 use Rattle.claims.specs.Conditions.{loadConditions, StateBytes, bufferConditions, startConditions}
 use Rattle.claims.specs.Conditions.{stateConditions, callConditions}
 use Rattle.claims.specs.Demand1.{Decided, Demand1}
-use Rattle.claims.proofs.Tests.{Tell, tell-more, told-first, first-told, told-none, none-told, first-or-none}
+use Rattle.claims.proofs.Tests.{Tell, tell-more, told-first, first-told, none-told, first-or-none}
 use Rattle.claims.proofs.Tell.{no, calls-tell, loadGuards, load-tells}
 use Rattle.claims.proofs.Exact.{accepted-wired, accepted-range, state-exact}
 use Rattle.claims.proofs.Refusals.{Unaltered, kept-call, kept-start}

@@ -16,16 +16,13 @@ use Rattle.load.specs.declared.Loaded.{Loaded}
 use Rattle.load.specs.declared.Loaded.the-variants.{Accepted, Refused as Unloaded}
 use Rattle.load.specs.Load.{loadOf}
 use Rattle.load.specs.Rules.{accepted-obeys, obeys-accepted}
-use Rattle.machine.specs.State.{start}
 use Rattle.machine.specs.Guards.{refusalOf}
-use Rattle.machine.specs.Calls.{Call, gives, guards, accepted, decided, call}
+use Rattle.machine.specs.Calls.{Call, guards, accepted, decided, call}
 use Rattle.theory.proofs.Does.{call-accepted}
 use Rattle.layout.specs.Rows.{past}
 use Rattle.layout.specs.Offsets.{size}
-use Rattle.layout.specs.Encode.{encode}
 use Rattle.layout.specs.Decode.{decode}
 use Rattle.claims.specs.Calls.{Given, given, isState, onPlan, stored, onState, startIn, startOn, callOn}
-use Rattle.claims.specs.Conditions.{StateBytes}
 use Rattle.claims.specs.Demand2.{Follows, Demand2}
 use Rattle.claims.proofs.Exact.{accepted-wired, accepted-range, is-state}
 use Rattle.claims.proofs.Run.{start-encode}

@@ -4,7 +4,6 @@ use mathlib.Core.Path.{_≡_, refl, sym, ap, ap₂, _∙_}
 use mathlib.Core.List.{List, [], _∷_, _++_, append-assoc}
 use Prim.Native.Nat.{ℕ, _≤_}
 use native.Mathlib.Omega.{arith}
-use lib.ListN.{length}
 use Rattle.kinds.specs.declared.Refusal.{Refusal}
 use Rattle.kinds.specs.Refusals.{refusalNumber}
 use Rattle.kinds.specs.declared.Refusal.the-variants.{TooShort, OutOfRange, WrongLength, BadField, BadJoint, HasRing}
@@ -26,7 +25,7 @@ use Rattle.machine.specs.Runs.Watch.{After, each, watching, moments, watch}
 use Rattle.machine.specs.Runs.FirstBookings.{launchInRound0}
 use Rattle.layout.specs.Offsets.{size}
 use Rattle.layout.specs.Figures.{t-parts, wiredT as plannedT}
-use Rattle.claims.specs.Calls.{Given, startOn, callOn}
+use Rattle.claims.specs.Calls.{startOn, callOn}
 use Rattle.claims.specs.Demand3.{bytesAfter, Claim}
 use Rattle.claims.specs.FirstRun.{answersIn, allEntries, firstAnswers, FirstRun}
 use Rattle.claims.proofs.Run.{start-done}

@@ -1,7 +1,7 @@
 -- The tests of each call's refusals, and of Load's, tell of their conditions.
-use mathlib.Core.Path.{_≡_, refl, sym, ap, _∙_}
+use mathlib.Core.Path.{_≡_, refl, ap}
 use mathlib.Core.Logic.{_⊎_, inl, inr, _≢_}
-use mathlib.Core.Bool.{Bool, true, false, not, _&&_, true≢false, false≢true}
+use mathlib.Core.Bool.{Bool, true, false, not, _&&_, false≢true}
 use mathlib.Core.List.{List, [], _∷_}
 use Prim.Native.Nat.{ℕ, zero, suc, _≤_, _<_}
 use native.Mathlib.Omega.{arith}
@@ -9,7 +9,6 @@ use lib.Dec.{eqb, ltb, leb}
 use lib.ListN.{length}
 use borrow.Author.Tests.{ltb-false, le-ltb, ltb-true, leb-true, le-leb, not-true, not-false}
 use Rattle.kinds.specs.declared.Refusal.the-variants.{TooShort, OutOfRange, WrongLength, BadField, BadJoint, HasRing}
-use Rattle.packets.specs.declared.Kind.the-variants.{Nack}
 use Rattle.packets.specs.declared.Packet.{Packet}
 use Rattle.packets.specs.declared.Phase.{Phase}
 use Rattle.packets.specs.declared.Phase.the-variants.{Read, Write}
@@ -28,7 +27,6 @@ use Rattle.circles.proofs.Tests.{ring-test, test-ring}
 use Rattle.load.specs.Load.{lengthOk, jointsOk}
 use Rattle.machine.specs.Capacity.{capacity}
 use Rattle.machine.specs.State.{State}
-use Rattle.machine.specs.Execute.{unmarkedKind}
 use Rattle.machine.specs.Visits.{isEmpty, headUnmarked}
 use Rattle.machine.specs.Guards.{Guard, guard}
 use Rattle.machine.specs.Calls.{ofLaunch, ofReply, ofConsume, ofEntry, Call, turn, visit, isPhase, guards}
@@ -38,7 +36,6 @@ use Rattle.theory.proofs.Cases.{unmarked-kind}
 use Rattle.valid.proofs.Decides.{Decides, like, so, less, same}
 use Rattle.claims.specs.Conditions.{loadConditions}
 use Rattle.claims.proofs.Tests.{Tell, failed}
-use Rattle.claims.proofs.Exact.{head-range}
 
 -- ---- tests that hold where something does not
 pub no : {t : Bool} {X : Type 0} → Decides t X → Decides (not t) (X → ⊥)

@@ -2,10 +2,9 @@
 -- before it do not hold. So the first test that holds is that of the first condition that holds.
 use mathlib.Core.Path.{_≡_, refl, sym, ap, _∙_}
 use mathlib.Core.Logic.{_⊎_, inl, inr}
-use mathlib.Core.Bool.{Bool, true, false, not, true≢false, false≢true}
+use mathlib.Core.Bool.{Bool, true, false, true≢false}
 use mathlib.Core.List.{List, [], _∷_, _++_}
 use mathlib.Core.Option.{Option, none, some}
-use Rattle.basis.specs.Choice.{pick, test}
 use Rattle.kinds.specs.declared.Refusal.{Refusal}
 use Rattle.kinds.specs.Conditions.{Condition, First, NoneHolds}
 use Rattle.journeys.proofs.Places.{some-same, some-not-none}

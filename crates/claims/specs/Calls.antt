@@ -1,9 +1,8 @@
 -- The calls on bytes: plan bytes, state bytes and arguments give the answer and the state bytes. 'Load (and first in
 -- every call)'; then refusal 7;
 -- then the call's own refusals. Bytes past the state are never written, and a refusal alters no byte.
-use mathlib.Core.Path.{_≡_}
-use mathlib.Core.Bool.{Bool, true, false, _&&_}
-use mathlib.Core.List.{List, [], _∷_}
+use mathlib.Core.Bool.{Bool, _&&_}
+use mathlib.Core.List.{List}
 use Prim.Native.Nat.{ℕ}
 use lib.Dec.{ltb}
 use lib.ListN.{length}

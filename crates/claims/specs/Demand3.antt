@@ -3,13 +3,12 @@
 -- the last one left them.
 use mathlib.Core.Path.{_≡_}
 use mathlib.Core.Logic.{_≢_}
-use mathlib.Core.Bool.{Bool, true, false, _&&_}
+use mathlib.Core.Bool.{Bool, true}
 use mathlib.Core.List.{List, [], _∷_, _++_}
-use Prim.Native.Nat.{ℕ, zero, suc, _+_, _≤_, _<_}
-use lib.ListN.{length}
+use Prim.Native.Nat.{ℕ, _+_, _≤_}
 use Rattle.kinds.specs.declared.Refusal.the-variants.{NotState}
 use Rattle.packets.specs.declared.Answer.{Answer}
-use Rattle.packets.specs.declared.Answer.the-variants.{Refused, Done, Taken, Holds}
+use Rattle.packets.specs.declared.Answer.the-variants.{Refused, Done}
 use Rattle.plan.specs.declared.Head.{Head}
 use Rattle.plan.specs.Plan.{Plan, planOf, S}
 use Rattle.load.specs.declared.Loaded.the-variants.{Accepted}
@@ -20,7 +19,7 @@ use Rattle.machine.specs.Accepted.{Connection, accept, MadeBy}
 use Rattle.machine.specs.Progress.{Within, Quiet, Waits, Moved, isTimed, endsRound}
 use Rattle.machine.specs.Ruled.{ruledAfter, launchesCall, times}
 use Rattle.layout.specs.Decode.{decode}
-use Rattle.claims.specs.Calls.{Given, isState, callOn, startOn}
+use Rattle.claims.specs.Calls.{isState, callOn, startOn}
 
 -- ---- along the list
 -- the state bytes after the calls, each on the bytes that the last one left

@@ -1,7 +1,6 @@
 -- The queues by name, and their numbers: out-queues first, then each router's, then the in-queues.
-use mathlib.Core.Path.{_≡_}
 use mathlib.Core.Logic.{_≢_}
-use mathlib.Core.Bool.{Bool, true, false}
+use mathlib.Core.Bool.{Bool}
 use Prim.Native.Nat.{ℕ, zero, suc, _+_, _*_, _-_, _/_, _%_, _<_}
 use lib.Dec.{ltb, eqb}
 use Rattle.basis.specs.Choice.{pick}

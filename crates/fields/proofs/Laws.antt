@@ -1,15 +1,13 @@
 -- A field read from two bytes is the number that its bits make, for every place and every width up to six. Assumes
 -- nothing.
 use mathlib.Core.Path.{_≡_, refl, ap, ap₂, sym, _∙_}
-use mathlib.Core.Logic.{_⊎_, inl, inr, ⊎-elim}
+use mathlib.Core.Logic.{⊎-elim}
 use mathlib.Core.List.{List, [], _∷_}
 use Prim.Native.Nat.{ℕ, zero, suc, _+_, _-_, _*_, _/_, _%_, _^_, _≤_, _<_}
 use native.Mathlib.Nat.{mod-one, zero-div, div-one, mod-lt, mul-assoc, mul-add-div-right, one-mul, lt-of-lt-of-le}
 use native.Mathlib.Numerals.{add-one}
 use native.Mathlib.Omega.{arith}
-use mathlib.Core.Bool.{Bool, true, false}
-use lib.Dec.{ltb}
-use borrow.Author.Tests.{ltb-true, ltb-false}
+use mathlib.Core.Bool.{Bool}
 use lib.ListN.{getD}
 use lib.Pow.{pow-add, pow-pos, pow-mono, mod-pow-add, shr-shr, high, shl-exact}
 use lib.Bits.{block-odd}

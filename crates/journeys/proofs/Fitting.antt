@@ -1,19 +1,16 @@
 -- A packet that fits where it leaves a queue visits that queue, and where a packet visits a queue one of some kind and
 -- hub fits.
-use mathlib.Core.Path.{_≡_, refl, sym, ap, _∙_}
-use mathlib.Core.Logic.{_⊎_, inl, inr}
-use Prim.Native.Nat.{ℕ, zero, suc, _+_, _≤_, _<_}
+use mathlib.Core.Path.{_≡_, refl}
+use mathlib.Core.Logic.{inl, inr}
+use Prim.Native.Nat.{ℕ, suc}
 use native.Mathlib.Omega.{arith}
-use Rattle.basis.specs.Walk.{on, way-on}
 use Rattle.packets.specs.declared.Kind.{Kind}
 use Rattle.packets.specs.declared.Kind.the-variants.{Setup, Tdown, Ack, Nack}
-use Rattle.plan.specs.Plan.{Plan, Port, active, passive, routeTo}
-use Rattle.plan.specs.Rules.{home}
-use Rattle.paths.specs.Walk.{onward, walked}
+use Rattle.plan.specs.Plan.{Plan, Port}
 use Rattle.feeding.specs.Queue.{Queue, activeOut, activeIn, passiveIn, passiveOut, U, Q, F, K}
-use Rattle.feeding.specs.Feeds.{Heading, ahead, back, headingOf, Place, inQueue, handledAt, Meets, Stands, span, Ahead}
+use Rattle.feeding.specs.Feeds.{Heading, ahead, back, headingOf, span, Ahead}
 use Rattle.feeding.specs.Feeds.{Returns, Back, Fits, leavesFrom}
-use Rattle.journeys.specs.Visits.{OnWalk, Comes, Visits}
+use Rattle.journeys.specs.Visits.{Comes, Visits}
 
 module _ (pl : Plan) (a p : ℕ) where
   ahead-visits : (x : Queue) (n : ℕ) → Ahead pl a p (leavesFrom x) n → Visits pl ahead a p x

@@ -1,14 +1,12 @@
 -- Each queue of a plan is the queue of its number, so different names have different numbers.
-use mathlib.Core.Path.{_≡_, refl, sym, ap, ap₂, _∙_}
+use mathlib.Core.Path.{_≡_, sym, ap, _∙_}
 use mathlib.Core.Logic.{_⊎_, inl, inr, _≢_}
-use mathlib.Core.Bool.{Bool, true, false}
+use mathlib.Core.Bool.{Bool}
 use Prim.Native.Nat.{ℕ, zero, suc, _+_, _-_, _*_, _/_, _%_, _≤_, _<_}
 use native.Mathlib.Omega.{arith}
-use lib.Dec.{eqb, ltb}
-use borrow.Author.Tests.{lt-ltb, le-ltb, eq-eqb, ne-eqb}
-use Rattle.basis.specs.Choice.{pick}
+use borrow.Author.Tests.{lt-ltb, le-ltb, ne-eqb}
 use Rattle.basis.specs.Bounded.{lt-or-ge}
-use Rattle.plan.specs.Plan.{Plan, R, A, P}
+use Rattle.plan.specs.Plan.{Plan, R, A}
 use Rattle.feeding.specs.Queue.{Queue, activeOut, activeIn, passiveIn, passiveOut, U, Q, F, K, Exists, rank, outs}
 use Rattle.feeding.specs.Queue.{routerBase, inBase, number, queues, senderAt, inRouter, queueAt}
 

@@ -1,26 +1,25 @@
 -- Where a packet of a served pair may be: the queue exists, and where it goes next it may be too.
-use mathlib.Core.Path.{_≡_, refl, sym, ap, ap₂, _∙_}
+use mathlib.Core.Path.{_≡_, refl, sym, ap, _∙_}
 use mathlib.Core.Logic.{_⊎_, inl, inr, _≢_}
 use mathlib.Core.Option.{Option, none, some}
-use Prim.Native.Nat.{ℕ, zero, suc, _+_, _-_, _≤_, _<_}
-use native.Mathlib.Nat.{suc-add, zero-add}
+use Prim.Native.Nat.{ℕ, zero, suc, _-_, _<_}
 use native.Mathlib.Omega.{arith}
 use Rattle.basis.specs.Bounded.{below-suc}
-use Rattle.basis.specs.Walk.{Spot, on, end, lost, spot, on-end, on-lost, spot-next, spot-none, Way, way-at, way-on}
+use Rattle.basis.specs.Walk.{on, end, spot-next, spot-none, way-on}
 use Rattle.basis.specs.Walk.{way-tail}
 use Rattle.plan.specs.declared.Joint.{Joint}
-use Rattle.plan.specs.declared.Joint.the-variants.{Nothing, Router, Active, Passive}
+use Rattle.plan.specs.declared.Joint.the-variants.{Nothing, Router}
 use Rattle.plan.specs.Plan.{Plan, Port, Interface, active, passive, R, A, P, Has, jointOf, routeTo}
 use Rattle.plan.specs.Rules.{home}
-use Rattle.paths.specs.Walk.{onward, routerOf, Walk, walked}
+use Rattle.paths.specs.Walk.{onward, routerOf, Walk}
 use Rattle.paths.specs.Served.{Served}
 use Rattle.feeding.specs.Queue.{Queue, activeOut, activeIn, passiveIn, passiveOut, U, Q, F, K, Exists}
-use Rattle.feeding.specs.Feeds.{Heading, ahead, back, destination, enters, across, next, Meets}
-use Rattle.journeys.specs.Visits.{OnWalk, Comes, Visits}
+use Rattle.feeding.specs.Feeds.{Heading, ahead, back, next, Meets}
+use Rattle.journeys.specs.Visits.{Comes, Visits}
 use Rattle.wiring.specs.Wired.{Wired}
 use Rattle.wiring.proofs.Wires.{near, home-inside}
-use Rattle.journeys.proofs.Walks.{onward-on, onward-end, end-onward, alike, stops-inside}
-use Rattle.journeys.proofs.Sides.{leads, joined-back, turns, turns-later, home-turns}
+use Rattle.journeys.proofs.Walks.{onward-on, onward-end, alike}
+use Rattle.journeys.proofs.Sides.{joined-back, turns, turns-later, home-turns}
 
 pub some-not-none : {X : Type 0} {x : X} → none ≡ some x → ⊥
 some-not-none e = let z : _≡_ {A = ℕ} 0 1 = cc in omega arith

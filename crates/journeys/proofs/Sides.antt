@@ -1,14 +1,14 @@
 -- At each router of a walk the side in differs from the side out: a side that led back would lead to the router just
 -- left, which is met once only, or to the interface that the walk came from, which is not where it goes.
-use mathlib.Core.Path.{_≡_, refl, sym, ap, _∙_}
+use mathlib.Core.Path.{_≡_, sym, ap, _∙_}
 use mathlib.Core.Logic.{_⊎_, inl, inr, _≢_}
-use Prim.Native.Nat.{ℕ, zero, suc, _+_, _≤_, _<_}
+use Prim.Native.Nat.{ℕ, zero, suc, _<_}
 use native.Mathlib.Omega.{arith}
 use Rattle.basis.specs.Bounded.{below-suc}
-use Rattle.basis.specs.Walk.{Way, on, end}
+use Rattle.basis.specs.Walk.{on}
 use Rattle.plan.specs.declared.Joint.{Joint}
-use Rattle.plan.specs.declared.Joint.the-variants.{Nothing, Router, Active, Passive}
-use Rattle.plan.specs.Plan.{Plan, Port, Interface, active, passive, R, Has, jointOf, routeTo}
+use Rattle.plan.specs.declared.Joint.the-variants.{Router}
+use Rattle.plan.specs.Plan.{Plan, Port, Interface, active, passive, Has, jointOf, routeTo}
 use Rattle.plan.specs.Rules.{home}
 use Rattle.paths.specs.Walk.{onward, Walk}
 use Rattle.wiring.specs.Wired.{Wired}

@@ -1,20 +1,19 @@
 -- Walks of a plan whose joints match: the test finds exactly the walks that arrive; a served pair's walks; the side in
 -- is never the side out.
-use mathlib.Core.Path.{_≡_, refl, sym, ap, ap₂, _∙_}
-use mathlib.Core.Logic.{_⊎_, inl, inr, _≢_}
+use mathlib.Core.Path.{_≡_, refl, sym, ap, _∙_}
+use mathlib.Core.Logic.{_⊎_, inl, inr}
 use mathlib.Core.Bool.{Bool, true, false, false≢true}
-use Prim.Native.Nat.{ℕ, zero, suc, _+_, _-_, _≤_, _<_}
+use Prim.Native.Nat.{ℕ, zero, suc, _-_, _≤_, _<_}
 use native.Mathlib.Omega.{arith}
-use lib.Dec.{eqb}
 use borrow.Author.Tests.{eqb-true, eq-eqb}
-use Rattle.basis.specs.Choice.{pick, also, test, also-true, also-of}
-use Rattle.basis.specs.Bounded.{lt-or-ge, allBelow, all-at, all-of}
-use Rattle.basis.specs.Walk.{Spot, on, end, lost, spot, isEnd, end-of, on-end, on-lost, on-same, end-lost, Way, way-at}
-use Rattle.basis.specs.Walk.{way-on, way-over, way-tail, way-short, end-of-way, way-of-end, count-is, spot-next}
+use Rattle.basis.specs.Choice.{pick, test, also-true, also-of}
+use Rattle.basis.specs.Bounded.{all-at, all-of}
+use Rattle.basis.specs.Walk.{Spot, on, end, lost, end-of, on-end, way-at}
+use Rattle.basis.specs.Walk.{way-on, way-short, end-of-way, way-of-end, count-is}
 use Rattle.plan.specs.declared.Joint.{Joint}
 use Rattle.plan.specs.declared.Joint.the-variants.{Nothing, Router, Active, Passive}
-use Rattle.plan.specs.Plan.{Plan, Port, Interface, active, passive, R, A, P, Has, jointOf, routeTo}
-use Rattle.plan.specs.Rules.{leadsTo, home, JoinedAt}
+use Rattle.plan.specs.Plan.{Plan, Port, Interface, active, passive, R, A, jointOf, routeTo}
+use Rattle.plan.specs.Rules.{leadsTo, home}
 use Rattle.paths.specs.Walk.{into, through, onward, routerOf, Walk, walked, arrives, walkSize}
 use Rattle.paths.specs.Served.{Served, served, servedFrom, backArrives, backsArrive}
 use Rattle.wiring.specs.Wired.{Wired}

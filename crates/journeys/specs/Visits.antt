@@ -2,8 +2,8 @@
 use mathlib.Core.Path.{_≡_}
 use mathlib.Core.Logic.{_⊎_}
 use Prim.Native.Nat.{ℕ}
-use Rattle.basis.specs.Walk.{Spot, on}
-use Rattle.plan.specs.Plan.{Plan, Port, Interface, active, passive, routeTo}
+use Rattle.basis.specs.Walk.{on}
+use Rattle.plan.specs.Plan.{Plan, Port, active, passive, routeTo}
 use Rattle.plan.specs.Rules.{home}
 use Rattle.paths.specs.Walk.{onward}
 use Rattle.feeding.specs.Queue.{Queue, activeOut, activeIn, passiveIn, passiveOut, U, Q, F, K}

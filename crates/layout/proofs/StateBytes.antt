@@ -1,14 +1,14 @@
 -- 'Equal states giving equal bytes', and the other way: the test is passed by the bytes that the layout gives to a
 -- state, and by no others.
 use mathlib.Core.Path.{_≡_, refl, sym, ap, ap₂, _∙_, subst⁻¹}
-use mathlib.Core.Bool.{Bool, true, false, false≢true}
+use mathlib.Core.Bool.{Bool, true, false≢true}
 use mathlib.Core.List.{List, [], _∷_, _++_}
-use Prim.Native.Nat.{ℕ, _+_, _≤_}
+use Prim.Native.Nat.{ℕ, _≤_}
 use native.Mathlib.Omega.{arith}
-use lib.Dec.{eqb, leb}
+use lib.Dec.{leb}
 use lib.ListN.{length, length-append}
 use borrow.Author.Tests.{eqb-true, eq-eqb, le-leb}
-use Rattle.basis.specs.Choice.{also, also-true, also-of}
+use Rattle.basis.specs.Choice.{also-true, also-of}
 use Rattle.plan.specs.Head.{InRange}
 use Rattle.plan.specs.Plan.{Plan}
 use Rattle.machine.specs.State.{State}

@@ -4,7 +4,7 @@ use mathlib.Core.Path.{_≡_, refl}
 use mathlib.Core.Bool.{Bool, true, false}
 use mathlib.Core.List.{List, [], _∷_, _++_}
 use Prim.Native.Nat.{ℕ, zero, suc, _+_}
-use lib.ListN.{length, set, take}
+use lib.ListN.{set, take}
 use Rattle.fields.specs.Bits.{bitAt, fieldOf}
 use Rattle.plan.specs.Head.{capacityAt, headOf}
 use Rattle.plan.specs.Plan.{Plan, jointIn, planOf}

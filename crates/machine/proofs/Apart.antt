@@ -10,7 +10,7 @@ use Rattle.packets.specs.declared.Phase.the-variants.{Read, Execute, Write}
 use Rattle.packets.specs.declared.Entry.the-variants.{Free, Booked}
 use Rattle.feeding.specs.Queue.{Q}
 use Rattle.machine.specs.State.{nobody, sender}
-use Rattle.machine.specs.Calls.{Visit, Call, turn, visit, isPhase}
+use Rattle.machine.specs.Calls.{Visit, turn, visit, isPhase}
 
 -- ---- phases
 pub read-execute : Read ≡ Execute → ⊥

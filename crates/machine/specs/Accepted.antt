@@ -2,10 +2,9 @@
 -- accepts one, with that packet's active and passive and, as its start slot, the packet's slot minus hub modulo S.'
 -- And the table that they make.
 use mathlib.Core.Path.{_≡_}
-use mathlib.Core.List.{List, [], _∷_}
+use mathlib.Core.List.{List, _∷_}
 use Prim.Native.Nat.{ℕ, _<_}
 use Rattle.basis.specs.Among.{In}
-use Rattle.basis.specs.Walk.{on}
 use Rattle.kinds.specs.declared.Slot.{Slot}
 use Rattle.kinds.specs.declared.Refusal.{Refusal}
 use Rattle.packets.specs.declared.Kind.{Kind}
@@ -16,7 +15,7 @@ use Rattle.packets.specs.declared.Entry.the-variants.{Free, Booked}
 use Rattle.packets.specs.declared.Answer.{Answer}
 use Rattle.packets.specs.declared.Answer.the-variants.{Refused, Done, Taken, Holds}
 use Rattle.packets.specs.Counters.{startSlot, slotAfter}
-use Rattle.plan.specs.Plan.{Plan, Port, active, passive, R, S, routeTo}
+use Rattle.plan.specs.Plan.{Plan, active, passive, R, S, routeTo}
 use Rattle.feeding.specs.Feeds.{Stands}
 use Rattle.machine.specs.Calls.{Visit, ofLaunch, ofReply, ofConsume, ofEntry, Call, turn, visit}
 

@@ -4,7 +4,7 @@ use mathlib.Core.Path.{_≡_}
 use mathlib.Core.Logic.{_⊎_, _≢_}
 use mathlib.Core.Bool.{true}
 use mathlib.Core.List.{List, [], _∷_}
-use Prim.Native.Nat.{ℕ, _≤_}
+use Prim.Native.Nat.{_≤_}
 use lib.ListN.{length}
 use Rattle.kinds.specs.declared.Refusal.the-variants.{WrongPhase, BadNumber, NotServed, NoAllowance, QueueFull}
 use Rattle.kinds.specs.declared.Refusal.the-variants.{QueueEmpty, FlagUp, Unmarked}

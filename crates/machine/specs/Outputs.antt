@@ -1,13 +1,13 @@
 -- The outputs: their numbers, their senders in order, and the next queue of a packet that leaves by one.
-use mathlib.Core.Bool.{Bool, true, false}
+use mathlib.Core.Bool.{Bool}
 use mathlib.Core.List.{List, [], _∷_}
-use mathlib.Core.Option.{Option, none, some}
+use mathlib.Core.Option.{Option}
 use Prim.Native.Nat.{ℕ, _+_, _*_, _-_, _/_, _%_}
 use lib.Dec.{ltb, eqb}
 use Rattle.basis.specs.Choice.{pick}
 use Rattle.packets.specs.declared.Packet.{Packet}
 use Rattle.plan.specs.Plan.{Plan, R, A, P}
-use Rattle.feeding.specs.Queue.{Queue, activeOut, activeIn, passiveIn, passiveOut, U, Q, F, K, senderAt}
+use Rattle.feeding.specs.Queue.{Queue, activeOut, passiveOut, U, Q, senderAt}
 use Rattle.feeding.specs.Feeds.{Output, ofActive, ofPassive, ofSide, toUnit, fromUnit, headingOf, beyond}
 
 -- the next queue of a packet that leaves by an output: for READ, EXECUTE, WRITE, feeding and refusal 7

@@ -1,7 +1,7 @@
 -- Demand 3 on the rules alone: what is to be shown of every list of calls on the abstract state. The claim on bytes
 -- follows from it.
 use mathlib.Core.Path.{_≡_}
-use mathlib.Core.Bool.{Bool, true, false, _&&_}
+use mathlib.Core.Bool.{Bool, true, _&&_}
 use mathlib.Core.List.{List, [], _∷_, _++_}
 use Prim.Native.Nat.{ℕ, _+_, _≤_}
 use lib.Dec.{eqb}

@@ -1,12 +1,11 @@
 -- 'A pair is **served** if the walk from the active's router to the passive arrives, and from each router on it the
 -- walk back to the active arrives.'
-use mathlib.Core.Path.{_≡_}
-use mathlib.Core.Bool.{Bool, true, false}
+use mathlib.Core.Bool.{Bool, true}
 use Prim.Native.Nat.{ℕ, _<_}
 use Rattle.basis.specs.Choice.{also}
 use Rattle.basis.specs.Bounded.{allBelow}
 use Rattle.basis.specs.Walk.{Spot, on, end, lost}
-use Rattle.plan.specs.Plan.{Plan, Port, Interface, active, passive, R}
+use Rattle.plan.specs.Plan.{Plan, Port, active, passive, R}
 use Rattle.plan.specs.Rules.{home}
 use Rattle.paths.specs.Walk.{Walk, walked, arrives}
 

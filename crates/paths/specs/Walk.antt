@@ -1,6 +1,5 @@
 -- 'A *walk* leaves a router by the side given for a destination, and so on. It arrives if it reaches that interface
 -- with no router met twice.'
-use mathlib.Core.Path.{_≡_}
 use mathlib.Core.Bool.{Bool}
 use Prim.Native.Nat.{ℕ}
 use Rattle.basis.specs.Choice.{pick}

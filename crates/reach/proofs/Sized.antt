@@ -1,19 +1,17 @@
 -- The table of sizes grows with what is reached, and each size in it is right.
-use mathlib.Core.Path.{_≡_, refl, sym, ap, _∙_}
+use mathlib.Core.Path.{_≡_, sym, ap, _∙_}
 use mathlib.Core.Logic.{_⊎_, inl, inr}
-use mathlib.Core.Bool.{Bool, true, false, not, _&&_, _||_, true≢false, false≢true}
+use mathlib.Core.Bool.{Bool, true, false, _&&_, true≢false}
 use mathlib.Core.List.{List, []}
-use Prim.Native.Nat.{ℕ, zero, suc, _+_, _-_, _*_, _≤_, _<_}
-use native.Mathlib.Nat.{add-zero}
-use native.Mathlib.Numerals.{add-one}
+use Prim.Native.Nat.{ℕ, suc, _+_, _*_, _≤_, _<_}
 use native.Mathlib.Omega.{arith}
 use lib.Dec.{eqb, ltb}
-use lib.ListN.{getD, set, length, length-set, replicate, length-replicate}
+use lib.ListN.{getD, set, length-set, replicate, length-replicate}
 use lib.Seq.{getD-set-same, getD-set-other}
-use borrow.Author.Tests.{eqb-true, eqb-false, eq-eqb, ne-eqb, lt-ltb, le-ltb}
+use borrow.Author.Tests.{eqb-true, eqb-false, lt-ltb, le-ltb}
 use Rattle.basis.specs.Choice.{pick, test, not-both}
 use Rattle.basis.specs.Bounded.{anyBelow, any-true, any-of, or-cases, lt-or-ge}
-use Rattle.basis.specs.Fold.{upTo, fill, fill-at, up-none, up-more, up-done}
+use Rattle.basis.specs.Fold.{fill-at}
 use Rattle.sets.specs.Sets.{has, both, less}
 use Rattle.sets.specs.Laws.{has-both, has-less, none-has}
 use Rattle.reach.specs.declared.Span.{Span}

@@ -21,7 +21,6 @@ use Rattle.feeding.specs.Queue.{Queue, activeOut, activeIn, Q}
 use Rattle.feeding.specs.Feeds.{Output}
 use Rattle.machine.specs.Outputs.{nextBy, senders}
 use Rattle.machine.specs.State.{State, Choice, nobody, sender, withQueue, withWire, withFlag, withChoice, withEntry}
-use Rattle.machine.specs.State.{join}
 use Rattle.machine.specs.Read.{arrived, joinNext, arrive, deliver}
 use Rattle.machine.specs.Execute.{cameIn, declined, booked, freed, mayBook, handledAs, setUp, tearOne, tearDown}
 use Rattle.machine.specs.Execute.{handle, atUnit, unit, hasCredit, mayLeave, headReady, candidate, unmarkedKind}

@@ -2,9 +2,9 @@
 use mathlib.Core.Path.{_≡_, refl, sym, ap, _∙_}
 use mathlib.Core.Logic.{_⊎_, inl, inr, _≢_}
 use mathlib.Core.Bool.{Bool, true, false}
-use mathlib.Core.List.{List, [], _∷_}
-use mathlib.Core.Option.{Option, none, some}
-use Prim.Native.Nat.{ℕ, zero, suc, _+_, _≤_, _<_}
+use mathlib.Core.List.{List}
+use mathlib.Core.Option.{Option, some}
+use Prim.Native.Nat.{ℕ, _≤_}
 use native.Mathlib.Omega.{arith}
 use lib.ListN.{length}
 use Rattle.basis.specs.Choice.{test}
@@ -12,17 +12,16 @@ use Rattle.packets.specs.declared.Packet.{Packet}
 use Rattle.packets.specs.declared.Wire.the-variants.{Empty, Full}
 use Rattle.packets.specs.declared.Phase.{Phase}
 use Rattle.packets.specs.declared.Phase.the-variants.{Read, Execute, Write}
-use Rattle.packets.specs.declared.Entry.the-variants.{Free, Booked}
-use Rattle.plan.specs.Plan.{Plan, R, A, P, S}
-use Rattle.feeding.specs.Queue.{Queue, Q, Exists}
+use Rattle.plan.specs.Plan.{Plan}
+use Rattle.feeding.specs.Queue.{Queue, Exists}
 use Rattle.feeding.specs.Feeds.{Output, ofActive, ofPassive, ofSide, toUnit, fromUnit, headingOf, across}
 use Rattle.journeys.proofs.Places.{some-same, some-not-none}
 use Rattle.machine.specs.Capacity.{capacity}
 use Rattle.machine.specs.Outputs.{senders}
-use Rattle.machine.specs.State.{State, Choice, nobody, sender, startAllowance}
+use Rattle.machine.specs.State.{State, Choice, nobody, sender}
 use Rattle.machine.specs.Execute.{candidate}
 use Rattle.machine.specs.Write.{ofRank}
-use Rattle.machine.specs.Valid.{Lined, Drives, Carries, bit, onWires, total, spends, fed, Valid, Bounded}
+use Rattle.machine.specs.Valid.{Drives, fed, Valid, Bounded}
 use Rattle.machine.specs.Progress.{HasWire}
 use Rattle.theory.specs.Invariant.{account, Core, Shape, in-read, in-execute, in-write}
 use Rattle.machine.proofs.Apart.{nobody-not, read-execute, read-write, execute-write}

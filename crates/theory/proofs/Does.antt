@@ -1,12 +1,12 @@
 -- Every call does one of the things that specs/Does lists: its refusals taken one after another, once for all calls.
-use mathlib.Core.Path.{_≡_, refl, sym, ap, _∙_, subst}
-use mathlib.Core.Logic.{_≢_, _⊎_, inl, inr}
+use mathlib.Core.Path.{_≡_, refl, sym, ap, _∙_}
+use mathlib.Core.Logic.{_≢_}
 use mathlib.Core.Bool.{Bool, true, false, not, _&&_, true≢false, false≢true}
 use mathlib.Core.List.{List, [], _∷_}
 use mathlib.Core.Option.{Option, none, some}
-use Prim.Native.Nat.{ℕ, _<_}
+use Prim.Native.Nat.{ℕ}
 use native.Mathlib.Omega.{arith}
-use lib.Dec.{eqb, ltb, leb}
+use lib.Dec.{eqb}
 use borrow.Author.Tests.{ltb-true, leb-true, eqb-false, not-false}
 use Rattle.basis.specs.Choice.{not-both, pick-same}
 use Rattle.kinds.specs.Refusals.{refusalNumber}
@@ -22,12 +22,12 @@ use Rattle.feeding.specs.Queue.{activeIn, passiveIn}
 use Rattle.wiring.proofs.Heads.{and-both}
 use Rattle.journeys.proofs.Places.{some-not-none}
 use Rattle.machine.specs.State.{State}
-use Rattle.machine.specs.Visits.{isEmpty, headUnmarked, replyKind, replied}
+use Rattle.machine.specs.Visits.{isEmpty, headUnmarked}
 use Rattle.machine.specs.Guards.{Guard, refusalOf, Passed}
 use Rattle.machine.specs.Calls.{Visit, ofLaunch, ofReply, ofConsume, ofEntry, Call, turn, visit, Outcome, isPhase}
 use Rattle.machine.specs.Calls.{launchGuards, replyGuards, consumeGuards, entryGuards, guards, consumed, accepted}
 use Rattle.machine.specs.Calls.{decided, call}
-use Rattle.theory.specs.Does.{MayLaunch, MayReply, MayConsume, MayLook, Visited, launches, replies, consumes}
+use Rattle.theory.specs.Does.{MayLaunch, MayLook, Visited, launches, replies, consumes}
 use Rattle.theory.specs.Does.{looks, Does, refuses, turns, visits}
 use Rattle.machine.specs.Progress.{turnsCall}
 use Rattle.machine.proofs.Apart.{phase-of}

@@ -1,42 +1,37 @@
 -- What refusal 7 asks is kept by every call, from every valid state: the core by each step, the shape by each phase.
-use mathlib.Core.Path.{_≡_, refl, sym, ap, _∙_}
-use mathlib.Core.Logic.{_⊎_, inl, inr, _≢_}
-use mathlib.Core.Bool.{Bool, true, false, not, _&&_, true≢false, false≢true}
-use mathlib.Core.List.{List, [], _∷_}
-use Prim.Native.Nat.{ℕ, zero, suc, _+_, _≤_, _<_}
-use native.Mathlib.Omega.{arith}
-use lib.Dec.{eqb, ltb, leb}
-use borrow.Author.Tests.{ltb-true, eqb-false, eqb-true, not-false}
-use Rattle.kinds.specs.declared.Refusal.the-variants.{QueueEmpty, Unmarked}
-use Rattle.basis.specs.Choice.{pick, test}
+use mathlib.Core.Path.{_≡_, refl}
+use mathlib.Core.Logic.{_⊎_, inl, inr}
+use mathlib.Core.Bool.{Bool, true, false}
+use mathlib.Core.List.{List}
+use Prim.Native.Nat.{ℕ, _<_}
+use lib.Dec.{eqb}
+use Rattle.basis.specs.Choice.{pick}
 use Rattle.kinds.specs.declared.Refusal.{Refusal}
 use Rattle.packets.specs.declared.Kind.{Kind}
-use Rattle.packets.specs.declared.Kind.the-variants.{Setup, Tdown, Ack, Nack}
+use Rattle.packets.specs.declared.Kind.the-variants.{Ack, Nack}
 use Rattle.packets.specs.declared.Packet.{Packet}
 use Rattle.packets.specs.declared.Wire.the-variants.{Empty}
 use Rattle.packets.specs.declared.Phase.{Phase}
 use Rattle.packets.specs.declared.Phase.the-variants.{Read, Execute, Write}
-use Rattle.packets.specs.declared.Answer.the-variants.{Refused}
 use Rattle.packets.specs.Counters.{slotNext}
 use Rattle.plan.specs.Head.{InRange}
-use Rattle.plan.specs.Plan.{Plan, R, A, P, S}
-use Rattle.paths.specs.Served.{Served, served}
-use Rattle.feeding.specs.Queue.{Queue, activeOut, activeIn, passiveIn, passiveOut, Q, Exists}
+use Rattle.plan.specs.Plan.{Plan, R, A, S}
+use Rattle.paths.specs.Served.{Served}
+use Rattle.feeding.specs.Queue.{Queue, Q, Exists}
 use Rattle.feeding.specs.Feeds.{Output}
-use Rattle.wiring.proofs.Heads.{and-both}
 use Rattle.wiring.specs.Wired.{Wired}
 use Rattle.journeys.proofs.Walks.{served-of}
 use Rattle.machine.specs.State.{State, sender, blank, start, withPhase, withSlot}
 use Rattle.machine.specs.Read.{deliver, settle, doRead}
-use Rattle.machine.specs.Execute.{unit, choose, undo, doExecute, hasRoom, unmarked}
+use Rattle.machine.specs.Execute.{unit, choose, undo, doExecute}
 use Rattle.machine.specs.Write.{send, doWrite}
 use Rattle.machine.specs.Visits.{replyKind}
 use Rattle.machine.specs.Calls.{Visit, Call, Outcome, phaseStep, call}
 use Rattle.theory.specs.Does.{Visited, launches, replies, consumes, looks, Does, refuses, turns, visits}
-use Rattle.machine.specs.Valid.{Drives, Valid, Bounded}
+use Rattle.machine.specs.Valid.{Drives, Valid}
 use Rattle.machine.specs.Ruled.{Good}
 use Rattle.theory.proofs.Does.{call-does}
-use Rattle.theory.specs.Invariant.{Inv, Core, Shape, in-read, in-execute, in-write, Sendable, NoChoices}
+use Rattle.theory.specs.Invariant.{Inv, Core, Shape, in-read, Sendable}
 use Rattle.theory.specs.Invariant.{WiresEmpty, FlagsDown, ChoicesSendable, Allowances}
 use Rattle.theory.proofs.Core.{core-of, shape-of, valid-of}
 use Rattle.theory.proofs.Weights.Spending.{reply-spends}
@@ -49,7 +44,7 @@ use Rattle.theory.proofs.Kept.Read.{deliver-kept, settle-kept}
 use Rattle.theory.proofs.Kept.Execute.{unit-kept, choose-kept, undo-kept}
 use Rattle.theory.proofs.Kept.Write.{send-kept, turn-kept}
 use Rattle.theory.proofs.Kept.Calls.{launched-kept, replied-kept, removed-kept}
-use Rattle.theory.proofs.Account.Paid.{Paid, paid-of, start-paid, phase-paid, slot-paid}
+use Rattle.theory.proofs.Account.Paid.{Paid, start-paid, phase-paid, slot-paid}
 use Rattle.theory.proofs.Account.Read.{deliver-paid, settle-paid}
 use Rattle.theory.proofs.Account.Execute.{unit-paid, choose-paid, undo-paid}
 use Rattle.theory.proofs.Account.Write.{send-paid}

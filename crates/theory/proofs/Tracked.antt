@@ -1,43 +1,35 @@
 -- Along a list of calls from Start: a state keeps core and shape, every booked entry is owned once, and accepted
 -- connections are counted against launches. From it the empty network's table, and demand 3 on the rules.
-use mathlib.Core.Path.{_≡_, refl, sym, ap, _∙_}
-use mathlib.Core.Logic.{_⊎_, inl, inr, _≢_}
-use mathlib.Core.Bool.{Bool, true, false, not, _&&_, true≢false, false≢true}
+use mathlib.Core.Path.{_≡_, refl}
+use mathlib.Core.Bool.{Bool, false}
 use mathlib.Core.List.{List, [], _∷_}
-use Prim.Native.Nat.{ℕ, zero, suc, _+_, _≤_, _<_}
+use Prim.Native.Nat.{ℕ, _+_, _≤_, _<_}
 use native.Mathlib.Omega.{arith}
-use lib.Dec.{eqb, ltb, leb}
-use borrow.Author.Tests.{ltb-true, not-false}
-use Rattle.kinds.specs.declared.Refusal.the-variants.{QueueEmpty, Unmarked}
-use Rattle.basis.specs.Choice.{pick, pick-same}
 use Rattle.kinds.specs.declared.Refusal.{Refusal}
 use Rattle.packets.specs.declared.Kind.{Kind}
-use Rattle.packets.specs.declared.Kind.the-variants.{Setup, Tdown, Ack, Nack}
 use Rattle.packets.specs.declared.Packet.{Packet}
 use Rattle.packets.specs.declared.Wire.the-variants.{Empty}
 use Rattle.packets.specs.declared.Phase.{Phase}
 use Rattle.packets.specs.declared.Phase.the-variants.{Read, Execute, Write}
 use Rattle.packets.specs.declared.Answer.{Answer}
-use Rattle.packets.specs.declared.Answer.the-variants.{Refused, Done, Taken, Holds}
+use Rattle.packets.specs.declared.Answer.the-variants.{Refused, Done, Holds}
 use Rattle.packets.specs.Counters.{slotNext}
 use Rattle.plan.specs.Head.{InRange}
-use Rattle.plan.specs.Plan.{Plan, R, A, P, S}
-use Rattle.paths.specs.Served.{served}
-use Rattle.feeding.specs.Queue.{Queue, activeOut, activeIn, passiveIn, passiveOut, Q, Exists}
+use Rattle.plan.specs.Plan.{Plan, R, A, S}
+use Rattle.feeding.specs.Queue.{Queue, Q, Exists}
 use Rattle.feeding.specs.Feeds.{Output, FeedRing}
-use Rattle.wiring.proofs.Heads.{and-both}
 use Rattle.wiring.specs.Wired.{Wired}
 use Rattle.machine.specs.State.{State, sender, start, withPhase, withSlot}
 use Rattle.machine.specs.Read.{deliver, settle, doRead}
-use Rattle.machine.specs.Execute.{unit, choose, undo, doExecute, hasRoom, unmarked}
+use Rattle.machine.specs.Execute.{unit, choose, undo, doExecute}
 use Rattle.machine.specs.Write.{send, doWrite}
 use Rattle.machine.specs.Visits.{replyKind, replied}
 use Rattle.machine.specs.Calls.{Visit, ofLaunch, ofReply, ofConsume, ofEntry, Call, turn, visit, reply, entry, Outcome}
 use Rattle.machine.specs.Calls.{gives, phaseStep, call}
 use Rattle.theory.specs.Does.{Visited, launches, replies, consumes, looks, Does, refuses, turns, visits}
-use Rattle.machine.specs.Accepted.{Connection, accept, acceptKind, MadeBy}
+use Rattle.machine.specs.Accepted.{Connection, accept}
 use Rattle.machine.specs.Valid.{Drives}
-use Rattle.machine.specs.Progress.{Within, Quiet}
+use Rattle.machine.specs.Progress.{Within}
 use Rattle.machine.specs.Ruled.{Good, Ruled, ruledAfter, acceptedAfter, launchesCall, launches as launchesIn, times}
 use Rattle.theory.proofs.Does.{call-does}
 use Rattle.theory.specs.Invariant.{Core, Shape, Sendable, FlagsDown, WiresEmpty, ChoicesSendable, Inv}

@@ -11,7 +11,7 @@ use Rattle.fields.specs.Bits.{fieldOf}
 use Rattle.plan.specs.declared.Joint.the-variants.{Nothing, Router, Active, Passive}
 use Rattle.plan.specs.Head.{headOf}
 use Rattle.plan.specs.Plan.{Plan, Interface, active, passive, R, Has, jointOf, jointAt, jointFrom, jointIn, planOf}
-use Rattle.plan.specs.Rules.{JointFits, FieldsFit, NamedBack, JoinedAt, JointsMatch, home, namedOk, interfacesOk}
+use Rattle.plan.specs.Rules.{JointFits, FieldsFit, JointsMatch, home, namedOk, interfacesOk}
 use Rattle.fields.specs.Laws.{field-lt}
 use Rattle.wiring.proofs.Joints.{Inside, Sided, router-some, interface-some, router-else, interface-same}
 use Rattle.wiring.proofs.Joints.{named-ok, interfaces-ok, joints-ok, ok-joints}

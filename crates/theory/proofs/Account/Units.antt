@@ -12,7 +12,7 @@ use Rattle.packets.specs.declared.Entry.{Entry}
 use Rattle.packets.specs.declared.Entry.the-variants.{Free, Booked}
 use Rattle.plan.specs.Plan.{Plan, passive, S, routeTo}
 use Rattle.feeding.specs.Queue.{activeOut, activeIn, Q}
-use Rattle.machine.specs.State.{State, withQueue, withFlag, withEntry, join}
+use Rattle.machine.specs.State.{State, withQueue, withFlag, withEntry}
 use Rattle.machine.specs.Execute.{cameIn, declined, booked, freed, mayBook, handledAs, setUp, tearOne, tearDown}
 use Rattle.machine.specs.Execute.{handle, atUnit, unit, unmarked, torn, hasRoom, answer, atActive, undo}
 

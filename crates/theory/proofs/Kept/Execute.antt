@@ -5,10 +5,9 @@ use mathlib.Core.Logic.{_≢_}
 use mathlib.Core.Bool.{Bool, true, false, not, _&&_, false≢true, and-eq-true-iff}
 use mathlib.Core.List.{List, [], _∷_}
 use mathlib.Core.Option.{some}
-use Prim.Native.Nat.{ℕ, suc, _<_}
+use Prim.Native.Nat.{ℕ, _<_}
 use lib.Dec.{eqb}
 use borrow.Author.Tests.{eqb-true, eqb-false, not-true}
-use Rattle.basis.specs.Choice.{pick-same}
 use Rattle.basis.specs.Bounded.{Found, any-true}
 use Rattle.packets.specs.declared.Kind.{Kind}
 use Rattle.packets.specs.declared.Kind.the-variants.{Setup, Tdown, Ack, Nack}
@@ -24,7 +23,7 @@ use Rattle.machine.specs.Store.{put-here, put-away}
 use Rattle.machine.specs.Outputs.{senders}
 use Rattle.machine.specs.State.{State, Choice, sender, nobody, blank, withEntry, isFree}
 use Rattle.machine.specs.Execute.{cameIn, declined, booked, freed, otherFree, mayBook, handledAs, setUp, tearOne}
-use Rattle.machine.specs.Execute.{tearDown, handle, atUnit, unit, candidate, isOpen, firstOf, picked, choose, unmarked}
+use Rattle.machine.specs.Execute.{tearDown, handle, atUnit, unit, candidate, picked, choose, unmarked}
 use Rattle.machine.specs.Execute.{marked, tdownOf, hasRoom, answer, atActive, undo}
 use Rattle.machine.specs.Write.{ofRank}
 use Rattle.machine.specs.Valid.{Belongs, Drives, Bounded}

@@ -1,20 +1,19 @@
 -- Where a packet fits, the packet that a rule makes of it fits where the rule puts it: on the way from queue to queue,
 -- at a unit, at a passive, at an active.
-use mathlib.Core.Path.{_≡_, refl, sym, ap, _∙_}
-use mathlib.Core.Logic.{_⊎_, inl, inr, _≢_}
-use mathlib.Core.Option.{Option, none, some}
-use Prim.Native.Nat.{ℕ, zero, suc, _+_, _-_, _≤_, _<_}
-use native.Mathlib.Nat.{zero-add}
+use mathlib.Core.Path.{_≡_, refl, sym, _∙_}
+use mathlib.Core.Logic.{_⊎_, inl, inr}
+use mathlib.Core.Option.{Option, some}
+use Prim.Native.Nat.{ℕ, suc, _+_, _-_, _≤_, _<_}
 use native.Mathlib.Omega.{arith}
-use Rattle.basis.specs.Walk.{Spot, on, end, lost, spot-none, spot-next, way-on, count-is}
+use Rattle.basis.specs.Walk.{on, end, spot-none, spot-next, way-on, count-is}
 use Rattle.packets.specs.declared.Kind.{Kind}
 use Rattle.packets.specs.declared.Kind.the-variants.{Setup, Tdown, Ack, Nack}
-use Rattle.plan.specs.Plan.{Plan, Port, active, passive, R, A, P, routeTo}
+use Rattle.plan.specs.Plan.{Plan, Port, active, passive, R, A, P}
 use Rattle.plan.specs.Rules.{home}
 use Rattle.paths.specs.Walk.{onward, routerOf, walked, walkSize, Walk}
 use Rattle.paths.specs.Served.{Served}
 use Rattle.feeding.specs.Queue.{Queue, activeOut, activeIn, passiveIn, passiveOut, U, Q, F, K}
-use Rattle.feeding.specs.Feeds.{Heading, ahead, back, headingOf, next, Place, inQueue, handledAt, Meets, Stands, span}
+use Rattle.feeding.specs.Feeds.{ahead, back, headingOf, next, inQueue, handledAt, Stands, span}
 use Rattle.feeding.specs.Feeds.{Ahead, Returns, Back, Fits, leavesFrom}
 use Rattle.wiring.specs.Wired.{Wired}
 use Rattle.wiring.proofs.Wires.{home-inside}

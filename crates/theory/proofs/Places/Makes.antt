@@ -11,7 +11,6 @@ use Rattle.kinds.specs.declared.Hub.{Hub}
 use Rattle.packets.specs.declared.Kind.{Kind}
 use Rattle.packets.specs.declared.Kind.the-variants.{Setup, Tdown, Ack, Nack}
 use Rattle.packets.specs.declared.Packet.{Packet}
-use Rattle.packets.specs.Counters.{slotNext, startSlot, hubUp, hubDown}
 use Rattle.plan.specs.Head.{InRange}
 use Rattle.plan.specs.Plan.{Plan, passive, A, P, S, routeTo}
 use Rattle.paths.specs.Served.{Served}

@@ -2,21 +2,20 @@
 -- lost a packet.
 use mathlib.Core.Path.{_≡_, refl, sym, ap, _∙_}
 use mathlib.Core.Logic.{_⊎_, inl, inr, _≢_}
-use mathlib.Core.Bool.{Bool, true, false, true≢false, false≢true}
+use mathlib.Core.Bool.{Bool, true, false}
 use mathlib.Core.List.{List, [], _∷_, _++_}
-use Prim.Native.Nat.{ℕ, zero, suc, _+_, _≤_, _<_}
+use Prim.Native.Nat.{ℕ, zero, suc, _≤_, _<_}
 use native.Mathlib.Omega.{arith}
 use lib.Dec.{eqb}
 use lib.ListN.{length}
 use borrow.Author.Tests.{eqb-true, eqb-false}
 use Rattle.basis.specs.Choice.{test}
-use Rattle.basis.specs.Bounded.{below-suc, lt-or-ge}
+use Rattle.basis.specs.Bounded.{below-suc}
 use Rattle.basis.specs.Fold.{upTo, up-keeps, up-keeps-at}
-use Rattle.packets.specs.declared.Kind.the-variants.{Setup, Tdown, Ack, Nack}
+use Rattle.packets.specs.declared.Kind.the-variants.{Setup, Tdown}
 use Rattle.packets.specs.declared.Packet.{Packet}
-use Rattle.packets.specs.declared.Phase.the-variants.{Write}
 use Rattle.plan.specs.Plan.{Plan, R, A, S}
-use Rattle.feeding.specs.Queue.{Queue, activeOut, activeIn, passiveIn, passiveOut, U, Q, F, K, Exists}
+use Rattle.feeding.specs.Queue.{Queue, activeOut, activeIn, Q}
 use Rattle.machine.specs.Store.{put, sameQueue}
 use Rattle.machine.specs.Outputs.{outputs, outputAt}
 use Rattle.machine.specs.State.{State, withQueue, join}
@@ -26,7 +25,7 @@ use Rattle.machine.proofs.Apart.{unit-same}
 use Rattle.theory.proofs.Ground.Cells.{queue-here, queue-away}
 use Rattle.theory.specs.Invariant.{Core}
 use Rattle.theory.proofs.Cases.{UnitDoes, rests, books, declines, ends, frees, unit-does, unit-books}
-use Rattle.theory.proofs.Cases.{unit-declines, unit-ends, unit-frees, unit-handled, mayBookAt, afterBooked}
+use Rattle.theory.proofs.Cases.{unit-declines, unit-ends, unit-frees, mayBookAt, afterBooked}
 use Rattle.theory.proofs.Cases.{afterFreed, afterEnded, ActiveDoes, waits, tears, undo-does, undo-tears}
 use Rattle.theory.proofs.Progress.Still.{all-chosen}
 

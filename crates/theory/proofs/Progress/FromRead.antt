@@ -2,38 +2,31 @@
 -- EXECUTE begins with the same queues.
 use mathlib.Core.Path.{_≡_, refl, sym, ap, _∙_}
 use mathlib.Core.Logic.{_⊎_, inl, inr, _≢_}
-use mathlib.Core.Bool.{Bool, true, false, not, _&&_, true≢false, false≢true}
+use mathlib.Core.Bool.{Bool, true, false, true≢false, false≢true}
 use mathlib.Core.List.{List, [], _∷_, _++_}
-use Prim.Native.Nat.{ℕ, zero, suc, _+_, _≤_, _<_}
+use Prim.Native.Nat.{ℕ, _≤_, _<_}
 use native.Mathlib.Omega.{arith}
-use lib.Dec.{eqb, ltb}
-use lib.ListN.{length}
 use Rattle.basis.specs.Choice.{pick, test, refuted}
 use Rattle.basis.specs.Bounded.{Found, find}
 use Rattle.basis.specs.Fold.{upTo, up-keeps}
-use Rattle.kinds.specs.declared.Refusal.the-variants.{WrongPhase}
 use Rattle.packets.specs.declared.Packet.{Packet}
 use Rattle.packets.specs.declared.Wire.{Wire}
 use Rattle.packets.specs.declared.Wire.the-variants.{Empty, Full}
 use Rattle.packets.specs.declared.Phase.the-variants.{Read, Execute, Write}
-use Rattle.packets.specs.declared.Answer.the-variants.{Refused}
 use Rattle.plan.specs.Head.{InRange}
-use Rattle.plan.specs.Plan.{Plan, R, A, P, S}
-use Rattle.paths.specs.Served.{served}
+use Rattle.plan.specs.Plan.{Plan, S}
 use Rattle.feeding.specs.Queue.{Queue, activeOut, activeIn, passiveIn, passiveOut, U, Q, F, K, Exists, queues, queueAt}
 use Rattle.feeding.specs.Feeds.{Output, FeedRing}
 use Rattle.wiring.specs.Wired.{Wired}
-use Rattle.machine.specs.Capacity.{capacity}
 use Rattle.machine.specs.Store.{put, sameQueue, same-queue}
 use Rattle.machine.specs.Outputs.{outputs, outputAt, outputNumber}
 use Rattle.machine.specs.State.{State, isFull, join}
 use Rattle.machine.specs.Read.{deliver, settle, lower, doRead}
-use Rattle.machine.specs.Execute.{hasRoom}
 use Rattle.machine.specs.Visits.{setupOf, launched}
 use Rattle.machine.specs.Calls.{Visit, Call, turn, visit, read, execute, write, Outcome, call}
 use Rattle.theory.specs.Does.{Visited, launches, replies, consumes, looks, Does, refuses, turns, visits}
 use Rattle.machine.specs.Valid.{Drives}
-use Rattle.machine.specs.Progress.{isInQueue, UnderWay, PassiveRoom, Waits, Moved, isTimed, endsRound}
+use Rattle.machine.specs.Progress.{isInQueue, UnderWay, Waits, endsRound}
 use Rattle.machine.specs.Ruled.{rounds, Moves, Good}
 use Rattle.machine.proofs.Apart.{read-execute, read-write, full-not, turn-same, visit-not}
 use Rattle.theory.proofs.Does.{call-does, refused-turns}

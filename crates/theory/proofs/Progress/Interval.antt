@@ -1,16 +1,16 @@
 -- A list of calls along which nothing moves: what is seen in each of its rounds. Either some call moves a packet, or
 -- each of the first n rounds was seen.
-use mathlib.Core.Path.{_≡_, refl, sym, ap, _∙_}
+use mathlib.Core.Path.{_≡_, refl, ap}
 use mathlib.Core.Logic.{_⊎_, inl, inr}
-use mathlib.Core.List.{List, [], _∷_, _++_}
-use Prim.Native.Nat.{ℕ, zero, suc, _+_, _≤_, _<_}
+use mathlib.Core.List.{List, [], _∷_}
+use Prim.Native.Nat.{ℕ, suc, _+_, _≤_, _<_}
 use native.Mathlib.Omega.{arith}
 use Rattle.basis.specs.Bounded.{below-suc}
 use Rattle.plan.specs.Plan.{Plan}
 use Rattle.machine.specs.State.{State}
 use Rattle.machine.specs.Calls.{Call, call}
 use Rattle.machine.specs.Progress.{Moved, isTimed, endsRound}
-use Rattle.machine.specs.Ruled.{ruledAfter, rounds, Moves}
+use Rattle.machine.specs.Ruled.{rounds, Moves}
 use mathlib.Core.Bool.{true}
 
 -- this call moves a packet

@@ -4,16 +4,16 @@
 -- senders finds credit: the network is jammed, and Stuck says that it then holds no packet.
 use mathlib.Core.Path.{_≡_, refl, sym, ap, _∙_}
 use mathlib.Core.Logic.{_⊎_, inl, inr, _≢_}
-use mathlib.Core.Bool.{Bool, true, false, not, _&&_, true≢false, false≢true}
+use mathlib.Core.Bool.{Bool, true, false, not, true≢false, false≢true}
 use mathlib.Core.List.{List, [], _∷_, _++_}
-use mathlib.Core.Option.{Option, none, some}
+use mathlib.Core.Option.{Option, some}
 use Prim.Native.Nat.{ℕ, zero, suc, _+_, _-_, _%_, _≤_, _<_}
 use native.Mathlib.Nat.{mod-add-mod, mod-eq-of-lt, mod-eq-sub-mod, add-zero}
 use native.Mathlib.Omega.{arith}
-use lib.Dec.{eqb, ltb}
+use lib.Dec.{ltb}
 use lib.ListN.{length}
-use borrow.Author.Tests.{ltb-false, lt-ltb, not-true, not-false}
-use Rattle.basis.specs.Choice.{pick, also, test}
+use borrow.Author.Tests.{ltb-false, not-true, not-false}
+use Rattle.basis.specs.Choice.{test}
 use Rattle.basis.specs.Bounded.{Found, find, lt-or-ge}
 use Rattle.basis.specs.Fold.{upTo, up-keeps-at}
 use Rattle.kinds.specs.declared.Slot.{Slot}
@@ -24,29 +24,28 @@ use Rattle.packets.specs.declared.Packet.{Packet}
 use Rattle.packets.specs.declared.Phase.{Phase}
 use Rattle.packets.specs.declared.Phase.the-variants.{Read, Execute, Write}
 use Rattle.packets.specs.declared.Entry.{Entry}
-use Rattle.packets.specs.declared.Entry.the-variants.{Free, Booked}
+use Rattle.packets.specs.declared.Entry.the-variants.{Free}
 use Rattle.plan.specs.Head.{InRange}
-use Rattle.plan.specs.Plan.{Plan, R, A, P, S}
+use Rattle.plan.specs.Plan.{Plan, R, A, S}
 use Rattle.feeding.specs.Queue.{Queue, activeOut, activeIn, passiveIn, passiveOut, U, Q, F, K, Exists}
 use Rattle.feeding.specs.Role.{isOutQueue}
 use Rattle.feeding.specs.Feeds.{Output, ofActive, ofPassive, ofSide, toUnit, fromUnit, outputOf, headingOf, next}
 use Rattle.feeding.specs.Feeds.{inQueue, FeedRing}
 use Rattle.wiring.specs.Wired.{Wired}
-use Rattle.machine.specs.Capacity.{capacity}
 use Rattle.machine.specs.Outputs.{nextBy, senders, outputs, outputAt, outputNumber}
 use Rattle.machine.specs.State.{State, Choice, nobody, sender, isFree}
-use Rattle.machine.specs.Execute.{unit, hasCredit, mayLeave, candidate, isOpen, picked, doExecute}
+use Rattle.machine.specs.Execute.{unit, mayLeave, candidate, isOpen, picked, doExecute}
 use Rattle.machine.specs.Write.{ofRank, doWrite}
 use Rattle.machine.specs.Read.{doRead}
 use Rattle.machine.specs.Calls.{Outcome, Call, turn, visit, read, execute, write, call}
 use Rattle.machine.specs.Valid.{Belongs, Drives}
-use Rattle.machine.specs.Progress.{isInQueue, Moved, isTimed, endsRound}
+use Rattle.machine.specs.Progress.{isInQueue, endsRound}
 use Rattle.machine.specs.Ruled.{rounds, Moves}
 use Rattle.machine.proofs.Apart.{read-execute, read-write, execute-write, turn-same, visit-not}
 use Rattle.theory.proofs.Does.{refused-turns}
 use Rattle.machine.proofs.Numbers.{sender-exists}
 use Rattle.machine.proofs.OutNumbers.{output-at, output-below, drives-at}
-use Rattle.theory.specs.Invariant.{Core, Shape, WiresEmpty, FlagsDown, NoChoices, ChoicesSendable, Sendable, Inv}
+use Rattle.theory.specs.Invariant.{Core, Shape, WiresEmpty, FlagsDown, NoChoices, Inv}
 use Rattle.theory.proofs.Places.Closure.{unit-no-answer}
 use Rattle.theory.proofs.Places.Lines.{output-drives}
 use Rattle.theory.proofs.Places.Senders.{candidate-ready}

@@ -1,32 +1,31 @@
 -- While nothing moves: the inner queues, the marks and the table stay, out-queues only grow behind, credits only grow,
 -- wires stay empty.
 use mathlib.Core.Path.{_≡_, refl, sym, ap, _∙_}
-use mathlib.Core.Logic.{_⊎_, inl, inr, _≢_}
-use mathlib.Core.Bool.{Bool, true, false, not, _&&_, true≢false, false≢true}
+use mathlib.Core.Logic.{_⊎_, inl, inr}
+use mathlib.Core.Bool.{Bool, true, false, _&&_, true≢false}
 use mathlib.Core.List.{List, [], _∷_, _++_, append-assoc}
-use mathlib.Core.Option.{Option, none, some}
-use Prim.Native.Nat.{ℕ, zero, suc, _+_, _≤_, _<_}
+use mathlib.Core.Option.{Option}
+use Prim.Native.Nat.{ℕ, suc, _+_, _≤_, _<_}
 use native.Mathlib.Omega.{arith}
-use lib.ListN.{length}
-use Rattle.basis.specs.Choice.{pick, also, test}
+use Rattle.basis.specs.Choice.{pick, test}
 use Rattle.basis.specs.Bounded.{below-suc}
 use Rattle.basis.specs.Fold.{upTo, up-keeps, up-keeps-at}
 use Rattle.packets.specs.declared.Packet.{Packet}
 use Rattle.packets.specs.declared.Kind.{Kind}
-use Rattle.packets.specs.declared.Wire.the-variants.{Empty, Full}
+use Rattle.packets.specs.declared.Wire.the-variants.{Empty}
 use Rattle.packets.specs.declared.Phase.{Phase}
 use Rattle.packets.specs.declared.Phase.the-variants.{Read, Execute, Write}
 use Rattle.packets.specs.declared.Entry.{Entry}
 use Rattle.packets.specs.Counters.{slotNext}
-use Rattle.plan.specs.Plan.{Plan, R, A, P, S}
-use Rattle.feeding.specs.Queue.{Queue, activeOut, activeIn, passiveIn, passiveOut, U, Q, F, K, Exists, queues, queueAt}
+use Rattle.plan.specs.Plan.{Plan, R, A, S}
+use Rattle.feeding.specs.Queue.{Queue, activeOut, activeIn, passiveIn, passiveOut, Q, queues, queueAt}
 use Rattle.feeding.specs.Role.{isOutQueue}
-use Rattle.feeding.specs.Feeds.{Output, ofActive, ofPassive, ofSide, toUnit, fromUnit}
+use Rattle.feeding.specs.Feeds.{Output}
 use Rattle.machine.specs.Store.{put, sameQueue, same-queue, sameOutput, same-output, output-same}
-use Rattle.machine.specs.Outputs.{nextBy, senders, outputs, outputAt}
-use Rattle.machine.specs.State.{State, Choice, nobody, sender, join, withPhase, withQueue, withFlag, withChoice}
+use Rattle.machine.specs.Outputs.{outputs, outputAt}
+use Rattle.machine.specs.State.{State, Choice, nobody, join, withPhase, withQueue, withFlag, withChoice}
 use Rattle.machine.specs.Read.{arrive, deliver, lower, settle, doRead}
-use Rattle.machine.specs.Execute.{unit, atUnit, hasCredit, mayLeave, headReady, candidate, isOpen, firstOf, picked}
+use Rattle.machine.specs.Execute.{unit, atUnit, picked}
 use Rattle.machine.specs.Execute.{choose, answer, atActive, undo, doExecute, hasRoom, unmarked}
 use Rattle.machine.specs.Write.{sendBy, send, doWrite}
 use Rattle.machine.specs.Visits.{launched, replied, removed}

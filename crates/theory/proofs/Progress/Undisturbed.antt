@@ -2,12 +2,11 @@
 -- allows.
 use mathlib.Core.Path.{_≡_, refl, sym, ap, _∙_}
 use mathlib.Core.Logic.{_≢_}
-use mathlib.Core.Bool.{true, false, true≢false}
-use Prim.Native.Nat.{ℕ}
+use mathlib.Core.Bool.{false, true≢false}
 use Rattle.basis.specs.Choice.{refuted}
 use Rattle.kinds.specs.declared.Refusal.the-variants.{WrongPhase}
 use Rattle.packets.specs.declared.Phase.{Phase}
-use Rattle.packets.specs.declared.Phase.the-variants.{Read, Execute, Write}
+use Rattle.packets.specs.declared.Phase.the-variants.{Execute, Write}
 use Rattle.packets.specs.declared.Answer.the-variants.{Refused, Done}
 use Rattle.plan.specs.Plan.{Plan}
 use Rattle.machine.specs.State.{State, join}

@@ -4,7 +4,7 @@ use mathlib.Core.Path.{_≡_, refl, sym, ap, ap₂, subst, _∙_}
 use mathlib.Core.Logic.{_⊎_, inl, inr, _≢_}
 use mathlib.Core.Bool.{Bool, true, false}
 use mathlib.Core.List.{List, [], _∷_, _++_}
-use mathlib.Core.Option.{Option, none, some}
+use mathlib.Core.Option.{Option, some}
 use Prim.Native.Nat.{ℕ, _+_, _<_}
 use native.Mathlib.Omega.{arith}
 use Rattle.basis.specs.Choice.{pick, test}
@@ -13,17 +13,17 @@ use Rattle.packets.specs.declared.Wire.{Wire}
 use Rattle.packets.specs.declared.Wire.the-variants.{Empty, Full}
 use Rattle.plan.specs.Plan.{Plan}
 use Rattle.feeding.specs.Queue.{Queue, Exists, number, queues, queueAt}
-use Rattle.feeding.specs.Feeds.{Output, Place, inQueue, headPlace}
+use Rattle.feeding.specs.Feeds.{Output, inQueue, headPlace}
 use Rattle.journeys.proofs.Numbers.{queue-at, number-below}
 use Rattle.machine.specs.Store.{put, sameQueue, same-queue, queue-same, sameOutput, same-output, output-same, put-here}
 use Rattle.machine.specs.Store.{put-away}
 use Rattle.machine.specs.Outputs.{nextBy, outputs, outputAt, outputNumber}
 use Rattle.machine.specs.State.{State, blank, start, withQueue, withWire, withHandled, join}
-use Rattle.machine.specs.Valid.{Drives, sum, inAll, inWire, total}
+use Rattle.machine.specs.Valid.{Drives, inAll, inWire, total}
 use Rattle.machine.proofs.Numbers.{at-number}
 use Rattle.machine.proofs.OutNumbers.{output-at, output-below, drives-at, at-output}
 use Rattle.theory.proofs.Ground.Sums.{sum-same, sum-but, sum-nought}
-use Rattle.theory.specs.Weights.{Weight, anywhere, inLine, inNext, onWire, lineOf, wireOf, inLines, inWires}
+use Rattle.theory.specs.Weights.{Weight, anywhere, inLine, onWire, lineOf, wireOf, inLines, inWires}
 use Rattle.theory.specs.Weights.{weighed}
 use Rattle.theory.specs.Invariant.{Core}
 use Rattle.theory.proofs.Places.Lines.{head-unhandled}

@@ -14,7 +14,7 @@ use Rattle.paths.specs.declared.Index.{Index}
 use Rattle.paths.specs.declared.Index.the-variants.{At, Off}
 use Rattle.plan.specs.Rules.{portOf}
 use Rattle.plan.specs.Tables.{tablePlan, interfaceAt}
-use Rattle.paths.specs.Walk.{onward, walked, arrives, walkSize}
+use Rattle.paths.specs.Walk.{onward, walked}
 
 -- a port's number, router times four plus side
 abbrev pub portNumber : Port → ℕ
@@ -36,10 +36,6 @@ Stepped routes joints d want at s =
     (h : Head) → h .actives ≤ 16 → want ≡ wantedOf h d
     → s ≡ stepOf (onward (tablePlan h routes joints) (interfaceAt h d) (portOf at))
 
--- the routers on a walk, or 0 for one that does not arrive
-unfoldable pub sizeOr0 : Plan → Interface → Port → ℕ
-sizeOr0 pl e from = pick (arrives pl e from) (walkSize pl e from) 0
-
 -- does the walk stand on router r?
 abbrev pub standsOn : ℕ → Spot Port → Bool
 standsOn r (on x) = eqb (x .router) r
@@ -58,11 +54,8 @@ indexIn pl e from r (suc n) = byEarlier (indexIn pl e from r n)
 unfoldable pub indexOn : Plan → Interface → Port → ℕ → Index
 indexOn pl e from r = indexIn pl e from r (R pl)
 
--- the side by which the walk comes in to the router that it stands on after k, or noSide where it stands on none
+-- the side by which the walk comes in to the router that it stands on, or noSide where it stands on none
 abbrev pub sideAt : Spot Port → ℕ
 sideAt (on x) = x .side
 sideAt end = noSide
 sideAt lost = noSide
-
-unfoldable pub sideIn : Plan → Interface → Port → ℕ → ℕ
-sideIn pl e from k = sideAt (walked pl e k from)

@@ -32,7 +32,7 @@ member s l h = by (find 4 (has s))
     by (inl f) = f
     by (inr none) = absurd (h (no-member 4 s (omega arith) none))
 
-not-empty : (s i : ℕ) → has s i ≡ true → s ≢ 0
+pub not-empty : (s i : ℕ) → has s i ≡ true → s ≢ 0
 not-empty s i t e = true≢false (sym t ∙ ap (λ (u : ℕ). has u i) e ∙ none-has i)
 
 in-either : (s t i : ℕ) → has (either s t) i ≡ true → (has s i ≡ true) ⊎ (has t i ≡ true)

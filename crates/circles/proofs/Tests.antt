@@ -22,7 +22,6 @@ use Rattle.wiring.specs.Wired.{Wired}
 use Rattle.wiring.proofs.Wires.{near, home-inside}
 use Rattle.journeys.proofs.Walks.{onward-on, walk-short, serves-of, served-of}
 use Rattle.journeys.proofs.Places.{meets-next, meets-inside, exit-inside, nack-walk}
-use Rattle.circles.specs.Rounds.{Amid, ring-amid}
 use Rattle.circles.specs.Circles.{Trails, WalkRing, Answers, Crossing, Hands, AnswerRing}
 use Rattle.circles.specs.RingTest.{wayMeets, walkMeets, walkLeaves, isRouter, trailEdge, backMeets, answered}
 use Rattle.circles.specs.RingTest.{answerLeaves, answerComes, answersPass, handEdge, hasRing}
@@ -63,9 +62,6 @@ port-is i (Router n t) e = (n, t, refl, eqb-true (4 * n + t) i e)
 port-is i (Active n) e = absurd (false≢true e)
 port-is i (Passive n) e = absurd (false≢true e)
 
-abbrev port : ℕ → Port
-port x = record { router = x / 4; side = x % 4 }
-
 module _ {pl : Plan} (wired : Wired pl) where
   pub meets-way : (e : Interface) (from : Port) → from .router < R pl → (w : Walk pl e from) → (y : Port)
       → Meets pl e from y
@@ -102,20 +98,17 @@ module _ {pl : Plan} (wired : Wired pl) where
       (also-of (serves-of wired (w .a) p (w .has) (w .serves))
       (meets-way (passive p) (home pl (active (w .a))) (home-inside (active (w .a)) wired (w .has) .0) (w .serves .ahead) _ (w .met)))
 
-  edge-trails : (x y : ℕ) → trailEdge pl x y ≡ true → Trails pl (port x) (port y)
+  edge-trails : (x y : ℕ) → trailEdge pl x y ≡ true → Trails pl x y
   unfolding trailEdge walkLeaves
-  edge-trails x y e = by (any-true (P pl) (λ p. also (eqb (routeTo pl (passive p) (x / 4)) (x % 4)) (walkMeets pl p (x / 4))) (b .1))
+  edge-trails x y e = by (any-true 4 (λ o. also (isRouter y (pl .joint x o)) (walkLeaves pl x o)) e)
     where
-      b : (isRouter (y / 4) (pl .joint (x / 4) (x % 4)) ≡ true) × (walkLeaves pl (x / 4) (x % 4) ≡ true)
-      b = also-true {a = isRouter (y / 4) (pl .joint (x / 4) (x % 4))} e
-
-      by : Found (P pl) (λ p. also (eqb (routeTo pl (passive p) (x / 4)) (x % 4)) (walkMeets pl p (x / 4)))
-          → Trails pl (port x) (port y)
-      by (p, l, u) =
+      made : (o : ℕ) → isRouter y (pl .joint x o) ≡ true
+          → Found (P pl) (λ p. also (eqb (routeTo pl (passive p) x) o) (walkMeets pl p x)) → Trails pl x y
+      made o b (p, l, u) =
           let c = also-true u in
-          let w = walk-by p (x / 4) (c .1) in
-          let q : routeTo pl (passive p) (x / 4) ≡ x % 4 = eqb-true (routeTo pl (passive p) (x / 4)) (x % 4) (c .0) in
-          let j = router-is (y / 4) (pl .joint (x / 4) (x % 4)) (b .0) in
+          let w = walk-by p x (c .1) in
+          let q : routeTo pl (passive p) x ≡ o = eqb-true (routeTo pl (passive p) x) o (c .0) in
+          let j = router-is y (pl .joint x o) b in
           record {
             a = w .a;
             p = p;
@@ -124,48 +117,41 @@ module _ {pl : Plan} (wired : Wired pl) where
             serves = w .serves;
             from = w .side;
             met = w .met;
-            leaves = sym q;
             into = j .0;
-            next = router-onward pl (passive p) (record { router = x / 4; side = w .side }) (y / 4) (j .0) (ap (pl .joint (x / 4)) q ∙ j .1);
+            next = router-onward pl (passive p) (record { router = x; side = w .side }) y (j .0) (ap (pl .joint x) q ∙ j .1);
           }
 
-  -- a side's router and the router that it leads to are the plan's, the side is one of four
-  trails-inside : (x y : Port) → Trails pl x y → (x .router < R pl) × (x .side < 4)
-  trails-inside x y f = (
-    meets-inside wired (passive (f .p)) (home pl (active (f .a))) (f .serves .ahead) (home-inside (active (f .a)) wired (f .has-active)) _ (f .met) .0,
-    rw (f .leaves) (exit-inside wired (passive (f .p)) (home pl (active (f .a))) (f .serves .ahead) _ (f .met)),
-  )
+      by : Found 4 (λ o. also (isRouter y (pl .joint x o)) (walkLeaves pl x o)) → Trails pl x y
+      by (o, l, u) =
+          let b = also-true {a = isRouter y (pl .joint x o)} u in
+          made o (b .0) (any-true (P pl) (λ p. also (eqb (routeTo pl (passive p) x) o) (walkMeets pl p x)) (b .1))
 
-  trails-edge : (x y : Port) → Trails pl x y → y .side < 4
-      → trailEdge pl (4 * x .router + x .side) (4 * y .router + y .side) ≡ true
+  trails-edge : (x y : ℕ) → Trails pl x y → Leads (R pl) (trailEdge pl) x y
   unfolding trailEdge walkLeaves
-  trails-edge x y f l =
-      let k = trails-inside x y f in
-      let ar : (4 * x .router + x .side) / 4 ≡ x .router = omega arith in
-      let eo : (4 * x .router + x .side) % 4 ≡ x .side = omega arith in
-      let br : (4 * y .router + y .side) / 4 ≡ y .router = omega arith in
-      let joined : pl .joint (x .router) (x .side) ≡ Router (y .router) (f .into) =
-      ap (pl .joint (x .router)) (f .leaves) ∙ onward-on pl (passive (f .p)) _ _ (f .next) in
-      rw (ar, eo, br, joined, eq-eqb (y .router) (y .router) refl)
-      (any-of (P pl) (λ p. also (eqb (routeTo pl (passive p) (x .router)) (x .side)) (walkMeets pl p (x .router))) (f .p) (f .has-passive)
-      (also-of (eq-eqb (routeTo pl (passive (f .p)) (x .router)) (x .side) (sym (f .leaves)))
-      (by-walk (f .p) (x .router) (record { a = f .a; has = f .has-active; serves = f .serves; side = f .from; met = f .met }))))
-
-  pub walk-test : ringTest (4 * R pl) (trailEdge pl) ≡ true → WalkRing pl
-  walk-test t =
-      ring-map (Leads (4 * R pl) (trailEdge pl)) (Trails pl) port (λ x y l. edge-trails x y (l .step)) (ring-of-test (4 * R pl) (trailEdge pl) t)
-
-  pub test-walk : WalkRing pl → ringTest (4 * R pl) (trailEdge pl) ≡ true
-  test-walk r =
-      test-of-ring (4 * R pl) (trailEdge pl)
-      (ring-map (Amid (Trails pl)) (Leads (4 * R pl) (trailEdge pl)) (λ x. 4 * x .router + x .side) step (ring-amid (Trails pl) r))
+  trails-edge x y f = record {
+    from = meets-inside wired (passive (f .p)) (home pl (active (f .a))) (f .serves .ahead) (home-inside (active (f .a)) wired (f .has-active)) _ (f .met) .0;
+    to = near wired joined .0;
+    step = any-of 4 (λ o. also (isRouter y (pl .joint x o)) (walkLeaves pl x o)) out
+        (exit-inside wired (passive (f .p)) (home pl (active (f .a))) (f .serves .ahead) _ (f .met))
+        (also-of {a = isRouter y (pl .joint x out)} (rw joined (eq-eqb y y refl))
+        (any-of (P pl) (λ p. also (eqb (routeTo pl (passive p) x) out) (walkMeets pl p x)) (f .p) (f .has-passive)
+        (also-of (eq-eqb (routeTo pl (passive (f .p)) x) out refl)
+        (by-walk (f .p) x (record { a = f .a; has = f .has-active; serves = f .serves; side = f .from; met = f .met })))));
+  }
     where
-      step : (x y : Port) → Amid (Trails pl) x y
-          → Leads (4 * R pl) (trailEdge pl) (4 * x .router + x .side) (4 * y .router + y .side)
-      step x y m =
-          let a = trails-inside x y (m .step) in
-          let b = trails-inside y (m .after) (m .out) in
-          record { from = omega arith; to = omega arith; step = trails-edge x y (m .step) (b .1) }
+      out : ℕ
+      out = routeTo pl (passive (f .p)) x
+
+      joined : pl .joint x (routeTo pl (passive (f .p)) x) ≡ Router y (f .into)
+      joined = onward-on pl (passive (f .p)) _ _ (f .next)
+
+  pub walk-test : ringTest (R pl) (trailEdge pl) ≡ true → WalkRing pl
+  walk-test t =
+      ring-map (Leads (R pl) (trailEdge pl)) (Trails pl) (λ x. x) (λ x y l. edge-trails x y (l .step)) (ring-of-test (R pl) (trailEdge pl) t)
+
+  pub test-walk : WalkRing pl → ringTest (R pl) (trailEdge pl) ≡ true
+  test-walk r =
+      test-of-ring (R pl) (trailEdge pl) (ring-map (Trails pl) (Leads (R pl) (trailEdge pl)) (λ x. x) trails-edge r)
 
 -- ---- answers
 module _ {pl : Plan} (wired : Wired pl) where
@@ -356,9 +342,9 @@ module _ {pl : Plan} (wired : Wired pl) where
   -- ---- so
   pub ring-test : hasRing pl ≡ true → FeedRing pl
   unfolding hasRing
-  ring-test t = by (or-cases (ringTest (4 * R pl) (trailEdge pl)) (ringTest (16 * R pl) (handEdge pl)) t)
+  ring-test t = by (or-cases (ringTest (R pl) (trailEdge pl)) (ringTest (16 * R pl) (handEdge pl)) t)
     where
-      by : (ringTest (4 * R pl) (trailEdge pl) ≡ true) ⊎ (ringTest (16 * R pl) (handEdge pl) ≡ true) → FeedRing pl
+      by : (ringTest (R pl) (trailEdge pl) ≡ true) ⊎ (ringTest (16 * R pl) (handEdge pl) ≡ true) → FeedRing pl
       by (inl e) = feeds-of-rings wired (inl (walk-test wired e))
       by (inr e) = feeds-of-rings wired (inr (answer-test e))
 
@@ -367,9 +353,9 @@ module _ {pl : Plan} (wired : Wired pl) where
   test-ring r = by (rings-of-feeds wired r)
     where
       by : WalkRing pl ⊎ AnswerRing pl
-          → (ringTest (4 * R pl) (trailEdge pl) || ringTest (16 * R pl) (handEdge pl)) ≡ true
+          → (ringTest (R pl) (trailEdge pl) || ringTest (16 * R pl) (handEdge pl)) ≡ true
       by (inl s) = rw (test-walk wired s) refl
-      by (inr s) = rw (test-answer s) (or-right (ringTest (4 * R pl) (trailEdge pl)))
+      by (inr s) = rw (test-answer s) (or-right (ringTest (R pl) (trailEdge pl)))
 
   -- ---- one router alone has none
   no-step : R pl ≡ 1 → (e : Interface) (x z : Port) → onward pl e x ≡ on z → ⊥

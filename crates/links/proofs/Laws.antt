@@ -16,7 +16,7 @@ use Rattle.sets.specs.Sets.{has, single, both, either, below}
 use Rattle.sets.specs.Laws.{has-single, has-below, none-has, either-lt}
 use Rattle.spread.specs.Carried.{partnerOf, In, Spread}
 use Rattle.spread.proofs.Laws.{in-left, in-right, either-in}
-use Rattle.links.specs.Cells.{bitOf, maskOf, trailOf, linkOf, crossOf, outOf}
+use Rattle.links.specs.Cells.{bitOf, maskOf, crossOf, outOf}
 use Rattle.links.specs.Starts.{homeRow, startAt, startsOf, aloneOf, noteOf, notesOf, Comes, Answering}
 
 -- ---- masks are sets of four sides
@@ -48,28 +48,6 @@ mask-is l m q e = (e, rw e (mask-small l m q))
 
 -- ---- cells, by the ways their code goes
 module _ (l joints : List ℕ) where
-  pub trail-none : (k : ℕ) → getD l k 0 ≡ 0 → 0 ≡ trailOf l joints k
-  unfolding trailOf
-  trail-none k e = rw (eq-eqb (getD l k 0) 0 e)
-
-  pub trail-off : (k : ℕ) {q : ℕ} → getD l k 0 ≢ 0 → q ≡ partnerOf joints k → 64 ≤ q → 0 ≡ trailOf l joints k
-  unfolding trailOf
-  trail-off k n e h = rw (ne-eqb (getD l k 0) 0 n, ← e, le-ltb _ 64 h)
-
-  pub trail-on : (k : ℕ) {q v : ℕ} → getD l k 0 ≢ 0 → q ≡ partnerOf joints k → q < 64 → v ≡ 16 * (q / 4) + 15
-      → v ≡ trailOf l joints k
-  unfolding trailOf
-  trail-on k n e h s = rw (ne-eqb (getD l k 0) 0 n, ← e, lt-ltb _ 64 h) s
-
-  pub link-off : (k : ℕ) {q : ℕ} → q ≡ partnerOf joints k → 64 ≤ q → 0 ≡ linkOf l joints k
-  unfolding linkOf
-  link-off k e h = rw (← e, le-ltb _ 64 h)
-
-  pub link-on : (k : ℕ) {q m v : ℕ} → q ≡ partnerOf joints k → q < 64 → m ≡ maskOf l (getD l k 0) (q / 4)
-      → v ≡ 16 * (q / 4) + m → v ≡ linkOf l joints k
-  unfolding linkOf
-  link-on k e h f s = rw (← e, lt-ltb _ 64 h, ← f) s
-
   pub cross-off : (x : ℕ) {i : ℕ} → i ≡ partnerOf joints (x / 4) → 64 ≤ i → 0 ≡ crossOf l joints x
   unfolding crossOf
   cross-off x e h = rw (← e, le-ltb _ 64 h)

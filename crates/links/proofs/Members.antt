@@ -17,7 +17,7 @@ use Rattle.sets.specs.Sets.{has, both, either, below}
 use Rattle.sets.specs.Laws.{has-single, has-below, no-member}
 use Rattle.spread.specs.Carried.{partnerOf, beyondOf, In}
 use Rattle.spread.proofs.Laws.{in-both, both-in, in-left, in-right, either-in}
-use Rattle.links.specs.Cells.{leaveOf, leavesOf, bitOf, maskOf, trailOf, trailsOf, linkOf, linksOf, crossed}
+use Rattle.links.specs.Cells.{leaveOf, leavesOf, bitOf, maskOf, crossed}
 use Rattle.links.specs.Cells.{crossOf, crossesOf, outOf}
 use Rattle.links.specs.Starts.{homeRow, startAt, startsOf, aloneOf, liveOf, livesOf}
 use Rattle.links.proofs.Laws.{empty-at, not-empty}
@@ -152,10 +152,6 @@ cell-has g m (suc (suc zero)) l = let e : (16 * g + m) / 4 % 2 ≡ m / 4 % 2 = o
 cell-has g m (suc (suc (suc zero))) l = let e : (16 * g + m) / 8 % 2 ≡ m / 8 % 2 = omega arith in ap (λ (x : ℕ). eqb x 1) e
 cell-has g m (suc (suc (suc (suc j)))) l = absurd (omega arith)
 
-pub four-has : (j : ℕ) → j < 4 → has 15 j ≡ true
-unfolding below
-four-has j l = has-below 4 j ∙ lt-ltb j 4 l
-
 -- ---- masks
 bit-in : (l : List ℕ) (m q j i : ℕ) → has (bitOf l m q j) i ≡ true → (i ≡ j) × (both m (getD l (4 * q + j) 0) ≢ 0)
 unfolding bitOf
@@ -209,28 +205,6 @@ in-mask l m q j h n = by j h (in-bit l m q j n)
 
 -- ---- what a cell with a node tells, and what makes one
 module _ (l joints : List ℕ) where
-  pub trail-in : (k j : ℕ) → has (trailOf l joints k) j ≡ true
-      → (getD l k 0 ≢ 0) × (partnerOf joints k < 64) × (trailOf l joints k ≡ 16 * beyondOf joints k + 15)
-  unfolding trailOf
-  trail-in k j t = by (test (eqb (getD l k 0) 0)) (test (ltb (partnerOf joints k) 64))
-    where
-      by : (eqb (getD l k 0) 0 ≡ true) ⊎ (eqb (getD l k 0) 0 ≡ false)
-          → (ltb (partnerOf joints k) 64 ≡ true) ⊎ (ltb (partnerOf joints k) 64 ≡ false)
-          → (getD l k 0 ≢ 0) × (partnerOf joints k < 64)
-          × (pick (eqb (getD l k 0) 0) 0 (pick (ltb (partnerOf joints k) 64) (16 * beyondOf joints k + 15) 0) ≡ 16 * beyondOf joints k + 15)
-      by (inl e) b = absurd (not-empty 0 j (rw e at t) refl)
-      by (inr e) (inl f) = (eqb-false _ 0 e, ltb-true _ 64 f, rw (e, f))
-      by (inr e) (inr f) = absurd (not-empty 0 j (rw (e, f) at t) refl)
-
-  pub trail-is : (k : ℕ) → getD l k 0 ≢ 0 → partnerOf joints k < 64 → trailOf l joints k ≡ 16 * beyondOf joints k + 15
-  unfolding trailOf
-  trail-is k a b = rw (ne-eqb (getD l k 0) 0 a, lt-ltb (partnerOf joints k) 64 b)
-
-  pub link-is : (k : ℕ) → partnerOf joints k < 64
-      → linkOf l joints k ≡ 16 * beyondOf joints k + maskOf l (getD l k 0) (beyondOf joints k)
-  unfolding linkOf
-  link-is k b = rw (lt-ltb (partnerOf joints k) 64 b)
-
   -- what leads on from the crossing x
   abbrev pub crossCell : ℕ → ℕ
   crossCell x = 16 * partnerOf joints (outOf x) + maskOf l (crossed l joints x) (beyondOf joints (outOf x))
@@ -258,25 +232,9 @@ module _ (l joints : List ℕ) where
   cross-is x a b n =
       rw (lt-ltb (partnerOf joints (x / 4)) 64 a, lt-ltb (partnerOf joints (outOf x)) 64 b, ne-eqb (crossed l joints x) 0 n)
 
-  pub trails-at : (n k : ℕ) → k < n → n ≤ 64 → getD (trailsOf l joints n) k 0 ≡ trailOf l joints k
-  unfolding trailsOf
-  trails-at n k h m = fill-at {A = ℕ} (trailOf l joints) n (replicate 64 0) k 0 h m
-
-  pub links-at : (n k : ℕ) → k < n → n ≤ 64 → getD (linksOf l joints n) k 0 ≡ linkOf l joints k
-  unfolding linksOf
-  links-at n k h m = fill-at {A = ℕ} (linkOf l joints) n (replicate 64 0) k 0 h m
-
   pub crosses-at : (n k : ℕ) → k < n → n ≤ 256 → getD (crossesOf l joints n) k 0 ≡ crossOf l joints k
   unfolding crossesOf
   crosses-at n k h m = fill-at {A = ℕ} (crossOf l joints) n (replicate 256 0) k 0 h m
-
-  pub trails-long : (n : ℕ) {c : List ℕ} → c ≡ trailsOf l joints n → length c ≡ 64
-  unfolding trailsOf
-  trails-long n e = rw e (length-fill {A = ℕ} (trailOf l joints) n (replicate 64 0))
-
-  pub links-long : (n : ℕ) {c : List ℕ} → c ≡ linksOf l joints n → length c ≡ 64
-  unfolding linksOf
-  links-long n e = rw e (length-fill {A = ℕ} (linkOf l joints) n (replicate 64 0))
 
   pub crosses-long : (n : ℕ) {c : List ℕ} → c ≡ crossesOf l joints n → length c ≡ 256
   unfolding crossesOf

@@ -48,7 +48,7 @@ fn links_ring(
     let n = h.routers;
     let live = links::starts::live(served, h.actives);
     let mut gone = [0u32; 64];
-    links::leaves(by, arrive, live, 4 * n, &mut gone);
+    links::leaves(by, arrive, live, n, &mut gone);
     let mut to = [0u64; 64];
     links::words::links(&gone, joints, 4 * n, &mut to);
     peel::words::has_ring(&to, 4 * n)
@@ -71,7 +71,7 @@ fn answers_ring(
     let mut sent = [0u32; 32];
     links::starts::answers(by, joints, homes, served, n, h.actives, &mut sent);
     let mut gone = [0u32; 64];
-    links::leaves(by, &sent, sets::below(32), 4 * n, &mut gone);
+    links::leaves(by, &sent, sets::below(32), n, &mut gone);
     let mut cells = [0u32; 256];
     links::cross_cells(&gone, joints, 16 * n, &mut cells);
     peel::has_ring(&cells, 4 * n)

@@ -13,6 +13,7 @@ use borrow.Author.Tests.{lt-ltb, ltb-true, eqb-true, eqb-false, eq-eqb, ne-eqb}
 use Rattle.basis.specs.Choice.{pick, test}
 use Rattle.basis.specs.Bounded.{Found, find, below-suc}
 use Rattle.basis.specs.Fold.{fill-at, length-fill, up-keeps-at}
+use Rattle.basis.specs.Fold.{upTo, fill, up-fill, up-done}
 use Rattle.sets.specs.Sets.{has, both, either, below}
 use Rattle.sets.specs.Laws.{has-single, has-below, no-member}
 use Rattle.spread.specs.Carried.{partnerOf, beyondOf, In}
@@ -124,6 +125,32 @@ pub leaves-at : (by : List (List ℕ)) (t : List ℕ) (limit n k : ℕ) → k < 
     → getD (leavesOf by t limit n) k 0 ≡ leaveOf by t limit k
 unfolding leavesOf
 leaves-at by t limit n k l m = fill-at {A = ℕ} (leaveOf by t limit) n (replicate 64 0) k 0 l m
+
+-- its router and side by number
+pub leave-at : (by : List (List ℕ)) (t : List ℕ) (limit x o : ℕ) {v : ℕ} → o < 4
+    → v ≡ both (both (getD (getD by x []) o 0) (getD t x 0)) limit → v ≡ leaveOf by t limit (4 * x + o)
+unfolding leaveOf
+leave-at by t limit x o l e =
+    let ex : (4 * x + o) / 4 ≡ x = omega arith in
+    let eo : (4 * x + o) % 4 ≡ o = omega arith in
+    rw (ex, eo) e
+
+-- four sides of a router more
+pub leaves-more : (by : List (List ℕ)) (t : List ℕ) (limit x : ℕ) {l : List ℕ} {a b c d : ℕ}
+    → l ≡ upTo (fill (leaveOf by t limit)) (4 * x) (replicate 64 0)
+    → a ≡ leaveOf by t limit (4 * x + 0) → b ≡ leaveOf by t limit (4 * x + 1) → c ≡ leaveOf by t limit (4 * x + 2)
+    → d ≡ leaveOf by t limit (4 * x + 3)
+    → set (set (set (set l (4 * x) a) (4 * x + 1) b) (4 * x + 2) c) (4 * x + 3) d
+    ≡ upTo (fill (leaveOf by t limit)) (4 * (x + 1)) (replicate 64 0)
+leaves-more by t limit x {l} {a} {b} {c} {d} e ea eb ec ed =
+    let z : 4 * x + 0 ≡ 4 * x = omega arith in
+    let e1 = up-fill (leaveOf by t limit) (replicate 64 0) (4 * x) e (rw z at ea) in
+    let e2 = up-fill (leaveOf by t limit) (replicate 64 0) (4 * x + 1) e1 eb in
+    let s2 : 4 * x + 1 + 1 ≡ 4 * x + 2 = omega arith in
+    let e3 = up-fill (leaveOf by t limit) (replicate 64 0) (4 * x + 2) (rw s2 at e2) ec in
+    let s3 : 4 * x + 2 + 1 ≡ 4 * x + 3 = omega arith in
+    let e4 = up-fill (leaveOf by t limit) (replicate 64 0) (4 * x + 3) (rw s3 at e3) ed in
+    up-done (fill (leaveOf by t limit)) (replicate 64 0) e4 (omega arith)
 
 pub leave-in : (by : List (List ℕ)) (t : List ℕ) (limit k d : ℕ) → has (leaveOf by t limit k) d ≡ true
     → (has (getD (getD by (k / 4) []) (k % 4) 0) d ≡ true) × In t (k / 4) d

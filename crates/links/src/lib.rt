@@ -13,23 +13,24 @@ ghost use Prim.Native.Nat.{_+_, _*_, _≤_, _<_};
 ghost use lib.ListN.{replicate};
 ghost use Rattle.links.specs.Cells.{leaveOf, leavesOf, bitOf, maskOf, crossOf, crossesOf};
 
-// What of a set leaves by port k.
-fn leave(by: &[[u32; 4]; 16], t: &[u32; 32], limit: u32, k: usize) -> u32
-    requires { ⌜ k < 64 ⌝ }
-    ensures { λ v. ⌜ v ≡ leaveOf (now (by .entry)) (now (t .entry)) limit k ⌝ }
+// What of a set leaves router x by side o.
+fn leave(by: &[[u32; 4]; 16], t: &[u32; 32], limit: u32, x: usize, o: usize) -> u32
+    requires { ⌜ (x < 16) × (o < 4) ⌝ }
+    ensures { λ v. ⌜ v ≡ leaveOf (now (by .entry)) (now (t .entry)) limit (4 * x + o) ⌝ }
 {
-    let x = k / 4;
-    let o = k % 4;
     both(both(by[x][o], t[x]), limit)
 }
 
-// By port: what of the sets of its router leaves by it.
+// By port of n routers: what of the sets of its router leaves by it.
 pub fn leaves(by: &[[u32; 4]; 16], t: &[u32; 32], limit: u32, n: usize, l: &mut [u32; 64])
-    requires { ⌜ (n ≤ 64) × (now l ≡ replicate 64 0) ⌝ }
-    ensures { λ _. ⌜ now (l .exit) ≡ leavesOf (now (by .entry)) (now (t .entry)) limit n ⌝ }
+    requires { ⌜ (n ≤ 16) × (now l ≡ replicate 64 0) ⌝ }
+    ensures { λ _. ⌜ now (l .exit) ≡ leavesOf (now (by .entry)) (now (t .entry)) limit (4 * n) ⌝ }
 {
-    for k in 0..n {
-        l[k] = leave(by, t, limit, k);
+    for x in 0..n {
+        l[4 * x] = leave(by, t, limit, x, 0);
+        l[4 * x + 1] = leave(by, t, limit, x, 1);
+        l[4 * x + 2] = leave(by, t, limit, x, 2);
+        l[4 * x + 3] = leave(by, t, limit, x, 3);
     }
 }
 

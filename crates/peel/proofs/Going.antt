@@ -2,7 +2,7 @@
 -- there is one.
 use mathlib.Core.Path.{_≡_, refl, sym, ap, _∙_}
 use mathlib.Core.Logic.{_⊎_, inl, inr, _≢_}
-use mathlib.Core.Bool.{Bool, true, false, not, and-eq-true-iff}
+use mathlib.Core.Bool.{Bool, true, false, not, _&&_, and-eq-true-iff}
 use mathlib.Core.List.{List}
 use Prim.Native.Nat.{ℕ, zero, suc, _-_, _≤_, _<_, _^_}
 use native.Mathlib.Nat.{pow-suc}
@@ -53,12 +53,15 @@ module _ (succ : List ℕ) (n : ℕ) where
       by (inl l) = at i l
       by (inr e) = rw (e, r .closed) (at 0 (r .some))
 
+  -- node x is left and leads to none that is left
+  abbrev goesFrom : ℕ → ℕ → Bool
+  goesFrom x left = has left x && eqb (both (getD succ x 0) left) 0
+
   left-stay : (x left : ℕ) → Left left → Left (stayOf succ x left)
   unfolding stayOf
-  left-stay x left k = by (test (eqb (both (getD succ x 0) left) 0))
+  left-stay x left k = by (test (goesFrom x left))
     where
-      by : (eqb (both (getD succ x 0) left) 0 ≡ true) ⊎ (eqb (both (getD succ x 0) left) 0 ≡ false)
-          → Left (pick (eqb (both (getD succ x 0) left) 0) (less left (single x)) left)
+      by : (goesFrom x left ≡ true) ⊎ (goesFrom x left ≡ false) → Left (pick (goesFrom x left) (less left (single x)) left)
       by (inr e) = rw e k
       by (inl e) = rw e (record { keeps = stays; within = λ y t. k .within y (was y t) })
         where
@@ -66,7 +69,7 @@ module _ (succ : List ℕ) (n : ℕ) where
           was y t = and-eq-true-iff (has left y) (not (has (single x) y)) .0 (sym (has-less left (single x) y) ∙ t) .0
 
           other : (y : ℕ) → both (getD succ y 0) left ≢ 0 → y ≢ x
-          other y h q = h (rw q (eqb-true (both (getD succ x 0) left) 0 e))
+          other y h q = h (rw q (eqb-true (both (getD succ x 0) left) 0 (and-eq-true-iff (has left x) (eqb (both (getD succ x 0) left) 0) .0 e .1)))
 
           stays : (r : Ring (Leads n (leadsTo succ))) (i : ℕ) → i ≤ r .size
               → has (less left (single x)) (r .node i) ≡ true
@@ -150,7 +153,7 @@ module _ (succ : List ℕ) (n : ℕ) where
 
   stay-le : (x left : ℕ) → stayOf succ x left ≤ left
   unfolding stayOf
-  stay-le x left = by (eqb (both (getD succ x 0) left) 0)
+  stay-le x left = by (goesFrom x left)
     where
       by : (b : Bool) → pick b (less left (single x)) left ≤ left
       by true = less-le left (single x)
@@ -169,7 +172,7 @@ module _ (succ : List ℕ) (n : ℕ) where
   stay-same : (x left : ℕ) → stayOf succ x left ≡ left → has left x ≡ true → both (getD succ x 0) left ≢ 0
   unfolding stayOf
   stay-same x left e t q =
-      let s : less left (single x) ≡ left = rw (eq-eqb (both (getD succ x 0) left) 0 q) at e in
+      let s : less left (single x) ≡ left = rw (t, eq-eqb (both (getD succ x 0) left) 0 q) at e in
       not-both (ap (λ (v : ℕ). has v x) s ∙ t) (has-less left (single x) x ∙ rw (has-single x x, eq-eqb x x refl, t))
 
   judged : (left : ℕ) → Judged left n (upOf succ n left)

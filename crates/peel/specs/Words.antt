@@ -1,5 +1,5 @@
 -- Nodes by number, each with the set of those that it leads to, and how those that lead to none that is left go.
-use mathlib.Core.Bool.{Bool}
+use mathlib.Core.Bool.{Bool, _&&_}
 use mathlib.Core.List.{List}
 use Prim.Native.Nat.{ℕ, _-_}
 use lib.Dec.{eqb}
@@ -13,9 +13,9 @@ module _ (follow : List ℕ) where
   abbrev pub leadsTo : ℕ → ℕ → Bool
   leadsTo x y = has (getD follow x 0) y
 
-  -- what is left, without node x if it leads to none of that
+  -- what is left, without node x if it is left and leads to none of that
   unfoldable pub stayOf : ℕ → ℕ → ℕ
-  stayOf x left = pick (eqb (both (getD follow x 0) left) 0) (less left (single x)) left
+  stayOf x left = pick (has left x && eqb (both (getD follow x 0) left) 0) (less left (single x)) left
 
   -- a sweep up the nodes, and one down
   unfoldable pub upOf : ℕ → ℕ → ℕ

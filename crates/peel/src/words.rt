@@ -1,6 +1,7 @@
 // Whether a relation between at most 64 nodes has a ring: by node, the set of those that it leads to.
 // Nodes that lead to none that is left are taken away until none is left or none goes.
 use sets::long::both;
+use sets::long::has;
 use sets::long::with;
 use sets::long::without;
 ghost use mathlib.Core.Path.{_≡_};
@@ -9,13 +10,15 @@ ghost use lib.ListN.{length};
 ghost use Rattle.basis.specs.Ring.{ringTest};
 ghost use Rattle.peel.specs.Words.{leadsTo, stayOf, upOf, downOf, someOf, firstOf};
 
-// What is left, without node x if it leads to none of that.
+// What is left, without node x if it is left and leads to none of that.
 fn stay(follow: &[u64], left: u64, x: usize) -> u64
     requires { ⌜ (x < length (now follow)) × (x < 64) ⌝ }
     ensures { λ r. ⌜ r ≡ stayOf (now (follow .entry)) x left ⌝ }
 {
-    if both(follow[x], left) == 0 {
-        return without(left, x);
+    if has(left, x) {
+        if both(follow[x], left) == 0 {
+            return without(left, x);
+        }
     }
     left
 }

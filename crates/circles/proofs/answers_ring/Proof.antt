@@ -21,10 +21,6 @@ answers-requires c κs = search needs
 below-requires : tie.Need-below-requires
 below-requires c κs = search needs
 
--- src/lib.rt:76:47
-mul-leaves : tie.Need-mul-leaves
-mul-leaves c = search needs
-
 -- src/lib.rt:76:5
 leaves-requires : tie.Need-leaves-requires
 leaves-requires c κs = search needs
@@ -59,7 +55,6 @@ answers-ring-spec =
     (tie.spec
     answers-requires
     below-requires
-    mul-leaves
     leaves-requires
     mul-cross-cells
     cross-cells-requires

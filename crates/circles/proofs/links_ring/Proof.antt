@@ -16,10 +16,6 @@ use Rattle.peel.proofs.words.has_ring.Reads as has-ring-reads
 live-requires : tie.Need-live-requires
 live-requires c κs = search needs
 
--- src/lib.rt:51:37
-mul-leaves : tie.Need-mul-leaves
-mul-leaves c = search needs
-
 -- src/lib.rt:51:5
 leaves-requires : tie.Need-leaves-requires
 leaves-requires c κs = search needs
@@ -53,7 +49,6 @@ links-ring-spec =
     tie.close
     (tie.spec
     live-requires
-    mul-leaves
     leaves-requires
     mul-links
     links-requires

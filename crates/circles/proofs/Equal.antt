@@ -66,25 +66,30 @@ feeds-of pl h x y g =
 
 -- ---- a ring of walks is a ring of queues
 module _ (pl : Plan) where
-  abbrev sent : Port → Queue
-  sent x = F (x .router) (x .side)
-
-  trails-feeds : (x y : Port) → Amid (Trails pl) x y → Three (Feeds pl) (sent x) (sent y)
+  trails-feeds : (x y : ℕ) → Trails pl x y → Three (Feeds pl) (Q x) (Q y)
   unfolding Visits next
-  trails-feeds x y m = record {
-    one = U (y .router) (f .into);
-    two = Q (y .router);
-    first = feeds-of pl ahead (sent x) (U (y .router) (f .into)) (record {
+  trails-feeds x y f = record {
+    one = F x out;
+    two = U y (f .into);
+    first = feeds-of pl ahead (Q x) (F x out) (record {
       a = f .a;
       p = f .p;
       has-active = f .has-active;
       has-passive = f .has-passive;
       serves = f .serves;
-      visits = ((f .from, f .met), f .leaves);
-      goes = ap (across pl ahead (f .a) (f .p))
-          (ap (pl .joint (x .router)) (f .leaves) ∙ onward-on pl (passive (f .p)) here there (f .next));
+      visits = (f .from, f .met);
+      goes = refl;
     });
-    second = feeds-of pl ahead (U (y .router) (f .into)) (Q (y .router)) (record {
+    second = feeds-of pl ahead (F x out) (U y (f .into)) (record {
+      a = f .a;
+      p = f .p;
+      has-active = f .has-active;
+      has-passive = f .has-passive;
+      serves = f .serves;
+      visits = ((f .from, f .met), refl);
+      goes = ap (across pl ahead (f .a) (f .p)) (onward-on pl (passive (f .p)) here there (f .next));
+    });
+    third = feeds-of pl ahead (U y (f .into)) (Q y) (record {
       a = f .a;
       p = f .p;
       has-active = f .has-active;
@@ -93,31 +98,19 @@ module _ (pl : Plan) where
       visits = meets-next pl (passive (f .p)) (home pl (active (f .a))) here there (f .met) (f .next);
       goes = refl;
     });
-    third = feeds-of pl ahead (Q (y .router)) (sent y) (record {
-      a = g .a;
-      p = g .p;
-      has-active = g .has-active;
-      has-passive = g .has-passive;
-      serves = g .serves;
-      visits = (g .from, g .met);
-      goes = ap (λ (o : ℕ). some (F (y .router) o)) (sym (g .leaves));
-    });
   }
     where
-      f : Trails pl x y
-      f = m .step
-
-      g : Trails pl y (m .after)
-      g = m .out
+      out : ℕ
+      out = routeTo pl (passive (f .p)) x
 
       here : Port
-      here = record { router = x .router; side = f .from }
+      here = record { router = x; side = f .from }
 
       there : Port
-      there = record { router = y .router; side = f .into }
+      there = record { router = y; side = f .into }
 
   pub walk-ring : WalkRing pl → FeedRing pl
-  walk-ring r = ring-thrice (Amid (Trails pl)) (Feeds pl) sent trails-feeds (ring-amid (Trails pl) r)
+  walk-ring r = ring-thrice (Trails pl) (Feeds pl) (λ x. Q x) trails-feeds r
 
   -- ---- a ring of crossings is a ring of queues
   abbrev crossed : Crossing → Queue
@@ -225,7 +218,7 @@ module _ (pl : Plan) where
   exit r o = record { router = r; side = o }
 
   Onto : ℕ → ℕ → Queue → Type 0
-  Onto r o y = (n t : ℕ) × (y ≡ U n t) × ((j : ℕ) → Trails pl (exit r o) (exit n j))
+  Onto r o y = (n t : ℕ) × (y ≡ U n t) × Trails pl r n
 
   from-f : (r o : ℕ) (y : Queue) → Feeds pl (F r o) y → late y ≡ false → Onto r o y
   unfolding Visits next Onto
@@ -239,13 +232,12 @@ module _ (pl : Plan) where
               → o ≡ routeTo pl (passive (g .p)) r → Onto r o y
           walk i m e = step (goes-from pl (passive (g .p)) (home pl (active (g .a))) (g .serves .ahead) (exit r i) m)
             where
-              step : ((z : Port) × (onward pl (passive (g .p)) (exit r i) ≡ on z))
-                  ⊎ (onward pl (passive (g .p)) (exit r i) ≡ end) → Onto r o y
+              step : ((z : Port) × (onward pl (passive (g .p)) (exit r i) ≡ on z)) ⊎ (onward pl (passive (g .p)) (exit r i) ≡ end) → Onto r o y
               step (inl (z, q)) = (
                 z .router,
                 z .side,
                 sym (some-same (rw (e, onward-on pl (passive (g .p)) (exit r i) z q) at (g .goes))),
-                λ j. record {
+                record {
                   a = g .a;
                   p = g .p;
                   has-active = g .has-active;
@@ -253,7 +245,6 @@ module _ (pl : Plan) where
                   serves = g .serves;
                   from = i;
                   met = m;
-                  leaves = e;
                   into = z .side;
                   next = q;
                 },
@@ -263,52 +254,52 @@ module _ (pl : Plan) where
                   some-same (rw (e, onward-end pl (passive (g .p)) (exit r i) q) at (g .goes)) in
                   absurd (not-both (ap late (sym s)) early)
 
-  abbrev exitOf : Queue → Port
-  exitOf (activeOut x) = exit 0 0
-  exitOf (passiveOut x) = exit 0 0
-  exitOf (U r i) = exit 0 0
-  exitOf (Q r) = exit 0 0
-  exitOf (F r o) = exit r o
-  exitOf (K r i o) = exit 0 0
-  exitOf (activeIn x) = exit 0 0
-  exitOf (passiveIn x) = exit 0 0
+  abbrev unitOf : Queue → ℕ
+  unitOf (activeOut x) = 0
+  unitOf (passiveOut x) = 0
+  unitOf (U r i) = 0
+  unitOf (Q r) = r
+  unitOf (F r o) = 0
+  unitOf (K r i o) = 0
+  unitOf (activeIn x) = 0
+  unitOf (passiveIn x) = 0
 
-  abbrev AtSide : Queue → Type 0
-  AtSide x = (r o : ℕ) × (x ≡ F r o)
+  abbrev AtUnit : Queue → Type 0
+  AtUnit x = (r : ℕ) × (x ≡ Q r)
 
   -- a step among the queues that are not late
   abbrev Early : Queue → Queue → Type 0
   Early = Amid (Both (Feeds pl) late false)
 
-  three-steps : (w x y z : Queue) → AtSide w → Early w x → Early x y → Early y z
-      → AtSide z × Trails pl (exitOf w) (exitOf z)
+  -- from F to Q
+  two-steps : (r o : ℕ) (x y : Queue) → Early (F r o) x → Early x y → (n : ℕ) × (y ≡ Q n) × Trails pl r n
   unfolding Onto
-  three-steps w x y z (r, o, e) f g h = first (from-f r o x (rw e at (f .step .step)) (f .step .to))
+  two-steps r o x y f g = by (from-f r o x (f .step .step) (f .step .to))
     where
-      first : Onto r o x → AtSide z × Trails pl (exitOf w) (exitOf z)
-      first (n, t, q, s) = second (from-u n t y (rw q at (g .step .step)))
-        where
-          second : y ≡ Q n → AtSide z × Trails pl (exitOf w) (exitOf z)
-          second u = third (from-q n z (rw u at (h .step .step)))
-            where
-              third : (j : ℕ) × (z ≡ F n j) → AtSide z × Trails pl (exitOf w) (exitOf z)
-              third (j, v) = ((n, j, v), rw (e, v) (s j))
+      by : Onto r o x → (n : ℕ) × (y ≡ Q n) × Trails pl r n
+      by (n, t, q, s) = (n, from-u n t y (rw q at (g .step .step)), s)
 
-  first-side : (x y z : Queue) → Early x y → Early y z → AtSide x ⊎ AtSide y ⊎ AtSide z
-  first-side (activeOut a) y z f g = absurd (not-both refl (feeds-in (f .before) (activeOut a) (f .into .step)))
-  first-side (passiveOut p) y z f g = absurd (not-both refl (feeds-in (f .before) (passiveOut p) (f .into .step)))
-  first-side (U r i) y z f g =
-      let q = from-q r z (rw (from-u r i y (f .step .step)) at (g .step .step)) in
-      inr (inr (r, q .0, q .1))
-  first-side (Q r) y z f g = let q = from-q r y (f .step .step) in inr (inl (r, q .0, q .1))
-  first-side (F r o) y z f g = inl (r, o, refl)
-  first-side (K r i o) y z f g = absurd (not-both refl (f .step .from))
-  first-side (activeIn a) y z f g = absurd (not-both refl (f .step .from))
-  first-side (passiveIn p) y z f g = absurd (not-both refl (f .step .from))
+  three-steps : (w x y z : Queue) → AtUnit w → Early w x → Early x y → Early y z
+      → AtUnit z × Trails pl (unitOf w) (unitOf z)
+  three-steps w x y z (r, e) f g h = by (from-q r x (rw e at (f .step .step)))
+    where
+      by : (o : ℕ) × (x ≡ F r o) → AtUnit z × Trails pl (unitOf w) (unitOf z)
+      by (o, q) =
+          let s = two-steps r o y z (rw q at g) h in
+          ((s .0, s .1), rw (e, s .1) (s .2))
+
+  first-unit : (x y z : Queue) → Early x y → Early y z → AtUnit x ⊎ AtUnit y ⊎ AtUnit z
+  first-unit (activeOut a) y z f g = absurd (not-both refl (feeds-in (f .before) (activeOut a) (f .into .step)))
+  first-unit (passiveOut p) y z f g = absurd (not-both refl (feeds-in (f .before) (passiveOut p) (f .into .step)))
+  first-unit (U r i) y z f g = inr (inl (r, from-u r i y (f .step .step)))
+  first-unit (Q r) y z f g = inl (r, refl)
+  first-unit (F r o) y z f g = let s = two-steps r o y z f g in inr (inr (s .0, s .1))
+  first-unit (K r i o) y z f g = absurd (not-both refl (f .step .from))
+  first-unit (activeIn a) y z f g = absurd (not-both refl (f .step .from))
+  first-unit (passiveIn p) y z f g = absurd (not-both refl (f .step .from))
 
   early-ring : Ring (Both (Feeds pl) late false) → WalkRing pl
-  early-ring r =
-      ring-strides Early (Trails pl) exitOf AtSide three-steps first-side (ring-amid (Both (Feeds pl) late false) r)
+  early-ring r = ring-strides Early (Trails pl) unitOf AtUnit three-steps first-unit (ring-amid (Both (Feeds pl) late false) r)
 
 -- ---- the steps among K
 across-crossing : (pl : Plan) (a p : ℕ) (j : Joint) (r i o : ℕ) → across pl back a p j ≡ some (K r i o)
@@ -320,14 +311,8 @@ across-crossing pl a p (Router n t) r i o q =
     let et : t ≡ i = cc in
     let eo : routeTo pl (active a) n ≡ o = cc in
     (rw (en, et) refl, sym eo ∙ ap (routeTo pl (active a)) en)
-across-crossing pl a p (Active n) r i o q =
-    let same : activeIn n ≡ K r i o = some-same q in
-    let z : _≡_ {A = ℕ} 0 1 = cc in
-    absurd (omega arith)
-across-crossing pl a p (Passive n) r i o q =
-    let same : passiveIn n ≡ K r i o = some-same q in
-    let z : _≡_ {A = ℕ} 0 1 = cc in
-    absurd (omega arith)
+across-crossing pl a p (Active n) r i o q = let same : activeIn n ≡ K r i o = some-same q in let z : _≡_ {A = ℕ} 0 1 = cc in absurd (omega arith)
+across-crossing pl a p (Passive n) r i o q = let same : passiveIn n ≡ K r i o = some-same q in let z : _≡_ {A = ℕ} 0 1 = cc in absurd (omega arith)
 
 abbrev cross : ℕ → ℕ → ℕ → Crossing
 cross r i o = record { into = record { router = r; side = i }; out = o }
@@ -376,15 +361,13 @@ module _ (pl : Plan) where
   late-feeds (F r o) y l f = absurd (false-true l)
 
   late-crosses : (x y : Queue) → Amid (Both (Feeds pl) late true) x y → Crosses pl (crossing x) (crossing y)
-  late-crosses x y m =
-      by (late-feeds x y (m .step .from) (m .step .step)) (late-feeds y (m .after) (m .out .from) (m .out .step))
+  late-crosses x y m = by (late-feeds x y (m .step .from) (m .step .step)) (late-feeds y (m .after) (m .out .from) (m .out .step))
     where
       by : (r i o : ℕ) × (x ≡ K r i o) → (n t u : ℕ) × (y ≡ K n t u) → Crosses pl (crossing x) (crossing y)
       by (r, i, o, ex) (n, t, u, ey) = rw (ex, ey) (feeds-crosses r i o n t u (rw (ex, ey) at (m .step .step)))
 
   late-ring : Ring (Both (Feeds pl) late true) → Ring (Crosses pl)
-  late-ring r = ring-map (Amid (Both (Feeds pl) late true)) (Crosses pl) crossing late-crosses
-      (ring-amid (Both (Feeds pl) late true) r)
+  late-ring r = ring-map (Amid (Both (Feeds pl) late true)) (Crosses pl) crossing late-crosses (ring-amid (Both (Feeds pl) late true) r)
 
 -- ---- so
 module _ {pl : Plan} (wired : Wired pl) where

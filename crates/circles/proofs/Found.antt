@@ -2,7 +2,7 @@
 use mathlib.Core.Path.{_≡_, sym, ap, _∙_}
 use mathlib.Core.Logic.{_≢_}
 use mathlib.Core.Bool.{Bool, true, false, and-eq-true-iff}
-use mathlib.Core.List.{List}
+use mathlib.Core.List.{List, []}
 use Prim.Native.Nat.{ℕ, _+_, _*_, _/_, _%_, _≤_, _<_}
 use native.Mathlib.Omega.{arith}
 use lib.Dec.{eqb}
@@ -14,7 +14,7 @@ use Rattle.basis.specs.Ring.{Leads, ring-map, ring-same, ringTest, ring-of-test
 use Rattle.basis.specs.Walk.{way-on, way-tail}
 use Rattle.plan.specs.declared.Head.{Head}
 use Rattle.plan.specs.declared.Joint.the-variants.{Router}
-use Rattle.plan.specs.Plan.{Plan, active, passive, R, A, P, routeTo}
+use Rattle.plan.specs.Plan.{Plan, Port, active, passive, R, A, P, routeTo}
 use Rattle.plan.specs.Rules.{isRouterAt}
 use Rattle.paths.specs.Walk.{onward, routerOf, Walk}
 use Rattle.plan.specs.Head.{Counts}
@@ -23,16 +23,17 @@ use Rattle.journeys.proofs.Walks.{arrives-of, serves-of}
 use Rattle.sets.specs.Sets.{has, both, below}
 use Rattle.sets.specs.Laws.{has-below}
 use Rattle.peel.specs.Cells.{groupOf, edge}
+use Rattle.peel.specs.Words.{leadsTo}
 use Rattle.spread.specs.Carried.{partnerOf, beyondOf, Spread}
 use Rattle.spread.proofs.Laws.{in-both, both-in}
-use Rattle.links.specs.Cells.{leavesOf, maskOf, trailOf, trailsOf, linksOf, crossed, crossOf}
+use Rattle.links.specs.Cells.{leavesOf, maskOf, crossed, crossOf}
 use Rattle.links.specs.Cells.{crossesOf, outOf}
 use Rattle.links.specs.Starts.{startsOf, livesOf}
+use Rattle.links.specs.Words.{nextsOf, linksOf}
 use Rattle.links.proofs.Laws.{mask-small, not-empty}
-use Rattle.links.proofs.Members.{member, in-lives, leaves-at, leave-in, in-leave, cell-group, cell-has, four-has}
-use Rattle.links.proofs.Members.{mask-in, in-mask, trail-in, trail-is, link-is, cross-in, cross-is, trails-at}
-use Rattle.links.proofs.Members.{links-at}
-use Rattle.links.proofs.Members.{crosses-at}
+use Rattle.links.proofs.Members.{member, in-lives, leaves-at, leave-in, in-leave, cell-group, cell-has}
+use Rattle.links.proofs.Members.{mask-in, in-mask, cross-in, cross-is, crosses-at}
+use Rattle.links.proofs.Onward.{goneBy, next-in, in-next, in-links}
 use Rattle.circles.specs.Circles.{Answers, Crossing, Hands, AnswerRing}
 use Rattle.circles.specs.RingTest.{walkMeets, walkLeaves, isRouter, trailEdge, answered, answerLeaves}
 use Rattle.circles.specs.RingTest.{answerComes, answersPass, handEdge, hasRing}
@@ -40,8 +41,7 @@ use Rattle.circles.specs.Told.{Told}
 use Rattle.circles.proofs.Tests.{walk-by, by-walk, router-is, port-is, answered-by, by-answers}
 use Rattle.circles.proofs.Tests.{back-from, answer-leaves, answer-comes, Handed, handed}
 use Rattle.circles.proofs.Tests.{answer-test, one-router}
-use Rattle.circles.proofs.Drawn.{few, joint-partner, partner-joint, leaves-of, of-leaves, all-walker}
-use Rattle.circles.proofs.Drawn.{walker-all}
+use Rattle.circles.proofs.Drawn.{few, joint-partner, partner-joint, leaves-of, of-leaves, all-walker, walker-all}
 use Rattle.circles.proofs.Drawn.{answers-of, of-answers}
 
 -- ---- tests of relations that agree
@@ -72,80 +72,73 @@ module _ {pl : Plan} {h : Head} {by : List (List ℕ)} {joints homes arrive serv
 
   -- ---- walks
   module _ (t : List ℕ) (spread : Spread by joints (R pl) (startsOf homes serve (A pl)) t) where
-    abbrev trailed : List ℕ
-    trailed = leavesOf by t (below 32) (4 * R pl)
-
-    leaves-walk : (k : ℕ) → k < 4 * R pl → getD trailed k 0 ≢ 0 → walkLeaves pl (k / 4) (k % 4) ≡ true
+    leaves-walk : (x o : ℕ) → x < R pl → o < 4 → goneBy by joints t x o ≢ 0 → walkLeaves pl x o ≡ true
     unfolding walkLeaves
-    leaves-walk k l n = found (member (getD trailed k 0) n)
+    leaves-walk x o l k n = found (member (goneBy by joints t x o) n)
       where
-        found : (d : ℕ) × (has (getD trailed k 0) d ≡ true) → walkLeaves pl (k / 4) (k % 4) ≡ true
+        found : (d : ℕ) × (has (goneBy by joints t x o) d ≡ true) → walkLeaves pl x o ≡ true
         found (d, u) =
-            let b =
-            leave-in by t (below 32) k d (rw (leaves-at by t (below 32) (4 * R pl) k l (omega (arith, room))) at u) in
-            let w = all-walker fits told t spread (k / 4) d (omega arith) (b .1) in
-            let r = of-leaves fits told (k / 4) (k % 4) d (omega arith) (b .0) .1 in
-            any-of (P pl) (λ p. also (eqb (routeTo pl (passive p) (k / 4)) (k % 4)) (walkMeets pl p (k / 4))) (w .p)
-            (w .has-passive)
-            (also-of (eq-eqb (routeTo pl (passive (w .p)) (k / 4)) (k % 4) (rw (w .column-is) at r))
-            (by-walk (told .wired) (w .p) (k / 4)
-            (record { a = w .a; has = w .has-active; serves = w .serves; side = w .side; met = w .met })))
+            let b = both-in (getD (getD by x []) o 0) (getD t x 0) d u in
+            let w = all-walker fits told t spread x d l (b .1) in
+            let r = of-leaves fits told x o d k (b .0) .1 in
+            any-of (P pl) (λ p. also (eqb (routeTo pl (passive p) x) o) (walkMeets pl p x)) (w .p) (w .has-passive)
+            (also-of (eq-eqb (routeTo pl (passive (w .p)) x) o (rw (w .column-is) at r))
+            (by-walk (told .wired) (w .p) x (record { a = w .a; has = w .has-active; serves = w .serves; side = w .side; met = w .met })))
 
-    walk-leaves : (k : ℕ) → k < 4 * R pl → walkLeaves pl (k / 4) (k % 4) ≡ true → getD trailed k 0 ≢ 0
+    walk-leaves : (x o : ℕ) → o < 4 → walkLeaves pl x o ≡ true → goneBy by joints t x o ≢ 0
     unfolding walkLeaves
-    walk-leaves k l u =
-        found (any-true (P pl) (λ p. also (eqb (routeTo pl (passive p) (k / 4)) (k % 4)) (walkMeets pl p (k / 4))) u)
+    walk-leaves x o k u = found (any-true (P pl) (λ p. also (eqb (routeTo pl (passive p) x) o) (walkMeets pl p x)) u)
       where
-        found : Found (P pl) (λ p. also (eqb (routeTo pl (passive p) (k / 4)) (k % 4)) (walkMeets pl p (k / 4)))
-            → getD trailed k 0 ≢ 0
+        found : Found (P pl) (λ p. also (eqb (routeTo pl (passive p) x) o) (walkMeets pl p x))
+            → goneBy by joints t x o ≢ 0
         found (p, hp, v) =
             let b = also-true v in
-            let w = walk-by (told .wired) p (k / 4) (b .1) in
-            let r : pl .route (k / 4) (A pl + p) ≡ k % 4 = eqb-true (routeTo pl (passive p) (k / 4)) (k % 4) (b .0) in
-            not-empty (getD trailed k 0) (A pl + p)
-            (rw (leaves-at by t (below 32) (4 * R pl) k l (omega (arith, room)))
-            (in-leave by t (below 32) k (A pl + p)
-            (leaves-of fits told (k / 4) (k % 4) (A pl + p) (omega arith) (omega arith) r)
-            (walker-all fits told t spread (w .a) p (w .has) hp (w .serves) (record { router = k / 4; side = w .side })
-            (w .met))
-            (has-below 32 (A pl + p) ∙ lt-ltb (A pl + p) 32 (omega (arith, room)))))
+            let w = walk-by (told .wired) p x (b .1) in
+            let r : pl .route x (A pl + p) ≡ o = eqb-true (routeTo pl (passive p) x) o (b .0) in
+            not-empty (goneBy by joints t x o) (A pl + p)
+            (in-both (getD (getD by x []) o 0) (getD t x 0) (A pl + p) (leaves-of fits told x o (A pl + p) k (omega arith) r)
+            (walker-all fits told t spread (w .a) p (w .has) hp (w .serves) (record { router = x; side = w .side }) (w .met)))
 
-    trail-edges : (x y : ℕ) → x < 4 * R pl → y < 4 * R pl
-        → edge (trailsOf trailed joints (4 * R pl)) x y ≡ trailEdge pl x y
+    abbrev trailed : List ℕ
+    trailed = nextsOf by joints t (R pl)
+
+    trail-edges : (x y : ℕ) → x < R pl → y < R pl → leadsTo trailed x y ≡ trailEdge pl x y
     unfolding trailEdge
-    trail-edges x y lx ly = same-test (edge (trailsOf trailed joints (4 * R pl)) x y) (trailEdge pl x y) there back
+    trail-edges x y lx ly = same-test (leadsTo trailed x y) (trailEdge pl x y) there back
       where
-        cell : getD (trailsOf trailed joints (4 * R pl)) x 0 ≡ trailOf trailed joints x
-        cell = trails-at trailed joints (4 * R pl) x lx (omega (arith, room))
-
-        there : edge (trailsOf trailed joints (4 * R pl)) x y ≡ true
-            → also (isRouter (y / 4) (pl .joint (x / 4) (x % 4))) (walkLeaves pl (x / 4) (x % 4)) ≡ true
+        there : leadsTo trailed x y ≡ true
+            → anyBelow 4 (λ o. also (isRouter y (pl .joint x o)) (walkLeaves pl x o)) ≡ true
         there e =
-            let b = edge-parts (trailsOf trailed joints (4 * R pl)) x y e in
-            let c = trail-in trailed joints x (y % 4) (rw cell at (b .1)) in
-            let g : beyondOf joints x ≡ y / 4 =
-            sym (cell-group (beyondOf joints x) 15 (omega (arith, c .1)) (omega arith))
-            ∙ ap groupOf (sym (cell ∙ c .2)) ∙ b .0 in
-            also-of {a = isRouter (y / 4) (pl .joint (x / 4) (x % 4))}
-            (rw (partner-joint fits told x lx (c .1)) (eq-eqb (beyondOf joints x) (y / 4) g)) (leaves-walk x lx (c .0))
+            let s = next-in by joints t (R pl) x y lx (room .0) e in
+            let o : ℕ = s .side in
+            let ex : (4 * x + s .side) / 4 ≡ x = omega (arith, s .four) in
+            let eo : (4 * x + s .side) % 4 ≡ s .side = omega (arith, s .four) in
+            let j : pl .joint x (s .side) ≡ Router (beyondOf joints (4 * x + s .side)) (partnerOf joints (4 * x + s .side) % 4) =
+            rw (ex, eo) at (partner-joint fits told (4 * x + s .side) (omega (arith, s .four)) (s .joined)) in
+            any-of 4 (λ o. also (isRouter y (pl .joint x o)) (walkLeaves pl x o)) (s .side) (s .four)
+            (also-of {a = isRouter y (pl .joint x (s .side))} (rw j (eq-eqb (beyondOf joints (4 * x + s .side)) y (sym (s .beyond))))
+            (leaves-walk x (s .side) lx (s .four) (s .some)))
 
-        back : also (isRouter (y / 4) (pl .joint (x / 4) (x % 4))) (walkLeaves pl (x / 4) (x % 4)) ≡ true
-            → edge (trailsOf trailed joints (4 * R pl)) x y ≡ true
-        back e =
-            let b = also-true {a = isRouter (y / 4) (pl .joint (x / 4) (x % 4))} e in
-            let j = router-is (y / 4) (pl .joint (x / 4) (x % 4)) (b .0) in
-            let q : 4 * (x / 4) + x % 4 ≡ x = omega arith in
-            let p : partnerOf joints x ≡ 4 * (y / 4) + j .0 =
-            rw q at (joint-partner fits told (x / 4) (x % 4) (y / 4) (j .0) (j .1)) in
+        found : Found 4 (λ o. also (isRouter y (pl .joint x o)) (walkLeaves pl x o)) → leadsTo trailed x y ≡ true
+        found (o, l, u) =
+            let b = also-true {a = isRouter y (pl .joint x o)} u in
+            let j = router-is y (pl .joint x o) (b .0) in
+            let p = joint-partner fits told x o y (j .0) (j .1) in
             let n = near (told .wired) (j .1) in
-            let g : beyondOf joints x ≡ y / 4 = omega (arith, n) in
-            let c = trail-is trailed joints x (walk-leaves x lx (b .1)) (omega (arith, n, room)) in
-            parts-edge (trailsOf trailed joints (4 * R pl)) x y (beyondOf joints x) 15 (cell ∙ c)
-            (omega (arith, n, room)) (omega arith) g (four-has (y % 4) (omega arith))
+            in-next by joints t (R pl) x y lx (room .0) (record {
+              side = o;
+              four = l;
+              some = walk-leaves x o l (b .1);
+              joined = omega (arith, n, room);
+              beyond = omega (arith, n);
+            })
 
-    pub walks-found : {r : Bool} → r ≡ ringTest (4 * R pl) (edge (trailsOf trailed joints (4 * R pl)))
-        → r ≡ ringTest (4 * R pl) (trailEdge pl)
-    walks-found e = e ∙ ring-alike (4 * R pl) (edge (trailsOf trailed joints (4 * R pl))) (trailEdge pl) trail-edges
+        back : anyBelow 4 (λ o. also (isRouter y (pl .joint x o)) (walkLeaves pl x o)) ≡ true
+            → leadsTo trailed x y ≡ true
+        back e = found (any-true 4 (λ o. also (isRouter y (pl .joint x o)) (walkLeaves pl x o)) e)
+
+    pub walks-found : {r : Bool} → r ≡ ringTest (R pl) (leadsTo trailed) → r ≡ ringTest (R pl) (trailEdge pl)
+    walks-found e = e ∙ ring-alike (R pl) (leadsTo trailed) (trailEdge pl) trail-edges
 
   -- ---- answers
   module _ (t : List ℕ) (answers : Rattle.links.specs.Starts.Answers by joints homes serve (R pl) (A pl) t) where
@@ -159,11 +152,8 @@ module _ {pl : Plan} {h : Head} {by : List (List ℕ)} {joints homes arrive serv
         let b =
         leave-in by t (below 32) k a (rw (leaves-at by t (below 32) (4 * R pl) k l (omega (arith, room))) at u) in
         let s = answers-of fits told t answers (k / 4) a (omega arith) (b .1) in
-        let r = of-leaves fits told (k / 4) (k % 4) a (omega arith) (b .0) .1 in (
-          s .0,
-          also-of (eq-eqb (routeTo pl (active a) (k / 4)) (k % 4) r)
-              (by-answers (told .wired) a (record { router = k / 4; side = s .1 .0 }) (s .1 .1)),
-        )
+        let r = of-leaves fits told (k / 4) (k % 4) a (omega arith) (b .0) .1 in
+        (s .0, also-of (eq-eqb (routeTo pl (active a) (k / 4)) (k % 4) r) (by-answers (told .wired) a (record { router = k / 4; side = s .1 .0 }) (s .1 .1)))
 
     answers-leave : (k a : ℕ) → k < 4 * R pl → a < A pl → answerLeaves pl a (k / 4) (k % 4) ≡ true
         → has (getD sent k 0) a ≡ true
@@ -202,8 +192,7 @@ module _ {pl : Plan} {h : Head} {by : List (List ℕ)} {joints homes arrive serv
         q = partnerOf joints (outOf x)
 
         pass : ℕ → Bool
-        pass a = also (answerComes pl a (pl .joint (x / 16) (x / 4 % 4)))
-            (also (answerLeaves pl a (x / 16) (x % 4)) (answerLeaves pl a (y / 16) (y % 4)))
+        pass a = also (answerComes pl a (pl .joint (x / 16) (x / 4 % 4))) (also (answerLeaves pl a (x / 16) (x % 4)) (answerLeaves pl a (y / 16) (y % 4)))
 
         there : edge (crossesOf sent joints (16 * R pl)) x y ≡ true
             → also (isRouterAt (y / 4) (pl .joint (x / 16) (x % 4))) (anyBelow (A pl) pass) ≡ true
@@ -212,14 +201,11 @@ module _ {pl : Plan} {h : Head} {by : List (List ℕ)} {joints homes arrive serv
             let c = cross-in sent joints x (y % 4) (rw cell at (b .1)) in
             let s = mask-small sent (crossed sent joints x) (beyondOf joints (outOf x)) in
             let g : q ≡ y / 4 =
-            sym (cell-group q (maskOf sent (crossed sent joints x) (beyondOf joints (outOf x))) (c .1) s)
-            ∙ ap groupOf (sym (cell ∙ c .2)) ∙ b .0 in
+            sym (cell-group q (maskOf sent (crossed sent joints x) (beyondOf joints (outOf x))) (c .1) s) ∙ ap groupOf (sym (cell ∙ c .2)) ∙ b .0 in
             let m : has (maskOf sent (crossed sent joints x) (beyondOf joints (outOf x))) (y % 4) ≡ true =
-            sym (cell-has q (maskOf sent (crossed sent joints x) (beyondOf joints (outOf x))) (y % 4) (omega arith))
-            ∙ (rw (cell, c .2) at (b .1)) in
+            sym (cell-has q (maskOf sent (crossed sent joints x) (beyondOf joints (outOf x))) (y % 4) (omega arith)) ∙ (rw (cell, c .2) at (b .1)) in
             let d =
-            member (both (crossed sent joints x) (getD sent (4 * beyondOf joints (outOf x) + y % 4) 0))
-            (mask-in sent (crossed sent joints x) (beyondOf joints (outOf x)) (y % 4) m) in
+            member (both (crossed sent joints x) (getD sent (4 * beyondOf joints (outOf x) + y % 4) 0)) (mask-in sent (crossed sent joints x) (beyondOf joints (outOf x)) (y % 4) m) in
             let f =
             both-in (crossed sent joints x) (getD sent (4 * beyondOf joints (outOf x) + y % 4) 0) (d .0) (d .1) in
             let k = both-in (getD sent i 0) (getD sent (outOf x) 0) (d .0) (f .0) in
@@ -241,10 +227,8 @@ module _ {pl : Plan} {h : Head} {by : List (List ℕ)} {joints homes arrive serv
                 let er : (4 * (q / 4) + y % 4) / 4 ≡ y / 16 = omega arith in
                 let eo : (4 * (q / 4) + y % 4) % 4 ≡ y % 4 = omega arith in
                 let eq : 4 * (q / 4) + q % 4 ≡ y / 4 = omega arith in
-                also-of {a = isRouterAt (y / 4) (pl .joint (x / 16) (x % 4))}
-                (rw out (eq-eqb (4 * (q / 4) + q % 4) (y / 4) eq))
-                (any-of (A pl) pass a (first .0) (also-of {a = answerComes pl a (pl .joint (x / 16) (x / 4 % 4))}
-                (rw into (first .1)) (also-of (rw (or, oo) at (second .1)) (rw (er, eo) at (third .1)))))
+                also-of {a = isRouterAt (y / 4) (pl .joint (x / 16) (x % 4))} (rw out (eq-eqb (4 * (q / 4) + q % 4) (y / 4) eq))
+                (any-of (A pl) pass a (first .0) (also-of {a = answerComes pl a (pl .joint (x / 16) (x / 4 % 4))} (rw into (first .1)) (also-of (rw (or, oo) at (second .1)) (rw (er, eo) at (third .1)))))
 
         back : also (isRouterAt (y / 4) (pl .joint (x / 16) (x % 4))) (anyBelow (A pl) pass) ≡ true
             → edge (crossesOf sent joints (16 * R pl)) x y ≡ true
@@ -278,12 +262,9 @@ module _ {pl : Plan} {h : Head} {by : List (List ℕ)} {joints homes arrive serv
                 let m = not-empty (both (crossed sent joints x) (getD sent (4 * (q / 4) + y % 4) 0)) a
                 (in-both (crossed sent joints x) (getD sent (4 * (q / 4) + y % 4) 0) a k third) in
                 let z =
-                cross-is sent joints x (omega (arith, li, room)) (omega (arith, ln, room))
-                (not-empty (crossed sent joints x) a k) in
-                parts-edge (crossesOf sent joints (16 * R pl)) x y q (maskOf sent (crossed sent joints x) (q / 4))
-                (cell ∙ z) (omega (arith, ln, room))
-                (mask-small sent (crossed sent joints x) (q / 4)) (eq ∙ p)
-                (in-mask sent (crossed sent joints x) (q / 4) (y % 4) (omega arith) m)
+                cross-is sent joints x (omega (arith, li, room)) (omega (arith, ln, room)) (not-empty (crossed sent joints x) a k) in
+                parts-edge (crossesOf sent joints (16 * R pl)) x y q (maskOf sent (crossed sent joints x) (q / 4)) (cell ∙ z) (omega (arith, ln, room))
+                (mask-small sent (crossed sent joints x) (q / 4)) (eq ∙ p) (in-mask sent (crossed sent joints x) (q / 4) (y % 4) (omega arith) m)
 
     pub answers-found : {r : Bool} → r ≡ ringTest (16 * R pl) (edge (crossesOf sent joints (16 * R pl)))
         → r ≡ ringTest (16 * R pl) (handEdge pl)
@@ -304,25 +285,22 @@ module _ {pl : Plan} {h : Head} {by : List (List ℕ)} {joints homes arrive serv
       made (i, s) =
           let w = back-from (told .wired) a (record { router = k / 4; side = i }) s in
           let o =
-          way-on (onward pl (active a)) routerOf w (s .way .steps) (record { router = k / 4; side = i })
-          (s .way .here) in
+          way-on (onward pl (active a)) routerOf w (s .way .steps) (record { router = k / 4; side = i }) (s .way .here) in
           let v : Walk pl (active a) (record { router = k / 4; side = i }) =
           rw (o .1) at (way-tail (onward pl (active a)) routerOf w (s .way .steps) (o .0)) in
           let reached = arrives-of (told .wired) (active a) (record { router = k / 4; side = i }) (omega arith) v in
           let there : has (getD arrive (k / 4) 0) a ≡ true =
-          told .arrivals .there (record { router = k / 4; side = i }) a (omega arith) (omega arith)
-          ∙ rw (lt-ltb a (A pl) la) reached in
+          told .arrivals .there (record { router = k / 4; side = i }) a (omega arith) (omega arith) ∙ rw (lt-ltb a (A pl) la) reached in
           let live = in-lives serve (A pl) a la (not-empty (getD serve a 0) (A pl + s .p)
           (told .serves .pairs a (s .p) la (s .has-passive) ∙ serves-of (told .wired) a (s .p) la (s .serves))) in
           rw (leaves-at by arrive (livesOf serve (A pl)) (4 * R pl) k l (omega (arith, room)))
-          (in-leave by arrive (livesOf serve (A pl)) k a
-          (leaves-of fits told (k / 4) (k % 4) a (omega arith) (omega arith) (b .1)) there live)
+          (in-leave by arrive (livesOf serve (A pl)) k a (leaves-of fits told (k / 4) (k % 4) a (omega arith) (omega arith) (b .1)) there live)
 
   abbrev linkAt : Crossing → ℕ
   linkAt x = 4 * x .into .router + x .out
 
   hands-link : (x y : Crossing) → Handed (told .wired) x y
-      → edge (linksOf heard joints (4 * R pl)) (linkAt x) (linkAt y) ≡ true
+      → leadsTo (linksOf heard joints (4 * R pl)) (linkAt x) (linkAt y) ≡ true
   hands-link x y g =
       let ex : (4 * x .into .router + x .out) / 4 ≡ x .into .router = omega (arith, g .here) in
       let eo : (4 * x .into .router + x .out) % 4 ≡ x .out = omega (arith, g .here) in
@@ -334,31 +312,26 @@ module _ {pl : Plan} {h : Head} {by : List (List ℕ)} {joints homes arrive serv
       let ly : linkAt y < 4 * R pl = omega (arith, g .there) in
       let first = answers-heard (linkAt x) (g .a) lx (g .has) (rw (ex, eo) (g .leaves)) in
       let second = answers-heard (linkAt y) (g .a) ly (g .has) (rw (ey, eu) (g .later)) in
-      let m = not-empty (both (getD heard (linkAt x) 0) (getD heard (4 * y .into .router + y .out) 0)) (g .a)
-      (in-both (getD heard (linkAt x) 0) (getD heard (4 * y .into .router + y .out) 0) (g .a) first second) in
-      let z = link-is heard joints (linkAt x) (omega (arith, g .there, room)) in
-      parts-edge (linksOf heard joints (4 * R pl)) (linkAt x) (linkAt y) (y .into .router)
-      (maskOf heard (getD heard (linkAt x) 0) (y .into .router))
-      (links-at heard joints (4 * R pl) (linkAt x) lx (omega (arith, room)) ∙ (rw bq at z))
-      (omega (arith, g .there, room))
-      (mask-small heard (getD heard (linkAt x) 0) (y .into .router)) (sym ey)
-      (rw eu (in-mask heard (getD heard (linkAt x) 0) (y .into .router) (y .out) (omega (arith, g .there)) m))
+      let m = not-empty (both (getD heard (linkAt x) 0) (getD heard (linkAt y) 0)) (g .a)
+      (in-both (getD heard (linkAt x) 0) (getD heard (linkAt y) 0) (g .a) first second) in
+      let z =
+      in-links heard joints (4 * R pl) (linkAt x) (y .out) lx (omega (arith, room)) (g .there .2) (not-empty (getD heard (linkAt x) 0) (g .a) first) (omega (arith, g .there, room)) (rw bq m) in
+      rw bq at z
 
-  pub links-clear : {r : Bool} → r ≡ ringTest (4 * R pl) (edge (linksOf heard joints (4 * R pl))) → r ≡ false
+  pub links-clear : {r : Bool} → r ≡ ringTest (4 * R pl) (leadsTo (linksOf heard joints (4 * R pl))) → r ≡ false
       → ringTest (16 * R pl) (handEdge pl) ≡ false
-  links-clear e f =
-      refuted (ringTest (16 * R pl) (handEdge pl)) (λ t. not-both (round (answer-test (told .wired) t)) (sym e ∙ f))
+  links-clear e f = refuted (ringTest (16 * R pl) (handEdge pl)) (λ t. not-both (round (answer-test (told .wired) t)) (sym e ∙ f))
     where
       step : (x y : Crossing) → Hands pl x y
-          → Leads (4 * R pl) (edge (linksOf heard joints (4 * R pl))) (linkAt x) (linkAt y)
+          → Leads (4 * R pl) (leadsTo (linksOf heard joints (4 * R pl))) (linkAt x) (linkAt y)
       step x y g =
           let k = handed (told .wired) x y g in
           record { from = omega (arith, k .here); to = omega (arith, k .there); step = hands-link x y k }
 
-      round : AnswerRing pl → ringTest (4 * R pl) (edge (linksOf heard joints (4 * R pl))) ≡ true
+      round : AnswerRing pl → ringTest (4 * R pl) (leadsTo (linksOf heard joints (4 * R pl))) ≡ true
       round r =
-          test-of-ring (4 * R pl) (edge (linksOf heard joints (4 * R pl)))
-          (ring-map (Hands pl) (Leads (4 * R pl) (edge (linksOf heard joints (4 * R pl)))) linkAt step r)
+          test-of-ring (4 * R pl) (leadsTo (linksOf heard joints (4 * R pl)))
+          (ring-map (Hands pl) (Leads (4 * R pl) (leadsTo (linksOf heard joints (4 * R pl)))) linkAt step r)
 
   -- ---- as the code has it
   routers : h .routers ≡ R pl
@@ -367,11 +340,11 @@ module _ {pl : Plan} {h : Head} {by : List (List ℕ)} {joints homes arrive serv
   actives : h .actives ≡ A pl
   actives = ap (λ (x : Head). x .actives) (sym (told .same))
 
-  pub walks-ring : {t l cells : List ℕ} {limit : ℕ} {r : Bool}
+  pub walks-ring : {t words : List ℕ} {r : Bool}
       → Spread by joints (h .routers) (startsOf homes serve (h .actives)) t
-      → limit ≡ below 32 → l ≡ leavesOf by t limit (4 * h .routers) → cells ≡ trailsOf l joints (4 * h .routers)
-      → r ≡ ringTest (4 * h .routers) (edge cells) → r ≡ ringTest (4 * R pl) (trailEdge pl)
-  walks-ring {t} s m el ec e = walks-found t (rw (routers, actives) at s) (rw (ec, el, m, routers) at e)
+      → words ≡ nextsOf by joints t (h .routers)
+      → r ≡ ringTest (h .routers) (leadsTo words) → r ≡ ringTest (R pl) (trailEdge pl)
+  walks-ring {t} s ew e = walks-found t (rw (routers, actives) at s) (rw (ew, routers) at e)
 
   pub answers-ring : {t l cells : List ℕ} {limit : ℕ} {r : Bool}
       → Rattle.links.specs.Starts.Answers by joints homes serve (h .routers) (h .actives) t
@@ -381,25 +354,25 @@ module _ {pl : Plan} {h : Head} {by : List (List ℕ)} {joints homes arrive serv
       let n : 4 * (4 * h .routers) ≡ 16 * h .routers = omega arith in
       answers-found t (rw (routers, actives) at s) (rw (n, ec, el, m, routers) at e)
 
-  pub links-ring : {l cells : List ℕ} {live : ℕ} {r : Bool} → live ≡ livesOf serve (h .actives)
-      → l ≡ leavesOf by arrive live (4 * h .routers) → cells ≡ linksOf l joints (4 * h .routers)
-      → r ≡ ringTest (4 * h .routers) (edge cells) → r ≡ false → ringTest (16 * R pl) (handEdge pl) ≡ false
-  links-ring m el ec e f = links-clear (rw (ec, el, m, routers, actives) at e) f
+  pub links-ring : {l words : List ℕ} {live : ℕ} {r : Bool} → live ≡ livesOf serve (h .actives)
+      → l ≡ leavesOf by arrive live (4 * h .routers) → words ≡ linksOf l joints (4 * h .routers)
+      → r ≡ ringTest (4 * h .routers) (leadsTo words) → r ≡ false → ringTest (16 * R pl) (handEdge pl) ≡ false
+  links-ring m el ew e f = links-clear (rw (ew, el, m, routers, actives) at e) f
 
   pub one-ringless : h .routers ≡ 1 → false ≡ hasRing pl
   one-ringless e = one-router (told .wired) (sym routers ∙ e)
 
 -- ---- the three together
-pub ring-by-walks : (pl : Plan) → true ≡ ringTest (4 * R pl) (trailEdge pl) → true ≡ hasRing pl
+pub ring-by-walks : (pl : Plan) → true ≡ ringTest (R pl) (trailEdge pl) → true ≡ hasRing pl
 unfolding hasRing
 ring-by-walks pl e = rw (← e)
 
-pub ring-by-links : (pl : Plan) → false ≡ ringTest (4 * R pl) (trailEdge pl)
+pub ring-by-links : (pl : Plan) → false ≡ ringTest (R pl) (trailEdge pl)
     → ringTest (16 * R pl) (handEdge pl) ≡ false → false ≡ hasRing pl
 unfolding hasRing
 ring-by-links pl e f = rw (← e, f)
 
-pub ring-by-answers : (pl : Plan) {r : Bool} → false ≡ ringTest (4 * R pl) (trailEdge pl)
+pub ring-by-answers : (pl : Plan) {r : Bool} → false ≡ ringTest (R pl) (trailEdge pl)
     → r ≡ ringTest (16 * R pl) (handEdge pl) → r ≡ hasRing pl
 unfolding hasRing
 ring-by-answers pl e f = rw (← e) f

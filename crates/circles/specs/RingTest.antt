@@ -1,6 +1,6 @@
--- Refusal 6 as a test: the two rings, of sides that walks leave by and of crossings, by their numbers.
+-- Refusal 6 as a test: the two rings, of routers that walks go by and of crossings, by their numbers.
 use mathlib.Core.Bool.{Bool, false, _||_}
-use Prim.Native.Nat.{ℕ, _*_, _/_, _%_}
+use Prim.Native.Nat.{ℕ, _+_, _*_, _/_, _%_}
 use lib.Dec.{eqb}
 use Rattle.basis.specs.Choice.{also}
 use Rattle.basis.specs.Bounded.{anyBelow}
@@ -34,9 +34,9 @@ isRouter r (Router n t) = eqb n r
 isRouter r (Active n) = false
 isRouter r (Passive n) = false
 
--- sides by number, 4r + o: a walk leaves by side x for the router of side y
+-- a walk leaves the router x by some side for the router y
 unfoldable pub trailEdge : Plan → ℕ → ℕ → Bool
-trailEdge pl x y = also (isRouter (y / 4) (pl .joint (x / 4) (x % 4))) (walkLeaves pl (x / 4) (x % 4))
+trailEdge pl x y = anyBelow 4 (λ o. also (isRouter y (pl .joint x o)) (walkLeaves pl x o))
 
 -- ---- answers
 -- from where a walk stands the way back to active a meets the router r
@@ -49,8 +49,7 @@ backMeets pl a r lost = false
 unfoldable pub answered : Plan → ℕ → ℕ → Bool
 answered pl a r =
     anyBelow (P pl)
-    (λ p. also (served pl a p)
-    (anyBelow (R pl) (λ k. backMeets pl a r (walked pl (passive p) k (home pl (active a))))))
+    (λ p. also (served pl a p) (anyBelow (R pl) (λ k. backMeets pl a r (walked pl (passive p) k (home pl (active a))))))
 
 -- answers to active a leave the router r by side o
 unfoldable pub answerLeaves : Plan → ℕ → ℕ → ℕ → Bool
@@ -77,4 +76,4 @@ handEdge pl x y =
 
 -- ---- some queues feed each other in a ring
 unfoldable pub hasRing : Plan → Bool
-hasRing pl = ringTest (4 * R pl) (trailEdge pl) || ringTest (16 * R pl) (handEdge pl)
+hasRing pl = ringTest (R pl) (trailEdge pl) || ringTest (16 * R pl) (handEdge pl)

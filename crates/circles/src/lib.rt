@@ -1,5 +1,5 @@
-// Refusal 6 by routers and answers: a ring of feeding queues is a ring of sides that the walks of served pairs leave
-// routers by, or one of crossings that answers go by. Sets of destinations are words: active d, or passive d - A.
+// Refusal 6 by routers and answers: a ring of feeding queues is a ring of routers that the walks of served pairs go
+// by, or one of crossings that answers go by. Sets of destinations are words: active d, or passive d - A.
 use plan::Head;
 ghost use mathlib.Core.Path.{_≡_};
 ghost use mathlib.Core.Bool.{false};
@@ -22,16 +22,14 @@ fn walks_ring(
     requires { ⌜ Counts h ⌝ }
     ensures { λ r. ⌜ ((pl : Plan) (arrive : List ℕ)
         → Told pl h (now (by .entry)) (now (joints .entry)) (now (homes .entry)) arrive (now (served .entry))
-        → r ≡ ringTest (4 * R pl) (trailEdge pl)) ⌝ }
+        → r ≡ ringTest (R pl) (trailEdge pl)) ⌝ }
 {
     let n = h.routers;
     let mut used = [0u32; 32];
     links::starts::carried(by, joints, homes, served, n, h.actives, &mut used);
-    let mut gone = [0u32; 64];
-    links::leaves(by, &used, sets::below(32), 4 * n, &mut gone);
-    let mut cells = [0u32; 64];
-    links::trail_cells(&gone, joints, 4 * n, &mut cells);
-    peel::has_ring(&cells, n)
+    let mut to = [0u64; 16];
+    links::words::nexts(by, joints, &used, n, &mut to);
+    peel::words::has_ring(&to, n)
 }
 
 // Whether answers might go round, if every router sent some to each served active that it reaches: a quick look.
@@ -50,10 +48,10 @@ fn links_ring(
     let n = h.routers;
     let live = links::starts::live(served, h.actives);
     let mut gone = [0u32; 64];
-    links::leaves(by, arrive, live, 4 * n, &mut gone);
-    let mut cells = [0u32; 64];
-    links::link_cells(&gone, joints, 4 * n, &mut cells);
-    peel::has_ring(&cells, n)
+    links::leaves(by, arrive, live, n, &mut gone);
+    let mut to = [0u64; 64];
+    links::words::links(&gone, joints, 4 * n, &mut to);
+    peel::words::has_ring(&to, 4 * n)
 }
 
 // Whether answers go round.
@@ -73,7 +71,7 @@ fn answers_ring(
     let mut sent = [0u32; 32];
     links::starts::answers(by, joints, homes, served, n, h.actives, &mut sent);
     let mut gone = [0u32; 64];
-    links::leaves(by, &sent, sets::below(32), 4 * n, &mut gone);
+    links::leaves(by, &sent, sets::below(32), n, &mut gone);
     let mut cells = [0u32; 256];
     links::cross_cells(&gone, joints, 16 * n, &mut cells);
     peel::has_ring(&cells, 4 * n)

@@ -16,7 +16,7 @@ use Rattle.sets.specs.Sets.{has, single, both, either, below}
 use Rattle.sets.specs.Laws.{has-single, has-below, none-has, either-lt}
 use Rattle.spread.specs.Carried.{partnerOf, In, Spread}
 use Rattle.spread.proofs.Laws.{in-left, in-right, either-in}
-use Rattle.links.specs.Cells.{bitOf, maskOf, trailOf, linkOf, crossOf, outOf}
+use Rattle.links.specs.Cells.{bitOf, maskOf, crossOf, outOf}
 use Rattle.links.specs.Starts.{homeRow, startAt, startsOf, aloneOf, noteOf, notesOf, Comes, Answering}
 
 -- ---- masks are sets of four sides
@@ -48,28 +48,6 @@ mask-is l m q e = (e, rw e (mask-small l m q))
 
 -- ---- cells, by the ways their code goes
 module _ (l joints : List ℕ) where
-  pub trail-none : (k : ℕ) → getD l k 0 ≡ 0 → 0 ≡ trailOf l joints k
-  unfolding trailOf
-  trail-none k e = rw (eq-eqb (getD l k 0) 0 e)
-
-  pub trail-off : (k : ℕ) {q : ℕ} → getD l k 0 ≢ 0 → q ≡ partnerOf joints k → 64 ≤ q → 0 ≡ trailOf l joints k
-  unfolding trailOf
-  trail-off k n e h = rw (ne-eqb (getD l k 0) 0 n, ← e, le-ltb _ 64 h)
-
-  pub trail-on : (k : ℕ) {q v : ℕ} → getD l k 0 ≢ 0 → q ≡ partnerOf joints k → q < 64 → v ≡ 16 * (q / 4) + 15
-      → v ≡ trailOf l joints k
-  unfolding trailOf
-  trail-on k n e h s = rw (ne-eqb (getD l k 0) 0 n, ← e, lt-ltb _ 64 h) s
-
-  pub link-off : (k : ℕ) {q : ℕ} → q ≡ partnerOf joints k → 64 ≤ q → 0 ≡ linkOf l joints k
-  unfolding linkOf
-  link-off k e h = rw (← e, le-ltb _ 64 h)
-
-  pub link-on : (k : ℕ) {q m v : ℕ} → q ≡ partnerOf joints k → q < 64 → m ≡ maskOf l (getD l k 0) (q / 4)
-      → v ≡ 16 * (q / 4) + m → v ≡ linkOf l joints k
-  unfolding linkOf
-  link-on k e h f s = rw (← e, lt-ltb _ 64 h, ← f) s
-
   pub cross-off : (x : ℕ) {i : ℕ} → i ≡ partnerOf joints (x / 4) → 64 ≤ i → 0 ≡ crossOf l joints x
   unfolding crossOf
   cross-off x e h = rw (← e, le-ltb _ 64 h)
@@ -79,8 +57,8 @@ module _ (l joints : List ℕ) where
   unfolding crossOf
   cross-out x e h f k = rw (← e, lt-ltb _ 64 h, ← f, le-ltb _ 64 k)
 
-  pub cross-none : (x : ℕ) {i q m : ℕ} → i ≡ partnerOf joints (x / 4) → i < 64 → q ≡ partnerOf joints (outOf x)
-      → q < 64 → m ≡ both (getD l i 0) (getD l (outOf x) 0) → m ≡ 0 → 0 ≡ crossOf l joints x
+  pub cross-none : (x : ℕ) {i q m : ℕ} → i ≡ partnerOf joints (x / 4) → i < 64 → q ≡ partnerOf joints (outOf x) → q < 64
+      → m ≡ both (getD l i 0) (getD l (outOf x) 0) → m ≡ 0 → 0 ≡ crossOf l joints x
   unfolding crossOf
   cross-none x e h f k em z = rw (← e, lt-ltb _ 64 h, ← f, lt-ltb _ 64 k, ← em, eq-eqb _ 0 z)
 
@@ -161,8 +139,7 @@ note-new a m s n = rw (ne-eqb m 0 n) (in-right s (single a) a (has-single a a �
 pub notes-more : (a : ℕ) (m first : List ℕ) (x : ℕ) {t : List ℕ} {v : ℕ}
     → t ≡ upTo (λ x u. set u x (noteOf a (getD m x 0) (getD u x 0))) x first → v ≡ noteOf a (getD m x 0) (getD t x 0)
     → set t x v ≡ upTo (λ x u. set u x (noteOf a (getD m x 0) (getD u x 0))) (x + 1) first
-notes-more a m first x {t} e f =
-    up-more (λ x u. set u x (noteOf a (getD m x 0) (getD u x 0))) first x e (ap (set t x) f)
+notes-more a m first x {t} e f = up-more (λ x u. set u x (noteOf a (getD m x 0) (getD u x 0))) first x e (ap (set t x) f)
 
 -- the first i rows noted
 record Noted (a : ℕ) (m first : List ℕ) (i : ℕ) (t : List ℕ) : Type 0 where
@@ -207,8 +184,7 @@ noted a m n first room =
         was x d h (inl q) =
             let e = eqb-true x i q in
             rw e (at-row d (note-more a (getD m i 0) (getD t i 0) d (rw (e, same) at h)))
-        was x d h (inr q) = later
-            (s .only x d (rw (getD-set-other t i x (noteOf a (getD m i 0) (getD t i 0)) 0 (eqb-false x i q)) at h))
+        was x d h (inr q) = later (s .only x d (rw (getD-set-other t i x (noteOf a (getD m i 0) (getD t i 0)) 0 (eqb-false x i q)) at h))
 
         kept : (x d : ℕ) → In t x d → (eqb x i ≡ true) ⊎ (eqb x i ≡ false)
             → In (set t i (noteOf a (getD m i 0) (getD t i 0))) x d
@@ -247,8 +223,7 @@ module _ (by : List (List ℕ)) (joints homes served : List ℕ) (n : ℕ) where
       was x a (inr (q, h, k)) = rw q (omega arith, h, (m, s, k))
 
       all : (a : ℕ) → (a < i) ⊎ (a ≡ i)
-          → (k : List ℕ) × Spread by joints n (aloneOf homes served a) k
-          × ((x : ℕ) → x < n → getD k x 0 ≢ 0 → In (notesOf i m n t) x a)
+          → (k : List ℕ) × Spread by joints n (aloneOf homes served a) k × ((x : ℕ) → x < n → getD k x 0 ≢ 0 → In (notesOf i m n t) x a)
       all a (inl h) = let q = r .complete a h in (q .0, q .1, λ x b k. w .keeps x a (q .2 x b k))
       all a (inr q) = rw q (m, s, λ x b k. w .new x b k)
 

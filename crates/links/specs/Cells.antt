@@ -1,4 +1,4 @@
--- What leaves by each side, and the cells that lead from side to side or from crossing to crossing (crate peel).
+-- What leaves by each side, and the cells that lead from crossing to crossing (crate peel).
 use mathlib.Core.List.{List, []}
 use Prim.Native.Nat.{ℕ, _+_, _*_, _/_, _%_}
 use lib.Dec.{eqb, ltb}
@@ -28,16 +28,6 @@ abbrev pub outOf : ℕ → ℕ
 outOf x = 4 * (x / 16) + x % 4
 
 module _ (l joints : List ℕ) where
-  -- side k, by which a walk leaves for a router: to all sides of that router
-  unfoldable pub trailOf : ℕ → ℕ
-  trailOf k =
-      pick (eqb (getD l k 0) 0) 0 (pick (ltb (partnerOf joints k) 64) (16 * beyondOf joints k + 15) 0)
-
-  -- side k, to the sides of the router beyond it that some of the same leave by
-  unfoldable pub linkOf : ℕ → ℕ
-  linkOf k =
-      pick (ltb (partnerOf joints k) 64) (16 * beyondOf joints k + maskOf l (getD l k 0) (beyondOf joints k)) 0
-
   -- crossing x, to the crossings of the router beyond it that some of the same answers go by
   abbrev pub crossed : ℕ → ℕ
   crossed x = both (getD l (partnerOf joints (x / 4)) 0) (getD l (outOf x) 0)
@@ -48,12 +38,6 @@ module _ (l joints : List ℕ) where
       (pick (ltb (partnerOf joints (outOf x)) 64)
       (pick (eqb (crossed x) 0) 0
       (16 * partnerOf joints (outOf x) + maskOf l (crossed x) (beyondOf joints (outOf x)))) 0) 0
-
-  unfoldable pub trailsOf : ℕ → List ℕ
-  trailsOf n = upTo (fill trailOf) n (replicate 64 0)
-
-  unfoldable pub linksOf : ℕ → List ℕ
-  linksOf n = upTo (fill linkOf) n (replicate 64 0)
 
   unfoldable pub crossesOf : ℕ → List ℕ
   crossesOf n = upTo (fill crossOf) n (replicate 256 0)

@@ -1,6 +1,8 @@
-// What leaves by each side, and the cells that lead from side to side or from crossing to crossing (crate peel).
+// What leaves by each side, and the cells that lead from crossing to crossing (crate peel).
 // What is where at first, and what comes to each router.
 pub mod starts;
+// What leads on from router to router and from side to side.
+pub mod words;
 
 use sets::both;
 use sets::either;
@@ -9,25 +11,26 @@ use spread::partner;
 ghost use mathlib.Core.Path.{_≡_};
 ghost use Prim.Native.Nat.{_+_, _*_, _≤_, _<_};
 ghost use lib.ListN.{replicate};
-ghost use Rattle.links.specs.Cells.{leaveOf, leavesOf, bitOf, maskOf, trailOf, trailsOf, linkOf, linksOf, crossOf, crossesOf};
+ghost use Rattle.links.specs.Cells.{leaveOf, leavesOf, bitOf, maskOf, crossOf, crossesOf};
 
-// What of a set leaves by port k.
-fn leave(by: &[[u32; 4]; 16], t: &[u32; 32], limit: u32, k: usize) -> u32
-    requires { ⌜ k < 64 ⌝ }
-    ensures { λ v. ⌜ v ≡ leaveOf (now (by .entry)) (now (t .entry)) limit k ⌝ }
+// What of a set leaves router x by side o.
+fn leave(by: &[[u32; 4]; 16], t: &[u32; 32], limit: u32, x: usize, o: usize) -> u32
+    requires { ⌜ (x < 16) × (o < 4) ⌝ }
+    ensures { λ v. ⌜ v ≡ leaveOf (now (by .entry)) (now (t .entry)) limit (4 * x + o) ⌝ }
 {
-    let x = k / 4;
-    let o = k % 4;
     both(both(by[x][o], t[x]), limit)
 }
 
-// By port: what of the sets of its router leaves by it.
+// By port of n routers: what of the sets of its router leaves by it.
 pub fn leaves(by: &[[u32; 4]; 16], t: &[u32; 32], limit: u32, n: usize, l: &mut [u32; 64])
-    requires { ⌜ (n ≤ 64) × (now l ≡ replicate 64 0) ⌝ }
-    ensures { λ _. ⌜ now (l .exit) ≡ leavesOf (now (by .entry)) (now (t .entry)) limit n ⌝ }
+    requires { ⌜ (n ≤ 16) × (now l ≡ replicate 64 0) ⌝ }
+    ensures { λ _. ⌜ now (l .exit) ≡ leavesOf (now (by .entry)) (now (t .entry)) limit (4 * n) ⌝ }
 {
-    for k in 0..n {
-        l[k] = leave(by, t, limit, k);
+    for x in 0..n {
+        l[4 * x] = leave(by, t, limit, x, 0);
+        l[4 * x + 1] = leave(by, t, limit, x, 1);
+        l[4 * x + 2] = leave(by, t, limit, x, 2);
+        l[4 * x + 3] = leave(by, t, limit, x, 3);
     }
 }
 
@@ -60,51 +63,6 @@ fn cell(g: usize, m: u32) -> u32
     ensures { λ v. ⌜ v ≡ 16 * g + m ⌝ }
 {
     g as u32 * 16 + m
-}
-
-// Side k, by which a walk leaves for a router: to all sides of that router.
-fn trail(l: &[u32; 64], joints: &[u8; 64], k: usize) -> u32
-    requires { ⌜ k < 64 ⌝ }
-    ensures { λ v. ⌜ v ≡ trailOf (now (l .entry)) (now (joints .entry)) k ⌝ }
-{
-    if l[k] == 0 {
-        return 0;
-    }
-    let q = partner(joints, k);
-    if q < 64 {
-        return cell(q / 4, 15);
-    }
-    0
-}
-
-pub fn trail_cells(l: &[u32; 64], joints: &[u8; 64], n: usize, cells: &mut [u32; 64])
-    requires { ⌜ (n ≤ 64) × (now cells ≡ replicate 64 0) ⌝ }
-    ensures { λ _. ⌜ now (cells .exit) ≡ trailsOf (now (l .entry)) (now (joints .entry)) n ⌝ }
-{
-    for k in 0..n {
-        cells[k] = trail(l, joints, k);
-    }
-}
-
-// Side k, to the sides of the router beyond it that some of the same leave by.
-fn link(l: &[u32; 64], joints: &[u8; 64], k: usize) -> u32
-    requires { ⌜ k < 64 ⌝ }
-    ensures { λ v. ⌜ v ≡ linkOf (now (l .entry)) (now (joints .entry)) k ⌝ }
-{
-    let q = partner(joints, k);
-    if q < 64 {
-        return cell(q / 4, mask(l, l[k], q / 4));
-    }
-    0
-}
-
-pub fn link_cells(l: &[u32; 64], joints: &[u8; 64], n: usize, cells: &mut [u32; 64])
-    requires { ⌜ (n ≤ 64) × (now cells ≡ replicate 64 0) ⌝ }
-    ensures { λ _. ⌜ now (cells .exit) ≡ linksOf (now (l .entry)) (now (joints .entry)) n ⌝ }
-{
-    for k in 0..n {
-        cells[k] = link(l, joints, k);
-    }
 }
 
 // The crossing x, from side x / 4 of a router to its side x % 4: to the crossings of the router beyond that some of the

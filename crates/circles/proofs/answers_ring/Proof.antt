@@ -21,10 +21,6 @@ answers-requires c κs = search needs
 below-requires : tie.Need-below-requires
 below-requires c κs = search needs
 
--- src/lib.rt:76:47
-mul-leaves : tie.Need-mul-leaves
-mul-leaves c = search needs
-
 -- src/lib.rt:76:5
 leaves-requires : tie.Need-leaves-requires
 leaves-requires c κs = search needs
@@ -51,12 +47,7 @@ has-ring-requires c κs = (omega arith, let e = crosses-long _ _ _ (c .before .c
 
 -- src/lib.rt:60:1
 returns : tie.Need-returns
-returns c = λ pl arrive told.
-    answers-ring (c .before .before .before .before .before .before .before .before .before .before .before .pre) told
-    (c .before .before .before .before .before .before .before .before .before .answers .ensures)
-    (c .before .before .before .before .before .before .before .below .ensures)
-    (c .before .before .before .before .before .leaves .ensures) (c .before .before .cross-cells .ensures)
-    (c .has-ring .ensures)
+returns c = λ pl arrive told. answers-ring (c .before .before .before .before .before .before .before .before .before .before .before .pre) told (c .before .before .before .before .before .before .before .before .before .answers .ensures) (c .before .before .before .before .before .before .before .below .ensures) (c .before .before .before .before .before .leaves .ensures) (c .before .before .cross-cells .ensures) (c .has-ring .ensures)
 
 pub answers-ring-spec : {M : Type 1} → statement M
 answers-ring-spec =
@@ -64,7 +55,6 @@ answers-ring-spec =
     (tie.spec
     answers-requires
     below-requires
-    mul-leaves
     leaves-requires
     mul-cross-cells
     cross-cells-requires

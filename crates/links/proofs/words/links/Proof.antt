@@ -1,0 +1,66 @@
+use native.Mathlib.Omega.{arith}
+use Rattle.basis.specs.Fold.{upTo, fill, up-none, up-fill, up-done}
+use Rattle.links.specs.Words.{linkOf, linksOf}
+use mathlib.Core.Path.{_≡_, _∙_}
+use lib.ListN.{replicate}
+use Prim.Native.Nat.{_-_, _≤_}
+use borrow.Author.Needs.{needs}
+use Rattle.links.proofs.words.links.Statement.{statement}
+use Rattle.links.proofs.words.links.Tie as tie
+use Rattle.links.proofs.words.links.Reads as reads
+use Rattle.links.proofs.words.links.Lts as lts
+use Rattle.links.proofs.words.link.Reads as link-reads
+
+abbrev Inv-loop : tie.InvT-loop
+Inv-loop l joints n to₀ k₀ to k = (k ≤ n) × (to ≡ upTo (fill (linkOf l joints)) k (replicate 64 0))
+
+abbrev μ-loop : tie.MeasureT-loop
+μ-loop l joints n to₀ k₀ to k = n - k
+
+-- src/words.rt:91:5
+loop-holds : tie.Need-loop-holds Inv-loop μ-loop
+loop-holds c = (omega arith, c .pre .1 ∙ up-none _ _)
+
+-- src/words.rt:92:17
+link-requires : tie.Need-link-requires Inv-loop μ-loop
+link-requires c κs = search needs
+
+-- src/words.rt:92:9
+mul-to : tie.Need-mul-to Inv-loop μ-loop
+mul-to c = search needs
+
+-- src/words.rt:92:9
+element-write-to : tie.Need-element-write-to Inv-loop μ-loop
+element-write-to c = search needs
+
+-- src/words.rt:91:9
+add-k : tie.Need-add-k Inv-loop μ-loop
+add-k c = search needs
+
+-- src/words.rt:91:5
+loop-less : tie.Need-loop-less Inv-loop μ-loop
+loop-less c = omega arith
+
+-- src/words.rt:91:5
+loop-again : tie.Need-loop-again Inv-loop μ-loop
+loop-again c = (omega arith, up-fill _ _ _ (c .before .before .loop .inv .1) (c .link .ensures))
+
+-- src/words.rt:87:1
+returns : tie.Need-returns Inv-loop μ-loop
+unfolding linksOf
+returns c = up-done _ _ (c .before .loop .inv .1) (omega arith)
+
+pub links-spec : {M : Type 1} → statement M
+links-spec =
+    tie.close
+    (tie.spec
+    Inv-loop
+    μ-loop
+    loop-holds
+    link-requires
+    mul-to
+    element-write-to
+    add-k
+    loop-less
+    loop-again
+    returns)

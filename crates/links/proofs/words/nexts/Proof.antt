@@ -1,0 +1,66 @@
+use native.Mathlib.Omega.{arith}
+use Rattle.basis.specs.Fold.{upTo, fill, up-none, up-fill, up-done}
+use Rattle.links.specs.Words.{nextOf, nextsOf}
+use mathlib.Core.Path.{_≡_, _∙_}
+use lib.ListN.{replicate}
+use Prim.Native.Nat.{_-_, _≤_}
+use borrow.Author.Needs.{needs}
+use Rattle.links.proofs.words.nexts.Statement.{statement}
+use Rattle.links.proofs.words.nexts.Tie as tie
+use Rattle.links.proofs.words.nexts.Reads as reads
+use Rattle.links.proofs.words.nexts.Lts as lts
+use Rattle.links.proofs.words.next.Reads as next-reads
+
+abbrev Inv-loop : tie.InvT-loop
+Inv-loop by joints t n to₀ x₀ to x = (x ≤ n) × (to ≡ upTo (fill (nextOf by joints t)) x (replicate 16 0))
+
+abbrev μ-loop : tie.MeasureT-loop
+μ-loop by joints t n to₀ x₀ to x = n - x
+
+-- src/words.rt:43:5
+loop-holds : tie.Need-loop-holds Inv-loop μ-loop
+loop-holds c = (omega arith, c .pre .1 ∙ up-none _ _)
+
+-- src/words.rt:44:17
+next-requires : tie.Need-next-requires Inv-loop μ-loop
+next-requires c κs = search needs
+
+-- src/words.rt:44:9
+mul-to : tie.Need-mul-to Inv-loop μ-loop
+mul-to c = search needs
+
+-- src/words.rt:44:9
+element-write-to : tie.Need-element-write-to Inv-loop μ-loop
+element-write-to c = search needs
+
+-- src/words.rt:43:9
+add-x : tie.Need-add-x Inv-loop μ-loop
+add-x c = search needs
+
+-- src/words.rt:43:5
+loop-less : tie.Need-loop-less Inv-loop μ-loop
+loop-less c = omega arith
+
+-- src/words.rt:43:5
+loop-again : tie.Need-loop-again Inv-loop μ-loop
+loop-again c = (omega arith, up-fill _ _ _ (c .before .before .loop .inv .1) (c .next .ensures))
+
+-- src/words.rt:39:1
+returns : tie.Need-returns Inv-loop μ-loop
+unfolding nextsOf
+returns c = up-done _ _ (c .before .loop .inv .1) (omega arith)
+
+pub nexts-spec : {M : Type 1} → statement M
+nexts-spec =
+    tie.close
+    (tie.spec
+    Inv-loop
+    μ-loop
+    loop-holds
+    next-requires
+    mul-to
+    element-write-to
+    add-x
+    loop-less
+    loop-again
+    returns)

@@ -1,0 +1,227 @@
+-- What goes lies on no ring, and what stays where none goes leads on for ever; so the sweeps find a ring exactly if
+-- there is one.
+use mathlib.Core.Path.{_≡_, refl, sym, ap, _∙_}
+use mathlib.Core.Logic.{_⊎_, inl, inr, _≢_}
+use mathlib.Core.Bool.{Bool, true, false, not, _&&_, and-eq-true-iff}
+use mathlib.Core.List.{List}
+use Prim.Native.Nat.{ℕ, zero, suc, _-_, _≤_, _<_, _^_}
+use native.Mathlib.Nat.{pow-suc}
+use native.Mathlib.Omega.{arith}
+use lib.Dec.{eqb}
+use lib.ListN.{getD}
+use borrow.Author.Tests.{eqb-true, eqb-false, eq-eqb, ne-eqb}
+use Rattle.basis.specs.Choice.{pick, test, refuted, affirmed, not-both}
+use Rattle.basis.specs.Bounded.{Found, find, below-suc, or-cases, or-right}
+use Rattle.basis.specs.Fold.{upTo, up-keeps, up-keeps-at}
+use Rattle.basis.specs.Ring.{Ring, Leads, follow, ringTest, ring-of-test, test-of-ring}
+use Rattle.sets.specs.Sets.{has, single, both, either, less}
+use Rattle.sets.specs.Laws.{has-both, has-either, has-less, has-single, none-has, no-member, less-le}
+use Rattle.peel.specs.Words.{leadsTo, stayOf, upOf, downOf, someOf, firstOf}
+use Rattle.peel.proofs.Laws.{not-empty}
+
+-- ---- a set that is not empty has a member
+under-pow : (n : ℕ) → n < 2 ^ n
+under-pow zero = omega arith
+under-pow (suc n) = let p = pow-suc 2 n in let q = under-pow n in omega arith
+
+member : (s : ℕ) → s ≢ 0 → (d : ℕ) × (has s d ≡ true)
+member s h = by (find s (has s))
+  where
+    by : Found s (has s) ⊎ ((i : ℕ) → i < s → has s i ≡ false) → (d : ℕ) × (has s d ≡ true)
+    by (inl (d, l, t)) = (d, t)
+    by (inr none) = absurd (h (no-member s s (under-pow s) none))
+
+module _ (succ : List ℕ) (n : ℕ) where
+  -- ---- what is left in the rounds: all nodes of rings, and no others than the n
+  pub record Left (left : ℕ) : Type 0 where
+    pub keeps : (r : Ring (Leads n (leadsTo succ))) (i : ℕ) → i ≤ r .size → has left (r .node i) ≡ true
+    pub within : (x : ℕ) → has left x ≡ true → x < n
+
+  -- a node of a ring leads to one that is left
+  leads-on : (left : ℕ) → Left left → (r : Ring (Leads n (leadsTo succ))) (i : ℕ) → i ≤ r .size
+      → both (getD succ (r .node i) 0) left ≢ 0
+  leads-on left k r i b = by (below-suc {n = r .size} (omega arith))
+    where
+      at : (j : ℕ) → j < r .size → both (getD succ (r .node j) 0) left ≢ 0
+      at j l =
+          not-empty (both (getD succ (r .node j) 0) left) (r .node (suc j))
+          (has-both (getD succ (r .node j) 0) left (r .node (suc j))
+          ∙ and-eq-true-iff (leadsTo succ (r .node j) (r .node (suc j))) (has left (r .node (suc j))) .1
+          (r .linked j l .step, k .keeps r (suc j) l))
+
+      by : (i < r .size) ⊎ (i ≡ r .size) → both (getD succ (r .node i) 0) left ≢ 0
+      by (inl l) = at i l
+      by (inr e) = rw (e, r .closed) (at 0 (r .some))
+
+  -- node x is left and leads to none that is left
+  abbrev goesFrom : ℕ → ℕ → Bool
+  goesFrom x left = has left x && eqb (both (getD succ x 0) left) 0
+
+  left-stay : (x left : ℕ) → Left left → Left (stayOf succ x left)
+  unfolding stayOf
+  left-stay x left k = by (test (goesFrom x left))
+    where
+      by : (goesFrom x left ≡ true) ⊎ (goesFrom x left ≡ false) → Left (pick (goesFrom x left) (less left (single x)) left)
+      by (inr e) = rw e k
+      by (inl e) = rw e (record { keeps = stays; within = λ y t. k .within y (was y t) })
+        where
+          was : (y : ℕ) → has (less left (single x)) y ≡ true → has left y ≡ true
+          was y t = and-eq-true-iff (has left y) (not (has (single x) y)) .0 (sym (has-less left (single x) y) ∙ t) .0
+
+          other : (y : ℕ) → both (getD succ y 0) left ≢ 0 → y ≢ x
+          other y h q = h (rw q (eqb-true (both (getD succ x 0) left) 0 (and-eq-true-iff (has left x) (eqb (both (getD succ x 0) left) 0) .0 e .1)))
+
+          stays : (r : Ring (Leads n (leadsTo succ))) (i : ℕ) → i ≤ r .size
+              → has (less left (single x)) (r .node i) ≡ true
+          stays r i b =
+              has-less left (single x) (r .node i)
+              ∙ rw (has-single x (r .node i), ne-eqb (r .node i) x (other (r .node i) (leads-on left k r i b)), k .keeps r i b)
+
+  pub left-down : {left after : ℕ} → after ≡ downOf succ n left → Left left → Left after
+  unfolding downOf
+  left-down {left} e k = rw e (up-keeps Left (λ i. stayOf succ (n - 1 - i)) n left (λ i t h q. left-stay (n - 1 - i) t q) k)
+
+  pub left-up : {left after : ℕ} → after ≡ upOf succ n left → Left left → Left after
+  unfolding upOf
+  left-up {left} e k = rw e (up-keeps Left (stayOf succ) n left (λ i t h q. left-stay i t q) k)
+
+  -- ---- at the start
+  some-has : (x s y : ℕ) → has s y ≡ true → has (someOf succ x s) y ≡ true
+  unfolding someOf
+  some-has x s y t = by (test (eqb (getD succ x 0) 0))
+    where
+      by : (eqb (getD succ x 0) 0 ≡ true) ⊎ (eqb (getD succ x 0) 0 ≡ false)
+          → has (pick (eqb (getD succ x 0) 0) s (either s (single x))) y ≡ true
+      by (inl e) = rw e t
+      by (inr e) = rw e (has-either s (single x) y ∙ rw t)
+
+  some-new : (x s : ℕ) → getD succ x 0 ≢ 0 → has (someOf succ x s) x ≡ true
+  unfolding someOf
+  some-new x s h =
+      rw (ne-eqb (getD succ x 0) 0 h) (has-either s (single x) x ∙ rw (has-single x x, eq-eqb x x refl) (or-right (has s x)))
+
+  some-was : (x s y : ℕ) → has (someOf succ x s) y ≡ true → (has s y ≡ true) ⊎ (y ≡ x)
+  unfolding someOf
+  some-was x s y t = by (test (eqb (getD succ x 0) 0))
+    where
+      either-was : (has s y ≡ true) ⊎ (has (single x) y ≡ true) → (has s y ≡ true) ⊎ (y ≡ x)
+      either-was (inl u) = inl u
+      either-was (inr u) = inr (eqb-true y x (sym (has-single x y) ∙ u))
+
+      by : (eqb (getD succ x 0) 0 ≡ true) ⊎ (eqb (getD succ x 0) 0 ≡ false) → (has s y ≡ true) ⊎ (y ≡ x)
+      by (inl e) = inl (rw e at t)
+      by (inr e) = either-was (or-cases (has s y) (has (single x) y) (sym (has-either s (single x) y) ∙ (rw e at t)))
+
+  record Begun (i s : ℕ) : Type 0 where
+    pub sound : (y : ℕ) → has s y ≡ true → y < i
+    pub complete : (y : ℕ) → y < i → getD succ y 0 ≢ 0 → has s y ≡ true
+
+  begun : Begun n (firstOf succ n)
+  unfolding firstOf
+  begun = up-keeps-at Begun (someOf succ) n 0 more (record { sound = λ y t. absurd (not-empty 0 y t refl); complete = λ y l h. absurd (omega arith) })
+    where
+      more : (i s : ℕ) → i < n → Begun i s → Begun (suc i) (someOf succ i s)
+      more i s h b = record { sound = λ y t. low y (some-was i s y t); complete = λ y l k. at y k (below-suc l) }
+        where
+          low : (y : ℕ) → (has s y ≡ true) ⊎ (y ≡ i) → y < suc i
+          low y (inl t) = let l = b .sound y t in omega arith
+          low y (inr e) = omega arith
+
+          at : (y : ℕ) → getD succ y 0 ≢ 0 → (y < i) ⊎ (y ≡ i) → has (someOf succ i s) y ≡ true
+          at y k (inl l) = some-has i s y (b .complete y l k)
+          at y k (inr e) = rw e (some-new i s (rw e at k))
+
+  pub left-first : {left : ℕ} → left ≡ firstOf succ n → Left left
+  left-first e = rw e (record { keeps = λ r i b. by r i (below-suc {n = r .size} (omega arith)); within = begun .sound })
+    where
+      at : (r : Ring (Leads n (leadsTo succ))) (j : ℕ) → j < r .size → has (firstOf succ n) (r .node j) ≡ true
+      at r j l =
+          let k = r .linked j l in
+          begun .complete (r .node j) (k .from) (not-empty (getD succ (r .node j) 0) (r .node (suc j)) (k .step))
+
+      by : (r : Ring (Leads n (leadsTo succ))) (i : ℕ) → (i < r .size) ⊎ (i ≡ r .size)
+          → has (firstOf succ n) (r .node i) ≡ true
+      by r i (inl l) = at r i l
+      by r i (inr q) = rw (q, r .closed) (at r 0 (r .some))
+
+  -- ---- the ends
+  pub ends-none : {left : ℕ} → left ≡ 0 → Left left → false ≡ ringTest n (leadsTo succ)
+  ends-none {left} e k = sym (refuted (ringTest n (leadsTo succ)) (λ t. some (ring-of-test n (leadsTo succ) t)))
+    where
+      some : Ring (Leads n (leadsTo succ)) → ⊥
+      some r = not-empty left (r .node 0) (k .keeps r 0 (omega arith)) e
+
+  stay-le : (x left : ℕ) → stayOf succ x left ≤ left
+  unfolding stayOf
+  stay-le x left = by (goesFrom x left)
+    where
+      by : (b : Bool) → pick b (less left (single x)) left ≤ left
+      by true = less-le left (single x)
+      by false = omega arith
+
+  pub down-le : {left after : ℕ} → after ≡ downOf succ n left → after ≤ left
+  unfolding downOf
+  down-le {left} e =
+      rw e (up-keeps (λ v. v ≤ left) (λ i. stayOf succ (n - 1 - i)) n left (λ i v h q. let a = stay-le (n - 1 - i) v in omega arith) (omega arith))
+
+  -- the first i nodes judged: where none went, each that is left leads to one that is left
+  record Judged (left i now : ℕ) : Type 0 where
+    pub fewer : now ≤ left
+    pub leads : now ≡ left → (x : ℕ) → x < i → has left x ≡ true → both (getD succ x 0) left ≢ 0
+
+  stay-same : (x left : ℕ) → stayOf succ x left ≡ left → has left x ≡ true → both (getD succ x 0) left ≢ 0
+  unfolding stayOf
+  stay-same x left e t q =
+      let s : less left (single x) ≡ left = rw (t, eq-eqb (both (getD succ x 0) left) 0 q) at e in
+      not-both (ap (λ (v : ℕ). has v x) s ∙ t) (has-less left (single x) x ∙ rw (has-single x x, eq-eqb x x refl, t))
+
+  judged : (left : ℕ) → Judged left n (upOf succ n left)
+  unfolding upOf
+  judged left =
+      up-keeps-at (Judged left) (stayOf succ) n left more
+      (record { fewer = omega arith; leads = λ e x l. absurd (omega arith) })
+    where
+      more : (i now : ℕ) → i < n → Judged left i now → Judged left (suc i) (stayOf succ i now)
+      more i now h j = record { fewer = omega (arith, stay-le i now, j .fewer); leads = λ e x l. at e x (below-suc l) }
+        where
+          at : stayOf succ i now ≡ left → (x : ℕ) → (x < i) ⊎ (x ≡ i) → has left x ≡ true
+              → both (getD succ x 0) left ≢ 0
+          at e x (inl l) =
+              let s : now ≡ left = omega (arith, stay-le i now, j .fewer) in
+              j .leads s x l
+          at e x (inr q) =
+              let s : now ≡ left = omega (arith, stay-le i now, j .fewer) in
+              rw q (stay-same i left (rw s at e))
+
+  pub up-le : {left after : ℕ} → after ≡ upOf succ n left → after ≤ left
+  up-le {left} e = rw e (judged left .fewer)
+
+  -- a round in which none goes
+  pub ends-still : {left down up : ℕ} → left ≢ 0 → Left left → down ≡ downOf succ n left → up ≡ upOf succ n down
+      → up ≡ left → true ≡ ringTest n (leadsTo succ)
+  ends-still {left} {down} {up} h k d u s =
+      sym (affirmed (ringTest n (leadsTo succ)) (λ f. none f (member left h)))
+    where
+      same : down ≡ left
+      same = let a = down-le d in let b = up-le u in omega arith
+
+      still : upOf succ n left ≡ left
+      still = ap (upOf succ n) (sym same) ∙ sym u ∙ s
+
+      step : (x : ℕ) → has left x ≡ true → ((y : ℕ) × (has left y ≡ true) × (leadsTo succ x y ≡ true)) ⊎ ⊥
+      step x t = by (member (both (getD succ x 0) left) (judged left .leads still x (k .within x t) t))
+        where
+          by : (d : ℕ) × (has (both (getD succ x 0) left) d ≡ true)
+              → ((y : ℕ) × (has left y ≡ true) × (leadsTo succ x y ≡ true)) ⊎ ⊥
+          by (y, v) =
+              let b = and-eq-true-iff (leadsTo succ x y) (has left y) .0 (sym (has-both (getD succ x 0) left y) ∙ v) in
+              inl (y, b .1, b .0)
+
+      none : ringTest n (leadsTo succ) ≡ false → (x : ℕ) × (has left x ≡ true) → ⊥
+      none f (x, t) =
+          follow n (leadsTo succ) ⊥ (λ q. has left q ≡ true) (λ q w. k .within q w) step
+          (λ r. not-both (test-of-ring n (leadsTo succ) r) f) x t
+
+  -- the round's measure
+  pub round-less : {left down up : ℕ} → down ≡ downOf succ n left → up ≡ upOf succ n down → up ≢ left → up < left
+  round-less d u h = let a = down-le d in let b = up-le u in omega arith

@@ -7,7 +7,7 @@ use Prim.Native.Nat.{ℕ, zero, suc, _+_, _*_, _/_, _≤_, _<_}
 use native.Mathlib.Omega.{arith}
 use lib.Dec.{eqb, ltb}
 use lib.ListN.{length, getD, replicate, length-replicate}
-use borrow.Author.Tests.{lt-ltb, le-ltb, eq-eqb, ne-eqb}
+use borrow.Author.Tests.{lt-ltb, le-ltb, eq-eqb, ne-eqb, eqb-true}
 use Rattle.basis.specs.Choice.{pick, pick-same}
 use Rattle.basis.specs.Bounded.{lt-or-ge}
 use Rattle.basis.specs.Fold.{fill-at, fill-past, length-fill}
@@ -55,6 +55,12 @@ module _ (b : List ℕ) {h : Head} (read : h ≡ headOf b) where
   pub length-fits : {n : ℕ} {r : Bool} → n ≡ bitCount h → length b ≡ (n + 7) / 8 → r ≡ fillOk b n → r ≡ lengthOk b
   unfolding lengthOk
   length-fits {n} e q f = rw (← read, eq-eqb (length b) (byteCount h) (q ∙ ap (λ x. (x + 7) / 8) e)) (f ∙ ap (fillOk b) e)
+
+  -- a plan of the right length holds all joints
+  pub long-enough : {size : Bool} → size ≡ lengthOk b → size ≡ true → 6 + 4 * h .routers ≤ length b
+  unfolding lengthOk
+  long-enough e q =
+      let long : length b ≡ byteCount h = eqb-true _ _ (and-both (sym e ∙ q) .0) ∙ ap byteCount (sym read) in omega (arith, long)
 
   -- ---- refusals 4 to 6, over the tables
   module _ (range : InRange h) where

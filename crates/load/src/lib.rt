@@ -4,15 +4,11 @@ use kinds::Refusal;
 use plan::Head;
 use plan::routes::NO_SIDE;
 ghost use mathlib.Core.Path.{_≡_};
-ghost use mathlib.Core.Bool.{_&&_};
 ghost use mathlib.Core.List.{[]};
 ghost use Prim.Native.Nat.{_<_};
 ghost use lib.ListN.{getD};
 ghost use Rattle.kinds.specs.Refusals.{refusalNumber};
 ghost use Rattle.plan.specs.Head.{headOf, InRange};
-ghost use Rattle.plan.specs.Rules.{namedOk, interfacesOk};
-ghost use Rattle.plan.specs.Tables.{tablePlan, homesOf};
-ghost use Rattle.plan.specs.Head.{Counts};
 ghost use Rattle.load.specs.Load.{lengthOk, loadOf, loadNumber, loadRoutes, loadJoints, loadHomes, loadLengths};
 ghost use Rattle.load.specs.Walk.{walkOf};
 
@@ -35,15 +31,6 @@ fn length_ok(plan: &[u8], h: Head) -> bool
         return false;
     }
     plan::counts::fill_ok(plan, bits)
-}
-
-// Whether router joints are named back by another router, and each interface has exactly one joint: refusal 5.
-fn joints_ok(h: Head, joints: &[u8; 64]) -> bool
-    requires { ⌜ Counts h ⌝ }
-    ensures { λ r. ⌜ r
-        ≡ (namedOk (tablePlan h [] (now (joints .entry))) && interfacesOk (tablePlan h [] (now (joints .entry)))) ⌝ }
-{
-    plan::interfaces::named_ok(h, joints) & plan::interfaces::interfaces_ok(h, joints)
 }
 
 // Load: the first refusal that applies, in document 01's order, or the plan's head. An accepted plan's routes, joints, homes
@@ -71,17 +58,18 @@ pub fn load(
     if !length_ok(plan, h) {
         return Loaded::Refused(Refusal::WrongLength);
     }
-    let j = plan::joints::joints(plan, h);
+    let mut j = [0u8; 64];
+    let joined = plan::joints::joints(plan, h, &mut j);
     let mut t = [[NO_SIDE; 32]; 16];
     let mut by = [[0u32; 4]; 16];
     let fit = plan::routes::routes(plan, h, &mut t, &mut by);
-    if !(plan::joints::joint_bytes_ok(h, &j) & fit) {
+    if !(joined & fit) {
         return Loaded::Refused(Refusal::BadField);
     }
-    if !joints_ok(h, &j) {
+    let mut o = [0u8; 32];
+    if !plan::interfaces::homes(h, &j, &mut o) {
         return Loaded::Refused(Refusal::BadJoint);
     }
-    let o = plan::interfaces::homes(h, &j);
     let mut arrive = [0u32; 32];
     let mut ways = [[0u8; 16]; 16];
     let served = arrivals::walks(h, &t, &j, &o, &by, &mut arrive, &mut ways);

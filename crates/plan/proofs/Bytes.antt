@@ -1,17 +1,19 @@
 -- A joint's byte, read from the two bytes that hold it; a route read past its row's end. Assumes nothing.
-use mathlib.Core.Path.{_≡_, refl}
+use mathlib.Core.Path.{_≡_, refl, sym, ap}
 use mathlib.Core.Bool.{Bool, true, false, _&&_}
 use mathlib.Core.List.{List, [], _∷_}
-use Prim.Native.Nat.{ℕ, zero, suc, _+_, _*_, _/_, _%_, _<_}
+use Prim.Native.Nat.{ℕ, zero, suc, _+_, _*_, _/_, _%_, _≤_, _<_}
 use native.Mathlib.Numerals.{add-one}
 use native.Mathlib.Omega.{arith}
-use lib.ListN.{getD}
+use lib.ListN.{getD, replicate, length-replicate}
 use Rattle.basis.specs.Choice.{pick}
-use Rattle.basis.specs.Bounded.{allBelow}
+use Rattle.basis.specs.Bounded.{allBelow, all-same}
+use Rattle.basis.specs.Fold.{fill-at}
 use Rattle.fields.specs.Bits.{bitAt, fieldOf}
 use Rattle.fields.specs.Laws.{bit-of}
 use Rattle.plan.specs.Rules.{routeOk}
-use Rattle.plan.specs.Tables.{jointByte}
+use Rattle.plan.specs.declared.Head.{Head}
+use Rattle.plan.specs.Tables.{jointByte, jointsOf, jointByteOk, jointBytesOk}
 
 -- a byte's last three bits, and its first five
 last-bits : (x : ℕ) → x % 8 ≡ (x / 4 % 2 * 2 + x / 2 % 2) * 2 + x % 2
@@ -90,3 +92,15 @@ all-and f i e g = rw (add-one, e, g) (and-pick (allBelow i f) (f i))
     and-pick : (b c : Bool) → (b && c) ≡ pick b c false
     and-pick true c = refl
     and-pick false c = refl
+
+pub all-end : (f : ℕ → Bool) {i n : ℕ} {b : Bool} → b ≡ allBelow i f → i ≡ n → b ≡ allBelow n f
+all-end f e q = rw (← q) e
+
+-- joints tested while they are read are those of the table
+pub joints-tested : (b : List ℕ) (h : Head) → h .routers ≤ 16
+    → allBelow (4 * h .routers) (λ i. jointByteOk h (jointByte b i)) ≡ jointBytesOk h (jointsOf b h)
+unfolding jointBytesOk jointsOf
+joints-tested b h few =
+    all-same (4 * h .routers) (λ i. jointByteOk h (jointByte b i)) _
+    (λ i l. ap (jointByteOk h)
+    (sym (fill-at (jointByte b) (4 * h .routers) (replicate 64 0) i 0 l (rw length-replicate (omega arith)))))

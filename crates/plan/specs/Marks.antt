@@ -1,4 +1,4 @@
--- How the code reads routes: eight at a time into marks, of which sets of columns by side are made.
+-- How the code reads routes: row by row, into the table and into sets of columns by side.
 use mathlib.Core.Path.{_≡_}
 use mathlib.Core.Bool.{Bool, _&&_}
 use mathlib.Core.List.{List, []}
@@ -20,33 +20,19 @@ use Rattle.plan.specs.Tables.{routesOf, routesOk}
 unfoldable pub sideAt : List ℕ → ℕ → ℕ → ℕ
 sideAt b at d = fieldOf b (at + 3 * d) 3
 
--- the marks of m columns from d on: digit 8 v + j is set where the j-th of them has the side v
-unfoldable pub marksOf : (ℕ → ℕ) → ℕ → ℕ → ℕ
-marksOf g d m = upTo (λ j s. either s (single (8 * g (d + j) + j))) m 0
-
--- one column more
-abbrev pub Puts : (ℕ → ℕ) → ℕ → ℕ → List ℕ → ℕ → List ℕ → ℕ → Type 0
-Puts g d j row marks row′ marks′ = (row′ ≡ set row (d + j) (g (d + j))) ×
-    (marks′ ≡ either marks (single (8 * g (d + j) + j)))
-
--- m columns from d on are put into a row that has those below d
-abbrev pub Block : (ℕ → ℕ) → ℕ → ℕ → List ℕ → List ℕ → ℕ → Type 0
-Block g d m row row′ marks =
-    ((s : List ℕ) → row ≡ upTo (fill g) d s → row′ ≡ upTo (fill g) (d + m) s) × (marks ≡ marksOf g d m)
-
--- the columns of marks from d on whose side is o; whether none has the side 4, 5 or 6
-unfoldable pub partOf : ℕ → ℕ → ℕ → ℕ
-partOf marks o d = marks / 2 ^ (8 * o) % 256 * 2 ^ d
-
-unfoldable pub fitsOf : ℕ → Bool
-fitsOf marks = eqb (marks / 2 ^ 32 % 16777216) 0
-
-unfoldable pub atMost : ℕ → ℕ
-atMost n = pick (ltb n 8) n 8
+-- whether no column of sets by side has the side 4, 5 or 6
+unfoldable pub fitsOf : List ℕ → Bool
+fitsOf s = (eqb (getD s 4 0) 0 && eqb (getD s 5 0) 0) && eqb (getD s 6 0) 0
 
 -- the columns below k whose side is o
 abbrev pub Side : (ℕ → ℕ) → ℕ → ℕ → ℕ → Type 0
 Side g k o s = (i : ℕ) → has s i ≡ (ltb i k && eqb (g i) o)
+
+-- n columns are put into a row and into sets by side
+pub record Sorted (g : ℕ → ℕ) (n : ℕ) (row row′ s : List ℕ) : Type 0 where
+  pub long : length s ≡ 8
+  pub filled : row′ ≡ upTo (fill g) n row
+  pub sets : (o : ℕ) → o < 8 → Side g n o (getD s o 0)
 
 -- a row of n columns, its sets by side, and whether each column has a side or none
 pub record Row (g : ℕ → ℕ) (n : ℕ) (row row′ sides : List ℕ) (ok : Bool) : Type 0 where

@@ -9,9 +9,10 @@ use crate::joints::TO_ACTIVE;
 use crate::joints::TO_PASSIVE;
 use crate::joints::TO_ROUTER;
 ghost use mathlib.Core.Path.{_≡_};
+ghost use mathlib.Core.Bool.{_&&_};
 ghost use mathlib.Core.List.{[]};
 ghost use Prim.Native.Nat.{_≤_, _<_};
-ghost use lib.ListN.{length, getD};
+ghost use lib.ListN.{length, getD, replicate};
 ghost use Rattle.plan.specs.declared.Head.{Head};
 ghost use Rattle.plan.specs.Head.{destinations};
 ghost use Rattle.plan.specs.Rules.{backOk, jointOfPort, namedOk, portsOf, interfacesOk};
@@ -45,20 +46,6 @@ pub fn back_ok(joints: &[u8; 64], i: usize) -> bool
     let k = (v % KIND) as usize;
     let w = joints[k];
     (k / SIDES != i / SIDES) & (w == (ROUTER_FROM + i) as u8)
-}
-
-// Whether each router joint is named back by another router: refusal 5.
-pub fn named_ok(h: Head, joints: &[u8; 64]) -> bool
-    requires { ⌜ h .routers ≤ 16 ⌝ }
-    ensures { λ r. ⌜ r ≡ namedOk (tablePlan h [] (now (joints .entry))) ⌝ }
-{
-    let n = SIDES * h.routers;
-    for i in 0..n {
-        if !back_ok(joints, i) {
-            return false;
-        }
-    }
-    true
 }
 
 // Kind and number of the joint that leads to the interface of column d.
@@ -132,35 +119,21 @@ fn mark(cell: u8, i: u8) -> u8
     if cell == NONE_FOUND { i } else { MORE_FOUND }
 }
 
-// The port of each interface, by column.
-fn found(h: Head, joints: &[u8; 64]) -> [u8; 33]
-    requires { ⌜ (h .routers ≤ 16) × (h .actives ≤ 16) × (h .passives ≤ 16) ⌝ }
-    ensures { λ r. ⌜ r ≡ foundOf h (now (joints .entry)) ⌝ }
+// The port of each interface, by column; answers whether each router joint is named back by another router: refusal 5.
+fn found(h: Head, joints: &[u8; 64], t: &mut [u8; 33]) -> bool
+    requires { ⌜ (h .routers ≤ 16) × (h .actives ≤ 16) × (h .passives ≤ 16) × (now t ≡ replicate 33 64) ⌝ }
+    ensures { λ ok. ⌜ (now (t .exit) ≡ foundOf h (now (joints .entry))) × (ok ≡ namedOk (tablePlan h [] (now (joints .entry)))) ⌝ }
 {
     let n = SIDES * h.routers;
     let actives = h.actives;
     let passives = h.passives;
-    let mut t = [NONE_FOUND; 33];
+    let mut ok = true;
     for i in 0..n {
+        ok = ok & back_ok(joints, i);
         let d = column(actives, passives, joints[i]);
         t[d] = mark(t[d], i as u8);
     }
-    t
-}
-
-// Whether each interface has exactly one joint: refusal 5.
-pub fn interfaces_ok(h: Head, joints: &[u8; 64]) -> bool
-    requires { ⌜ (h .routers ≤ 16) × (h .actives ≤ 16) × (h .passives ≤ 16) ⌝ }
-    ensures { λ r. ⌜ r ≡ interfacesOk (tablePlan h [] (now (joints .entry))) ⌝ }
-{
-    let t = found(h, joints);
-    let n = h.actives + h.passives;
-    for d in 0..n {
-        if NONE_FOUND <= t[d] {
-            return false;
-        }
-    }
-    true
+    ok
 }
 
 // The port of a cell, and 0 where it has none.
@@ -170,16 +143,20 @@ fn port_or_0(cell: u8) -> u8
     if cell < NONE_FOUND { cell } else { 0 }
 }
 
-// The port number of every interface, by column.
-pub fn homes(h: Head, joints: &[u8; 64]) -> [u8; 32]
-    requires { ⌜ (h .routers ≤ 16) × (h .actives ≤ 16) × (h .passives ≤ 16) ⌝ }
-    ensures { λ r. ⌜ r ≡ homesOf (tablePlan h [] (now (joints .entry))) ⌝ }
+// The port number of every interface, by column; answers whether router joints are named back by another router, and each
+// interface has exactly one joint: refusal 5.
+pub fn homes(h: Head, joints: &[u8; 64], r: &mut [u8; 32]) -> bool
+    requires { ⌜ (h .routers ≤ 16) × (h .actives ≤ 16) × (h .passives ≤ 16) × (now r ≡ replicate 32 0) ⌝ }
+    ensures { λ ok. ⌜ (now (r .exit) ≡ homesOf (tablePlan h [] (now (joints .entry))))
+        × (ok ≡ (namedOk (tablePlan h [] (now (joints .entry))) && interfacesOk (tablePlan h [] (now (joints .entry))))) ⌝ }
 {
-    let t = found(h, joints);
+    let mut t = [NONE_FOUND; 33];
+    let named = found(h, joints, &mut t);
     let n = h.actives + h.passives;
-    let mut r = [0u8; 32];
+    let mut ok = true;
     for d in 0..n {
+        ok = ok & (t[d] < NONE_FOUND);
         r[d] = port_or_0(t[d]);
     }
-    r
+    named & ok
 }

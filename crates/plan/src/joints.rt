@@ -2,8 +2,8 @@
 use crate::Head;
 use crate::Joint;
 ghost use mathlib.Core.Path.{_≡_};
-ghost use Prim.Native.Nat.{_≤_, _<_};
-ghost use lib.ListN.{length};
+ghost use Prim.Native.Nat.{_≤_, _<_, _+_, _*_};
+ghost use lib.ListN.{length, replicate};
 ghost use Rattle.plan.specs.Tables.{jointByte, jointsOf, jointByteOk, jointBytesOk, jointOfByte};
 
 // The byte in which the first joint begins. Its last three bits and the next byte's first five are the joint.
@@ -28,25 +28,12 @@ pub const SIDES: usize = 4;
 
 // The i-th joint's eight bits.
 pub fn joint_byte(plan: &[u8], i: usize) -> u8
-    requires { ⌜ i < 64 ⌝ }
+    requires { ⌜ 6 + i < length (now plan) ⌝ }
     ensures { λ r. ⌜ r ≡ jointByte (now (plan .entry)) i ⌝ }
 {
-    let high = fields::byte_or_zero(plan, FIRST_BYTE + i);
-    let low = fields::byte_or_zero(plan, FIRST_BYTE + 1 + i);
-    (high % 8 * 32 + low / 8) as u8
-}
-
-// The joints of the plan's routers, and nothing at the ports behind them.
-pub fn joints(plan: &[u8], h: Head) -> [u8; 64]
-    requires { ⌜ h .routers ≤ 16 ⌝ }
-    ensures { λ r. ⌜ r ≡ jointsOf (now (plan .entry)) h ⌝ }
-{
-    let n = SIDES * h.routers;
-    let mut t = [0u8; 64];
-    for i in 0..n {
-        t[i] = joint_byte(plan, i);
-    }
-    t
+    let high = plan[FIRST_BYTE + i];
+    let low = plan[FIRST_BYTE + 1 + i];
+    high % 8 * 32 + low / 8
 }
 
 // Whether kind, number and side are in range.
@@ -68,19 +55,20 @@ pub fn joint_byte_ok(h: Head, v: u8) -> bool
     (number < h.passives) & (side == 0)
 }
 
-// Whether each joint's kind, number and side are in range: refusal 4.
-pub fn joint_bytes_ok(h: Head, joints: &[u8; 64]) -> bool
-    requires { ⌜ h .routers ≤ 16 ⌝ }
-    ensures { λ r. ⌜ r ≡ jointBytesOk h (now (joints .entry)) ⌝ }
+// The joints of the plan's routers, and nothing at the ports behind them; answers whether each joint's kind, number and side
+// are in range: refusal 4.
+pub fn joints(plan: &[u8], h: Head, t: &mut [u8; 64]) -> bool
+    requires { ⌜ (h .routers ≤ 16) × (6 + 4 * h .routers ≤ length (now plan)) × (now t ≡ replicate 64 0) ⌝ }
+    ensures { λ ok. ⌜ (now (t .exit) ≡ jointsOf (now (plan .entry)) h) × (ok ≡ jointBytesOk h (now (t .exit))) ⌝ }
 {
     let n = SIDES * h.routers;
+    let mut ok = true;
     for i in 0..n {
-        let v = joints[i];
-        if !joint_byte_ok(h, v) {
-            return false;
-        }
+        let v = joint_byte(plan, i);
+        t[i] = v;
+        ok = ok & joint_byte_ok(h, v);
     }
-    true
+    ok
 }
 
 // What a joint's byte says.

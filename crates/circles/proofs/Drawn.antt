@@ -17,7 +17,7 @@ use Rattle.plan.specs.Plan.{Plan, Port, Interface, active, passive, R, A, P, co
 use Rattle.plan.specs.Rules.{home}
 use Rattle.plan.specs.Tables.{jointOfByte}
 use Rattle.paths.specs.Walk.{onward, routerOf, walked}
-use Rattle.paths.specs.Served.{Served, served}
+use Rattle.paths.specs.Served.{Served}
 use Rattle.feeding.specs.Feeds.{Meets}
 use Rattle.plan.specs.Head.{Counts}
 use Rattle.wiring.proofs.Wires.{near, home-inside}
@@ -83,7 +83,8 @@ module _ {pl : Plan} {h : Head} {by : List (List ℕ)} {joints homes arrive serv
   unfolding partnerOf
   partner-joint k l h =
       let e : 4 * (k / 4) + k % 4 ≡ k = omega arith in
-      told .joined (k / 4) (k % 4) (omega arith) (omega arith) ∙ ap (λ (i : ℕ). jointOfByte (getD joints i 0)) e ∙ router-byte (getD joints k 0) h
+      told .joined (k / 4) (k % 4) (omega arith) (omega arith) ∙ ap (λ (i : ℕ). jointOfByte (getD joints i 0)) e
+      ∙ router-byte (getD joints k 0) h
 
   -- ---- sides
   pub leaves-of : (r o d : ℕ) → o < 4 → d < destinations (pl .head) → pl .route r d ≡ o → Leaves by joints r o d
@@ -129,7 +130,8 @@ module _ {pl : Plan} {h : Head} {by : List (List ℕ)} {joints homes arrive serv
       let j : pl .joint x o ≡ Router (beyondOf joints (4 * x + o)) (partnerOf joints (4 * x + o) % 4) =
       rw (ex, eo) at (partner-joint (4 * x + o) (omega arith) (omega arith)) in (
         partnerOf joints (4 * x + o) % 4,
-        router-onward pl e (record { router = x; side = i }) y (partnerOf joints (4 * x + o) % 4) (ap (pl .joint x) r ∙ j ∙ ap (λ (n : ℕ). Router n (partnerOf joints (4 * x + o) % 4)) q),
+        router-onward pl e (record { router = x; side = i }) y (partnerOf joints (4 * x + o) % 4)
+            (ap (pl .joint x) r ∙ j ∙ ap (λ (n : ℕ). Router n (partnerOf joints (4 * x + o) % 4)) q),
       )
 
   -- ---- ways are carried
@@ -142,12 +144,20 @@ module _ {pl : Plan} {h : Head} {by : List (List ℕ)} {joints homes arrive serv
         rw (← same) s
     carries e l from s (suc k) y q =
         let b = on-before (onward pl e) (suc k) (on from) y q k (omega arith) in
-        let w = hop e l (b .0) y (sym (spot-next (onward pl e) k (on from) (b .1)) ∙ q) in
-        (b .0 .router, routeTo pl e (b .0 .router), w .from, w .side, w .to, w .leaves, carries e l from s k (b .0) (b .1))
+        let w = hop e l (b .0) y (sym (spot-next (onward pl e) k (on from) (b .1)) ∙ q) in (
+          b .0 .router,
+          routeTo pl e (b .0 .router),
+          w .from,
+          w .side,
+          w .to,
+          w .leaves,
+          carries e l from s k (b .0) (b .1),
+        )
 
     -- what is carried sets out where it is at first, and its way leads there
     abbrev Came : Interface → ℕ → Type 0
-    Came e y = (s : ℕ) × In first s (column pl e) × ((i : ℕ) → (j : ℕ) × Meets pl e (record { router = s; side = i }) (record { router = y; side = j }))
+    Came e y = (s : ℕ) × In first s (column pl e)
+        × ((i : ℕ) → (j : ℕ) × Meets pl e (record { router = s; side = i }) (record { router = y; side = j }))
 
     pub came : (e : Interface) (k y : ℕ) → y < R pl → Carried by joints (R pl) first (column pl e) k y → Came e y
     came e zero y l c = (y, c, λ i. (i, meets-here pl e (record { router = y; side = i })))
@@ -159,8 +169,11 @@ module _ {pl : Plan} {h : Head} {by : List (List ℕ)} {joints homes arrive serv
             last : (i : ℕ) → (j : ℕ) × Meets pl e (record { router = s; side = i }) (record { router = x; side = j })
                 → (j : ℕ) × Meets pl e (record { router = s; side = i }) (record { router = y; side = j })
             last i (j, n) =
-                let z = hop-on e x o y j lx lo d q (omega (arith, few)) in
-                (z .0, meets-next pl e (record { router = s; side = i }) (record { router = x; side = j }) (record { router = y; side = z .0 }) n (z .1))
+                let z = hop-on e x o y j lx lo d q (omega (arith, few)) in (
+                  z .0,
+                  meets-next pl e (record { router = s; side = i }) (record { router = x; side = j })
+                      (record { router = y; side = z .0 }) n (z .1),
+                )
 
     pub origin : (d k y : ℕ) → Carried by joints (R pl) first d k y → (s : ℕ) × In first s d
     origin d zero y c = (y, c)
@@ -187,14 +200,16 @@ module _ {pl : Plan} {h : Head} {by : List (List ℕ)} {joints homes arrive serv
 
   -- a table that begins with the passives that some actives are served with, at their homes
   module _ (who : ℕ → Type 0) (first t : List ℕ) (spread : Spread by joints (R pl) first t)
-      (sound : (y d : ℕ) → In first y d → (a : ℕ) × who a × (a < A pl) × (homeRow homes a ≡ y) × (has (getD serve a 0) d ≡ true))
+      (sound : (y d : ℕ) → In first y d → (a : ℕ) × who a × (a < A pl) × (homeRow homes a ≡ y)
+      × (has (getD serve a 0) d ≡ true))
       (complete : (a d : ℕ) → who a → a < A pl → has (getD serve a 0) d ≡ true → In first (homeRow homes a) d) where
     walker-of : (y d : ℕ) → y < R pl → In t y d → Walker who d y
     walker-of y d l i = found (spread .sound y d i)
       where
         made : (a p s : ℕ) → who a → a < A pl → p < P pl → d ≡ A pl + p → homeRow homes a ≡ s
             → has (getD serve a 0) d ≡ true
-            → ((i : ℕ) → (j : ℕ) × Meets pl (passive p) (record { router = s; side = i }) (record { router = y; side = j })) → Walker who d y
+            → ((i : ℕ) → (j : ℕ) × Meets pl (passive p) (record { router = s; side = i })
+            (record { router = y; side = j })) → Walker who d y
         made a p s w ha hp e r u m =
             let k = m (home pl (active a) .side) in
             let same : s ≡ home pl (active a) .router = sym r ∙ home-row a ha in
@@ -234,7 +249,8 @@ module _ {pl : Plan} {h : Head} {by : List (List ℕ)} {joints homes arrive serv
         let u : has (getD serve a 0) (A pl + p) ≡ true =
         told .serves .pairs a p ha hp ∙ serves-of (told .wired) a p ha s in
         spread .complete (m .steps) (omega (arith, o .0)) (y .router) (A pl + p)
-        (carries first (passive p) hp (home pl (active a)) (rw (home-row a ha) at (complete a (A pl + p) w ha u)) (m .steps) y (m .here))
+        (carries first (passive p) hp (home pl (active a)) (rw (home-row a ha) at (complete a (A pl + p) w ha u))
+        (m .steps) y (m .here))
 
   -- ---- of all actives
   module _ (t : List ℕ) (spread : Spread by joints (R pl) (startsOf homes serve (A pl)) t) where
@@ -243,12 +259,14 @@ module _ {pl : Plan} {h : Head} {by : List (List ℕ)} {joints homes arrive serv
     begins y d u = let b = begun homes serve (A pl) .sound y d u in (b .0, b .1, b .1, b .2, b .3)
 
     pub all-walker : (y d : ℕ) → y < R pl → In t y d → Walker (λ a. a < A pl) d y
-    all-walker = walker-of (λ a. a < A pl) (startsOf homes serve (A pl)) t spread begins (λ a d w l u. begun homes serve (A pl) .complete a d l u)
+    all-walker = walker-of (λ a. a < A pl) (startsOf homes serve (A pl)) t spread begins
+        (λ a d w l u. begun homes serve (A pl) .complete a d l u)
 
     pub walker-all : (a p : ℕ) → a < A pl → p < P pl → Served pl a p → (y : Port)
         → Meets pl (passive p) (home pl (active a)) y → In t (y .router) (A pl + p)
     walker-all a p ha =
-        of-walker (λ a. a < A pl) (startsOf homes serve (A pl)) t spread begins (λ a d w l u. begun homes serve (A pl) .complete a d l u) a p ha ha
+        of-walker (λ a. a < A pl) (startsOf homes serve (A pl)) t spread begins
+        (λ a d w l u. begun homes serve (A pl) .complete a d l u) a p ha ha
 
   -- ---- of one active
   module _ (b : ℕ) (lb : b < A pl) (t : List ℕ) (spread : Spread by joints (R pl) (aloneOf homes serve b) t) where
@@ -274,7 +292,8 @@ module _ {pl : Plan} {h : Head} {by : List (List ℕ)} {joints homes arrive serv
     answers-of y a l u = found (answers .spread .sound y a u)
       where
         made : (s : ℕ) → In (answers .first) s a
-            → ((i : ℕ) → (j : ℕ) × Meets pl (active a) (record { router = s; side = i }) (record { router = y; side = j }))
+            → ((i : ℕ) → (j : ℕ)
+            × Meets pl (active a) (record { router = s; side = i }) (record { router = y; side = j }))
             → (a < A pl) × ((i : ℕ) × Answers pl a (record { router = y; side = i }))
         made s v m = begin (answers .answering .sound s a v)
           where
@@ -309,7 +328,8 @@ module _ {pl : Plan} {h : Head} {by : List (List ℕ)} {joints homes arrive serv
         inside : s .start .router < R pl
         inside = start-inside (told .wired) a y s .0
 
-        begin : (m : List ℕ) × Spread by joints (R pl) (aloneOf homes serve a) m × ((x : ℕ) → x < R pl → getD m x 0 ≢ 0 → In (answers .first) x a)
+        begin : (m : List ℕ) × Spread by joints (R pl) (aloneOf homes serve a) m
+            × ((x : ℕ) → x < R pl → getD m x 0 ≢ 0 → In (answers .first) x a)
             → In t (y .router) a
         begin (m, spread, put) =
             let v = walker-one a (s .has-active) m spread (s .p) (s .has-passive) (s .serves) (s .start) (s .met) in
@@ -317,4 +337,5 @@ module _ {pl : Plan} {h : Head} {by : List (List ℕ)} {joints homes arrive serv
             let o = way-on (onward pl (active a)) routerOf w (s .way .steps) y (s .way .here) in
             let short = walk-short (told .wired) (active a) (s .start) inside w in
             answers .spread .complete (s .way .steps) (omega (arith, o .0)) (y .router) a
-            (carries (answers .first) (active a) (s .has-active) (s .start) (put (s .start .router) inside (not-empty (getD m (s .start .router) 0) (A pl + s .p) v)) (s .way .steps) y (s .way .here))
+            (carries (answers .first) (active a) (s .has-active) (s .start) (put (s .start .router) inside
+            (not-empty (getD m (s .start .router) 0) (A pl + s .p) v)) (s .way .steps) y (s .way .here))

@@ -232,7 +232,8 @@ module _ (pl : Plan) where
               → o ≡ routeTo pl (passive (g .p)) r → Onto r o y
           walk i m e = step (goes-from pl (passive (g .p)) (home pl (active (g .a))) (g .serves .ahead) (exit r i) m)
             where
-              step : ((z : Port) × (onward pl (passive (g .p)) (exit r i) ≡ on z)) ⊎ (onward pl (passive (g .p)) (exit r i) ≡ end) → Onto r o y
+              step : ((z : Port) × (onward pl (passive (g .p)) (exit r i) ≡ on z))
+                  ⊎ (onward pl (passive (g .p)) (exit r i) ≡ end) → Onto r o y
               step (inl (z, q)) = (
                 z .router,
                 z .side,
@@ -299,7 +300,8 @@ module _ (pl : Plan) where
   first-unit (passiveIn p) y z f g = absurd (not-both refl (f .step .from))
 
   early-ring : Ring (Both (Feeds pl) late false) → WalkRing pl
-  early-ring r = ring-strides Early (Trails pl) unitOf AtUnit three-steps first-unit (ring-amid (Both (Feeds pl) late false) r)
+  early-ring r =
+      ring-strides Early (Trails pl) unitOf AtUnit three-steps first-unit (ring-amid (Both (Feeds pl) late false) r)
 
 -- ---- the steps among K
 across-crossing : (pl : Plan) (a p : ℕ) (j : Joint) (r i o : ℕ) → across pl back a p j ≡ some (K r i o)
@@ -311,8 +313,14 @@ across-crossing pl a p (Router n t) r i o q =
     let et : t ≡ i = cc in
     let eo : routeTo pl (active a) n ≡ o = cc in
     (rw (en, et) refl, sym eo ∙ ap (routeTo pl (active a)) en)
-across-crossing pl a p (Active n) r i o q = let same : activeIn n ≡ K r i o = some-same q in let z : _≡_ {A = ℕ} 0 1 = cc in absurd (omega arith)
-across-crossing pl a p (Passive n) r i o q = let same : passiveIn n ≡ K r i o = some-same q in let z : _≡_ {A = ℕ} 0 1 = cc in absurd (omega arith)
+across-crossing pl a p (Active n) r i o q =
+    let same : activeIn n ≡ K r i o = some-same q in
+    let z : _≡_ {A = ℕ} 0 1 = cc in
+    absurd (omega arith)
+across-crossing pl a p (Passive n) r i o q =
+    let same : passiveIn n ≡ K r i o = some-same q in
+    let z : _≡_ {A = ℕ} 0 1 = cc in
+    absurd (omega arith)
 
 abbrev cross : ℕ → ℕ → ℕ → Crossing
 cross r i o = record { into = record { router = r; side = i }; out = o }
@@ -361,13 +369,15 @@ module _ (pl : Plan) where
   late-feeds (F r o) y l f = absurd (false-true l)
 
   late-crosses : (x y : Queue) → Amid (Both (Feeds pl) late true) x y → Crosses pl (crossing x) (crossing y)
-  late-crosses x y m = by (late-feeds x y (m .step .from) (m .step .step)) (late-feeds y (m .after) (m .out .from) (m .out .step))
+  late-crosses x y m =
+      by (late-feeds x y (m .step .from) (m .step .step)) (late-feeds y (m .after) (m .out .from) (m .out .step))
     where
       by : (r i o : ℕ) × (x ≡ K r i o) → (n t u : ℕ) × (y ≡ K n t u) → Crosses pl (crossing x) (crossing y)
       by (r, i, o, ex) (n, t, u, ey) = rw (ex, ey) (feeds-crosses r i o n t u (rw (ex, ey) at (m .step .step)))
 
   late-ring : Ring (Both (Feeds pl) late true) → Ring (Crosses pl)
-  late-ring r = ring-map (Amid (Both (Feeds pl) late true)) (Crosses pl) crossing late-crosses (ring-amid (Both (Feeds pl) late true) r)
+  late-ring r = ring-map (Amid (Both (Feeds pl) late true)) (Crosses pl) crossing late-crosses
+      (ring-amid (Both (Feeds pl) late true) r)
 
 -- ---- so
 module _ {pl : Plan} (wired : Wired pl) where

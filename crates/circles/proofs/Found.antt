@@ -14,7 +14,7 @@ use Rattle.basis.specs.Ring.{Leads, ring-map, ring-same, ringTest, ring-of-test
 use Rattle.basis.specs.Walk.{way-on, way-tail}
 use Rattle.plan.specs.declared.Head.{Head}
 use Rattle.plan.specs.declared.Joint.the-variants.{Router}
-use Rattle.plan.specs.Plan.{Plan, Port, active, passive, R, A, P, routeTo}
+use Rattle.plan.specs.Plan.{Plan, active, passive, R, A, P, routeTo}
 use Rattle.plan.specs.Rules.{isRouterAt}
 use Rattle.paths.specs.Walk.{onward, routerOf, Walk}
 use Rattle.plan.specs.Head.{Counts}
@@ -41,7 +41,8 @@ use Rattle.circles.specs.Told.{Told}
 use Rattle.circles.proofs.Tests.{walk-by, by-walk, router-is, port-is, answered-by, by-answers}
 use Rattle.circles.proofs.Tests.{back-from, answer-leaves, answer-comes, Handed, handed}
 use Rattle.circles.proofs.Tests.{answer-test, one-router}
-use Rattle.circles.proofs.Drawn.{few, joint-partner, partner-joint, leaves-of, of-leaves, all-walker, walker-all}
+use Rattle.circles.proofs.Drawn.{few, joint-partner, partner-joint, leaves-of, of-leaves, all-walker}
+use Rattle.circles.proofs.Drawn.{walker-all}
 use Rattle.circles.proofs.Drawn.{answers-of, of-answers}
 
 -- ---- tests of relations that agree
@@ -83,7 +84,8 @@ module _ {pl : Plan} {h : Head} {by : List (List ℕ)} {joints homes arrive serv
             let r = of-leaves fits told x o d k (b .0) .1 in
             any-of (P pl) (λ p. also (eqb (routeTo pl (passive p) x) o) (walkMeets pl p x)) (w .p) (w .has-passive)
             (also-of (eq-eqb (routeTo pl (passive (w .p)) x) o (rw (w .column-is) at r))
-            (by-walk (told .wired) (w .p) x (record { a = w .a; has = w .has-active; serves = w .serves; side = w .side; met = w .met })))
+            (by-walk (told .wired) (w .p) x
+            (record { a = w .a; has = w .has-active; serves = w .serves; side = w .side; met = w .met })))
 
     walk-leaves : (x o : ℕ) → o < 4 → walkLeaves pl x o ≡ true → goneBy by joints t x o ≢ 0
     unfolding walkLeaves
@@ -96,8 +98,10 @@ module _ {pl : Plan} {h : Head} {by : List (List ℕ)} {joints homes arrive serv
             let w = walk-by (told .wired) p x (b .1) in
             let r : pl .route x (A pl + p) ≡ o = eqb-true (routeTo pl (passive p) x) o (b .0) in
             not-empty (goneBy by joints t x o) (A pl + p)
-            (in-both (getD (getD by x []) o 0) (getD t x 0) (A pl + p) (leaves-of fits told x o (A pl + p) k (omega arith) r)
-            (walker-all fits told t spread (w .a) p (w .has) hp (w .serves) (record { router = x; side = w .side }) (w .met)))
+            (in-both (getD (getD by x []) o 0) (getD t x 0) (A pl + p)
+            (leaves-of fits told x o (A pl + p) k (omega arith) r)
+            (walker-all fits told t spread (w .a) p (w .has) hp (w .serves) (record { router = x; side = w .side })
+            (w .met)))
 
     abbrev trailed : List ℕ
     trailed = nextsOf by joints t (R pl)
@@ -113,10 +117,12 @@ module _ {pl : Plan} {h : Head} {by : List (List ℕ)} {joints homes arrive serv
             let o : ℕ = s .side in
             let ex : (4 * x + s .side) / 4 ≡ x = omega (arith, s .four) in
             let eo : (4 * x + s .side) % 4 ≡ s .side = omega (arith, s .four) in
-            let j : pl .joint x (s .side) ≡ Router (beyondOf joints (4 * x + s .side)) (partnerOf joints (4 * x + s .side) % 4) =
+            let j : pl .joint x (s .side) ≡ Router (beyondOf joints (4 * x + s .side))
+            (partnerOf joints (4 * x + s .side) % 4) =
             rw (ex, eo) at (partner-joint fits told (4 * x + s .side) (omega (arith, s .four)) (s .joined)) in
             any-of 4 (λ o. also (isRouter y (pl .joint x o)) (walkLeaves pl x o)) (s .side) (s .four)
-            (also-of {a = isRouter y (pl .joint x (s .side))} (rw j (eq-eqb (beyondOf joints (4 * x + s .side)) y (sym (s .beyond))))
+            (also-of {a = isRouter y (pl .joint x (s .side))}
+            (rw j (eq-eqb (beyondOf joints (4 * x + s .side)) y (sym (s .beyond))))
             (leaves-walk x (s .side) lx (s .four) (s .some)))
 
         found : Found 4 (λ o. also (isRouter y (pl .joint x o)) (walkLeaves pl x o)) → leadsTo trailed x y ≡ true
@@ -152,8 +158,11 @@ module _ {pl : Plan} {h : Head} {by : List (List ℕ)} {joints homes arrive serv
         let b =
         leave-in by t (below 32) k a (rw (leaves-at by t (below 32) (4 * R pl) k l (omega (arith, room))) at u) in
         let s = answers-of fits told t answers (k / 4) a (omega arith) (b .1) in
-        let r = of-leaves fits told (k / 4) (k % 4) a (omega arith) (b .0) .1 in
-        (s .0, also-of (eq-eqb (routeTo pl (active a) (k / 4)) (k % 4) r) (by-answers (told .wired) a (record { router = k / 4; side = s .1 .0 }) (s .1 .1)))
+        let r = of-leaves fits told (k / 4) (k % 4) a (omega arith) (b .0) .1 in (
+          s .0,
+          also-of (eq-eqb (routeTo pl (active a) (k / 4)) (k % 4) r)
+              (by-answers (told .wired) a (record { router = k / 4; side = s .1 .0 }) (s .1 .1)),
+        )
 
     answers-leave : (k a : ℕ) → k < 4 * R pl → a < A pl → answerLeaves pl a (k / 4) (k % 4) ≡ true
         → has (getD sent k 0) a ≡ true
@@ -192,7 +201,8 @@ module _ {pl : Plan} {h : Head} {by : List (List ℕ)} {joints homes arrive serv
         q = partnerOf joints (outOf x)
 
         pass : ℕ → Bool
-        pass a = also (answerComes pl a (pl .joint (x / 16) (x / 4 % 4))) (also (answerLeaves pl a (x / 16) (x % 4)) (answerLeaves pl a (y / 16) (y % 4)))
+        pass a = also (answerComes pl a (pl .joint (x / 16) (x / 4 % 4)))
+            (also (answerLeaves pl a (x / 16) (x % 4)) (answerLeaves pl a (y / 16) (y % 4)))
 
         there : edge (crossesOf sent joints (16 * R pl)) x y ≡ true
             → also (isRouterAt (y / 4) (pl .joint (x / 16) (x % 4))) (anyBelow (A pl) pass) ≡ true
@@ -201,11 +211,14 @@ module _ {pl : Plan} {h : Head} {by : List (List ℕ)} {joints homes arrive serv
             let c = cross-in sent joints x (y % 4) (rw cell at (b .1)) in
             let s = mask-small sent (crossed sent joints x) (beyondOf joints (outOf x)) in
             let g : q ≡ y / 4 =
-            sym (cell-group q (maskOf sent (crossed sent joints x) (beyondOf joints (outOf x))) (c .1) s) ∙ ap groupOf (sym (cell ∙ c .2)) ∙ b .0 in
+            sym (cell-group q (maskOf sent (crossed sent joints x) (beyondOf joints (outOf x))) (c .1) s)
+            ∙ ap groupOf (sym (cell ∙ c .2)) ∙ b .0 in
             let m : has (maskOf sent (crossed sent joints x) (beyondOf joints (outOf x))) (y % 4) ≡ true =
-            sym (cell-has q (maskOf sent (crossed sent joints x) (beyondOf joints (outOf x))) (y % 4) (omega arith)) ∙ (rw (cell, c .2) at (b .1)) in
+            sym (cell-has q (maskOf sent (crossed sent joints x) (beyondOf joints (outOf x))) (y % 4) (omega arith))
+            ∙ (rw (cell, c .2) at (b .1)) in
             let d =
-            member (both (crossed sent joints x) (getD sent (4 * beyondOf joints (outOf x) + y % 4) 0)) (mask-in sent (crossed sent joints x) (beyondOf joints (outOf x)) (y % 4) m) in
+            member (both (crossed sent joints x) (getD sent (4 * beyondOf joints (outOf x) + y % 4) 0))
+            (mask-in sent (crossed sent joints x) (beyondOf joints (outOf x)) (y % 4) m) in
             let f =
             both-in (crossed sent joints x) (getD sent (4 * beyondOf joints (outOf x) + y % 4) 0) (d .0) (d .1) in
             let k = both-in (getD sent i 0) (getD sent (outOf x) 0) (d .0) (f .0) in
@@ -227,8 +240,10 @@ module _ {pl : Plan} {h : Head} {by : List (List ℕ)} {joints homes arrive serv
                 let er : (4 * (q / 4) + y % 4) / 4 ≡ y / 16 = omega arith in
                 let eo : (4 * (q / 4) + y % 4) % 4 ≡ y % 4 = omega arith in
                 let eq : 4 * (q / 4) + q % 4 ≡ y / 4 = omega arith in
-                also-of {a = isRouterAt (y / 4) (pl .joint (x / 16) (x % 4))} (rw out (eq-eqb (4 * (q / 4) + q % 4) (y / 4) eq))
-                (any-of (A pl) pass a (first .0) (also-of {a = answerComes pl a (pl .joint (x / 16) (x / 4 % 4))} (rw into (first .1)) (also-of (rw (or, oo) at (second .1)) (rw (er, eo) at (third .1)))))
+                also-of {a = isRouterAt (y / 4) (pl .joint (x / 16) (x % 4))}
+                (rw out (eq-eqb (4 * (q / 4) + q % 4) (y / 4) eq))
+                (any-of (A pl) pass a (first .0) (also-of {a = answerComes pl a (pl .joint (x / 16) (x / 4 % 4))}
+                (rw into (first .1)) (also-of (rw (or, oo) at (second .1)) (rw (er, eo) at (third .1)))))
 
         back : also (isRouterAt (y / 4) (pl .joint (x / 16) (x % 4))) (anyBelow (A pl) pass) ≡ true
             → edge (crossesOf sent joints (16 * R pl)) x y ≡ true
@@ -262,9 +277,12 @@ module _ {pl : Plan} {h : Head} {by : List (List ℕ)} {joints homes arrive serv
                 let m = not-empty (both (crossed sent joints x) (getD sent (4 * (q / 4) + y % 4) 0)) a
                 (in-both (crossed sent joints x) (getD sent (4 * (q / 4) + y % 4) 0) a k third) in
                 let z =
-                cross-is sent joints x (omega (arith, li, room)) (omega (arith, ln, room)) (not-empty (crossed sent joints x) a k) in
-                parts-edge (crossesOf sent joints (16 * R pl)) x y q (maskOf sent (crossed sent joints x) (q / 4)) (cell ∙ z) (omega (arith, ln, room))
-                (mask-small sent (crossed sent joints x) (q / 4)) (eq ∙ p) (in-mask sent (crossed sent joints x) (q / 4) (y % 4) (omega arith) m)
+                cross-is sent joints x (omega (arith, li, room)) (omega (arith, ln, room))
+                (not-empty (crossed sent joints x) a k) in
+                parts-edge (crossesOf sent joints (16 * R pl)) x y q (maskOf sent (crossed sent joints x) (q / 4))
+                (cell ∙ z) (omega (arith, ln, room))
+                (mask-small sent (crossed sent joints x) (q / 4)) (eq ∙ p)
+                (in-mask sent (crossed sent joints x) (q / 4) (y % 4) (omega arith) m)
 
     pub answers-found : {r : Bool} → r ≡ ringTest (16 * R pl) (edge (crossesOf sent joints (16 * R pl)))
         → r ≡ ringTest (16 * R pl) (handEdge pl)
@@ -285,16 +303,19 @@ module _ {pl : Plan} {h : Head} {by : List (List ℕ)} {joints homes arrive serv
       made (i, s) =
           let w = back-from (told .wired) a (record { router = k / 4; side = i }) s in
           let o =
-          way-on (onward pl (active a)) routerOf w (s .way .steps) (record { router = k / 4; side = i }) (s .way .here) in
+          way-on (onward pl (active a)) routerOf w (s .way .steps) (record { router = k / 4; side = i })
+          (s .way .here) in
           let v : Walk pl (active a) (record { router = k / 4; side = i }) =
           rw (o .1) at (way-tail (onward pl (active a)) routerOf w (s .way .steps) (o .0)) in
           let reached = arrives-of (told .wired) (active a) (record { router = k / 4; side = i }) (omega arith) v in
           let there : has (getD arrive (k / 4) 0) a ≡ true =
-          told .arrivals .there (record { router = k / 4; side = i }) a (omega arith) (omega arith) ∙ rw (lt-ltb a (A pl) la) reached in
+          told .arrivals .there (record { router = k / 4; side = i }) a (omega arith) (omega arith)
+          ∙ rw (lt-ltb a (A pl) la) reached in
           let live = in-lives serve (A pl) a la (not-empty (getD serve a 0) (A pl + s .p)
           (told .serves .pairs a (s .p) la (s .has-passive) ∙ serves-of (told .wired) a (s .p) la (s .serves))) in
           rw (leaves-at by arrive (livesOf serve (A pl)) (4 * R pl) k l (omega (arith, room)))
-          (in-leave by arrive (livesOf serve (A pl)) k a (leaves-of fits told (k / 4) (k % 4) a (omega arith) (omega arith) (b .1)) there live)
+          (in-leave by arrive (livesOf serve (A pl)) k a
+          (leaves-of fits told (k / 4) (k % 4) a (omega arith) (omega arith) (b .1)) there live)
 
   abbrev linkAt : Crossing → ℕ
   linkAt x = 4 * x .into .router + x .out
@@ -315,12 +336,14 @@ module _ {pl : Plan} {h : Head} {by : List (List ℕ)} {joints homes arrive serv
       let m = not-empty (both (getD heard (linkAt x) 0) (getD heard (linkAt y) 0)) (g .a)
       (in-both (getD heard (linkAt x) 0) (getD heard (linkAt y) 0) (g .a) first second) in
       let z =
-      in-links heard joints (4 * R pl) (linkAt x) (y .out) lx (omega (arith, room)) (g .there .2) (not-empty (getD heard (linkAt x) 0) (g .a) first) (omega (arith, g .there, room)) (rw bq m) in
+      in-links heard joints (4 * R pl) (linkAt x) (y .out) lx (omega (arith, room)) (g .there .2)
+      (not-empty (getD heard (linkAt x) 0) (g .a) first) (omega (arith, g .there, room)) (rw bq m) in
       rw bq at z
 
   pub links-clear : {r : Bool} → r ≡ ringTest (4 * R pl) (leadsTo (linksOf heard joints (4 * R pl))) → r ≡ false
       → ringTest (16 * R pl) (handEdge pl) ≡ false
-  links-clear e f = refuted (ringTest (16 * R pl) (handEdge pl)) (λ t. not-both (round (answer-test (told .wired) t)) (sym e ∙ f))
+  links-clear e f =
+      refuted (ringTest (16 * R pl) (handEdge pl)) (λ t. not-both (round (answer-test (told .wired) t)) (sym e ∙ f))
     where
       step : (x y : Crossing) → Hands pl x y
           → Leads (4 * R pl) (leadsTo (linksOf heard joints (4 * R pl))) (linkAt x) (linkAt y)

@@ -21,10 +21,15 @@ home-at : (pl : Plan) (a : ℕ) → destinations (pl .head) ≤ 32 → a < A pl
     → getD (homesOf pl) a 0 / 4 ≡ home pl (active a) .router
 unfolding homesOf home
 home-at pl a room l =
-    rw (fill-at {A = ℕ} (λ d. portOr0 (portsOf pl (interfaceAt (pl .head) d))) (destinations (pl .head)) (replicate 32 0) a 0 (omega arith) room, lt-ltb a (A pl) l)
+    rw (
+      fill-at {A = ℕ} (λ d. portOr0 (portsOf pl (interfaceAt (pl .head) d))) (destinations (pl .head))
+          (replicate 32 0) a 0 (omega arith) room,
+      lt-ltb a (A pl) l,
+    )
 
 -- with sides, arrivals and served pairs drawn as sets, the tables tell all that the search for a ring wants
-pub tables-told : (h : Head) (routes : List (List ℕ)) (joints : List ℕ) {homes arrive serve : List ℕ} {by : List (List ℕ)} → Counts h
+pub tables-told : (h : Head) (routes : List (List ℕ)) (joints : List ℕ) {homes arrive serve : List ℕ}
+    {by : List (List ℕ)} → Counts h
     → Wired (tablePlan h routes joints) → homes ≡ homesOf (tablePlan h routes joints)
     → Sides (tablePlan h routes joints) by
     → Arrivals (tablePlan h routes joints) arrive → Serves (tablePlan h routes joints) serve

@@ -96,7 +96,8 @@ module _ {pl : Plan} (wired : Wired pl) where
   by-walk p r w =
       any-of (A pl) (λ a. also (served pl a p) (wayMeets pl (passive p) (home pl (active a)) r)) (w .a) (w .has)
       (also-of (serves-of wired (w .a) p (w .has) (w .serves))
-      (meets-way (passive p) (home pl (active (w .a))) (home-inside (active (w .a)) wired (w .has) .0) (w .serves .ahead) _ (w .met)))
+      (meets-way (passive p) (home pl (active (w .a))) (home-inside (active (w .a)) wired (w .has) .0)
+      (w .serves .ahead) _ (w .met)))
 
   edge-trails : (x y : ℕ) → trailEdge pl x y ≡ true → Trails pl x y
   unfolding trailEdge walkLeaves
@@ -118,7 +119,8 @@ module _ {pl : Plan} (wired : Wired pl) where
             from = w .side;
             met = w .met;
             into = j .0;
-            next = router-onward pl (passive p) (record { router = x; side = w .side }) y (j .0) (ap (pl .joint x) q ∙ j .1);
+            next = router-onward pl (passive p) (record { router = x; side = w .side }) y (j .0)
+                (ap (pl .joint x) q ∙ j .1);
           }
 
       by : Found 4 (λ o. also (isRouter y (pl .joint x o)) (walkLeaves pl x o)) → Trails pl x y
@@ -129,14 +131,16 @@ module _ {pl : Plan} (wired : Wired pl) where
   trails-edge : (x y : ℕ) → Trails pl x y → Leads (R pl) (trailEdge pl) x y
   unfolding trailEdge walkLeaves
   trails-edge x y f = record {
-    from = meets-inside wired (passive (f .p)) (home pl (active (f .a))) (f .serves .ahead) (home-inside (active (f .a)) wired (f .has-active)) _ (f .met) .0;
+    from = meets-inside wired (passive (f .p)) (home pl (active (f .a))) (f .serves .ahead)
+        (home-inside (active (f .a)) wired (f .has-active)) _ (f .met) .0;
     to = near wired joined .0;
     step = any-of 4 (λ o. also (isRouter y (pl .joint x o)) (walkLeaves pl x o)) out
         (exit-inside wired (passive (f .p)) (home pl (active (f .a))) (f .serves .ahead) _ (f .met))
         (also-of {a = isRouter y (pl .joint x out)} (rw joined (eq-eqb y y refl))
         (any-of (P pl) (λ p. also (eqb (routeTo pl (passive p) x) out) (walkMeets pl p x)) (f .p) (f .has-passive)
         (also-of (eq-eqb (routeTo pl (passive (f .p)) x) out refl)
-        (by-walk (f .p) x (record { a = f .a; has = f .has-active; serves = f .serves; side = f .from; met = f .met })))));
+        (by-walk (f .p) x
+        (record { a = f .a; has = f .has-active; serves = f .serves; side = f .from; met = f .met })))));
   }
     where
       out : ℕ
@@ -147,7 +151,8 @@ module _ {pl : Plan} (wired : Wired pl) where
 
   pub walk-test : ringTest (R pl) (trailEdge pl) ≡ true → WalkRing pl
   walk-test t =
-      ring-map (Leads (R pl) (trailEdge pl)) (Trails pl) (λ x. x) (λ x y l. edge-trails x y (l .step)) (ring-of-test (R pl) (trailEdge pl) t)
+      ring-map (Leads (R pl) (trailEdge pl)) (Trails pl) (λ x. x) (λ x y l. edge-trails x y (l .step))
+      (ring-of-test (R pl) (trailEdge pl) t)
 
   pub test-walk : WalkRing pl → ringTest (R pl) (trailEdge pl) ≡ true
   test-walk r =
@@ -159,13 +164,24 @@ module _ {pl : Plan} (wired : Wired pl) where
       → (i : ℕ) × Answers pl a (record { router = r; side = i })
   unfolding answered
   answered-by a r ha t =
-      by (any-true (P pl) (λ p. also (served pl a p) (anyBelow (R pl) (λ k. backMeets pl a r (walked pl (passive p) k (home pl (active a)))))) t)
+      by (any-true (P pl) (λ p.
+      also (served pl a p) (anyBelow (R pl) (λ k. backMeets pl a r (walked pl (passive p) k (home pl (active a)))))) t)
     where
       at : (p k : ℕ) → p < P pl → Served pl a p → (s : Spot Port) → walked pl (passive p) k (home pl (active a)) ≡ s
           → backMeets pl a r s ≡ true → (i : ℕ) × Answers pl a (record { router = r; side = i })
       at p k hp s (on x) q u =
-          let m = way-meets pl (active a) x r u in
-          (m .0, record { p = p; has-active = ha; has-passive = hp; serves = s; start = x; met = record { steps = k; here = q }; way = m .1 })
+          let m = way-meets pl (active a) x r u in (
+            m .0,
+            record {
+              p = p;
+              has-active = ha;
+              has-passive = hp;
+              serves = s;
+              start = x;
+              met = record { steps = k; here = q };
+              way = m .1;
+            },
+          )
       at p k hp s end q u = absurd (false≢true u)
       at p k hp s lost q u = absurd (false≢true u)
 
@@ -174,18 +190,21 @@ module _ {pl : Plan} (wired : Wired pl) where
           → (i : ℕ) × Answers pl a (record { router = r; side = i })
       found p hp s (k, l, u) = at p k hp s (walked pl (passive p) k (home pl (active a))) refl u
 
-      by : Found (P pl) (λ p. also (served pl a p) (anyBelow (R pl) (λ k. backMeets pl a r (walked pl (passive p) k (home pl (active a))))))
+      by : Found (P pl) (λ p. also (served pl a p)
+          (anyBelow (R pl) (λ k. backMeets pl a r (walked pl (passive p) k (home pl (active a))))))
           → (i : ℕ) × Answers pl a (record { router = r; side = i })
       by (p, l, u) =
           let b = also-true u in
-          found p l (served-of wired a p ha (b .0)) (any-true (R pl) (λ k. backMeets pl a r (walked pl (passive p) k (home pl (active a)))) (b .1))
+          found p l (served-of wired a p ha (b .0))
+          (any-true (R pl) (λ k. backMeets pl a r (walked pl (passive p) k (home pl (active a)))) (b .1))
 
   pub back-from : (a : ℕ) (y : Port) (s : Answers pl a y) → Walk pl (active a) (s .start)
   back-from a y s = nack-walk wired a (s .p) (s .has-active) (s .has-passive) (s .serves) (s .start) (s .met)
 
   pub start-inside : (a : ℕ) (y : Port) (s : Answers pl a y) → (s .start .router < R pl) × (s .start .side < 4)
   start-inside a y s =
-      meets-inside wired (passive (s .p)) (home pl (active a)) (s .serves .ahead) (home-inside (active a) wired (s .has-active)) (s .start) (s .met)
+      meets-inside wired (passive (s .p)) (home pl (active a)) (s .serves .ahead)
+      (home-inside (active a) wired (s .has-active)) (s .start) (s .met)
 
   pub by-answers : (a : ℕ) (y : Port) → Answers pl a y → answered pl a (y .router) ≡ true
   unfolding answered
@@ -194,10 +213,13 @@ module _ {pl : Plan} (wired : Wired pl) where
       let o =
       way-on (onward pl (passive (s .p))) routerOf (s .serves .ahead) (s .met .steps) (s .start) (s .met .here) in
       let short = walk-short wired (passive (s .p)) (home pl (active a)) (h .0) (s .serves .ahead) in
-      any-of (P pl) (λ p. also (served pl a p) (anyBelow (R pl) (λ k. backMeets pl a (y .router) (walked pl (passive p) k (home pl (active a)))))) (s .p) (s .has-passive)
+      any-of (P pl) (λ p. also (served pl a p) (anyBelow (R pl)
+      (λ k. backMeets pl a (y .router) (walked pl (passive p) k (home pl (active a)))))) (s .p) (s .has-passive)
       (also-of (serves-of wired a (s .p) (s .has-active) (s .serves))
-      (any-of (R pl) (λ k. backMeets pl a (y .router) (walked pl (passive (s .p)) k (home pl (active a)))) (s .met .steps) (omega arith)
-      (rw (s .met .here) (meets-way wired (active a) (s .start) (start-inside a y s .0) (back-from a y s) y (s .way)))))
+      (any-of (R pl) (λ k. backMeets pl a (y .router) (walked pl (passive (s .p)) k (home pl (active a))))
+      (s .met .steps) (omega arith)
+      (rw (s .met .here)
+      (meets-way wired (active a) (s .start) (start-inside a y s .0) (back-from a y s) y (s .way)))))
 
   -- answers go on
   answers-on : (a : ℕ) (x y : Port) → Answers pl a x → onward pl (active a) x ≡ on y → Answers pl a y
@@ -235,7 +257,8 @@ module _ {pl : Plan} (wired : Wired pl) where
       → Hands pl (cross r i o) (cross n t j)
   unfolding answersPass
   pass-hands r i o n t j q u =
-      by (any-true (A pl) (λ a. also (answerComes pl a (pl .joint r i)) (also (answerLeaves pl a r o) (answerLeaves pl a n j))) u)
+      by (any-true (A pl)
+      (λ a. also (answerComes pl a (pl .joint r i)) (also (answerLeaves pl a r o) (answerLeaves pl a n j))) u)
     where
       made : (a b e : ℕ) → a < A pl → pl .joint r i ≡ Router b e → answerLeaves pl a b e ≡ true
           → answerLeaves pl a r o ≡ true
@@ -249,13 +272,15 @@ module _ {pl : Plan} (wired : Wired pl) where
             a = a;
             before = record { router = b; side = s .0 };
             answers = s .1;
-            enters = router-onward pl (active a) (record { router = b; side = s .0 }) r i (ap (pl .joint b) (f .1) ∙ wired .named r i b e back .1);
+            enters = router-onward pl (active a) (record { router = b; side = s .0 }) r i
+                (ap (pl .joint b) (f .1) ∙ wired .named r i b e back .1);
             leaves = sym (g .1);
             goes = router-onward pl (active a) (record { router = r; side = i }) n t (ap (pl .joint r) (g .1) ∙ q);
             turns = sym (h .1);
           }
 
-      by : Found (A pl) (λ a. also (answerComes pl a (pl .joint r i)) (also (answerLeaves pl a r o) (answerLeaves pl a n j)))
+      by : Found (A pl)
+          (λ a. also (answerComes pl a (pl .joint r i)) (also (answerLeaves pl a r o) (answerLeaves pl a n j)))
           → Hands pl (cross r i o) (cross n t j)
       by (a, l, v) =
           let b = also-true v in
@@ -293,7 +318,8 @@ module _ {pl : Plan} (wired : Wired pl) where
       let z : Answers pl (h .a) (y .into) = answers-on (h .a) (x .into) (y .into) s (h .goes) in
       let into = onward-on pl (active (h .a)) (h .before) (x .into) (h .enters) in
       let named =
-      wired .named (h .before .router) (routeTo pl (active (h .a)) (h .before .router)) (x .into .router) (x .into .side) into in
+      wired .named (h .before .router) (routeTo pl (active (h .a)) (h .before .router)) (x .into .router)
+      (x .into .side) into in
       let over : pl .joint (x .into .router) (x .out) ≡ Router (y .into .router) (y .into .side) =
       ap (pl .joint (x .into .router)) (h .leaves) ∙ onward-on pl (active (h .a)) (x .into) (y .into) (h .goes) in
       let back = wired .named (x .into .router) (x .out) (y .into .router) (y .into .side) over in
@@ -305,7 +331,12 @@ module _ {pl : Plan} (wired : Wired pl) where
         leaves = rw (h .leaves) (leaves-answer (h .a) (x .into .router) (by-answers (h .a) (x .into) s));
         later = rw (h .turns) (leaves-answer (h .a) (y .into .router) (by-answers (h .a) (y .into) z));
         here = (near wired into .0, near wired into .1, near wired (back .1) .1);
-        there = (near wired over .0, near wired over .1, rw (h .turns) (exit-inside wired (active (h .a)) (z .start) (back-from (h .a) (y .into) z) (y .into) (z .way)));
+        there = (
+          near wired over .0,
+          near wired over .1,
+          rw (h .turns)
+              (exit-inside wired (active (h .a)) (z .start) (back-from (h .a) (y .into) z) (y .into) (z .way)),
+        );
       }
 
   abbrev numberOf : Crossing → ℕ
@@ -321,19 +352,33 @@ module _ {pl : Plan} (wired : Wired pl) where
       let et : (16 * y .into .router + 4 * y .into .side + y .out) / 4 ≡ 4 * y .into .router + y .into .side =
       omega (arith, h .there) in
       let ej : (16 * y .into .router + 4 * y .into .side + y .out) % 4 ≡ y .out = omega (arith, h .there) in
-      rw (er, ei, eo, en, et, ej, h .over, eq-eqb (4 * y .into .router + y .into .side) (4 * y .into .router + y .into .side) refl)
-      (any-of (A pl) (λ a. also (answerComes pl a (pl .joint (x .into .router) (x .into .side))) (also (answerLeaves pl a (x .into .router) (x .out)) (answerLeaves pl a (y .into .router) (y .out))))
+      rw (
+        er,
+        ei,
+        eo,
+        en,
+        et,
+        ej,
+        h .over,
+        eq-eqb (4 * y .into .router + y .into .side) (4 * y .into .router + y .into .side) refl,
+      )
+      (any-of (A pl) (λ a. also (answerComes pl a (pl .joint (x .into .router) (x .into .side)))
+      (also (answerLeaves pl a (x .into .router) (x .out)) (answerLeaves pl a (y .into .router) (y .out))))
       (h .a) (h .has) (also-of (h .comes) (also-of (h .leaves) (h .later))))
 
   pub answer-test : ringTest (16 * R pl) (handEdge pl) ≡ true → AnswerRing pl
   answer-test t =
-      ring-map (Leads (16 * R pl) (handEdge pl)) (Hands pl) crossAt (λ x y l. edge-hands x y (l .step)) (ring-of-test (16 * R pl) (handEdge pl) t)
+      ring-map (Leads (16 * R pl) (handEdge pl)) (Hands pl) crossAt (λ x y l. edge-hands x y (l .step))
+      (ring-of-test (16 * R pl) (handEdge pl) t)
 
   pub test-answer : AnswerRing pl → ringTest (16 * R pl) (handEdge pl) ≡ true
-  test-answer r = test-of-ring (16 * R pl) (handEdge pl) (ring-map (Hands pl) (Leads (16 * R pl) (handEdge pl)) numberOf step r)
+  test-answer r =
+      test-of-ring (16 * R pl) (handEdge pl) (ring-map (Hands pl) (Leads (16 * R pl) (handEdge pl)) numberOf step r)
     where
       step : (x y : Crossing) → Hands pl x y → Leads (16 * R pl) (handEdge pl) (numberOf x) (numberOf y)
-      step x y h = let k = handed x y h in record { from = below x (k .here); to = below y (k .there); step = hands-edge x y k }
+      step x y h =
+          let k = handed x y h in
+          record { from = below x (k .here); to = below y (k .there); step = hands-edge x y k }
         where
           below : (z : Crossing) → (z .into .router < R pl) × (z .into .side < 4) × (z .out < 4)
               → numberOf z < 16 * R pl

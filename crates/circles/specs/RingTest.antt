@@ -1,6 +1,6 @@
 -- Refusal 6 as a test: the two rings, of routers that walks go by and of crossings, by their numbers.
 use mathlib.Core.Bool.{Bool, false, _||_}
-use Prim.Native.Nat.{ℕ, _+_, _*_, _/_, _%_}
+use Prim.Native.Nat.{ℕ, _*_, _/_, _%_}
 use lib.Dec.{eqb}
 use Rattle.basis.specs.Choice.{also}
 use Rattle.basis.specs.Bounded.{anyBelow}
@@ -49,7 +49,8 @@ backMeets pl a r lost = false
 unfoldable pub answered : Plan → ℕ → ℕ → Bool
 answered pl a r =
     anyBelow (P pl)
-    (λ p. also (served pl a p) (anyBelow (R pl) (λ k. backMeets pl a r (walked pl (passive p) k (home pl (active a))))))
+    (λ p. also (served pl a p)
+    (anyBelow (R pl) (λ k. backMeets pl a r (walked pl (passive p) k (home pl (active a))))))
 
 -- answers to active a leave the router r by side o
 unfoldable pub answerLeaves : Plan → ℕ → ℕ → ℕ → Bool

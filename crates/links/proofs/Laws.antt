@@ -57,8 +57,8 @@ module _ (l joints : List ℕ) where
   unfolding crossOf
   cross-out x e h f k = rw (← e, lt-ltb _ 64 h, ← f, le-ltb _ 64 k)
 
-  pub cross-none : (x : ℕ) {i q m : ℕ} → i ≡ partnerOf joints (x / 4) → i < 64 → q ≡ partnerOf joints (outOf x) → q < 64
-      → m ≡ both (getD l i 0) (getD l (outOf x) 0) → m ≡ 0 → 0 ≡ crossOf l joints x
+  pub cross-none : (x : ℕ) {i q m : ℕ} → i ≡ partnerOf joints (x / 4) → i < 64 → q ≡ partnerOf joints (outOf x)
+      → q < 64 → m ≡ both (getD l i 0) (getD l (outOf x) 0) → m ≡ 0 → 0 ≡ crossOf l joints x
   unfolding crossOf
   cross-none x e h f k em z = rw (← e, lt-ltb _ 64 h, ← f, lt-ltb _ 64 k, ← em, eq-eqb _ 0 z)
 
@@ -139,7 +139,8 @@ note-new a m s n = rw (ne-eqb m 0 n) (in-right s (single a) a (has-single a a �
 pub notes-more : (a : ℕ) (m first : List ℕ) (x : ℕ) {t : List ℕ} {v : ℕ}
     → t ≡ upTo (λ x u. set u x (noteOf a (getD m x 0) (getD u x 0))) x first → v ≡ noteOf a (getD m x 0) (getD t x 0)
     → set t x v ≡ upTo (λ x u. set u x (noteOf a (getD m x 0) (getD u x 0))) (x + 1) first
-notes-more a m first x {t} e f = up-more (λ x u. set u x (noteOf a (getD m x 0) (getD u x 0))) first x e (ap (set t x) f)
+notes-more a m first x {t} e f =
+    up-more (λ x u. set u x (noteOf a (getD m x 0) (getD u x 0))) first x e (ap (set t x) f)
 
 -- the first i rows noted
 record Noted (a : ℕ) (m first : List ℕ) (i : ℕ) (t : List ℕ) : Type 0 where
@@ -184,7 +185,8 @@ noted a m n first room =
         was x d h (inl q) =
             let e = eqb-true x i q in
             rw e (at-row d (note-more a (getD m i 0) (getD t i 0) d (rw (e, same) at h)))
-        was x d h (inr q) = later (s .only x d (rw (getD-set-other t i x (noteOf a (getD m i 0) (getD t i 0)) 0 (eqb-false x i q)) at h))
+        was x d h (inr q) = later
+            (s .only x d (rw (getD-set-other t i x (noteOf a (getD m i 0) (getD t i 0)) 0 (eqb-false x i q)) at h))
 
         kept : (x d : ℕ) → In t x d → (eqb x i ≡ true) ⊎ (eqb x i ≡ false)
             → In (set t i (noteOf a (getD m i 0) (getD t i 0))) x d
@@ -223,7 +225,8 @@ module _ (by : List (List ℕ)) (joints homes served : List ℕ) (n : ℕ) where
       was x a (inr (q, h, k)) = rw q (omega arith, h, (m, s, k))
 
       all : (a : ℕ) → (a < i) ⊎ (a ≡ i)
-          → (k : List ℕ) × Spread by joints n (aloneOf homes served a) k × ((x : ℕ) → x < n → getD k x 0 ≢ 0 → In (notesOf i m n t) x a)
+          → (k : List ℕ) × Spread by joints n (aloneOf homes served a) k
+          × ((x : ℕ) → x < n → getD k x 0 ≢ 0 → In (notesOf i m n t) x a)
       all a (inl h) = let q = r .complete a h in (q .0, q .1, λ x b k. w .keeps x a (q .2 x b k))
       all a (inr q) = rw q (m, s, λ x b k. w .new x b k)
 

@@ -14,8 +14,8 @@ use Rattle.basis.specs.Choice.{pick, test}
 use Rattle.basis.specs.Bounded.{Found, find, below-suc}
 use Rattle.basis.specs.Fold.{fill-at, length-fill, up-keeps-at}
 use Rattle.basis.specs.Fold.{upTo, fill, up-fill, up-done}
-use Rattle.sets.specs.Sets.{has, both, either, below}
-use Rattle.sets.specs.Laws.{has-single, has-below, no-member}
+use Rattle.sets.specs.Sets.{has, both, either}
+use Rattle.sets.specs.Laws.{has-single, no-member}
 use Rattle.spread.specs.Carried.{partnerOf, beyondOf, In}
 use Rattle.spread.proofs.Laws.{in-both, both-in, in-left, in-right, either-in}
 use Rattle.links.specs.Cells.{leaveOf, leavesOf, bitOf, maskOf, crossed}
@@ -49,9 +49,14 @@ pub begun : (homes served : List ℕ) (n : ℕ) → Begun homes served n (starts
 unfolding startsOf startAt
 begun homes served n =
     up-keeps-at (Begun homes served) (startAt homes served) n (replicate 32 0) turn
-    (record { long = refl; sound = λ y d h. absurd (not-empty (getD (replicate 32 0) y 0) d h (empty-at 32 y)); complete = λ a d h. absurd (omega arith) })
+    (record {
+      long = refl;
+      sound = λ y d h. absurd (not-empty (getD (replicate 32 0) y 0) d h (empty-at 32 y));
+      complete = λ a d h. absurd (omega arith);
+    })
   where
-    turn : (i : ℕ) (t : List ℕ) → i < n → Begun homes served i t → Begun homes served (suc i) (startAt homes served i t)
+    turn : (i : ℕ) (t : List ℕ) → i < n → Begun homes served i t
+        → Begun homes served (suc i) (startAt homes served i t)
     turn i t l s = record {
       long = length-set t (homeRow homes i) v ∙ s .long;
       sound = λ y d h. was y d h (test (eqb y (homeRow homes i)));
@@ -79,7 +84,8 @@ begun homes served n =
         was y d h (inl q) =
             let e = eqb-true y (homeRow homes i) q in
             rw e (at d (either-in (getD t (homeRow homes i) 0) (getD served i 0) d (rw (e, row) at h)))
-        was y d h (inr q) = later y d (s .sound y d (rw (getD-set-other t (homeRow homes i) y v 0 (eqb-false y (homeRow homes i) q)) at h))
+        was y d h (inr q) = later y d
+            (s .sound y d (rw (getD-set-other t (homeRow homes i) y v 0 (eqb-false y (homeRow homes i) q)) at h))
 
         put : (a d : ℕ) → has (getD served a 0) d ≡ true → (a < i) ⊎ (a ≡ i)
             → (eqb (homeRow homes a) (homeRow homes i) ≡ true) ⊎ (eqb (homeRow homes a) (homeRow homes i) ≡ false)
@@ -88,7 +94,8 @@ begun homes served n =
             let e = eqb-true (homeRow homes a) (homeRow homes i) q in
             rw (e, row) (in-left (getD t (homeRow homes i) 0) (getD served i 0) d (rw e at (s .complete a d h k)))
         put a d k (inl h) (inr q) =
-            rw (getD-set-other t (homeRow homes i) (homeRow homes a) v 0 (eqb-false (homeRow homes a) (homeRow homes i) q)) (s .complete a d h k)
+            rw (getD-set-other t (homeRow homes i) (homeRow homes a) v 0
+            (eqb-false (homeRow homes a) (homeRow homes i) q)) (s .complete a d h k)
         put a d k (inr e) q = rw (e, row) (in-right (getD t (homeRow homes i) 0) (getD served i 0) d (rw e at k))
 
 pub alone-in : (homes served : List ℕ) (a y d : ℕ) → In (aloneOf homes served a) y d
@@ -102,18 +109,21 @@ alone-in homes served a y d h = by (test (eqb y (homeRow homes a)))
         let e = eqb-true y (homeRow homes a) q in
         (sym e, rw (e, getD-set-same (replicate 32 0) (homeRow homes a) (getD served a 0) 0 (row-small homes a)) at h)
     by (inr q) =
-        absurd (not-empty _ d (rw (getD-set-other (replicate 32 0) (homeRow homes a) y (getD served a 0) 0 (eqb-false y (homeRow homes a) q)) at h) (empty-at 32 y))
+        absurd (not-empty _ d (rw (getD-set-other (replicate 32 0) (homeRow homes a) y (getD served a 0) 0
+        (eqb-false y (homeRow homes a) q)) at h) (empty-at 32 y))
 
 pub in-alone : (homes served : List ℕ) (a d : ℕ) → has (getD served a 0) d ≡ true
     → In (aloneOf homes served a) (homeRow homes a) d
 unfolding aloneOf
-in-alone homes served a d h = rw (getD-set-same (replicate 32 0) (homeRow homes a) (getD served a 0) 0 (row-small homes a)) h
+in-alone homes served a d h =
+    rw (getD-set-same (replicate 32 0) (homeRow homes a) (getD served a 0) 0 (row-small homes a)) h
 
 -- the actives that are served with some passive
 pub in-lives : (served : List ℕ) (n a : ℕ) → a < n → getD served a 0 ≢ 0 → has (livesOf served n) a ≡ true
 unfolding livesOf liveOf
 in-lives served n a l h =
-    up-keeps-at (λ i s. a < i → has s a ≡ true) (λ x s. either s (liveOf served x)) n 0 (λ i s k rec b. turn i s rec (below-suc b)) (λ b. absurd (omega arith)) l
+    up-keeps-at (λ i s. a < i → has s a ≡ true) (λ x s. either s (liveOf served x)) n 0
+    (λ i s k rec b. turn i s rec (below-suc b)) (λ b. absurd (omega arith)) l
   where
     turn : (i s : ℕ) → (a < i → has s a ≡ true) → (a < i) ⊎ (a ≡ i) → has (either s (liveOf served i)) a ≡ true
     turn i s rec (inl b) = in-left s (liveOf served i) a (rec b)
@@ -176,7 +186,9 @@ unfolding has
 cell-has g m zero l = let e : (16 * g + m) / 1 % 2 ≡ m / 1 % 2 = omega arith in ap (λ (x : ℕ). eqb x 1) e
 cell-has g m (suc zero) l = let e : (16 * g + m) / 2 % 2 ≡ m / 2 % 2 = omega arith in ap (λ (x : ℕ). eqb x 1) e
 cell-has g m (suc (suc zero)) l = let e : (16 * g + m) / 4 % 2 ≡ m / 4 % 2 = omega arith in ap (λ (x : ℕ). eqb x 1) e
-cell-has g m (suc (suc (suc zero))) l = let e : (16 * g + m) / 8 % 2 ≡ m / 8 % 2 = omega arith in ap (λ (x : ℕ). eqb x 1) e
+cell-has g m (suc (suc (suc zero))) l =
+    let e : (16 * g + m) / 8 % 2 ≡ m / 8 % 2 = omega arith in
+    ap (λ (x : ℕ). eqb x 1) e
 cell-has g m (suc (suc (suc (suc j)))) l = absurd (omega arith)
 
 -- ---- masks
@@ -195,7 +207,8 @@ in-bit l m q j h = rw (ne-eqb (both m (getD l (4 * q + j) 0)) 0 h) (has-single j
 
 pub mask-in : (l : List ℕ) (m q i : ℕ) → has (maskOf l m q) i ≡ true → both m (getD l (4 * q + i) 0) ≢ 0
 unfolding maskOf
-mask-in l m q i t = by (either-in (either (bitOf l m q 0) (bitOf l m q 1)) (either (bitOf l m q 2) (bitOf l m q 3)) i t)
+mask-in l m q i t =
+    by (either-in (either (bitOf l m q 0) (bitOf l m q 1)) (either (bitOf l m q 2) (bitOf l m q 3)) i t)
   where
     at : (j : ℕ) → has (bitOf l m q j) i ≡ true → both m (getD l (4 * q + i) 0) ≢ 0
     at j u = let b = bit-in l m q j i u in rw (b .0) (b .1)
@@ -205,7 +218,8 @@ mask-in l m q i t = by (either-in (either (bitOf l m q 0) (bitOf l m q 1)) (eith
     two j k (inl u) = at j u
     two j k (inr u) = at k u
 
-    by : (has (either (bitOf l m q 0) (bitOf l m q 1)) i ≡ true) ⊎ (has (either (bitOf l m q 2) (bitOf l m q 3)) i ≡ true)
+    by : (has (either (bitOf l m q 0) (bitOf l m q 1)) i ≡ true)
+        ⊎ (has (either (bitOf l m q 2) (bitOf l m q 3)) i ≡ true)
         → both m (getD l (4 * q + i) 0) ≢ 0
     by (inl u) = two 0 1 (either-in (bitOf l m q 0) (bitOf l m q 1) i u)
     by (inr u) = two 2 3 (either-in (bitOf l m q 2) (bitOf l m q 3) i u)
@@ -240,14 +254,16 @@ module _ (l joints : List ℕ) where
       → (partnerOf joints (x / 4) < 64) × (partnerOf joints (outOf x) < 64) × (crossOf l joints x ≡ crossCell x)
   unfolding crossOf
   cross-in x j t =
-      by (test (ltb (partnerOf joints (x / 4)) 64)) (test (ltb (partnerOf joints (outOf x)) 64)) (test (eqb (crossed l joints x) 0))
+      by (test (ltb (partnerOf joints (x / 4)) 64)) (test (ltb (partnerOf joints (outOf x)) 64))
+      (test (eqb (crossed l joints x) 0))
     where
       by : (ltb (partnerOf joints (x / 4)) 64 ≡ true) ⊎ (ltb (partnerOf joints (x / 4)) 64 ≡ false)
           → (ltb (partnerOf joints (outOf x)) 64 ≡ true) ⊎ (ltb (partnerOf joints (outOf x)) 64 ≡ false)
           → (eqb (crossed l joints x) 0 ≡ true) ⊎ (eqb (crossed l joints x) 0 ≡ false)
           → (partnerOf joints (x / 4) < 64) × (partnerOf joints (outOf x) < 64)
           × (pick (ltb (partnerOf joints (x / 4)) 64)
-          (pick (ltb (partnerOf joints (outOf x)) 64) (pick (eqb (crossed l joints x) 0) 0 (crossCell x)) 0) 0 ≡ crossCell x)
+          (pick (ltb (partnerOf joints (outOf x)) 64) (pick (eqb (crossed l joints x) 0) 0 (crossCell x)) 0) 0
+          ≡ crossCell x)
       by (inl e) (inl f) (inl g) = absurd (not-empty 0 j (rw (e, f, g) at t) refl)
       by (inl e) (inl f) (inr g) = (ltb-true _ 64 e, ltb-true _ 64 f, rw (e, f, g))
       by (inl e) (inr f) b = absurd (not-empty 0 j (rw (e, f) at t) refl)
@@ -257,7 +273,11 @@ module _ (l joints : List ℕ) where
       → crossOf l joints x ≡ crossCell x
   unfolding crossOf
   cross-is x a b n =
-      rw (lt-ltb (partnerOf joints (x / 4)) 64 a, lt-ltb (partnerOf joints (outOf x)) 64 b, ne-eqb (crossed l joints x) 0 n)
+      rw (
+        lt-ltb (partnerOf joints (x / 4)) 64 a,
+        lt-ltb (partnerOf joints (outOf x)) 64 b,
+        ne-eqb (crossed l joints x) 0 n,
+      )
 
   pub crosses-at : (n k : ℕ) → k < n → n ≤ 256 → getD (crossesOf l joints n) k 0 ≡ crossOf l joints k
   unfolding crossesOf

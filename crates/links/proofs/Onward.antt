@@ -8,7 +8,7 @@ use native.Mathlib.Omega.{arith}
 use lib.Dec.{eqb, ltb}
 use lib.ListN.{getD, length, replicate}
 use borrow.Author.Tests.{lt-ltb, le-ltb, ltb-true, eqb-true, eqb-false, eq-eqb, ne-eqb}
-use Rattle.basis.specs.Choice.{pick, test}
+use Rattle.basis.specs.Choice.{test}
 use Rattle.basis.specs.Fold.{fill-at, length-fill}
 use Rattle.sets.specs.Sets.{has, single, both, either}
 use Rattle.sets.specs.Laws.{has-single}
@@ -109,7 +109,8 @@ module _ (by : List (List ℕ)) (joints t : List ℕ) where
   pub in-next : (n x y : ℕ) → x < n → n ≤ 16 → Onto x y → has (getD (nextsOf by joints t n) x 0) y ≡ true
   unfolding nextOf
   in-next n x y l m o =
-      rw (nexts-at n x l m) (in-four (towardOf by joints t x) y (o .side) (o .four) (rw (o .beyond) (in-toward x (o .side) (o .some) (o .joined))))
+      rw (nexts-at n x l m) (in-four (towardOf by joints t x) y (o .side) (o .four)
+      (rw (o .beyond) (in-toward x (o .side) (o .some) (o .joined))))
 
   pub nexts-long : (n : ℕ) {c : List ℕ} → c ≡ nextsOf by joints t n → length c ≡ 16
   unfolding nextsOf
@@ -118,7 +119,8 @@ module _ (by : List (List ℕ)) (joints t : List ℕ) where
 -- ---- sides
 in-onto : (l : List ℕ) (m q j : ℕ) → both m (getD l (4 * q + j) 0) ≢ 0 → has (ontoOf l m q j) (4 * q + j) ≡ true
 unfolding ontoOf
-in-onto l m q j h = rw (ne-eqb (both m (getD l (4 * q + j) 0)) 0 h) (has-single (4 * q + j) (4 * q + j) ∙ eq-eqb (4 * q + j) (4 * q + j) refl)
+in-onto l m q j h = rw (ne-eqb (both m (getD l (4 * q + j) 0)) 0 h)
+    (has-single (4 * q + j) (4 * q + j) ∙ eq-eqb (4 * q + j) (4 * q + j) refl)
 
 module _ (l joints : List ℕ) where
   pub link-none : (k : ℕ) → getD l k 0 ≡ 0 → 0 ≡ linkOf l joints k
@@ -140,8 +142,13 @@ module _ (l joints : List ℕ) where
       → has (getD (linksOf l joints n) k 0) (4 * beyondOf joints k + j) ≡ true
   unfolding linksOf linkOf
   in-links n k j h m f s p b =
-      rw (fill-at {A = ℕ} (linkOf l joints) n (replicate 64 0) k 0 h m, ne-eqb (getD l k 0) 0 s, lt-ltb (partnerOf joints k) 64 p)
-      (in-four (ontoOf l (getD l k 0) (beyondOf joints k)) (4 * beyondOf joints k + j) j f (in-onto l (getD l k 0) (beyondOf joints k) j b))
+      rw (
+        fill-at {A = ℕ} (linkOf l joints) n (replicate 64 0) k 0 h m,
+        ne-eqb (getD l k 0) 0 s,
+        lt-ltb (partnerOf joints k) 64 p,
+      )
+      (in-four (ontoOf l (getD l k 0) (beyondOf joints k)) (4 * beyondOf joints k + j) j f
+      (in-onto l (getD l k 0) (beyondOf joints k) j b))
 
   pub links-long : (n : ℕ) {c : List ℕ} → c ≡ linksOf l joints n → length c ≡ 64
   unfolding linksOf

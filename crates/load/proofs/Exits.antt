@@ -1,7 +1,8 @@
--- Load's tests as the code makes them are those of its definition; its returns, in the order of the code; and Walk's returns.
+-- Load's tests as the code makes them are those of its definition; its returns, in the order of the code; and Walk's
+-- returns.
 use mathlib.Core.Path.{_≡_, refl, sym, ap, ap₂, subst, _∙_}
 use mathlib.Core.Logic.{_⊎_, inl, inr}
-use mathlib.Core.Bool.{Bool, true, false, not, _&&_}
+use mathlib.Core.Bool.{Bool, true, false, _&&_}
 use mathlib.Core.List.{List, []}
 use Prim.Native.Nat.{ℕ, zero, suc, _+_, _*_, _/_, _≤_, _<_}
 use native.Mathlib.Omega.{arith}
@@ -54,36 +55,44 @@ module _ (b : List ℕ) {h : Head} (read : h ≡ headOf b) where
 
   pub length-fits : {n : ℕ} {r : Bool} → n ≡ bitCount h → length b ≡ (n + 7) / 8 → r ≡ fillOk b n → r ≡ lengthOk b
   unfolding lengthOk
-  length-fits {n} e q f = rw (← read, eq-eqb (length b) (byteCount h) (q ∙ ap (λ x. (x + 7) / 8) e)) (f ∙ ap (fillOk b) e)
+  length-fits {n} e q f =
+      rw (← read, eq-eqb (length b) (byteCount h) (q ∙ ap (λ x. (x + 7) / 8) e)) (f ∙ ap (fillOk b) e)
 
   -- a plan of the right length holds all joints
   pub long-enough : {size : Bool} → size ≡ lengthOk b → size ≡ true → 6 + 4 * h .routers ≤ length b
   unfolding lengthOk
   long-enough e q =
-      let long : length b ≡ byteCount h = eqb-true _ _ (and-both (sym e ∙ q) .0) ∙ ap byteCount (sym read) in omega (arith, long)
+      let long : length b ≡ byteCount h = eqb-true _ _ (and-both (sym e ∙ q) .0) ∙ ap byteCount (sym read) in
+      omega (arith, long)
 
   -- ---- refusals 4 to 6, over the tables
   module _ (range : InRange h) where
-    pub fields-tested : {j : List ℕ} {t : List (List ℕ)} {r : Bool} → j ≡ jointsOf b h → t ≡ routesOf b h → r ≡ (jointBytesOk h j && routesOk h t) → r ≡ fieldsOk b
+    pub fields-tested : {j : List ℕ} {t : List (List ℕ)} {r : Bool} → j ≡ jointsOf b h → t ≡ routesOf b h
+        → r ≡ (jointBytesOk h j && routesOk h t) → r ≡ fieldsOk b
     fields-tested ej et e = e ∙ rw (ej, et, read) (tables-ok b (rw (← read) range))
 
     plan-same : {j : List ℕ} {t : List (List ℕ)} → j ≡ jointsOf b h → t ≡ routesOf b h → tablePlan h t j ≡ planOf b
     plan-same ej et = rw (ej, et, read) (table-plan b (rw (← read) range))
 
-    pub joints-tested : {j : List ℕ} {r : Bool} → j ≡ jointsOf b h → r ≡ (namedOk (tablePlan h [] j) && interfacesOk (tablePlan h [] j)) → r ≡ jointsOk b
+    pub joints-tested : {j : List ℕ} {r : Bool} → j ≡ jointsOf b h
+        → r ≡ (namedOk (tablePlan h [] j) && interfacesOk (tablePlan h [] j)) → r ≡ jointsOk b
     unfolding jointsOk
     joints-tested {j} ej e =
         let same = plan-same ej refl in
-        e ∙ ap₂ (λ (x y : Bool). x && y) (named-alike h [] (routesOf b h) j ∙ ap namedOk same) (interfaces-alike h [] (routesOf b h) j ∙ ap interfacesOk same)
+        e ∙ ap₂ (λ (x y : Bool). x && y) (named-alike h [] (routesOf b h) j ∙ ap namedOk same)
+        (interfaces-alike h [] (routesOf b h) j ∙ ap interfacesOk same)
 
-    pub ring-tested : {j : List ℕ} {t : List (List ℕ)} {r : Bool} → j ≡ jointsOf b h → t ≡ routesOf b h → r ≡ hasRing (tablePlan h t j) → r ≡ hasRing (planOf b)
+    pub ring-tested : {j : List ℕ} {t : List (List ℕ)} {r : Bool} → j ≡ jointsOf b h → t ≡ routesOf b h
+        → r ≡ hasRing (tablePlan h t j) → r ≡ hasRing (planOf b)
     ring-tested ej et e = e ∙ ap hasRing (plan-same ej et)
 
-    pub homes-kept : {j o : List ℕ} {t : List (List ℕ)} → j ≡ jointsOf b h → t ≡ routesOf b h → o ≡ homesOf (tablePlan h t j) → o ≡ homesOf (planOf b)
+    pub homes-kept : {j o : List ℕ} {t : List (List ℕ)} → j ≡ jointsOf b h → t ≡ routesOf b h
+        → o ≡ homesOf (tablePlan h t j) → o ≡ homesOf (planOf b)
     homes-kept ej et e = e ∙ ap homesOf (plan-same ej et)
 
 -- the homes do not depend on the routes
-pub homes-alike : (h : Head) (routes other : List (List ℕ)) (joints : List ℕ) → homesOf (tablePlan h routes joints) ≡ homesOf (tablePlan h other joints)
+pub homes-alike : (h : Head) (routes other : List (List ℕ)) (joints : List ℕ)
+    → homesOf (tablePlan h routes joints) ≡ homesOf (tablePlan h other joints)
 unfolding homesOf portsOf tablePlan
 homes-alike h routes other joints = refl
 
@@ -104,17 +113,21 @@ module _ (b : List ℕ) (h : Head) (rt : List (List ℕ)) (jt ht : List ℕ) (by
       go : (r < h .routers) ⊎ (h .routers ≤ r) → length (getD rt r []) ≡ 32
       go (inl k) =
           ap (λ (x : List (List ℕ)). length (getD x r [])) routed
-          ∙ ap length (fill-at (λ i. rowOf b (destinations h) (routesAt h + 3 * (destinations h * i))) (h .routers) (replicate 16 (replicate 32 noSide)) r [] k (rw length-replicate most))
-          ∙ length-fill (λ d. fieldOf b (routesAt h + 3 * (destinations h * r) + 3 * d) 3) (destinations h) (replicate 32 noSide)
+          ∙ ap length (fill-at (λ i. rowOf b (destinations h) (routesAt h + 3 * (destinations h * i))) (h .routers)
+          (replicate 16 (replicate 32 noSide)) r [] k (rw length-replicate most))
+          ∙ length-fill (λ d. fieldOf b (routesAt h + 3 * (destinations h * r) + 3 * d) 3) (destinations h)
+          (replicate 32 noSide)
           ∙ length-replicate 32 noSide
       go (inr k) =
           ap (λ (x : List (List ℕ)). length (getD x r [])) routed
-          ∙ ap length (fill-past (λ i. rowOf b (destinations h) (routesAt h + 3 * (destinations h * i))) (h .routers) (replicate 16 (replicate 32 noSide)) r [] k)
+          ∙ ap length (fill-past (λ i. rowOf b (destinations h) (routesAt h + 3 * (destinations h * i))) (h .routers)
+          (replicate 16 (replicate 32 noSide)) r [] k)
           ∙ rest 16 r l
 
   pub tables-of : h ≡ headOf b → InRange h → tablePlan h rt jt ≡ planOf b → Wired (planOf b) → rt ≡ routesOf b h
       → ht ≡ homesOf (tablePlan h rt jt)
-      → ((r o d : ℕ) → o < 4 → has (getD (getD by r []) o 0) d ≡ (ltb d (destinations h) && eqb (getD (getD rt r []) d noSide) o))
+      → ((r o d : ℕ) → o < 4 → has (getD (getD by r []) o 0) d
+      ≡ (ltb d (destinations h) && eqb (getD (getD rt r []) d noSide) o))
       → Tables h rt jt ht by
   unfolding tablePlan planOf
   tables-of read range same wires routed homed sides = record {
@@ -128,26 +141,29 @@ module _ (b : List ℕ) (h : Head) (rt : List (List ℕ)) (jt ht : List ℕ) (by
       past = λ r d l. route r d ∙ rw (le-ltb r (headOf b .routers) (rw (← read) l));
     };
     rows = row-long range routed;
-    past = λ r d l. route r d ∙ rw (le-ltb d (destinations (headOf b)) (rw (← read) l)) (pick-same (ltb r (headOf b .routers)) noSide);
+    past = λ r d l. route r d
+        ∙ rw (le-ltb d (destinations (headOf b)) (rw (← read) l)) (pick-same (ltb r (headOf b .routers)) noSide);
   }
     where
       few : destinations h ≤ 32
       few = let a = range .actives .1 in let p = range .passives .1 in omega arith
 
       route : (r d : ℕ) → getD (getD rt r []) d noSide
-          ≡ pick (ltb r (headOf b .routers)) (pick (ltb d (destinations (headOf b))) (fieldOf b (routeAt (headOf b) r d) 3) noSide) noSide
+          ≡ pick (ltb r (headOf b .routers))
+          (pick (ltb d (destinations (headOf b))) (fieldOf b (routeAt (headOf b) r d) 3) noSide) noSide
       route r d = ap (λ (pl : Plan). pl .route r d) same
 
 -- so walks can be swept
-pub sweeps-ready : (h : Head) (rt : List (List ℕ)) (jt ht : List ℕ) (by : List (List ℕ)) → Counts h → Tables h rt jt ht by
-    → Counts h × PortsIn ht (h .actives + h .passives)
+pub sweeps-ready : (h : Head) (rt : List (List ℕ)) (jt ht : List ℕ) (by : List (List ℕ)) → Counts h
+    → Tables h rt jt ht by → Counts h × PortsIn ht (h .actives + h .passives)
     × ((r o d : ℕ) → h .routers ≤ r → o < 4 → has (getD (getD by r []) o 0) d ≡ false)
 unfolding tablePlan
 sweeps-ready h rt jt ht by few w =
     (few, ports-in (tablePlan h rt jt) by jt ht (w .chart), sides-past (tablePlan h rt jt) by jt ht (w .chart))
 
 -- and the search for a ring tells of the plan of the tables
-pub ring-told : (h : Head) (rt : List (List ℕ)) (jt ht : List ℕ) (by : List (List ℕ)) {arrive : List ℕ} {ways : List (List ℕ)}
+pub ring-told : (h : Head) (rt : List (List ℕ)) (jt ht : List ℕ) (by : List (List ℕ)) {arrive : List ℕ}
+    {ways : List (List ℕ)}
     {serve : List ℕ} {ring : Bool} → Counts h → ht ≡ homesOf (tablePlan h rt jt) → Tables h rt jt ht by
     → Walks h rt jt ht by arrive ways serve → ((pl : Plan) → Told pl h by jt ht arrive serve → ring ≡ hasRing pl)
     → ring ≡ hasRing (tablePlan h rt jt)
@@ -182,7 +198,8 @@ module _ (b : List ℕ) (t : List (List ℕ)) (j o : List ℕ) (u : List (List �
       unfolding loadOf
       wrong-length q = refused (rw (le-ltb (length b) 6 six, ranged, two, ← sized, q))
 
-      module _ (three : size ≡ true) {jt : List ℕ} (joined : jt ≡ jointsOf b h) {rt : List (List ℕ)} (routed : rt ≡ routesOf b h)
+      module _ (three : size ≡ true) {jt : List ℕ} (joined : jt ≡ jointsOf b h) {rt : List (List ℕ)}
+          (routed : rt ≡ routesOf b h)
           {fields : Bool} (fielded : fields ≡ (jointBytesOk h jt && routesOk h rt)) where
         inside : InRange h
         inside = head-range h range two
@@ -194,18 +211,20 @@ module _ (b : List ℕ) (t : List (List ℕ)) (j o : List ℕ) (u : List (List �
         unfolding loadOf
         bad-field q = refused (rw (le-ltb (length b) 6 six, ranged, two, ← sized, three, fitted, q))
 
-        module _ (four : fields ≡ true) {named : Bool} (jointed : named ≡ (namedOk (tablePlan h [] jt) && interfacesOk (tablePlan h [] jt))) where
+        module _ (four : fields ≡ true) {named : Bool}
+            (jointed : named ≡ (namedOk (tablePlan h [] jt) && interfacesOk (tablePlan h [] jt))) where
           matched : jointsOk b ≡ named
           matched = sym (joints-tested b read inside joined jointed)
 
           -- the tables are those of a plan whose joints match
-          pub tables : named ≡ true → {ht : List ℕ} → ht ≡ homesOf (tablePlan h [] jt) → {by : List (List ℕ)} {fit : Bool} → Routes b h rt by fit
-              → Tables h rt jt ht by
+          pub tables : named ≡ true → {ht : List ℕ} → ht ≡ homesOf (tablePlan h [] jt)
+              → {by : List (List ℕ)} {fit : Bool} → Routes b h rt by fit → Tables h rt jt ht by
           unfolding jointsOk
           tables five {ht} homed {by} read-in =
               let plan = plan-same b read inside joined routed in
               let passed = and-both (matched ∙ five) in
-              tables-of b h rt jt ht by read inside plan (wired b (fields-ok b (fitted ∙ four)) (passed .0) (passed .1)) routed
+              tables-of b h rt jt ht by read inside plan
+              (wired b (fields-ok b (fitted ∙ four)) (passed .0) (passed .1)) routed
               (homed ∙ homes-alike h [] rt jt) (read-in .sides)
 
           pub bad-joint : named ≡ false → Leaves (Refused BadJoint) t j o u
@@ -231,12 +250,26 @@ module _ (b : List ℕ) (t : List (List ℕ)) (j o : List ℕ) (u : List (List �
 
             pub has-ring : ring ≡ true → Leaves (Refused HasRing) t j o u
             unfolding loadOf
-            has-ring q = refused (rw (le-ltb (length b) 6 six, ranged, two, ← sized, three, fitted, four, matched, five, circled, q))
+            has-ring q = refused
+                (rw (le-ltb (length b) 6 six, ranged, two, ← sized, three, fitted, four, matched, five, circled, q))
 
             pub accepted : ring ≡ false → Leaves (Accepted h) rt jt ht ways
             unfolding loadOf
             accepted q =
-                let e : Accepted h ≡ loadOf b = rw (le-ltb (length b) 6 six, ranged, two, ← sized, three, fitted, four, matched, five, circled, q, read) in
+                let e : Accepted h ≡ loadOf b = rw (
+                  le-ltb (length b) 6 six,
+                  ranged,
+                  two,
+                  ← sized,
+                  three,
+                  fitted,
+                  four,
+                  matched,
+                  five,
+                  circled,
+                  q,
+                  read,
+                ) in
                 let same : ht ≡ homesOf (planOf b) = homes-kept b read inside joined routed home-ports in (
                   e,
                   routed ∙ ap (loadRoutes b t) e,
@@ -260,11 +293,13 @@ module _ (b : List ℕ) (a p : ℕ) {l : Loaded} (known : l ≡ loadOf b) where
     unfolding walkOf
     walk-no-passive la k = rw (← known, told, lt-ltb a (h .actives) la, le-ltb p (h .passives) k)
 
-    pub walk-of-pair : {t : List (List ℕ)} {j o : List ℕ} {u : List (List ℕ)} {n : ℕ} → Lent b h t j o u → a < h .actives → p < h .passives
-        → n ≡ getD (getD u a []) p 0 → n ≡ walkOf b a p
+    pub walk-of-pair : {t : List (List ℕ)} {j o : List ℕ} {u : List (List ℕ)} {n : ℕ} → Lent b h t j o u
+        → a < h .actives → p < h .passives → n ≡ getD (getD u a []) p 0 → n ≡ walkOf b a p
     unfolding walkOf tablePlan
     walk-of-pair {t} {j} {o} {u} lent la lp e =
         let ma = lent .range .actives .1 in
         let mp = lent .range .passives .1 in
-        e ∙ ap (λ (x : List (List ℕ)). getD (getD x a []) p 0) (lent .walks) ∙ length-at (tablePlan h t j) a p ma mp la lp
-        ∙ rw (← known, told, lt-ltb a (h .actives) la, lt-ltb p (h .passives) lp) (ap (λ (x : Plan). pairWalk x a p) (lent .plan))
+        e ∙ ap (λ (x : List (List ℕ)). getD (getD x a []) p 0) (lent .walks)
+        ∙ length-at (tablePlan h t j) a p ma mp la lp
+        ∙ rw (← known, told, lt-ltb a (h .actives) la, lt-ltb p (h .passives) lp)
+        (ap (λ (x : Plan). pairWalk x a p) (lent .plan))

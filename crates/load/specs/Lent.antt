@@ -90,6 +90,7 @@ pub home-small : (h : Head) (routes : List (List ℕ)) (joints : List ℕ) → C
     → from < 64
 unfolding tablePlan
 home-small h routes joints few known d l e =
-    let same : getD (homesOf (tablePlan h routes joints)) d 0 ≡ portOr0 (portsOf (tablePlan h routes joints) (interfaceAt h d))
+    let same : getD (homesOf (tablePlan h routes joints)) d 0
+    ≡ portOr0 (portsOf (tablePlan h routes joints) (interfaceAt h d))
     = homes-at (tablePlan h routes joints) d (omega arith) l in
     rw (e, known, same) (home-below (tablePlan h routes joints) (interfaceAt h d) (few .0))

@@ -1,19 +1,18 @@
 -- Load accepts exactly the byte strings that obey every plan rule.
-use mathlib.Core.Path.{_≡_, refl, sym, ap, _∙_}
-use mathlib.Core.Logic.{_⊎_, inl, inr}
-use mathlib.Core.Bool.{Bool, true, false, not, _&&_, true≢false, false≢true}
+use mathlib.Core.Path.{_≡_, refl, sym, _∙_}
+use mathlib.Core.Bool.{Bool, true, false, not, true≢false}
 use mathlib.Core.List.{List}
-use Prim.Native.Nat.{ℕ, _*_, _≤_, _<_}
+use Prim.Native.Nat.{ℕ, _≤_}
 use native.Mathlib.Omega.{arith}
-use lib.Dec.{eqb, ltb}
+use lib.Dec.{ltb}
 use lib.ListN.{length}
 use borrow.Author.Tests.{ltb-false, le-ltb, eqb-true, eq-eqb}
-use Rattle.basis.specs.Choice.{pick, test, refuted}
+use Rattle.basis.specs.Choice.{pick, refuted}
 use Rattle.kinds.specs.declared.Refusal.{Refusal}
 use Rattle.plan.specs.declared.Head.{Head}
-use Rattle.plan.specs.Head.{headOf, headOk, InRange, bitCount, byteCount}
+use Rattle.plan.specs.Head.{headOf, headOk, InRange, byteCount}
 use Rattle.plan.specs.Plan.{Plan, planOf}
-use Rattle.plan.specs.Rules.{Filled, FieldsFit, JointsMatch, fillOk, fieldsOk, namedOk, interfacesOk}
+use Rattle.plan.specs.Rules.{Filled, FieldsFit, JointsMatch, fieldsOk}
 use Rattle.feeding.specs.Feeds.{FeedRing}
 use Rattle.circles.specs.RingTest.{hasRing}
 use Rattle.wiring.proofs.Heads.{head-ok, ok-head, and-both, and-of}
@@ -23,7 +22,7 @@ use Rattle.wiring.proofs.Wires.{wired, plan-match, match-plan}
 use Rattle.circles.proofs.Tests.{ring-test, test-ring}
 use Rattle.load.specs.declared.Loaded.{Loaded}
 use Rattle.load.specs.declared.Loaded.the-variants.{Accepted, Refused}
-use Rattle.load.specs.Load.{lengthOk, jointsOk, loadOf, loadNumber}
+use Rattle.load.specs.Load.{lengthOk, jointsOk, loadOf}
 
 -- every plan rule of document 01
 pub record Obeys (b : List ℕ) : Type 0 where

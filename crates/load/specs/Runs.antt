@@ -12,13 +12,17 @@ use Rattle.plan.specs.Plan.{jointIn, planOf}
 use Rattle.plan.specs.Rules.{fillOk, jointOk, routeOk, fieldsOk, namedOk, portsOf, home, interfacesOk}
 use Rattle.paths.specs.Walk.{onward, arrives}
 use Rattle.paths.specs.Served.{backsArrive, servedFrom}
-use Rattle.circles.specs.RingTest.{wayMeets, walkMeets, walkLeaves, trailEdge, answered, answerLeaves, answersPass, handEdge, hasRing}
+use Rattle.circles.specs.RingTest.{wayMeets, walkMeets, walkLeaves, trailEdge, answered, answerLeaves, answersPass}
+use Rattle.circles.specs.RingTest.{handEdge, hasRing}
 use Rattle.load.specs.Load.{lengthOk, jointsOk, loadOf, loadNumber}
 use Rattle.plan.specs.Samples.{planT, twoRouters, widerT, narrowThere, narrowBack, allSides, fourRouters}
 
 -- Load's number, computed from the bytes
 unfoldable pub loads : List ℕ → ℕ
-unfolding anyBelow allBelow upTo anyNext live ringTest spot bitAt fieldOf capacityAt headOf countsOk capacitiesOk headOk jointIn planOf fillOk jointOk routeOk namedOk portsOf home interfacesOk fieldsOk onward arrives backsArrive servedFrom wayMeets walkMeets walkLeaves trailEdge answered answerLeaves answersPass handEdge hasRing lengthOk jointsOk loadOf
+unfolding anyBelow allBelow upTo anyNext live ringTest spot bitAt fieldOf capacityAt headOf countsOk capacitiesOk
+    headOk jointIn planOf fillOk jointOk routeOk namedOk portsOf home interfacesOk fieldsOk onward arrives backsArrive
+    servedFrom wayMeets walkMeets walkLeaves trailEdge answered answerLeaves answersPass handEdge hasRing lengthOk
+    jointsOk loadOf
 loads b = loadNumber (loadOf b)
 
 pub t-loads : loads planT ≡ 0

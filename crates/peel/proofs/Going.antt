@@ -9,13 +9,13 @@ use native.Mathlib.Nat.{pow-suc}
 use native.Mathlib.Omega.{arith}
 use lib.Dec.{eqb}
 use lib.ListN.{getD}
-use borrow.Author.Tests.{eqb-true, eqb-false, eq-eqb, ne-eqb}
+use borrow.Author.Tests.{eqb-true, eq-eqb, ne-eqb}
 use Rattle.basis.specs.Choice.{pick, test, refuted, affirmed, not-both}
 use Rattle.basis.specs.Bounded.{Found, find, below-suc, or-cases, or-right}
-use Rattle.basis.specs.Fold.{upTo, up-keeps, up-keeps-at}
+use Rattle.basis.specs.Fold.{up-keeps, up-keeps-at}
 use Rattle.basis.specs.Ring.{Ring, Leads, follow, ringTest, ring-of-test, test-of-ring}
 use Rattle.sets.specs.Sets.{has, single, both, either, less}
-use Rattle.sets.specs.Laws.{has-both, has-either, has-less, has-single, none-has, no-member, less-le}
+use Rattle.sets.specs.Laws.{has-both, has-either, has-less, has-single, no-member, less-le}
 use Rattle.peel.specs.Words.{leadsTo, stayOf, upOf, downOf, someOf, firstOf}
 use Rattle.peel.proofs.Laws.{not-empty}
 
@@ -61,7 +61,8 @@ module _ (succ : List ℕ) (n : ℕ) where
   unfolding stayOf
   left-stay x left k = by (test (goesFrom x left))
     where
-      by : (goesFrom x left ≡ true) ⊎ (goesFrom x left ≡ false) → Left (pick (goesFrom x left) (less left (single x)) left)
+      by : (goesFrom x left ≡ true) ⊎ (goesFrom x left ≡ false)
+          → Left (pick (goesFrom x left) (less left (single x)) left)
       by (inr e) = rw e k
       by (inl e) = rw e (record { keeps = stays; within = λ y t. k .within y (was y t) })
         where
@@ -69,17 +70,23 @@ module _ (succ : List ℕ) (n : ℕ) where
           was y t = and-eq-true-iff (has left y) (not (has (single x) y)) .0 (sym (has-less left (single x) y) ∙ t) .0
 
           other : (y : ℕ) → both (getD succ y 0) left ≢ 0 → y ≢ x
-          other y h q = h (rw q (eqb-true (both (getD succ x 0) left) 0 (and-eq-true-iff (has left x) (eqb (both (getD succ x 0) left) 0) .0 e .1)))
+          other y h q = h (rw q (eqb-true (both (getD succ x 0) left) 0
+              (and-eq-true-iff (has left x) (eqb (both (getD succ x 0) left) 0) .0 e .1)))
 
           stays : (r : Ring (Leads n (leadsTo succ))) (i : ℕ) → i ≤ r .size
               → has (less left (single x)) (r .node i) ≡ true
           stays r i b =
               has-less left (single x) (r .node i)
-              ∙ rw (has-single x (r .node i), ne-eqb (r .node i) x (other (r .node i) (leads-on left k r i b)), k .keeps r i b)
+              ∙ rw (
+                has-single x (r .node i),
+                ne-eqb (r .node i) x (other (r .node i) (leads-on left k r i b)),
+                k .keeps r i b,
+              )
 
   pub left-down : {left after : ℕ} → after ≡ downOf succ n left → Left left → Left after
   unfolding downOf
-  left-down {left} e k = rw e (up-keeps Left (λ i. stayOf succ (n - 1 - i)) n left (λ i t h q. left-stay (n - 1 - i) t q) k)
+  left-down {left} e k =
+      rw e (up-keeps Left (λ i. stayOf succ (n - 1 - i)) n left (λ i t h q. left-stay (n - 1 - i) t q) k)
 
   pub left-up : {left after : ℕ} → after ≡ upOf succ n left → Left left → Left after
   unfolding upOf
@@ -98,7 +105,8 @@ module _ (succ : List ℕ) (n : ℕ) where
   some-new : (x s : ℕ) → getD succ x 0 ≢ 0 → has (someOf succ x s) x ≡ true
   unfolding someOf
   some-new x s h =
-      rw (ne-eqb (getD succ x 0) 0 h) (has-either s (single x) x ∙ rw (has-single x x, eq-eqb x x refl) (or-right (has s x)))
+      rw (ne-eqb (getD succ x 0) 0 h)
+      (has-either s (single x) x ∙ rw (has-single x x, eq-eqb x x refl) (or-right (has s x)))
 
   some-was : (x s y : ℕ) → has (someOf succ x s) y ≡ true → (has s y ≡ true) ⊎ (y ≡ x)
   unfolding someOf
@@ -118,7 +126,8 @@ module _ (succ : List ℕ) (n : ℕ) where
 
   begun : Begun n (firstOf succ n)
   unfolding firstOf
-  begun = up-keeps-at Begun (someOf succ) n 0 more (record { sound = λ y t. absurd (not-empty 0 y t refl); complete = λ y l h. absurd (omega arith) })
+  begun = up-keeps-at Begun (someOf succ) n 0 more
+      (record { sound = λ y t. absurd (not-empty 0 y t refl); complete = λ y l h. absurd (omega arith) })
     where
       more : (i s : ℕ) → i < n → Begun i s → Begun (suc i) (someOf succ i s)
       more i s h b = record { sound = λ y t. low y (some-was i s y t); complete = λ y l k. at y k (below-suc l) }
@@ -132,7 +141,8 @@ module _ (succ : List ℕ) (n : ℕ) where
           at y k (inr e) = rw e (some-new i s (rw e at k))
 
   pub left-first : {left : ℕ} → left ≡ firstOf succ n → Left left
-  left-first e = rw e (record { keeps = λ r i b. by r i (below-suc {n = r .size} (omega arith)); within = begun .sound })
+  left-first e =
+      rw e (record { keeps = λ r i b. by r i (below-suc {n = r .size} (omega arith)); within = begun .sound })
     where
       at : (r : Ring (Leads n (leadsTo succ))) (j : ℕ) → j < r .size → has (firstOf succ n) (r .node j) ≡ true
       at r j l =
@@ -162,7 +172,8 @@ module _ (succ : List ℕ) (n : ℕ) where
   pub down-le : {left after : ℕ} → after ≡ downOf succ n left → after ≤ left
   unfolding downOf
   down-le {left} e =
-      rw e (up-keeps (λ v. v ≤ left) (λ i. stayOf succ (n - 1 - i)) n left (λ i v h q. let a = stay-le (n - 1 - i) v in omega arith) (omega arith))
+      rw e (up-keeps (λ v. v ≤ left) (λ i. stayOf succ (n - 1 - i)) n left (λ i v h q. let a = stay-le (n - 1 - i) v in
+      omega arith) (omega arith))
 
   -- the first i nodes judged: where none went, each that is left leads to one that is left
   record Judged (left i now : ℕ) : Type 0 where

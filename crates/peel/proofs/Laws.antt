@@ -41,7 +41,11 @@ in-either s t i e = or-cases (has s i) (has t i) (sym (has-either s t i) ∙ e)
 -- two sets that make the empty one
 either-none : (s t : ℕ) → either s t ≡ 0 → (s ≡ 0) × (t ≡ 0)
 unfolding either
-either-none s t e = let a = or-add-and s t in let b = and-le-r s t in let c = and-le-l s t in (omega arith, omega arith)
+either-none s t e =
+    let a = or-add-and s t in
+    let b = and-le-r s t in
+    let c = and-le-l s t in
+    (omega arith, omega arith)
 
 either-empty : either 0 0 ≡ 0
 unfolding either
@@ -93,7 +97,8 @@ module _ (cells : List ℕ) where
       rw (g, ne-eqb (both (getD cells x 0) (getD left (y / 4) 0)) 0 (not-empty _ (y % 4) u))
 
   -- ---- a group judged
-  keep-in : (left : List ℕ) (x o i : ℕ) → has (keepOf cells left x o) i ≡ true → (i ≡ o) × (staysOf cells left x ≡ true)
+  keep-in : (left : List ℕ) (x o i : ℕ) → has (keepOf cells left x o) i ≡ true
+      → (i ≡ o) × (staysOf cells left x ≡ true)
   unfolding keepOf
   keep-in left x o i t = by (staysOf cells left x) refl t
     where
@@ -121,7 +126,8 @@ module _ (cells : List ℕ) where
         → (has (getD left g 0) i ≡ true) × (staysOf cells left (4 * g + i) ≡ true)
     judge-true i t =
         let b =
-        and-eq-true-iff (has (getD left g 0) i) (has four i) .0 (sym (has-both (getD left g 0) four i) ∙ (rw judge-is at t)) in
+        and-eq-true-iff (has (getD left g 0) i) (has four i) .0
+        (sym (has-both (getD left g 0) four i) ∙ (rw judge-is at t)) in
         (b .0, by (in-either (either (digit 0) (digit 1)) (either (digit 2) (digit 3)) i (b .1)))
       where
         at : (o : ℕ) → has (digit o) i ≡ true → staysOf cells left (4 * g + i) ≡ true
@@ -139,18 +145,26 @@ module _ (cells : List ℕ) where
     judge-of : (i : ℕ) → i < 4 → has (getD left g 0) i ≡ true → staysOf cells left (4 * g + i) ≡ true
         → has (judgeOf cells left g) i ≡ true
     judge-of i l t s =
-        rw judge-is (has-both (getD left g 0) four i ∙ and-eq-true-iff (has (getD left g 0) i) (has four i) .1 (t, by i l (in-keep left (4 * g + i) i s)))
+        rw judge-is (has-both (getD left g 0) four i
+        ∙ and-eq-true-iff (has (getD left g 0) i) (has four i) .1 (t, by i l (in-keep left (4 * g + i) i s)))
       where
         by : (i : ℕ) → i < 4 → has (digit i) i ≡ true → has four i ≡ true
-        by zero l u = has-either (either (digit 0) (digit 1)) (either (digit 2) (digit 3)) 0 ∙ rw (has-either (digit 0) (digit 1) 0, u)
+        by zero l u = has-either (either (digit 0) (digit 1)) (either (digit 2) (digit 3)) 0
+            ∙ rw (has-either (digit 0) (digit 1) 0, u)
         by (suc zero) l u =
-            has-either (either (digit 0) (digit 1)) (either (digit 2) (digit 3)) 1 ∙ rw (has-either (digit 0) (digit 1) 1, u, or-right (has (digit 0) 1))
+            has-either (either (digit 0) (digit 1)) (either (digit 2) (digit 3)) 1
+            ∙ rw (has-either (digit 0) (digit 1) 1, u, or-right (has (digit 0) 1))
         by (suc (suc zero)) l u =
             has-either (either (digit 0) (digit 1)) (either (digit 2) (digit 3)) 2
             ∙ rw (has-either (digit 2) (digit 3) 2, u, or-right (has (either (digit 0) (digit 1)) 2))
         by (suc (suc (suc zero))) l u =
             has-either (either (digit 0) (digit 1)) (either (digit 2) (digit 3)) 3
-            ∙ rw (has-either (digit 2) (digit 3) 3, u, or-right (has (digit 2) 3), or-right (has (either (digit 0) (digit 1)) 3))
+            ∙ rw (
+              has-either (digit 2) (digit 3) 3,
+              u,
+              or-right (has (digit 2) 3),
+              or-right (has (either (digit 0) (digit 1)) 3),
+            )
         by (suc (suc (suc (suc i)))) l u = absurd (omega arith)
 
     judge-le : judgeOf cells left g ≤ getD left g 0
@@ -253,7 +267,8 @@ module _ (cells : List ℕ) where
       long = length-set left g (judgeOf cells left g) ∙ p .long;
       small = λ h. rows h (test (eqb h g));
       within = λ h b. row-other left g h (λ e. not-below e b) ∙ p .within h b;
-      keeps = λ r i b. judging left g (r .node i) (omega (arith, p .long)) (p .keeps r i b) (goes r i (below-suc {n = r .size} (omega arith)));
+      keeps = λ r i b. judging left g (r .node i) (omega (arith, p .long)) (p .keeps r i b)
+          (goes r i (below-suc {n = r .size} (omega arith)));
       chains = λ x t. p .chains x (judged left g x (omega (arith, p .long)) t .0);
     }
       where
@@ -270,14 +285,16 @@ module _ (cells : List ℕ) where
             → staysOf cells left (r .node i) ≡ true
         goes r i (inl b) = next-stays left (r .node i) (r .node (suc i)) (r .linked i b .step) (p .keeps r (suc i) b)
         goes r i (inr e) =
-            rw (e, r .closed) (next-stays left (r .node 0) (r .node 1) (r .linked 0 (r .some) .step) (p .keeps r 1 (r .some)))
+            rw (e, r .closed)
+            (next-stays left (r .node 0) (r .node 1) (r .linked 0 (r .some) .step) (p .keeps r 1 (r .some)))
 
     -- ---- the sweeps
     pub peeled-down : (k : ℕ) {left after : List ℕ} → n ≤ 64 → after ≡ downOf cells n left → Peeled k left
         → Peeled k after
     unfolding downOf
     peeled-down k {left} {after} m e p =
-        rw e (up-keeps (Peeled k) (λ i. judgeAt cells (n - 1 - i)) n left (λ i t h q. peeled-judge k (n - 1 - i) t m (omega arith) q) p)
+        rw e (up-keeps (Peeled k) (λ i. judgeAt cells (n - 1 - i)) n left
+        (λ i t h q. peeled-judge k (n - 1 - i) t m (omega arith) q) p)
 
     -- the first i groups judged: what is left there leads to what was left before
     record Turned (k : ℕ) (left : List ℕ) (i : ℕ) (after : List ℕ) : Type 0 where
@@ -288,7 +305,8 @@ module _ (cells : List ℕ) where
     turned : (k : ℕ) (left after : List ℕ) → n ≤ 64 → after ≡ upOf cells n left → Peeled k left → Turned k left n after
     unfolding upOf
     turned k left after m e p =
-        rw e (up-keeps-at (Turned k left) (judgeAt cells) n left turn (record { peeled = p; fewer = λ x t. t; leads = λ x b t. absurd (omega arith) }))
+        rw e (up-keeps-at (Turned k left) (judgeAt cells) n left turn
+        (record { peeled = p; fewer = λ x t. t; leads = λ x b t. absurd (omega arith) }))
       where
         turn : (i : ℕ) (t : List ℕ) → i < n → Turned k left i t → Turned k left (suc i) (judgeAt cells i t)
         turn i t h q = record {
@@ -355,12 +373,14 @@ module _ (cells : List ℕ) where
           where
             by : (x / 4 < n) ⊎ (n ≤ x / 4) → x / 4 < n
             by (inl l) = l
-            by (inr b) = absurd (not-empty _ (x % 4) t (fill-past {A = ℕ} (λ g. 15) n (replicate 64 0) (x / 4) 0 b ∙ none (x / 4)))
+            by (inr b) = absurd
+                (not-empty _ (x % 4) t (fill-past {A = ℕ} (λ g. 15) n (replicate 64 0) (x / 4) 0 b ∙ none (x / 4)))
 
     -- ---- the ends
     rest-none : (left : List ℕ) → restOf n left ≡ 0 → (g : ℕ) → g < n → getD left g 0 ≡ 0
     unfolding restOf
-    rest-none left e = up-keeps-at (λ i s. s ≡ 0 → (g : ℕ) → g < i → getD left g 0 ≡ 0) (λ g s. either s (getD left g 0)) n 0 step (λ q g h. absurd (omega arith)) e
+    rest-none left e = up-keeps-at (λ i s. s ≡ 0 → (g : ℕ) → g < i → getD left g 0 ≡ 0)
+        (λ g s. either s (getD left g 0)) n 0 step (λ q g h. absurd (omega arith)) e
       where
         step : (i s : ℕ) → i < n → (s ≡ 0 → (g : ℕ) → g < i → getD left g 0 ≡ 0) → either s (getD left i 0) ≡ 0
             → (g : ℕ) → g < suc i → getD left g 0 ≡ 0
@@ -372,21 +392,23 @@ module _ (cells : List ℕ) where
 
     rest-some : (left : List ℕ) → restOf n left ≢ 0 → (g : ℕ) × (getD left g 0 ≢ 0)
     unfolding restOf
-    rest-some left h = up-keeps (λ s. s ≢ 0 → (g : ℕ) × (getD left g 0 ≢ 0)) (λ g s. either s (getD left g 0)) n 0 step (λ q. absurd (q refl)) h
+    rest-some left h = up-keeps (λ s. s ≢ 0 → (g : ℕ) × (getD left g 0 ≢ 0)) (λ g s. either s (getD left g 0)) n 0 step
+        (λ q. absurd (q refl)) h
       where
         step : (i s : ℕ) → i < n → (s ≢ 0 → (g : ℕ) × (getD left g 0 ≢ 0)) → either s (getD left i 0) ≢ 0
             → (g : ℕ) × (getD left g 0 ≢ 0)
         step i s l rec q = by (test (eqb (getD left i 0) 0)) (test (eqb s 0))
           where
-            by : (eqb (getD left i 0) 0 ≡ true) ⊎ (eqb (getD left i 0) 0 ≡ false) → (eqb s 0 ≡ true) ⊎ (eqb s 0 ≡ false)
-                → (g : ℕ) × (getD left g 0 ≢ 0)
+            by : (eqb (getD left i 0) 0 ≡ true) ⊎ (eqb (getD left i 0) 0 ≡ false)
+                → (eqb s 0 ≡ true) ⊎ (eqb s 0 ≡ false) → (g : ℕ) × (getD left g 0 ≢ 0)
             by (inr e) f = (i, eqb-false (getD left i 0) 0 e)
             by (inl e) (inr f) = rec (eqb-false s 0 f)
             by (inl e) (inl f) = absurd (q (rw (eqb-true s 0 f, eqb-true (getD left i 0) 0 e) either-empty))
 
     pub ends-none : {k : ℕ} {left : List ℕ} {rest : ℕ} → rest ≡ restOf n left → rest ≡ 0 → Peeled k left
         → false ≡ ringTest (4 * n) (edge cells)
-    ends-none {k} {left} f e p = sym (refuted (ringTest (4 * n) (edge cells)) (λ t. some (ring-of-test (4 * n) (edge cells) t)))
+    ends-none {k} {left} f e p =
+        sym (refuted (ringTest (4 * n) (edge cells)) (λ t. some (ring-of-test (4 * n) (edge cells) t)))
       where
         some : Ring (Leads (4 * n) (edge cells)) → ⊥
         some r =
@@ -418,8 +440,8 @@ module _ (cells : List ℕ) where
         by (inr e) = rw e (round (rw q at p) (λ z. eqb-false rest 0 e (f ∙ z)))
 
     -- a sweep in which none goes
-    pub ends-still : {k : ℕ} {left after : List ℕ} {rest : ℕ} → n ≤ 64 → rest ≡ restOf n left → rest ≢ 0 → Peeled k left
-        → after ≡ upOf cells n left → after ≡ left → true ≡ ringTest (4 * n) (edge cells)
+    pub ends-still : {k : ℕ} {left after : List ℕ} {rest : ℕ} → n ≤ 64 → rest ≡ restOf n left → rest ≢ 0
+        → Peeled k left → after ≡ upOf cells n left → after ≡ left → true ≡ ringTest (4 * n) (edge cells)
     ends-still {k} {left} {after} m f h p e s =
         sym (affirmed (ringTest (4 * n) (edge cells)) (λ u. none u (node-left left p (λ q. h (f ∙ q)))))
       where

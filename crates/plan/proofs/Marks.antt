@@ -1,8 +1,9 @@
--- Rows that are read column by column into sets by side: what the sets hold, and whether each column has a side or none.
-use mathlib.Core.Path.{_≡_, refl, sym, ap, ap₂, _∙_}
+-- Rows that are read column by column into sets by side: what the sets hold, and whether each column has a side or
+-- none.
+use mathlib.Core.Path.{_≡_, refl, sym, ap, _∙_}
 use mathlib.Core.Logic.{_⊎_, inl, inr}
 use mathlib.Core.Bool.{Bool, true, false, _&&_, _||_, true≢false, false≢true}
-use mathlib.Core.List.{List, []}
+use mathlib.Core.List.{List}
 use Prim.Native.Nat.{ℕ, zero, suc, _+_, _*_, _^_, _≤_, _<_}
 use native.Mathlib.Omega.{arith}
 use lib.Dec.{eqb, ltb}
@@ -12,7 +13,7 @@ use lib.Pow.{pow-pos, add-lt-pow}
 use borrow.Author.Tests.{eqb-true, eq-eqb, ne-eqb, lt-ltb, le-ltb, ltb-true}
 use Rattle.basis.specs.Choice.{test, same-test, refuted}
 use Rattle.basis.specs.Bounded.{allBelow, all-at, all-of, lt-or-ge}
-use Rattle.basis.specs.Fold.{upTo, fill, up-none, up-more}
+use Rattle.basis.specs.Fold.{fill, up-none, up-more}
 use Rattle.sets.specs.Sets.{has, single, either}
 use Rattle.sets.specs.Laws.{has-either, has-single, none-has, no-member}
 use Rattle.fields.specs.Bits.{fieldOf}
@@ -132,18 +133,21 @@ module _ (g : ℕ → ℕ) (small : (i : ℕ) → g i < 8) (first : List ℕ) wh
 
   module _ (n : ℕ) {row s : List ℕ} (w : Sorted g n first row s) where
     empty : (o : ℕ) → 4 ≤ o → o < 7 → allBelow n (λ i. routeOk (g i)) ≡ true → eqb (getD s o 0) 0 ≡ true
-    empty o a b q = eq-eqb (getD s o 0) 0 (nothing (getD s o 0) (λ i. w .sets o (omega arith) i ∙ none i (lt-or-ge i n)))
+    empty o a b q =
+        eq-eqb (getD s o 0) 0 (nothing (getD s o 0) (λ i. w .sets o (omega arith) i ∙ none i (lt-or-ge i n)))
       where
         none : (i : ℕ) → (i < n) ⊎ (n ≤ i) → (ltb i n && eqb (g i) o) ≡ false
         none i (inr c) = rw (le-ltb i n c)
         none i (inl c) =
             rw (lt-ltb i n c)
             (refuted (eqb (g i) o)
-            (λ t. let v = eqb-true (g i) o t in fit-route (g i) (all-at n (λ i. routeOk (g i)) q i c) (omega arith) (omega arith)))
+            (λ t. let v = eqb-true (g i) o t in
+            fit-route (g i) (all-at n (λ i. routeOk (g i)) q i c) (omega arith) (omega arith)))
 
     missed : (o i : ℕ) → o < 8 → i < n → eqb (getD s o 0) 0 ≡ true → g i ≡ o → ⊥
     missed o i l c q e = true≢false
-        (sym (w .sets o l i ∙ rw (lt-ltb i n c) (eq-eqb (g i) o e)) ∙ ap (λ (x : ℕ). has x i) (eqb-true (getD s o 0) 0 q)
+        (sym (w .sets o l i ∙ rw (lt-ltb i n c) (eq-eqb (g i) o e))
+        ∙ ap (λ (x : ℕ). has x i) (eqb-true (getD s o 0) 0 q)
         ∙ none-has i)
 
     pub sorted-fits : fitsOf s ≡ allBelow n (λ i. routeOk (g i))
@@ -180,8 +184,12 @@ module _ (g : ℕ → ℕ) (small : (i : ℕ) → g i < 8) (first : List ℕ) wh
 
     kept : (a b c e : ℕ) {ok : Bool} (sides : List ℕ) → length sides ≡ 4 → ok ≡ fitsOf s → Side g n 0 a → Side g n 1 b
         → Side g n 2 c → Side g n 3 e → Row g n first row (set (set (set (set sides 0 a) 1 b) 2 c) 3 e) ok
-    kept a b c e sides four fit s0 s1 s2 s3 = record
-        { four = long 3 e (set (set (set sides 0 a) 1 b) 2 c) three; filled = w .filled; sets = at; fit = fit ∙ sorted-fits }
+    kept a b c e sides four fit s0 s1 s2 s3 = record {
+      four = long 3 e (set (set (set sides 0 a) 1 b) 2 c) three;
+      filled = w .filled;
+      sets = at;
+      fit = fit ∙ sorted-fits;
+    }
       where
         long : (k v : ℕ) (t : List ℕ) → length t ≡ 4 → length (set t k v) ≡ 4
         long k v t q = length-set t k v ∙ q
@@ -225,5 +233,6 @@ module _ (g : ℕ → ℕ) (small : (i : ℕ) → g i < 8) (first : List ℕ) wh
     pub sorted-row : {ok : Bool} (sides : List ℕ) → length sides ≡ 4 → ok ≡ fitsOf s
         → Row g n first row
         (set (set (set (set sides 0 (getD s 0 0)) 1 (getD s 1 0)) 2 (getD s 2 0)) 3 (getD s 3 0)) ok
-    sorted-row sides four fit = kept (getD s 0 0) (getD s 1 0) (getD s 2 0) (getD s 3 0) sides four fit (w .sets 0 (omega arith))
+    sorted-row sides four fit =
+        kept (getD s 0 0) (getD s 1 0) (getD s 2 0) (getD s 3 0) sides four fit (w .sets 0 (omega arith))
         (w .sets 1 (omega arith)) (w .sets 2 (omega arith)) (w .sets 3 (omega arith))

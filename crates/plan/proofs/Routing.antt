@@ -12,7 +12,7 @@ use lib.Seq.{getD-set-same, getD-set-other}
 use borrow.Author.Tests.{lt-ltb, le-ltb, ne-eqb}
 use Rattle.basis.specs.Choice.{pick}
 use Rattle.basis.specs.Bounded.{allBelow, all-none, all-same, lt-or-ge}
-use Rattle.basis.specs.Fold.{upTo, fill, up-none, up-fill, up-done, length-fill, fill-at, fill-past}
+use Rattle.basis.specs.Fold.{upTo, fill, up-fill, up-done, fill-at, fill-past}
 use Rattle.sets.specs.Sets.{has}
 use Rattle.sets.specs.Laws.{none-has}
 use Rattle.fields.specs.Bits.{fieldOf}

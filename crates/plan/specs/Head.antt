@@ -1,6 +1,5 @@
 -- Plan bytes, the first 45 bits: 'routers R, actives A, passives P (5 bits each), S (6), then eight capacities of 3
 -- bits, 1 to 7'.
-use mathlib.Core.Path.{_≡_}
 use mathlib.Core.Bool.{Bool, _&&_}
 use mathlib.Core.List.{List}
 use Prim.Native.Nat.{ℕ, _+_, _*_, _/_, _≤_}

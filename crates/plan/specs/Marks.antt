@@ -2,13 +2,12 @@
 use mathlib.Core.Path.{_≡_}
 use mathlib.Core.Bool.{Bool, _&&_}
 use mathlib.Core.List.{List, []}
-use Prim.Native.Nat.{ℕ, _+_, _*_, _/_, _%_, _^_, _<_}
+use Prim.Native.Nat.{ℕ, _+_, _*_, _<_}
 use lib.Dec.{eqb, ltb}
-use lib.ListN.{getD, set, length, replicate}
-use Rattle.basis.specs.Choice.{pick}
+use lib.ListN.{getD, length, replicate}
 use Rattle.basis.specs.Bounded.{allBelow}
 use Rattle.basis.specs.Fold.{upTo, fill}
-use Rattle.sets.specs.Sets.{has, single, either}
+use Rattle.sets.specs.Sets.{has}
 use Rattle.fields.specs.Bits.{fieldOf}
 use Rattle.plan.specs.declared.Head.{Head}
 use Rattle.plan.specs.Head.{destinations}

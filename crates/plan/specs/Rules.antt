@@ -15,7 +15,7 @@ use Rattle.plan.specs.declared.Joint.{Joint}
 use Rattle.plan.specs.declared.Joint.the-variants.{Nothing, Router, Active, Passive}
 use Rattle.plan.specs.declared.Ports.{Ports}
 use Rattle.plan.specs.declared.Ports.the-variants.{Missing, One, Several}
-use Rattle.plan.specs.Head.{headOf, destinations, routesAt, bitCount, byteCount}
+use Rattle.plan.specs.Head.{headOf, destinations, bitCount}
 use Rattle.plan.specs.Plan.{Plan, Port, Interface, active, passive, R, A, P, noSide, jointAt, routeAt, Has}
 use Rattle.plan.specs.Plan.{jointOf}
 

@@ -17,21 +17,21 @@ twoRouters = 16 ∷ 130 ∷ 33 ∷ 36 ∷ 146 ∷ 76 ∷ 2 ∷ 32 ∷ 0 ∷ 2 �
 abbrev pub widerT : List ℕ
 widerT = 8 ∷ 66 ∷ 66 ∷ 105 ∷ 36 ∷ 148 ∷ 6 ∷ 0 ∷ 0 ∷ 0 ∷ 32 ∷ []
 
--- one router, S=16: side 0 to passive 0, sides 1 to 3 to actives 0 to 2. The capacities fall on the way to the passive:
--- active out 6, U 4, Q 3, F 2, passive in 1. Passive out 4, K 5, active in 7.
+-- one router, S=16: side 0 to passive 0, sides 1 to 3 to actives 0 to 2. The capacities fall on the way to the
+-- passive: active out 6, U 4, Q 3, F 2, passive in 1. Passive out 4, K 5, active in 7.
 -- 08 C2 86 F1 AA 66 04 04 24 41 4C 00
 abbrev pub narrowThere : List ℕ
 narrowThere = 8 ∷ 194 ∷ 134 ∷ 241 ∷ 170 ∷ 102 ∷ 4 ∷ 4 ∷ 36 ∷ 65 ∷ 76 ∷ 0 ∷ []
 
--- one router, S=16: side 0 to passive 0, side 1 to active 0, side 2 to active 1, side 3 to passive 1. Little room on the
--- way back: passive in 4, passive out 2, K 1, active in 5. Active out 6, U 7, Q 3, F 3.
+-- one router, S=16: side 0 to passive 0, side 1 to active 0, side 2 to active 1, side 3 to passive 1. Little room on
+-- the way back: passive in 4, passive out 2, K 1, active in 5. Active out 6, U 7, Q 3, F 3.
 -- 08 84 86 BD B3 16 04 04 26 21 41 80
 abbrev pub narrowBack : List ℕ
 narrowBack = 8 ∷ 132 ∷ 134 ∷ 189 ∷ 179 ∷ 22 ∷ 4 ∷ 4 ∷ 38 ∷ 33 ∷ 65 ∷ 128 ∷ []
 
--- two routers, S=4, capacities 1. Router 0: side 0 to active 0, side 1 to active 1, side 2 to passive 0, side 3 to side
--- 3 of router 1. Router 1: side 0 to passive 1, side 2 to active 2. Routes: the shortest, but router 0 has none to
--- passive 1: actives 0 and 1 are not served with it.
+-- two routers, S=4, capacities 1. Router 0: side 0 to active 0, side 1 to active 1, side 2 to passive 0, side 3 to
+-- side 3 of router 1. Router 1: side 0 to passive 1, side 2 to active 2. Routes: the shortest, but router 0 has none
+-- to passive 1: actives 0 and 1 are not served with it.
 -- 10 C4 21 24 92 4C 04 26 02 3E 20 04 42 18 2D 76 D3 00
 abbrev pub allSides : List ℕ
 allSides = 16 ∷ 196 ∷ 33 ∷ 36 ∷ 146 ∷ 76 ∷ 4 ∷ 38 ∷ 2 ∷ 62 ∷ 32 ∷ 4 ∷ 66 ∷ 24 ∷ 45 ∷ 118 ∷ 211 ∷ 0 ∷ []

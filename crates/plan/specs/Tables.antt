@@ -1,7 +1,6 @@
 -- The tables that Load builds of a plan's bytes: joints by port, routes by router and destination; and the plan that
 -- tables give.
-use mathlib.Core.Path.{_≡_}
-use mathlib.Core.Bool.{Bool, _&&_}
+use mathlib.Core.Bool.{Bool}
 use mathlib.Core.List.{List, []}
 use Prim.Native.Nat.{ℕ, _+_, _*_, _-_, _/_, _%_}
 use lib.Dec.{ltb}
@@ -14,7 +13,7 @@ use Rattle.plan.specs.declared.Head.{Head}
 use Rattle.plan.specs.declared.Joint.{Joint}
 use Rattle.plan.specs.declared.Joint.the-variants.{Nothing}
 use Rattle.plan.specs.Head.{destinations, routesAt}
-use Rattle.plan.specs.Plan.{Plan, Interface, active, passive, noSide, jointFrom, jointAt}
+use Rattle.plan.specs.Plan.{Plan, Interface, active, passive, noSide, jointFrom}
 use Rattle.plan.specs.Rules.{jointOk, routeOk, portsOf, portOr0}
 
 -- a joint's eight bits as a byte, and the joint of such a byte

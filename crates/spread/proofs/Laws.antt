@@ -70,7 +70,8 @@ module _ (by : List (List ℕ)) (joints : List ℕ) where
     long = refl;
     keeps = λ y d a. a;
     fair = λ n f h a. a;
-    gone = λ d a b. affirmed (has (getD t (to x o) 0) d) (λ c. not-both (new d a b c) (none-of (less m (getD t n 0)) d (sym el ∙ e)));
+    gone = λ d a b. affirmed (has (getD t (to x o) 0) d)
+        (λ c. not-both (new d a b c) (none-of (less m (getD t n 0)) d (sym el ∙ e)));
     same = λ y a. refl;
   }
     where
@@ -124,7 +125,8 @@ module _ (by : List (List ℕ)) (joints : List ℕ) where
         let v = rw en at u in
         let l = rw ee at (not-left e f y v) in
         let m = rw ef at (not-right e f y v) in
-        s .same y (not-right c d y m) ∙ r .same y (not-left c d y m) ∙ q .same y (not-right a b y l) ∙ p .same y (not-left a b y l);
+        s .same y (not-right c d y m) ∙ r .same y (not-left c d y m) ∙ q .same y (not-right a b y l)
+        ∙ p .same y (not-left a b y l);
   }
     where
       on : (o : ℕ) → o < 4 → Gone by joints x o t t4
@@ -151,7 +153,8 @@ module _ (by : List (List ℕ)) (joints : List ℕ) where
     keeps = p .keeps;
     fair = p .fair;
     gone = λ n h a o l. p .gone o l;
-    off = λ n a y h e o l. turn n a y h (not-left w new y (rw el at e)) (not-right w new y (rw el at e)) o l (test (eqb y x));
+    off = λ n a y h e o l. turn n a y h (not-left w new y (rw el at e)) (not-right w new y (rw el at e)) o l
+        (test (eqb y x));
   }
     where
       turn : (n : ℕ) → Off by joints n work t → (y : ℕ) → y < n → has w y ≡ false → has new y ≡ false → (o : ℕ) → o < 4
@@ -232,7 +235,8 @@ module _ (by : List (List ℕ)) (joints : List ℕ) where
       where
         free : (x : ℕ) → x < n → has work x ≡ false
         free x l =
-            refuted (has work x) (λ b. not-both (in-both work all x b (rw ea (has-below n x ∙ lt-ltb x n l))) (none-of (both work all) x (sym el ∙ e)))
+            refuted (has work x) (λ b. not-both (in-both work all x b (rw ea (has-below n x ∙ lt-ltb x n l)))
+            (none-of (both work all) x (sym el ∙ e)))
 
         at : (j y d : ℕ) → Carried by joints n first d j y → In t y d
         at zero y d c = r .found 0 (omega arith) y d c

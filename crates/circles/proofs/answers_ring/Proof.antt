@@ -47,7 +47,12 @@ has-ring-requires c κs = (omega arith, let e = crosses-long _ _ _ (c .before .c
 
 -- src/lib.rt:60:1
 returns : tie.Need-returns
-returns c = λ pl arrive told. answers-ring (c .before .before .before .before .before .before .before .before .before .before .before .pre) told (c .before .before .before .before .before .before .before .before .before .answers .ensures) (c .before .before .before .before .before .before .before .below .ensures) (c .before .before .before .before .before .leaves .ensures) (c .before .before .cross-cells .ensures) (c .has-ring .ensures)
+returns c = λ pl arrive told.
+    answers-ring (c .before .before .before .before .before .before .before .before .before .before .before .pre) told
+    (c .before .before .before .before .before .before .before .before .before .answers .ensures)
+    (c .before .before .before .before .before .before .before .below .ensures)
+    (c .before .before .before .before .before .leaves .ensures) (c .before .before .cross-cells .ensures)
+    (c .has-ring .ensures)
 
 pub answers-ring-spec : {M : Type 1} → statement M
 answers-ring-spec =

@@ -42,7 +42,10 @@ has-ring-requires c κs = (omega arith, let e = links-long _ _ _ (c .before .lin
 
 -- src/lib.rt:36:1
 returns : tie.Need-returns
-returns c = λ pl homes told. links-ring (c .before .before .before .before .before .before .before .before .pre) told (c .before .before .before .before .before .before .before .live .ensures) (c .before .before .before .before .before .leaves .ensures) (c .before .before .links .ensures) (c .has-ring .ensures)
+returns c = λ pl homes told. links-ring (c .before .before .before .before .before .before .before .before .pre) told
+    (c .before .before .before .before .before .before .before .live .ensures)
+    (c .before .before .before .before .before .leaves .ensures) (c .before .before .links .ensures)
+    (c .has-ring .ensures)
 
 pub links-ring-spec : {M : Type 1} → statement M
 links-ring-spec =

@@ -31,11 +31,14 @@ answers-ring-requires c κs = search needs
 
 -- src/lib.rt:100:9
 returns-3 : tie.Need-returns-3
-returns-3 c = λ pl told. ring-by-answers pl (sym (c .before .before .before .if2 .left) ∙ c .before .before .before .before .walks-ring .ensures pl _ told) (c .answers-ring .ensures pl _ told)
+returns-3 c = λ pl told. ring-by-answers pl (sym (c .before .before .before .if2 .left)
+    ∙ c .before .before .before .before .walks-ring .ensures pl _ told) (c .answers-ring .ensures pl _ told)
 
 -- src/lib.rt:80:1
 returns-4 : tie.Need-returns-4
-returns-4 c = λ pl told. ring-by-links pl (sym (c .before .before .if2 .left) ∙ c .before .before .before .walks-ring .ensures pl _ told) (c .before .links-ring .ensures pl _ told (c .if3 .left))
+returns-4 c = λ pl told.
+    ring-by-links pl (sym (c .before .before .if2 .left) ∙ c .before .before .before .walks-ring .ensures pl _ told)
+    (c .before .links-ring .ensures pl _ told (c .if3 .left))
 
 pub ring-found-spec : {M : Type 1} → statement M
 ring-found-spec =

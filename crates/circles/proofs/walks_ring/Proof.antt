@@ -29,7 +29,9 @@ has-ring-requires c κs = (omega arith, let e = nexts-long _ _ _ _ (c .before .n
 
 -- src/lib.rt:15:1
 returns : tie.Need-returns
-returns c = λ pl arrive told. walks-ring (c .before .before .before .before .before .before .before .pre) told (c .before .before .before .before .before .carried .ensures) (c .before .before .nexts .ensures) (c .has-ring .ensures)
+returns c = λ pl arrive told. walks-ring (c .before .before .before .before .before .before .before .pre) told
+    (c .before .before .before .before .before .carried .ensures) (c .before .before .nexts .ensures)
+    (c .has-ring .ensures)
 
 pub walks-ring-spec : {M : Type 1} → statement M
 walks-ring-spec =

@@ -32,7 +32,8 @@ partner-requires-2 c κs = search needs
 
 -- src/lib.rt:123:9
 returns-2 : tie.Need-returns-2
-returns-2 c = cross-out _ _ _ (c .before .before .before .partner .ensures .0) (c .before .before .if1 .left) (c .before .partner2 .ensures .0) (c .if2 .taken)
+returns-2 c = cross-out _ _ _ (c .before .before .before .partner .ensures .0) (c .before .before .if1 .left)
+    (c .before .partner2 .ensures .0) (c .if2 .taken)
 
 -- src/lib.rt:125:18
 mul-both : tie.Need-mul-both
@@ -56,7 +57,10 @@ both-requires c κs = search needs
 
 -- src/lib.rt:127:9
 returns-3 : tie.Need-returns-3
-returns-3 c = cross-none _ _ _ (c .before .before .before .before .before .before .before .partner .ensures .0) (c .before .before .before .before .before .before .if1 .left) (c .before .before .before .before .before .partner2 .ensures .0) (c .before .before .before .before .if2 .left) (c .before .both .ensures) (c .if3 .taken)
+returns-3 c = cross-none _ _ _ (c .before .before .before .before .before .before .before .partner .ensures .0)
+    (c .before .before .before .before .before .before .if1 .left)
+    (c .before .before .before .before .before .partner2 .ensures .0) (c .before .before .before .before .if2 .left)
+    (c .before .both .ensures) (c .if3 .taken)
 
 -- src/lib.rt:129:13
 mask-requires : tie.Need-mask-requires
@@ -68,7 +72,12 @@ cell-requires c κs = (omega arith, c .mask .ensures .1)
 
 -- src/lib.rt:112:1
 returns-4 : tie.Need-returns-4
-returns-4 c = cross-on _ _ _ (c .before .before .before .before .before .before .before .before .before .partner .ensures .0) (c .before .before .before .before .before .before .before .before .if1 .left) (c .before .before .before .before .before .before .before .partner2 .ensures .0) (c .before .before .before .before .before .before .if2 .left) (c .before .before .before .both .ensures) (c .before .before .if3 .left) (c .before .mask .ensures .0) (c .cell .ensures)
+returns-4 c =
+    cross-on _ _ _ (c .before .before .before .before .before .before .before .before .before .partner .ensures .0)
+    (c .before .before .before .before .before .before .before .before .if1 .left)
+    (c .before .before .before .before .before .before .before .partner2 .ensures .0)
+    (c .before .before .before .before .before .before .if2 .left) (c .before .before .before .both .ensures)
+    (c .before .before .if3 .left) (c .before .mask .ensures .0) (c .cell .ensures)
 
 pub cross-spec : {M : Type 1} → statement M
 cross-spec =

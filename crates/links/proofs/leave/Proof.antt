@@ -42,7 +42,8 @@ both-requires-2 c κs = search needs
 
 -- src/lib.rt:17:1
 returns : tie.Need-returns
-returns c = leave-at _ _ _ _ _ (c .before .before .before .before .pre .1) (rw (← c .before .both .ensures) (c .both2 .ensures))
+returns c = leave-at _ _ _ _ _ (c .before .before .before .before .pre .1)
+    (rw (← c .before .both .ensures) (c .both2 .ensures))
 
 pub leave-spec : {M : Type 1} → statement M
 leave-spec =

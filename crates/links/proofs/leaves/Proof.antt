@@ -108,7 +108,12 @@ loop-less c = omega arith
 
 -- src/lib.rt:29:5
 loop-again : tie.Need-loop-again Inv-loop μ-loop
-loop-again c = (omega arith, leaves-more _ _ _ _ (c .before .before .before .before .before .loop .inv .1) (c .before .before .before .leave .ensures) (c .before .before .leave2 .ensures) (c .before .leave3 .ensures) (c .leave4 .ensures))
+loop-again c = (
+  omega arith,
+  leaves-more _ _ _ _ (c .before .before .before .before .before .loop .inv .1)
+      (c .before .before .before .leave .ensures) (c .before .before .leave2 .ensures) (c .before .leave3 .ensures)
+      (c .leave4 .ensures),
+)
 
 -- src/lib.rt:25:1
 returns : tie.Need-returns Inv-loop μ-loop

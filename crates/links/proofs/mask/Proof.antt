@@ -38,7 +38,16 @@ either-requires-3 c κs = search needs
 -- src/lib.rt:47:1
 returns : tie.Need-returns
 unfolding Rattle.links.specs.Cells.maskOf
-returns c = mask-is _ _ _ (rw (c .either3 .ensures, c .before .either2 .ensures, c .before .before .either .ensures, c .before .before .before .bit4 .ensures, c .before .before .before .before .bit3 .ensures, c .before .before .before .before .before .bit2 .ensures, c .before .before .before .before .before .before .bit .ensures))
+returns c = mask-is _ _ _ (rw (
+  c .either3 .ensures,
+  c .before .either2 .ensures,
+  c .before .before .either .ensures,
+  c .before .before .before .bit4 .ensures,
+  c .before .before .before .before .bit3 .ensures,
+  c .before .before
+      .before .before .before .bit2 .ensures,
+  c .before .before .before .before .before .before .bit .ensures,
+))
 
 pub mask-spec : {M : Type 1} → statement M
 mask-spec =

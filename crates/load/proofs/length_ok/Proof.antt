@@ -23,11 +23,14 @@ returns c = length-wrong _ (c .before .before .before .pre .0) (c .before .bit-c
 
 -- src/lib.rt:36:5
 fill-ok-requires : tie.Need-fill-ok-requires
-fill-ok-requires c κs = let most = counts-most _ (c .before .before .before .pre .1) in omega (arith, most .bits, c .before .bit-count .ensures, c .if1 .left)
+fill-ok-requires c κs =
+    let most = counts-most _ (c .before .before .before .pre .1) in
+    omega (arith, most .bits, c .before .bit-count .ensures, c .if1 .left)
 
 -- src/lib.rt:28:1
 returns-2 : tie.Need-returns-2
-returns-2 c = length-fits _ (c .before .before .before .before .pre .0) (c .before .before .bit-count .ensures) (c .before .if1 .left) (c .fill-ok .ensures)
+returns-2 c = length-fits _ (c .before .before .before .before .pre .0) (c .before .before .bit-count .ensures)
+    (c .before .if1 .left) (c .fill-ok .ensures)
 
 pub length-ok-spec : {M : Type 1} → statement M
 length-ok-spec = tie.close (tie.spec bit-count-requires add-if1 returns fill-ok-requires returns-2)

@@ -27,19 +27,41 @@ returns c = walk-refused _ _ _ (c .before .before .load .ensures .0) (c .enum-to
 
 -- src/lib.rt:163:9
 returns-2 : tie.Need-returns-2
-returns-2 c = walk-no-active _ _ _ (c .before .before .before .before .before .load .ensures .0) (c .before .before .before .l .given .1) (c .if1 .taken)
+returns-2 c = walk-no-active _ _ _ (c .before .before .before .before .before .load .ensures .0)
+    (c .before .before .before .l .given .1) (c .if1 .taken)
 
 -- src/lib.rt:166:9
 returns-3 : tie.Need-returns-3
-returns-3 c = walk-no-passive _ _ _ (c .before .before .before .before .before .before .before .load .ensures .0) (c .before .before .before .before .before .l .given .1) (c .before .before .if1 .left) (c .if2 .taken)
+returns-3 c = walk-no-passive _ _ _ (c .before .before .before .before .before .before .before .load .ensures .0)
+    (c .before .before .before .before .before .l .given .1) (c .before .before .if1 .left) (c .if2 .taken)
 
 -- src/lib.rt:168:5
 pair-walk-requires : tie.Need-pair-walk-requires
-pair-walk-requires c κs = let t = (lent _ _ _ _ _ (c .before .before .before .before .before .before .before .before .load .ensures .0) (c .before .before .before .before .before .before .l .given .1) (c .before .before .before .before .before .before .before .before .load .ensures .1) (c .before .before .before .before .before .before .before .before .load .ensures .2) (c .before .before .before .before .before .before .before .before .load .ensures .3) (c .before .before .before .before .before .before .before .before .load .ensures .4)) in let a = t .range .actives .1 in let p = t .range .passives .1 in let la = c .before .before .before .if1 .left in let lp = c .before .if2 .left in (omega arith, omega arith)
+pair-walk-requires c κs =
+    let t = (lent _ _ _ _ _ (c .before .before .before .before .before .before .before .before .load .ensures .0)
+    (c .before .before .before .before .before .before .l .given .1)
+    (c .before .before .before .before .before .before .before .before .load .ensures .1)
+    (c .before .before .before .before .before .before .before .before .load .ensures .2)
+    (c .before .before .before .before .before .before .before .before .load .ensures .3)
+    (c .before .before .before .before .before .before .before .before .load .ensures .4)) in
+    let a = t .range .actives .1 in
+    let p = t .range .passives .1 in
+    let la = c .before .before .before .if1 .left in
+    let lp = c .before .if2 .left in
+    (omega arith, omega arith)
 
 -- src/lib.rt:151:1
 returns-4 : tie.Need-returns-4
-returns-4 c = walk-of-pair _ _ _ (c .before .before .before .before .before .before .before .before .before .load .ensures .0) (c .before .before .before .before .before .before .before .l .given .1) (lent _ _ _ _ _ (c .before .before .before .before .before .before .before .before .before .load .ensures .0) (c .before .before .before .before .before .before .before .l .given .1) (c .before .before .before .before .before .before .before .before .before .load .ensures .1) (c .before .before .before .before .before .before .before .before .before .load .ensures .2) (c .before .before .before .before .before .before .before .before .before .load .ensures .3) (c .before .before .before .before .before .before .before .before .before .load .ensures .4)) (c .before .before .before .before .if1 .left) (c .before .before .if2 .left) (c .pair-walk .ensures)
+returns-4 c =
+    walk-of-pair _ _ _ (c .before .before .before .before .before .before .before .before .before .load .ensures .0)
+    (c .before .before .before .before .before .before .before .l .given .1)
+    (lent _ _ _ _ _ (c .before .before .before .before .before .before .before .before .before .load .ensures .0)
+    (c .before .before .before .before .before .before .before .l .given .1)
+    (c .before .before .before .before .before .before .before .before .before .load .ensures .1)
+    (c .before .before .before .before .before .before .before .before .before .load .ensures .2)
+    (c .before .before .before .before .before .before .before .before .before .load .ensures .3)
+    (c .before .before .before .before .before .before .before .before .before .load .ensures .4))
+    (c .before .before .before .before .if1 .left) (c .before .before .if2 .left) (c .pair-walk .ensures)
 
 pub walk-spec : {M : Type 1} → statement M
 walk-spec =

@@ -32,7 +32,10 @@ loop-holds c = (omega arith, omega arith, peeled-first _ _ (c .before .before .b
 
 -- src/lib.rt:110:9
 sweep-down-requires : tie.Need-sweep-down-requires Inv-loop μ-loop
-sweep-down-requires c κs = (c .before .before .before .before .before .before .pre .0, c .before .before .before .before .before .before .pre .1)
+sweep-down-requires c κs = (
+  c .before .before .before .before .before .before .pre .0,
+  c .before .before .before .before .before .before .pre .1,
+)
 
 -- src/lib.rt:111:12
 rest-requires : tie.Need-rest-requires Inv-loop μ-loop
@@ -40,15 +43,26 @@ rest-requires c κs = c .before .before .before .before .before .before .before 
 
 -- src/lib.rt:112:13
 returns : tie.Need-returns Inv-loop μ-loop
-returns c = ends-none _ _ (c .before .rest .ensures) (c .if1 .taken) (peeled-down _ _ _ (c .before .before .before .before .before .before .before .before .before .before .pre .0) (c .before .before .before .sweep-down .ensures) (c .before .before .before .before .before .before .loop .inv .2))
+returns c = ends-none _ _ (c .before .rest .ensures) (c .if1 .taken)
+    (peeled-down _ _ _ (c .before .before .before .before .before .before .before .before .before .before .pre .0)
+    (c .before .before .before .sweep-down .ensures) (c .before .before .before .before .before .before .loop .inv .2))
 
 -- src/lib.rt:114:12
 sweep-up-requires : tie.Need-sweep-up-requires Inv-loop μ-loop
-sweep-up-requires c κs = (c .before .before .before .before .before .before .before .before .before .before .before .pre .0, c .before .before .before .before .before .before .before .before .before .before .before .pre .1)
+sweep-up-requires c κs = (
+  c .before .before .before .before .before .before .before .before .before .before .before .pre .0,
+  c .before .before .before .before .before .before .before .before .before .before .before .pre .1,
+)
 
 -- src/lib.rt:115:13
 returns-2 : tie.Need-returns-2 Inv-loop μ-loop
-returns-2 c = ends-still _ _ (c .before .before .before .before .before .before .before .before .before .before .before .before .before .pre .0) (c .before .before .before .before .rest .ensures) (c .before .before .before .if1 .left) (peeled-down _ _ _ (c .before .before .before .before .before .before .before .before .before .before .before .before .before .pre .0) (c .before .before .before .before .before .before .sweep-down .ensures) (c .before .before .before .before .before .before .before .before .before .loop .inv .2)) (c .before .sweep-up .ensures .0) (c .before .sweep-up .ensures .1 (c .if2 .taken))
+returns-2 c = ends-still _ _
+    (c .before .before .before .before .before .before .before .before .before .before .before .before .before .pre .0)
+    (c .before .before .before .before .rest .ensures) (c .before .before .before .if1 .left) (peeled-down _ _ _
+    (c .before .before .before .before .before .before .before .before .before .before .before .before .before .pre .0)
+    (c .before .before .before .before .before .before .sweep-down .ensures)
+    (c .before .before .before .before .before .before .before .before .before .loop .inv .2))
+    (c .before .sweep-up .ensures .0) (c .before .sweep-up .ensures .1 (c .if2 .taken))
 
 -- src/lib.rt:109:9
 add-k : tie.Need-add-k Inv-loop μ-loop
@@ -60,7 +74,18 @@ loop-less c = omega arith
 
 -- src/lib.rt:109:5
 loop-again : tie.Need-loop-again Inv-loop μ-loop
-loop-again c = (omega arith, c .before .before .before .before .before .before .before .before .before .loop .inv .1, peeled-up _ _ _ (c .before .before .before .before .before .before .before .before .before .before .before .before .before .pre .0) (c .before .sweep-up .ensures .0) (peeled-down _ _ _ (c .before .before .before .before .before .before .before .before .before .before .before .before .before .pre .0) (c .before .before .before .before .before .before .sweep-down .ensures) (c .before .before .before .before .before .before .before .before .before .loop .inv .2)))
+loop-again c = (
+  omega arith,
+  c .before .before .before .before .before .before .before .before .before .loop .inv .1,
+  peeled-up _ _ _
+      (c .before .before .before .before .before .before .before .before .before .before .before .before .before .pre
+      .0)
+      (c .before .sweep-up .ensures .0) (peeled-down _ _ _
+      (c .before .before .before .before .before .before .before .before .before .before .before .before .before .pre
+      .0)
+      (c .before .before .before .before .before .before .sweep-down .ensures)
+      (c .before .before .before .before .before .before .before .before .before .loop .inv .2)),
+)
 
 -- src/lib.rt:118:5
 rest-requires-2 : tie.Need-rest-requires-2 Inv-loop μ-loop

@@ -91,7 +91,17 @@ both-requires c κs = search needs
 -- src/lib.rt:40:1
 returns-2 : tie.Need-returns-2
 unfolding Rattle.peel.specs.Cells.judgeOf
-returns-2 c = rw (c .both .ensures, c .before .either3 .ensures, c .before .before .either2 .ensures, c .before .before .before .either .ensures, c .before .before .before .before .before .keep4 .ensures, c .before .before .before .before .before .before .keep3 .ensures, c .before .before .before .before .before .before .before .keep2 .ensures, c .before .before .before .before .before .before .before .before .keep .ensures)
+returns-2 c = rw (
+  c .both .ensures,
+  c .before .either3 .ensures,
+  c .before .before .either2 .ensures,
+  c .before .before .before .either .ensures,
+  c .before .before .before .before .before .keep4 .ensures,
+  c .before .before .before .before .before .before .keep3 .ensures,
+  c .before .before .before .before .before
+      .before .before .keep2 .ensures,
+  c .before .before .before .before .before .before .before .before .keep .ensures,
+)
 
 pub judge-spec : {M : Type 1} → statement M
 judge-spec =

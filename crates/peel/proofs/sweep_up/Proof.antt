@@ -58,7 +58,11 @@ loop-less c = omega arith
 
 -- src/lib.rt:57:5
 loop-again : tie.Need-loop-again Inv-loop μ-loop
-loop-again c = (omega arith, swept-more _ _ (c .before .before .before .before .before .before .loop .inv .1) (c .before .before .before .judge .ensures) (c .before .less .ensures) (c .either .ensures))
+loop-again c = (
+  omega arith,
+  swept-more _ _ (c .before .before .before .before .before .before .loop .inv .1)
+      (c .before .before .before .judge .ensures) (c .before .less .ensures) (c .either .ensures),
+)
 
 -- src/lib.rt:51:1
 returns : tie.Need-returns Inv-loop μ-loop

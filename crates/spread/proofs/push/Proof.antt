@@ -64,7 +64,9 @@ less-requires c κs = search needs
 
 -- src/lib.rt:45:9
 returns : tie.Need-returns
-returns c = pushed-none _ _ _ _ _ (beyond-at _ _ (c .before .before .before .before .before .before .partner .ensures) .0) (c .before .before .before .both .ensures) (c .before .less .ensures) (c .if1 .taken)
+returns c =
+    pushed-none _ _ _ _ _ (beyond-at _ _ (c .before .before .before .before .before .before .partner .ensures) .0)
+    (c .before .before .before .both .ensures) (c .before .less .ensures) (c .if1 .taken)
 
 -- src/lib.rt:47:19
 mul-either : tie.Need-mul-either
@@ -92,7 +94,12 @@ single-requires c κs = search needs
 
 -- src/lib.rt:38:1
 returns-2 : tie.Need-returns-2
-returns-2 c = pushed-some _ _ _ _ _ (c .before .before .before .before .before .before .before .before .before .before .pre .2) (beyond-at _ _ (c .before .before .before .before .before .before .before .before .before .partner .ensures)) (c .before .before .before .before .before .before .before .before .before .before .pre .1) (c .before .before .before .before .before .before .both .ensures) (c .before .either .ensures) (c .single .ensures)
+returns-2 c =
+    pushed-some _ _ _ _ _ (c .before .before .before .before .before .before .before .before .before .before .pre .2)
+    (beyond-at _ _ (c .before .before .before .before .before .before .before .before .before .partner .ensures))
+    (c .before .before .before .before .before .before .before .before .before .before .pre .1)
+    (c .before .before .before .before .before .before .both .ensures) (c .before .either .ensures)
+    (c .single .ensures)
 
 pub push-spec : {M : Type 1} → statement M
 push-spec =

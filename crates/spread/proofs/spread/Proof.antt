@@ -38,11 +38,17 @@ both-requires c κs = search needs
 
 -- src/lib.rt:104:13
 returns : tie.Need-returns Inv-loop μ-loop
-returns c = ends-off _ _ _ _ (c .before .before .before .before .before .loop .inv .1) (c .before .both .ensures) (c .if1 .taken) (c .before .before .sweep-up .ensures _ _ (c .before .before .before .before .before .loop .inv .2))
+returns c = ends-off _ _ _ _
+    (c .before .before .before .before .before .loop .inv .1) (c .before .both .ensures) (c .if1 .taken)
+    (c .before .before .sweep-up .ensures _ _ (c .before .before .before .before .before .loop .inv .2))
 
 -- src/lib.rt:106:9
 sweep-down-requires : tie.Need-sweep-down-requires Inv-loop μ-loop
-sweep-down-requires c κs = (c .before .before .before .before .before .before .before .before .pre .0, (c .before .before .before .sweep-up .ensures _ _ (c .before .before .before .before .before .before .loop .inv .2)) .long)
+sweep-down-requires c κs = (
+  c .before .before .before .before .before .before .before .before .pre .0,
+  (c .before .before .before .sweep-up .ensures _ _
+      (c .before .before .before .before .before .before .loop .inv .2)) .long,
+)
 
 -- src/lib.rt:101:9
 add-k : tie.Need-add-k Inv-loop μ-loop
@@ -54,7 +60,12 @@ loop-less c = omega arith
 
 -- src/lib.rt:101:5
 loop-again : tie.Need-loop-again Inv-loop μ-loop
-loop-again c = (omega arith, c .before .before .before .before .before .before .before .loop .inv .1, c .sweep-down .ensures _ _ (c .before .before .before .before .sweep-up .ensures _ _ (c .before .before .before .before .before .before .before .loop .inv .2)))
+loop-again c = (
+  omega arith,
+  c .before .before .before .before .before .before .before .loop .inv .1,
+  c .sweep-down .ensures _ _ (c .before .before .before .before .sweep-up .ensures _ _
+      (c .before .before .before .before .before .before .before .loop .inv .2)),
+)
 
 -- src/lib.rt:94:1
 returns-2 : tie.Need-returns-2 Inv-loop μ-loop

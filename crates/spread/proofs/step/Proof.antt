@@ -28,7 +28,8 @@ either-requires c κs = search needs
 
 -- src/lib.rt:62:9
 returns : tie.Need-returns
-returns c = stepped-some _ _ _ _ _ (c .before .before .pass .ensures) (c .before .without .ensures) (c .either .ensures)
+returns c =
+    stepped-some _ _ _ _ _ (c .before .before .pass .ensures) (c .before .without .ensures) (c .either .ensures)
 
 -- src/lib.rt:56:1
 returns-2 : tie.Need-returns-2

@@ -13,7 +13,8 @@ use Rattle.spread.proofs.sweep_down.Lts as lts
 use Rattle.spread.proofs.step.Reads as step-reads
 
 abbrev Inv-loop : tie.InvT-loop
-Inv-loop by joints n work t₀ left₀ i₀ t left i = (i ≤ n) × (length t ≡ 32) × ((first : List ℕ) (k : ℕ) → Round by joints n first k work t₀ → Round by joints n first k left t)
+Inv-loop by joints n work t₀ left₀ i₀ t left i = (i ≤ n) × (length t ≡ 32)
+    × ((first : List ℕ) (k : ℕ) → Round by joints n first k work t₀ → Round by joints n first k left t)
 
 abbrev μ-loop : tie.MeasureT-loop
 μ-loop by joints n work t₀ left₀ i₀ t left i = n - i
@@ -44,7 +45,12 @@ loop-less c = omega arith
 
 -- src/lib.rt:80:5
 loop-again : tie.Need-loop-again Inv-loop μ-loop
-loop-again c = (omega arith, c .step .ensures .long ∙ c .before .before .before .loop .inv .1, λ first k r. round-more _ _ _ _ _ (omega arith) (c .step .ensures) (c .before .before .before .loop .inv .2 first k r))
+loop-again c = (
+  omega arith,
+  c .step .ensures .long ∙ c .before .before .before .loop .inv .1,
+  λ first k r.
+      round-more _ _ _ _ _ (omega arith) (c .step .ensures) (c .before .before .before .loop .inv .2 first k r),
+)
 
 -- src/lib.rt:74:1
 returns : tie.Need-returns Inv-loop μ-loop

@@ -13,7 +13,8 @@ use Rattle.spread.proofs.sweep_up.Lts as lts
 use Rattle.spread.proofs.step.Reads as step-reads
 
 abbrev Inv-loop : tie.InvT-loop
-Inv-loop by joints n work t₀ left₀ x₀ t left x = (x ≤ n) × (length t ≡ 32) × ((first : List ℕ) (k : ℕ) → Round by joints n first k work t₀ → Turned by joints n first k t₀ x left t)
+Inv-loop by joints n work t₀ left₀ x₀ t left x = (x ≤ n) × (length t ≡ 32)
+    × ((first : List ℕ) (k : ℕ) → Round by joints n first k work t₀ → Turned by joints n first k t₀ x left t)
 
 abbrev μ-loop : tie.MeasureT-loop
 μ-loop by joints n work t₀ left₀ x₀ t left x = n - x
@@ -36,7 +37,12 @@ loop-less c = omega arith
 
 -- src/lib.rt:67:5
 loop-again : tie.Need-loop-again Inv-loop μ-loop
-loop-again c = (omega arith, c .step .ensures .long ∙ c .before .before .before .loop .inv .1, λ first k r. turned-more _ _ _ _ _ (omega arith) (c .step .ensures) (c .before .before .before .loop .inv .2 first k r))
+loop-again c = (
+  omega arith,
+  c .step .ensures .long ∙ c .before .before .before .loop .inv .1,
+  λ first k r.
+      turned-more _ _ _ _ _ (omega arith) (c .step .ensures) (c .before .before .before .loop .inv .2 first k r),
+)
 
 -- src/lib.rt:61:1
 returns : tie.Need-returns Inv-loop μ-loop

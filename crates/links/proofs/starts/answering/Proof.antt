@@ -39,7 +39,12 @@ loop-less c = omega arith
 
 -- src/starts.rt:128:5
 loop-again : tie.Need-loop-again Inv-loop μ-loop
-loop-again c = (omega arith, answering-more _ _ _ _ _ (c .before .before .before .before .before .before .before .pre .0) (c .before .before .before .met .ensures) (c .note .ensures) (c .before .before .before .before .before .before .loop .inv .1))
+loop-again c = (
+  omega arith,
+  answering-more _ _ _ _ _
+      (c .before .before .before .before .before .before .before .pre .0) (c .before .before .before .met .ensures)
+      (c .note .ensures) (c .before .before .before .before .before .before .loop .inv .1),
+)
 
 -- src/starts.rt:115:1
 returns : tie.Need-returns Inv-loop μ-loop

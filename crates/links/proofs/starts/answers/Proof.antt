@@ -18,11 +18,16 @@ below-requires c κs = search needs
 
 -- src/starts.rt:150:5
 spread-requires : tie.Need-spread-requires
-spread-requires c κs = (c .before .before .before .before .pre .0, answering-whole _ _ _ _ _ (c .before .before .answering .ensures) (c .before .below .ensures) .0, answering-whole _ _ _ _ _ (c .before .before .answering .ensures) (c .before .below .ensures) .1)
+spread-requires c κs = (
+  c .before .before .before .before .pre .0,
+  answering-whole _ _ _ _ _ (c .before .before .answering .ensures) (c .before .below .ensures) .0,
+  answering-whole _ _ _ _ _ (c .before .before .answering .ensures) (c .before .below .ensures) .1,
+)
 
 -- src/starts.rt:136:1
 returns : tie.Need-returns
-returns c = record { first = _; answering = c .before .before .before .answering .ensures; spread = c .spread .ensures }
+returns c =
+    record { first = _; answering = c .before .before .before .answering .ensures; spread = c .spread .ensures }
 
 pub answers-spec : {M : Type 1} → statement M
 answers-spec = tie.close (tie.spec answering-requires below-requires spread-requires returns)

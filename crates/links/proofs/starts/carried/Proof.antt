@@ -18,7 +18,11 @@ below-requires c κs = search needs
 
 -- src/starts.rt:48:5
 spread-requires : tie.Need-spread-requires
-spread-requires c κs = (c .before .before .before .before .pre .0, starts-whole _ _ _ (c .before .before .starts .ensures) (c .before .below .ensures) .0, starts-whole _ _ _ (c .before .before .starts .ensures) (c .before .below .ensures) .1)
+spread-requires c κs = (
+  c .before .before .before .before .pre .0,
+  starts-whole _ _ _ (c .before .before .starts .ensures) (c .before .below .ensures) .0,
+  starts-whole _ _ _ (c .before .before .starts .ensures) (c .before .below .ensures) .1,
+)
 
 -- src/starts.rt:34:1
 returns : tie.Need-returns

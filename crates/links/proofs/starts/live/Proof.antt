@@ -40,7 +40,11 @@ loop-less c = omega arith
 
 -- src/starts.rt:74:5
 loop-again : tie.Need-loop-again Inv-loop μ-loop
-loop-again c = (omega arith, up-more _ _ _ (c .before .before .before .loop .inv .1) (c .either .ensures ∙ ap (either _) (c .before .live-bit .ensures)))
+loop-again c = (
+  omega arith,
+  up-more _ _ _ (c .before .before .before .loop .inv .1)
+      (c .either .ensures ∙ ap (either _) (c .before .live-bit .ensures)),
+)
 
 -- src/starts.rt:69:1
 returns : tie.Need-returns Inv-loop μ-loop

@@ -35,11 +35,20 @@ single-requires c κs = search needs
 
 -- src/starts.rt:67:5
 spread-requires : tie.Need-spread-requires
-spread-requires c κs = (c .before .before .before .before .pre .0, alone-whole (c .before .before .before .before .args .n) (c .before .before .before .home .result) (getD (c .before .before .before .before .args .served .now) (c .before .before .before .before .args .a) 0) (c .before .before .before .before .pre .2) (c .before .single .ensures) .0, alone-whole (c .before .before .before .before .args .n) (c .before .before .before .home .result) (getD (c .before .before .before .before .args .served .now) (c .before .before .before .before .args .a) 0) (c .before .before .before .before .pre .2) (c .before .single .ensures) .1)
+spread-requires c κs = (
+  c .before .before .before .before .pre .0,
+  alone-whole (c .before .before .before .before .args .n) (c .before .before .before .home .result)
+      (getD (c .before .before .before .before .args .served .now) (c .before .before .before .before .args .a) 0)
+      (c .before .before .before .before .pre .2) (c .before .single .ensures) .0,
+  alone-whole (c .before .before .before .before .args .n) (c .before .before .before .home .result)
+      (getD (c .before .before .before .before .args .served .now) (c .before .before .before .before .args .a) 0)
+      (c .before .before .before .before .pre .2) (c .before .single .ensures) .1,
+)
 
 -- src/starts.rt:52:1
 returns : tie.Need-returns
-returns c = rw (← alone-is _ _ _ (c .before .before .before .before .before .pre .2) (c .before .before .before .before .home .ensures)) (c .spread .ensures)
+returns c = rw (← alone-is _ _ _ (c .before .before .before .before .before .pre .2)
+    (c .before .before .before .before .home .ensures)) (c .spread .ensures)
 
 pub met-spec : {M : Type 1} → statement M
 met-spec =

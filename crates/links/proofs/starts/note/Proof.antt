@@ -60,7 +60,11 @@ loop-less c = omega arith
 
 -- src/starts.rt:96:5
 loop-again : tie.Need-loop-again Inv-loop μ-loop
-loop-again c = (omega arith, notes-more _ (c .before .before .before .before .before .args .m .now) _ _ (c .before .before .before .before .loop .inv .1) (c .noted .ensures))
+loop-again c = (
+  omega arith,
+  notes-more _ (c .before .before .before .before .before .args .m .now) _ _
+      (c .before .before .before .before .loop .inv .1) (c .noted .ensures),
+)
 
 -- src/starts.rt:92:1
 returns : tie.Need-returns Inv-loop μ-loop

@@ -65,7 +65,11 @@ loop-less c = omega arith
 
 -- src/starts.rt:27:5
 loop-again : tie.Need-loop-again Inv-loop μ-loop
-loop-again c = (omega arith, starts-more _ _ _ (c .before .before .before .before .before .loop .inv .1) (c .before .before .before .home .ensures) (c .either .ensures))
+loop-again c = (
+  omega arith,
+  starts-more _ _ _ (c .before .before .before .before .before .loop .inv .1)
+      (c .before .before .before .home .ensures) (c .either .ensures),
+)
 
 -- src/starts.rt:23:1
 returns : tie.Need-returns Inv-loop μ-loop

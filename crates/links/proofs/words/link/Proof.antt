@@ -29,7 +29,8 @@ sides-requires c κs = search needs
 
 -- src/words.rt:82:9
 returns-2 : tie.Need-returns-2
-returns-2 c = link-on _ _ _ (c .before .before .before .if1 .left) (c .before .before .partner .ensures .0) (c .before .if2 .taken) (c .sides .ensures)
+returns-2 c = link-on _ _ _ (c .before .before .before .if1 .left) (c .before .before .partner .ensures .0)
+    (c .before .if2 .taken) (c .sides .ensures)
 
 -- src/words.rt:72:1
 returns-3 : tie.Need-returns-3

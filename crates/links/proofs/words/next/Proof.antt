@@ -37,7 +37,16 @@ either-requires-3 c κs = search needs
 -- src/words.rt:28:1
 returns : tie.Need-returns
 unfolding Rattle.links.specs.Words.nextOf Rattle.links.specs.Words.fourOf
-returns c = rw (c .either3 .ensures, c .before .either2 .ensures, c .before .before .either .ensures, c .before .before .before .toward4 .ensures, c .before .before .before .before .toward3 .ensures, c .before .before .before .before .before .toward2 .ensures, c .before .before .before .before .before .before .toward .ensures)
+returns c = rw (
+  c .either3 .ensures,
+  c .before .either2 .ensures,
+  c .before .before .either .ensures,
+  c .before .before .before .toward4 .ensures,
+  c .before .before .before .before .toward3 .ensures,
+  c .before .before
+      .before .before .before .toward2 .ensures,
+  c .before .before .before .before .before .before .toward .ensures,
+)
 
 pub next-spec : {M : Type 1} → statement M
 next-spec =

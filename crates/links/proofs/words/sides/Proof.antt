@@ -37,7 +37,16 @@ either-requires-3 c κs = search needs
 -- src/words.rt:60:1
 returns : tie.Need-returns
 unfolding Rattle.links.specs.Words.fourOf
-returns c = rw (c .either3 .ensures, c .before .either2 .ensures, c .before .before .either .ensures, c .before .before .before .onto4 .ensures, c .before .before .before .before .onto3 .ensures, c .before .before .before .before .before .onto2 .ensures, c .before .before .before .before .before .before .onto .ensures)
+returns c = rw (
+  c .either3 .ensures,
+  c .before .either2 .ensures,
+  c .before .before .either .ensures,
+  c .before .before .before .onto4 .ensures,
+  c .before .before .before .before .onto3 .ensures,
+  c .before .before
+      .before .before .before .onto2 .ensures,
+  c .before .before .before .before .before .before .onto .ensures,
+)
 
 pub sides-spec : {M : Type 1} → statement M
 sides-spec =

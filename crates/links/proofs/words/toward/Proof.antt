@@ -58,11 +58,14 @@ single-requires c κs = search needs
 
 -- src/words.rt:22:9
 returns-2 : tie.Need-returns-2
-returns-2 c = toward-on _ _ _ _ _ (c .before .before .before .before .both .ensures) (c .before .before .before .if1 .left) (c .before .before .partner .ensures .0) (c .before .if2 .taken) (c .single .ensures)
+returns-2 c =
+    toward-on _ _ _ _ _ (c .before .before .before .before .both .ensures) (c .before .before .before .if1 .left)
+    (c .before .before .partner .ensures .0) (c .before .if2 .taken) (c .single .ensures)
 
 -- src/words.rt:13:1
 returns-3 : tie.Need-returns-3
-returns-3 c = toward-off _ _ _ _ _ (c .before .before .before .both .ensures) (c .before .before .if1 .left) (c .before .partner .ensures .0) (c .if2 .left)
+returns-3 c = toward-off _ _ _ _ _ (c .before .before .before .both .ensures) (c .before .before .if1 .left)
+    (c .before .partner .ensures .0) (c .if2 .left)
 
 pub toward-spec : {M : Type 1} → statement M
 toward-spec =

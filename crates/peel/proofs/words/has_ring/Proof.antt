@@ -27,23 +27,31 @@ sweep-down-requires c κs = (c .before .before .before .before .pre .0, c .befor
 
 -- src/words.rt:79:13
 returns : tie.Need-returns Inv-loop μ-loop
-returns c = ends-none _ _ (c .if1 .taken) (left-down _ _ (c .before .sweep-down .ensures) (c .before .before .before .loop .inv))
+returns c = ends-none _ _ (c .if1 .taken)
+    (left-down _ _ (c .before .sweep-down .ensures) (c .before .before .before .loop .inv))
 
 -- src/words.rt:81:13
 sweep-up-requires : tie.Need-sweep-up-requires Inv-loop μ-loop
-sweep-up-requires c κs = (c .before .before .before .before .before .before .pre .0, c .before .before .before .before .before .before .pre .1)
+sweep-up-requires c κs = (
+  c .before .before .before .before .before .before .pre .0,
+  c .before .before .before .before .before .before .pre .1,
+)
 
 -- src/words.rt:83:13
 returns-2 : tie.Need-returns-2 Inv-loop μ-loop
-returns-2 c = ends-still _ _ (c .before .before .before .before .loop-test .taken) (c .before .before .before .before .before .loop .inv) (c .before .before .before .sweep-down .ensures) (c .before .sweep-up .ensures) (c .if2 .taken)
+returns-2 c = ends-still _ _ (c .before .before .before .before .loop-test .taken)
+    (c .before .before .before .before .before .loop .inv) (c .before .before .before .sweep-down .ensures)
+    (c .before .sweep-up .ensures) (c .if2 .taken)
 
 -- src/words.rt:76:5
 loop-less : tie.Need-loop-less Inv-loop μ-loop
-loop-less c = round-less _ _ (c .before .before .before .sweep-down .ensures) (c .before .sweep-up .ensures) (c .if2 .left)
+loop-less c =
+    round-less _ _ (c .before .before .before .sweep-down .ensures) (c .before .sweep-up .ensures) (c .if2 .left)
 
 -- src/words.rt:76:5
 loop-again : tie.Need-loop-again Inv-loop μ-loop
-loop-again c = left-up _ _ (c .before .sweep-up .ensures) (left-down _ _ (c .before .before .before .sweep-down .ensures) (c .before .before .before .before .before .loop .inv))
+loop-again c = left-up _ _ (c .before .sweep-up .ensures) (left-down _ _
+    (c .before .before .before .sweep-down .ensures) (c .before .before .before .before .before .loop .inv))
 
 -- src/words.rt:71:1
 returns-3 : tie.Need-returns-3 Inv-loop μ-loop

@@ -32,12 +32,21 @@ without-requires c κs = search needs
 -- src/words.rt:20:13
 returns : tie.Need-returns
 unfolding Rattle.peel.specs.Words.stayOf
-returns c = rw (← c .before .before .before .before .before .has .ensures, c .before .before .before .before .if1 .taken, eq-eqb _ 0 (sym (c .before .before .both .ensures) ∙ c .before .if2 .taken)) (c .without .ensures)
+returns c =
+    rw (
+      ← c .before .before .before .before .before .has .ensures,
+      c .before .before .before .before .if1 .taken,
+      eq-eqb _ 0 (sym (c .before .before .both .ensures) ∙ c .before .if2 .taken),
+    ) (c .without .ensures)
 
 -- src/words.rt:14:1
 returns-2 : tie.Need-returns-2
 unfolding Rattle.peel.specs.Words.stayOf
-returns-2 c = rw (← c .before .before .before .before .has .ensures, c .before .before .before .if1 .taken, ne-eqb _ 0 (λ e. c .if2 .left (c .before .both .ensures ∙ e)))
+returns-2 c = rw (
+  ← c .before .before .before .before .has .ensures,
+  c .before .before .before .if1 .taken,
+  ne-eqb _ 0 (λ e. c .if2 .left (c .before .both .ensures ∙ e)),
+)
 
 -- src/words.rt:14:1
 returns-3 : tie.Need-returns-3

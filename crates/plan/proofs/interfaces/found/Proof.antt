@@ -53,7 +53,10 @@ element-copy-out-mark c =
     omega (
       arith,
       c .column .ensures,
-      column-le (c .before .before .before .before .before .before .args .h .actives) (c .before .before .before .before .before .before .args .h .passives) (getD (c .before .before .before .before .before .before .args .joints .now) (c .before .before .before .before .loop .i) 0)
+      column-le (c .before .before .before .before .before .before .args .h .actives)
+          (c .before .before .before .before .before .before .args .h .passives)
+          (getD (c .before .before .before .before .before .before .args .joints .now)
+          (c .before .before .before .before .loop .i) 0)
           (c .before .before .before .before .before .before .pre .1),
     )
 
@@ -71,7 +74,10 @@ element-write-t c =
     omega (
       arith,
       c .before .before .column .ensures,
-      column-le (c .before .before .before .before .before .before .before .before .args .h .actives) (c .before .before .before .before .before .before .before .before .args .h .passives) (getD (c .before .before .before .before .before .before .before .before .args .joints .now) (c .before .before .before .before .before .before .loop .i) 0)
+      column-le (c .before .before .before .before .before .before .before .before .args .h .actives)
+          (c .before .before .before .before .before .before .before .before .args .h .passives)
+          (getD (c .before .before .before .before .before .before .before .before .args .joints .now)
+          (c .before .before .before .before .before .before .loop .i) 0)
           (c .before .before .before .before .before .before .before .before .pre .1),
     )
 
@@ -88,8 +94,10 @@ loop-again : tie.Need-loop-again Inv-loop μ-loop
 unfolding foundStep
 loop-again c = (
   omega arith,
-  up-more _ _ _ (c .before .before .before .before .before .before .loop .inv .1) (simp (c .mark .ensures, c .before .before .column .ensures)),
-  λ h. all-and _ _ (c .before .before .before .before .before .before .loop .inv .2 h) (c .before .before .before .before .back-ok .ensures h),
+  up-more _ _ _ (c .before .before .before .before .before .before .loop .inv .1)
+      (simp (c .mark .ensures, c .before .before .column .ensures)),
+  λ h. all-and _ _ (c .before .before .before .before .before .before .loop .inv .2 h)
+      (c .before .before .before .before .back-ok .ensures h),
 )
 
 -- src/interfaces.rt:123:1

@@ -54,7 +54,8 @@ loop-again : tie.Need-loop-again Inv-loop μ-loop
 loop-again c = (
   omega arith,
   up-fill _ _ _ (c .before .before .before .loop .inv .1) (c .before .joint-byte .ensures),
-  all-and _ _ (c .before .before .before .loop .inv .2) (c .joint-byte-ok .ensures ∙ ap (jointByteOk _) (c .before .joint-byte .ensures)),
+  all-and _ _ (c .before .before .before .loop .inv .2)
+      (c .joint-byte-ok .ensures ∙ ap (jointByteOk _) (c .before .joint-byte .ensures)),
 )
 
 -- src/joints.rt:60:1

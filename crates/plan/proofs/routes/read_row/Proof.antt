@@ -46,7 +46,8 @@ element-write-sides-4 c = search needs
 returns : tie.Need-returns
 returns c =
     let start = c .before .before .before .before in
-    sorted-row _ (side-small _ _) _ _ (c .sorted .ensures .0) (start .args .sides .now) (c .before .before .before .before .pre .2) (c .sorted .ensures .1)
+    sorted-row _ (side-small _ _) _ _ (c .sorted .ensures .0) (start .args .sides .now)
+    (c .before .before .before .before .pre .2) (c .sorted .ensures .1)
 
 pub read-row-spec : {M : Type 1} → statement M
 read-row-spec =

@@ -34,15 +34,24 @@ loop-holds c = (omega arith, rows-none _ _ _ _ _ (c .before .before .before .pre
 
 -- src/routes.rt:153:56
 mul-read-row : tie.Need-mul-read-row Inv-loop μ-loop
-mul-read-row c = let h : c .before .before .before .before .before .args .h .actives + c .before .before .before .before .before .args .h .passives ≤ 32 = omega arith in record { fits = omega (arith, mul-le-mul-right (c .before .loop .r) h) }
+mul-read-row c =
+    let h : c .before .before .before .before .before .args .h .actives
+    + c .before .before .before .before .before .args .h .passives ≤ 32 = omega arith in
+    record { fits = omega (arith, mul-le-mul-right (c .before .loop .r) h) }
 
 -- src/routes.rt:153:42
 mul-read-row-2 : tie.Need-mul-read-row-2 Inv-loop μ-loop
-mul-read-row-2 c = let h : c .before .before .before .before .before .args .h .actives + c .before .before .before .before .before .args .h .passives ≤ 32 = omega arith in record { fits = omega (arith, mul-le-mul-right (c .before .loop .r) h) }
+mul-read-row-2 c =
+    let h : c .before .before .before .before .before .args .h .actives
+    + c .before .before .before .before .before .args .h .passives ≤ 32 = omega arith in
+    record { fits = omega (arith, mul-le-mul-right (c .before .loop .r) h) }
 
 -- src/routes.rt:153:37
 add-read-row : tie.Need-add-read-row Inv-loop μ-loop
-add-read-row c = let h : c .before .before .before .before .before .args .h .actives + c .before .before .before .before .before .args .h .passives ≤ 32 = omega arith in record { fits = omega (arith, mul-le-mul-right (c .before .loop .r) h) }
+add-read-row c =
+    let h : c .before .before .before .before .before .args .h .actives
+    + c .before .before .before .before .before .args .h .passives ≤ 32 = omega arith in
+    record { fits = omega (arith, mul-le-mul-right (c .before .loop .r) h) }
 
 -- src/routes.rt:153:64
 mul-read-row-3 : tie.Need-mul-read-row-3 Inv-loop μ-loop
@@ -62,7 +71,13 @@ index-1-read-row-2 c = omega arith
 
 -- src/routes.rt:153:19
 read-row-requires : tie.Need-read-row-requires Inv-loop μ-loop
-read-row-requires c κs = let h : c .before .before .before .before .before .before .before .args .h .actives + c .before .before .before .before .before .before .before .args .h .passives ≤ 32 = omega arith in (omega arith, omega (arith, mul-le-mul-right (c .before .before .before .loop .r) h), c .before .before .before .loop .inv .1 .four _ (omega arith))
+read-row-requires c κs =
+    let h : c .before .before .before .before .before .before .before .args .h .actives
+    + c .before .before .before .before .before .before .before .args .h .passives ≤ 32 = omega arith in (
+      omega arith,
+      omega (arith, mul-le-mul-right (c .before .before .before .loop .r) h),
+      c .before .before .before .loop .inv .1 .four _ (omega arith),
+    )
 
 -- src/routes.rt:152:9
 add-r : tie.Need-add-r Inv-loop μ-loop
@@ -74,7 +89,10 @@ loop-less c = omega arith
 
 -- src/routes.rt:152:5
 loop-again : tie.Need-loop-again Inv-loop μ-loop
-loop-again c = (omega arith, rows-more _ _ _ _ (omega arith) (c .before .before .before .before .loop .inv .1) (c .read-row .ensures))
+loop-again c = (
+  omega arith,
+  rows-more _ _ _ _ (omega arith) (c .before .before .before .before .loop .inv .1) (c .read-row .ensures),
+)
 
 -- src/routes.rt:144:1
 returns : tie.Need-returns Inv-loop μ-loop

@@ -1,0 +1,1 @@
+// Where packets go next, by the tables that Load lends.

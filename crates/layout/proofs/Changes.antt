@@ -3,7 +3,7 @@ use mathlib.Core.Path.{_≡_, refl, sym, ap, ap₂, _∙_, subst}
 use mathlib.Core.Logic.{_≢_, _⊎_, inl, inr}
 use mathlib.Core.Bool.{Bool, true, false}
 use mathlib.Core.List.{List, [], _∷_, _++_, append-assoc, append-nil}
-use Prim.Native.Nat.{ℕ, zero, suc, _+_, _*_, _-_, _<_, _≤_}
+use Prim.Native.Nat.{ℕ, suc, _+_, _*_, _-_, _<_}
 use native.Mathlib.Omega.{arith}
 use lib.ListN.{length, length-append}
 use lib.Seq.{sets, set-at}
@@ -92,11 +92,11 @@ put-unseen {A = A} same same-one f m k a x u = by (test (same x k))
     by (inl e) = u (same-one x k e) ∙ ap (λ (t : Bool). f (pick {A = A} t a (m x))) (sym e)
     by (inr e) = ap (λ (t : Bool). f (pick {A = A} t a (m x))) (sym e)
 
--- ---- the general law: rows of names, each at its number, and a store from which each row takes its value. What is put
--- into the store at a name is put into the row of that name.
+-- ---- the general law: rows of names, each at its number, and a store from which each row takes its value. What is
+-- put into the store at a name is put into the row of that name.
 module _ {N X : Type 0} (same : N → N → Bool) (one : (x : N) → same x x ≡ true)
-    (same-one : (x y : N) → same x y ≡ true → x ≡ y) (number : N → ℕ) (named : ℕ → N) (row : X → N → List ℕ) (m : N → X)
-    (q : N) (v : X) where
+    (same-one : (x y : N) → same x y ≡ true → x ≡ y) (number : N → ℕ) (named : ℕ → N) (row : X → N → List ℕ)
+    (m : N → X) (q : N) (v : X) where
   pub changes-store : (w n at : ℕ) (g h : N → List ℕ) (b c : List ℕ) → ((x : N) → g x ≡ row (m x) x)
       → ((x : N) → h x ≡ row (put same m q v x) x) → ((x : N) → length (g x) ≡ w)
       → ((j : ℕ) → j < n → number (named j) ≡ j) → named (number q) ≡ q → number q < n

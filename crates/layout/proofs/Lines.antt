@@ -2,11 +2,11 @@
 use mathlib.Core.Path.{_≡_, refl, sym, ap, ap₂, _∙_}
 use mathlib.Core.Bool.{Bool}
 use mathlib.Core.List.{List, [], _∷_, _++_, append-assoc}
-use Prim.Native.Nat.{ℕ, zero, suc, _+_, _*_, _-_, _<_, _≤_}
+use Prim.Native.Nat.{ℕ, zero, suc, _+_, _*_, _-_, _<_}
 use native.Mathlib.Nat.{zero-add, suc-add}
 use native.Mathlib.Omega.{arith}
 use lib.ListN.{length, getD, set, length-append}
-use lib.Seq.{sets, set-at, getD-append-add}
+use lib.Seq.{sets, getD-append-add}
 use Rattle.basis.specs.Fold.{upTo, up-same}
 use Rattle.kinds.specs.declared.Credit.{Credit}
 use Rattle.packets.specs.declared.Packet.{Packet}
@@ -119,14 +119,17 @@ module _ (c : Credit) (f m : Bool) (l r : List ℕ) (i : ℕ) (e : i ≡ length 
   abbrev front : ℕ → List ℕ
   front n = c .0 ∷ flagCode f ∷ flagCode m ∷ n ∷ []
 
-  to-places : (n : ℕ) (xs : List Packet) → l ++ ((front n ++ placeBytes places xs) ++ r) ≡ (l ++ front n) ++ (placeBytes places xs ++ r)
+  to-places : (n : ℕ) (xs : List Packet)
+      → l ++ ((front n ++ placeBytes places xs) ++ r) ≡ (l ++ front n) ++ (placeBytes places xs ++ r)
   to-places n xs = sym (append-assoc l (front n) (placeBytes places xs ++ r))
 
   row-length : (xs : List Packet) → lengthAt i (l ++ (rowOf c f m xs ++ r)) ≡ length xs
   row-length xs = get-behind l (rowOf c f m xs ++ r) (i + lengthByte) lengthByte (omega arith)
 
   -- the length byte is set over the places as they are
-  row-count : (n k : ℕ) (xs : List Packet) → set ((l ++ front n) ++ (placeBytes places xs ++ r)) (i + lengthByte) k ≡ l ++ ((front k ++ placeBytes places xs) ++ r)
+  row-count : (n k : ℕ) (xs : List Packet)
+      → set ((l ++ front n) ++ (placeBytes places xs ++ r)) (i + lengthByte) k
+      ≡ l ++ ((front k ++ placeBytes places xs) ++ r)
   row-count n k xs =
       ap (λ b. set b (i + lengthByte) k) (append-assoc l (front n) (placeBytes places xs ++ r))
       ∙ set-behind l (front n ++ (placeBytes places xs ++ r)) (i + lengthByte) lengthByte k (omega arith)
@@ -153,7 +156,8 @@ module _ (c : Credit) (f m : Bool) (l r : List ℕ) (i : ℕ) (e : i ≡ length 
       let b : List ℕ = l ++ (rowOf c f m (x ∷ xs) ++ r) in
       let k : lengthAt i b - 1 ≡ length xs = let n = row-length (x ∷ xs) in omega arith in
       ap (λ n. set (sets (closeUp (i + firstPlace) n b) (placeRow i n) noPacket) (i + lengthByte) n) k
-      ∙ ap (λ t. set (sets (closeUp (i + firstPlace) (length xs) t) (placeRow i (length xs)) noPacket) (i + lengthByte) (length xs))
+      ∙ ap (λ t. set (sets (closeUp (i + firstPlace) (length xs) t) (placeRow i (length xs)) noPacket)
+      (i + lengthByte) (length xs))
       (to-places (suc (length xs)) (x ∷ xs))
       ∙ ap (λ t. set t (i + lengthByte) (length xs))
       (place-pop places x xs (l ++ front (suc (length xs))) r (i + firstPlace) h

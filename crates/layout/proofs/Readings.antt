@@ -1,21 +1,19 @@
 -- What is read at each row of a state's bytes; how many bytes there are; and that every row lies inside.
 use mathlib.Core.Path.{_≡_, refl, ap, _∙_, subst}
-use mathlib.Core.Bool.{Bool}
-use mathlib.Core.List.{List, [], _∷_}
+use mathlib.Core.List.{List, [], _∷_, _++_}
 use Prim.Native.Nat.{ℕ, _+_, _<_, _≤_}
 use native.Mathlib.Omega.{arith}
 use lib.ListN.{length, getD, length-append}
 use Rattle.packets.specs.declared.Packet.{Packet}
 use Rattle.plan.specs.Plan.{Plan, A, R}
-use Rattle.feeding.specs.Queue.{Queue, Exists, number, queues}
+use Rattle.feeding.specs.Queue.{Queue, Exists}
 use Rattle.feeding.specs.Feeds.{Output}
 use Rattle.journeys.proofs.Numbers.{number-below}
-use Rattle.machine.specs.Outputs.{outputs, outputNumber}
 use Rattle.machine.specs.State.{State}
 use Rattle.machine.specs.Valid.{Drives}
 use Rattle.machine.proofs.OutNumbers.{output-below}
 use Rattle.layout.specs.Rows.{RowStands, stands-left, stands-right, stands-get, stands-byte}
-use Rattle.layout.specs.Offsets.{phaseByte, slotByte, lengthByte, firstPlace, packetWidth, slotRoom, queueWidth}
+use Rattle.layout.specs.Offsets.{phaseByte, slotByte, lengthByte, firstPlace, slotRoom, queueWidth}
 use Rattle.layout.specs.Offsets.{outputWidth, queueRow, outputRow, allowanceRow, entryRow, size}
 use Rattle.layout.specs.Codes.{phaseOf, phase-code, flagCode}
 use Rattle.layout.specs.Places.{packetBytes, placeBytes, packetAt, packet-read}
@@ -81,8 +79,8 @@ module _ (pl : Plan) (s : State) (rest b : List ℕ) (e : b ≡ encode pl s rest
     head-at x xs k =
         let front : List ℕ = s .flow .credit q .0 ∷ flagCode (s .flow .flag q) ∷ flagCode (s .lines .handled q)
         ∷ length (x ∷ xs) ∷ [] in
-        let row : RowStands (queueRow pl q) (rowOf (s .flow .credit q) (s .flow .flag q) (s .lines .handled q) (x ∷ xs))
-        b = subst (λ (l : List Packet). RowStands (queueRow pl q)
+        let row : RowStands (queueRow pl q) (front ++ placeBytes 7 (x ∷ xs)) b =
+        subst (λ (l : List Packet). RowStands (queueRow pl q)
         (rowOf (s .flow .credit q) (s .flow .flag q) (s .lines .handled q) l) b) k stands in
         packet-read (queueRow pl q + firstPlace) x b
         (stands-left (queueRow pl q + firstPlace) (packetBytes x) (placeBytes 6 xs) b

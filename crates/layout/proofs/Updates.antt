@@ -1,6 +1,5 @@
 -- A store into a row of a state's bytes gives the bytes of the state with that part changed: one law for each part.
 use mathlib.Core.Path.{_≡_, refl, sym, ap, _∙_, subst}
-use mathlib.Core.Logic.{_≢_}
 use mathlib.Core.Bool.{Bool}
 use mathlib.Core.List.{List, [], _∷_, _++_}
 use Prim.Native.Nat.{ℕ, _+_, _*_, _/_, _%_, _<_, _≤_}
@@ -20,18 +19,17 @@ use Rattle.feeding.specs.Queue.{Queue, Exists, number, queues, queueAt}
 use Rattle.feeding.specs.Feeds.{Output}
 use Rattle.journeys.proofs.Numbers.{queue-at, number-below}
 use Rattle.machine.specs.Outputs.{outputs, outputAt, outputNumber}
-use Rattle.machine.specs.Store.{put, sameQueue, same-queue, queue-same, sameOutput, same-output, output-same, put-here}
-use Rattle.machine.specs.State.{State, Choice, Lines, Flow, Links, withLines, withFlow, withLinks, withTable, withPhase}
+use Rattle.machine.specs.Store.{put, sameQueue, same-queue, queue-same, sameOutput, same-output, output-same}
+use Rattle.machine.specs.State.{State, Choice, Lines, Links, withLines, withFlow, withLinks, withPhase}
 use Rattle.machine.specs.State.{withSlot, withQueue, withHandled, withCredit, withFlag, withAllowance, withWire}
 use Rattle.machine.specs.State.{withChoice, withEntry, join}
 use Rattle.machine.specs.Valid.{Drives}
 use Rattle.machine.proofs.Numbers.{at-number}
 use Rattle.machine.proofs.OutNumbers.{output-at, output-below, at-output}
-use Rattle.layout.specs.Rows.{rows}
 use Rattle.layout.specs.Offsets.{phaseByte, slotByte, queueWidth, outputWidth, entryWidth, creditByte, flagByte}
-use Rattle.layout.specs.Offsets.{handledByte, firstPlace, choiceByte, slotRoom, routerEntries, entryIndex, entries}
+use Rattle.layout.specs.Offsets.{handledByte, firstPlace, choiceByte, slotRoom, routerEntries, entryIndex}
 use Rattle.layout.specs.Offsets.{queuesAt, outputsAt, allowancesAt, tableAt, queueRow, outputRow, allowanceRow}
-use Rattle.layout.specs.Offsets.{entryRow, places}
+use Rattle.layout.specs.Offsets.{entryRow, entries, places}
 use Rattle.layout.specs.Codes.{phaseCode, flagCode, choiceCode, entryCode}
 use Rattle.layout.specs.Places.{packetBytes, placeBytes}
 use Rattle.layout.specs.Encode.{queueBytes, wireBytes, outputBytes, allowanceBytes, entryBytes, entryOfNumber}
@@ -155,7 +153,8 @@ module _ (pl : Plan) (s : State) (rest : List ℕ) where
         → RowChanges (queueRow pl q) (rowWith xs) (rowWith ys) bytes (encode pl (withQueue q ys s) rest)
     unfolding queueBytes
     line-changes xs ys e =
-        subst (λ (l : List Packet). RowChanges (queueRow pl q) (rowWith l) (rowWith ys) bytes (encode pl (withQueue q ys s) rest)) e
+        subst (λ (l : List Packet). RowChanges (queueRow pl q) (rowWith l) (rowWith ys) bytes
+        (encode pl (withQueue q ys s) rest)) e
         (queue-changes q h (λ k x. rowOf (s .flow .credit x) (s .flow .flag x) (s .lines .handled x) k)
         (s .lines .queue) ys
         (record { queue = put sameQueue (s .lines .queue) q ys; handled = s .lines .handled }) (s .flow .credit)

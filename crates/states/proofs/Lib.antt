@@ -1,0 +1,5 @@
+pub mod Agree
+pub mod Bytes
+pub mod Rows
+pub mod Forms
+pub mod Standing

@@ -3,3 +3,4 @@ pub mod Bytes
 pub mod Rows
 pub mod Forms
 pub mod Standing
+pub mod Gathered

@@ -39,14 +39,19 @@ module _ (pl : Plan) where
   pub each-output : (f : Output → Bool) → Decides (everyOutput pl f) ((o : Output) → Drives pl o → f o ≡ true)
   each-output f = every-output pl f (λ o. f o ≡ true) (λ o h. so (f o))
 
-  pub each-side : (f : ℕ → ℕ → Bool)
-      → Decides (allBelow (R pl) (λ r. allBelow 4 (λ o. f r o))) ((r o : ℕ) → r < R pl → o < 4 → f r o ≡ true)
-  each-side f =
+  pub every-side : (f : ℕ → ℕ → Bool) (X : ℕ → ℕ → Type 0)
+      → ((r o : ℕ) → r < R pl → o < 4 → Decides (f r o) (X r o))
+      → Decides (allBelow (R pl) (λ r. allBelow 4 (λ o. f r o))) ((r o : ℕ) → r < R pl → o < 4 → X r o)
+  every-side f X d =
       like
-      (all-below (R pl) (λ r. allBelow 4 (λ o. f r o)) (λ r. (o : ℕ) → o < 4 → f r o ≡ true)
-      (λ r h. all-below 4 (f r) (λ o. f r o ≡ true) (λ o k. so (f r o))))
+      (all-below (R pl) (λ r. allBelow 4 (λ o. f r o)) (λ r. (o : ℕ) → o < 4 → X r o)
+      (λ r h. all-below 4 (f r) (X r) (λ o k. d r o h k)))
       (λ g r o h k. g r h o k)
       (λ g r h o k. g r o h k)
+
+  each-side : (f : ℕ → ℕ → Bool)
+      → Decides (allBelow (R pl) (λ r. allBelow 4 (λ o. f r o))) ((r o : ℕ) → r < R pl → o < 4 → f r o ≡ true)
+  each-side f = every-side f (λ r o. f r o ≡ true) (λ r o h k. so (f r o))
 
 -- a loop behind a test is a test behind each
 behind : {X : Type 0} {T : X → Type 0} (f : X → Bool) (p t : Bool) → Decides t ((x : X) → T x → f x ≡ true)

@@ -4,3 +4,4 @@ pub mod Rows
 pub mod Forms
 pub mod Standing
 pub mod Gathered
+pub mod Equal

@@ -1,8 +1,8 @@
 -- Bytes in range are the codes of what they are read as.
-use mathlib.Core.Path.{_≡_, refl}
+use mathlib.Core.Path.{_≡_, refl, sym, ap, _∙_}
 use mathlib.Core.Bool.{true}
 use mathlib.Core.List.{List}
-use Prim.Native.Nat.{ℕ, zero, suc, _+_, _≤_, _<_}
+use Prim.Native.Nat.{ℕ, zero, suc, _+_, _-_, _≤_, _<_}
 use native.Mathlib.Omega.{arith}
 use lib.Dec.{eqb}
 use lib.ListN.{getD}
@@ -43,3 +43,9 @@ entry-byte (suc n) = refl
 pub zeros-get : (i n : ℕ) (b : List ℕ) → zeros i n b ≡ true → (k : ℕ) → k < n → getD b (i + k) 0 ≡ 0
 unfolding zeros
 zeros-get i n b e k h = eqb-true (getD b (i + k) 0) 0 (all-at n _ e k h)
+
+-- the same by the byte's own offset
+pub zeros-byte : (i n j : ℕ) (b : List ℕ) → zeros i n b ≡ true → i ≤ j → j < i + n → getD b j 0 ≡ 0
+zeros-byte i n j b e h l =
+    let p : i + (j - i) ≡ j = omega arith in
+    ap (λ k. getD b k 0) (sym p) ∙ zeros-get i n b e (j - i) (omega arith)

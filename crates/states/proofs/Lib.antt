@@ -5,3 +5,4 @@ pub mod Forms
 pub mod Standing
 pub mod Gathered
 pub mod Equal
+pub mod Quiet

@@ -1,8 +1,8 @@
 -- Bytes that agree with a row: from an offset on they are the row's, byte by byte. Laws for rows that are made of
 -- others.
-use mathlib.Core.Path.{_≡_, refl, sym, ap, _∙_}
+use mathlib.Core.Path.{_≡_, sym, ap, _∙_}
 use mathlib.Core.Logic.{_⊎_, inl, inr}
-use mathlib.Core.List.{List, [], _∷_, _++_}
+use mathlib.Core.List.{List, [], _++_}
 use Prim.Native.Nat.{ℕ, zero, suc, _+_, _*_, _-_, _≤_, _<_}
 use native.Mathlib.Nat.{add-zero, zero-add, mul-zero, mul-suc, not-suc-le-zero}
 use native.Mathlib.Omega.{arith}
@@ -18,15 +18,9 @@ Agrees at row b = (k : ℕ) → k < length row → getD b (at + k) 0 ≡ getD ro
 pub agrees-at : (at to : ℕ) (row b : List ℕ) → to ≡ at → Agrees at row b → Agrees to row b
 agrees-at at to row b e f k h = ap (λ i. getD b (i + k) 0) e ∙ f k h
 
--- ---- a row byte by byte
+-- ---- no bytes
 pub agrees-none : (at : ℕ) (b : List ℕ) → Agrees at [] b
 agrees-none at b k h = absurd (not-suc-le-zero h)
-
-pub agrees-byte : (at x : ℕ) (row b : List ℕ) → getD b at 0 ≡ x → Agrees (at + 1) row b → Agrees at (x ∷ row) b
-agrees-byte at x row b e f zero h = rw (add-zero at) e
-agrees-byte at x row b e f (suc k) h =
-    let p : at + suc k ≡ at + 1 + k = omega arith in
-    ap (λ i. getD b i 0) p ∙ f k (omega arith)
 
 -- ---- two rows, one behind the other
 pub agrees-append : (at to : ℕ) (x y b : List ℕ) → to ≡ at + length x → Agrees at x b → Agrees to y b

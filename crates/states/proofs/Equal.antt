@@ -77,8 +77,7 @@ module _ (pl : Plan) (b : List ℕ) where
       let first = header-decides .holds (c .0) in
       let outputs = outputs-decide .holds (d .0) in
       let queues = queues-decide .holds (f .0) in
-      let tables = tables-decide .holds (h .1) in
-      (
+      let tables = tables-decide .holds (h .1) in (
         record {
           long = leb-true (size pl) (length b) (a .0);
           phase = first .0;

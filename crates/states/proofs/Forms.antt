@@ -1,7 +1,7 @@
 -- Bytes whose rows all have their form are those of a state.
 use mathlib.Core.Path.{_≡_, refl, sym, ap, _∙_}
 use mathlib.Core.Bool.{true}
-use mathlib.Core.List.{List, [], _∷_, _++_}
+use mathlib.Core.List.{List, [], _++_}
 use Prim.Native.Nat.{ℕ, zero, suc, _+_, _*_, _/_, _%_, _≤_, _<_}
 use native.Mathlib.Omega.{arith}
 use lib.ListN.{length, getD}
@@ -15,12 +15,12 @@ use Rattle.machine.specs.Valid.{Drives}
 use Rattle.machine.proofs.Numbers.{exists-at, at-number}
 use Rattle.machine.proofs.OutNumbers.{drives-at, at-output}
 use Rattle.layout.specs.Rows.{front}
-use Rattle.layout.specs.Offsets.{phaseByte, queueWidth, outputWidth, entryWidth, routerEntries, slotRoom, entries, entryIndex}
+use Rattle.layout.specs.Offsets.{phaseByte, queueWidth, outputWidth, entryWidth, routerEntries, slotRoom, entries}
 use Rattle.layout.specs.Offsets.{queuesAt, outputsAt, allowancesAt, tableAt, size, queueRow, outputRow, allowanceRow}
 use Rattle.layout.specs.Offsets.{entryRow}
 use Rattle.layout.specs.Encode.{queueBytes, outputBytes, allowanceBytes, entryBytes, entryOfNumber, header, queuePart}
-use Rattle.layout.specs.Encode.{outputPart, allowancePart, tablePart, encode, length-queue, length-output, length-queues}
-use Rattle.layout.specs.Encode.{length-outputs, length-allowances, length-table, length-encode}
+use Rattle.layout.specs.Encode.{outputPart, allowancePart, tablePart, encode, length-queue, length-output}
+use Rattle.layout.specs.Encode.{length-queues, length-outputs, length-allowances, length-table, length-encode}
 use Rattle.layout.specs.Decode.{decode}
 use Rattle.layout.specs.Canonical.{canonical}
 use Rattle.layout.proofs.Numbering.{entry-named}
@@ -90,8 +90,8 @@ module _ (pl : Plan) (b : List ℕ) (f : Formed pl b) where
 
   from-allowances : Agrees (allowancesAt pl) (allowancePart pl (decode pl b) ++ (tablePart pl (decode pl b) ++ [])) b
   from-allowances =
-      agrees-append (allowancesAt pl) (tableAt pl) (allowancePart pl (decode pl b)) (tablePart pl (decode pl b) ++ []) b
-      (let l = length-allowances pl (decode pl b) in omega arith) allowances-agree from-table
+      agrees-append (allowancesAt pl) (tableAt pl) (allowancePart pl (decode pl b)) (tablePart pl (decode pl b) ++ [])
+      b (let l = length-allowances pl (decode pl b) in omega arith) allowances-agree from-table
 
   from-outputs : Agrees (outputsAt pl)
       (outputPart pl (decode pl b) ++ (allowancePart pl (decode pl b) ++ (tablePart pl (decode pl b) ++ []))) b

@@ -1,35 +1,26 @@
--- Refusal 7's tests gathered by place: what is asked of all queues, outputs, choices and sides, each of them by itself.
-use mathlib.Core.Path.{_≡_, refl, sym, _∙_}
-use mathlib.Core.Logic.{_⊎_, inl, inr}
-use mathlib.Core.Bool.{Bool, true, false, not, _||_, false≢true}
-use mathlib.Core.List.{List, [], _∷_}
-use Prim.Native.Nat.{ℕ, suc, _+_, _<_}
-use native.Mathlib.Omega.{arith}
-use lib.Dec.{eqb, leb}
-use lib.ListN.{length}
-use borrow.Author.Tests.{ne-eqb}
-use Rattle.basis.specs.Choice.{pick, also, also-true, also-of}
-use Rattle.basis.specs.Bounded.{anyBelow, allBelow, or-cases, or-right}
-use Rattle.packets.specs.declared.Packet.{Packet}
+-- Refusal 7's tests gathered by place: what they ask of all queues, outputs, choices and sides, of each by itself.
+use mathlib.Core.Path.{_≡_, refl}
+use mathlib.Core.Bool.{Bool, true, false, not, _||_}
+use Prim.Native.Nat.{ℕ, _<_}
+use Rattle.basis.specs.Choice.{also-true, also-of}
+use Rattle.basis.specs.Bounded.{anyBelow, allBelow}
 use Rattle.packets.specs.declared.Phase.the-variants.{Read, Execute, Write}
 use Rattle.plan.specs.Plan.{Plan, R, S}
 use Rattle.feeding.specs.Queue.{Queue, Exists}
-use Rattle.feeding.specs.Role.{isUnit}
 use Rattle.feeding.specs.Feeds.{Output}
-use Rattle.machine.specs.Capacity.{capacity}
-use Rattle.machine.specs.Outputs.{senders}
-use Rattle.machine.specs.State.{State, Choice, nobody, sender, isFree, isFull}
-use Rattle.machine.specs.Write.{ofRank}
-use Rattle.machine.specs.Visits.{isEmpty}
+use Rattle.machine.specs.State.{State, isFree, isFull}
 use Rattle.machine.specs.Calls.{isPhase}
-use Rattle.machine.specs.Valid.{Drives, bit, onWires, fed}
-use Rattle.valid.specs.Test.{linedTest, wireTest, mayTest, choiceTest, downTest, pickedTest, entryTest, everyQueue}
-use Rattle.valid.specs.Test.{everyOutput, slotTest, entriesTest, capacitiesTest, placesTest, wiresTest, wiresEmptyTest}
-use Rattle.valid.specs.Test.{choicesTest, flagsDownTest, pickedDownTest, outFlagsTest, marksTest, freeEntryTest}
-use Rattle.valid.specs.Test.{creditsTest, outCreditsTest, allowancesTest, validTest}
-use Rattle.valid.proofs.Decides.{Decides, like, so, if-so, if-not, all-below}
+use Rattle.machine.specs.Valid.{Drives}
+use Rattle.valid.specs.Test.{wireTest, choiceTest, pickedTest, entryTest, everyQueue, everyOutput, slotTest}
+use Rattle.valid.specs.Test.{entriesTest, capacitiesTest, placesTest, wiresTest, wiresEmptyTest, choicesTest}
+use Rattle.valid.specs.Test.{flagsDownTest, pickedDownTest, outFlagsTest, marksTest, freeEntryTest, creditsTest}
+use Rattle.valid.specs.Test.{outCreditsTest, allowancesTest, validTest}
+use Rattle.valid.proofs.Decides.{Decides, like, so, all-below}
 use Rattle.valid.proofs.Parts.{every-queue, every-output}
-use Rattle.states.specs.Parts.{frameTest, queueTest, isNobody, outputTest, pickTestOf, pickTest, sideTest}
+use Rattle.states.specs.Parts.{queueTest, isNobody, outputTest, pickTest, sideTest}
+use Rattle.states.proofs.Queues.{roomed, lined, lowered, unraised, marked, accounted, unspent, QueuePasses}
+use Rattle.states.proofs.Queues.{queue-passes}
+use Rattle.states.proofs.Choices.{choice-gathers, choice-scatters}
 
 -- ---- loops over places tell of each of them
 module _ (pl : Plan) where
@@ -58,107 +49,6 @@ behind : {X : Type 0} {T : X → Type 0} (f : X → Bool) (p t : Bool) → Decid
     → Decides (p || t) ((x : X) → T x → (p || f x) ≡ true)
 behind f true t d = record { holds = λ e x h. refl; passes = λ g. refl }
 behind f false t d = d
-
--- ---- a queue
-module _ (pl : Plan) (s : State) where
-  -- the seven tests of one queue
-  abbrev pub roomed : Queue → Bool
-  roomed q = leb (length (s .lines .queue q)) (capacity (pl .head) q)
-
-  abbrev pub lined : Queue → Bool
-  lined q = linedTest pl q (s .lines .handled q) (s .lines .queue q)
-
-  abbrev pub lowered : Queue → Bool
-  lowered q = not (isPhase (s .clock .phase) Execute) || not (s .flow .flag q)
-
-  abbrev pub unraised : Queue → Bool
-  unraised q = fed pl q || not (s .flow .flag q)
-
-  abbrev pub marked : Queue → Bool
-  marked q = not (s .lines .handled q) || also (isUnit q) (not (isEmpty (s .lines .queue q)))
-
-  abbrev pub accounted : Queue → Bool
-  accounted q =
-      not (fed pl q) || eqb (s .flow .credit q .0 + length (s .lines .queue q) + onWires pl q s + bit (s .flow .flag q))
-      (capacity (pl .head) q)
-
-  abbrev pub unspent : Queue → Bool
-  unspent q = fed pl q || eqb (s .flow .credit q .0) (capacity (pl .head) q)
-
-pub record QueuePasses (pl : Plan) (s : State) (q : Queue) : Type 0 where
-  pub room : roomed pl s q ≡ true
-  pub line : lined pl s q ≡ true
-  pub lower : lowered pl s q ≡ true
-  pub unraise : unraised pl s q ≡ true
-  pub mark : marked pl s q ≡ true
-  pub account : accounted pl s q ≡ true
-  pub unspend : unspent pl s q ≡ true
-
--- a choice between two tests is a test behind each
-pub pick-both : (t x y : Bool) → pick t x y ≡ true → ((not t || x) ≡ true) × ((t || y) ≡ true)
-pick-both true x y e = (e, refl)
-pick-both false x y e = (refl, e)
-
-pub both-pick : (t x y : Bool) → (not t || x) ≡ true → (t || y) ≡ true → pick t x y ≡ true
-both-pick true x y e f = e
-both-pick false x y e f = f
-
-empty-length : (xs : List Packet) → eqb (length xs) 0 ≡ isEmpty xs
-empty-length [] = refl
-empty-length (x ∷ xs) = ne-eqb (suc (length xs)) 0 (λ e. omega arith)
-
-mark-length : (q : Queue) (done : Bool) (xs : List Packet)
-    → (not done || also (isUnit q) (not (eqb (length xs) 0))) ≡ (not done || also (isUnit q) (not (isEmpty xs)))
-mark-length q done xs = rw (empty-length xs)
-
--- together they are the test of a queue
-pub queue-passes : (pl : Plan) (s : State) (q : Queue) → Decides (queueTest pl s q) (QueuePasses pl s q)
-unfolding queueTest frameTest
-queue-passes pl s q =
-    record {
-      holds = λ e.
-          let a = also-true e in
-          let b = also-true (a .0) in
-          let c = also-true (b .1) in
-          let d = also-true (c .1) in
-          let f = also-true (d .1) in
-          let g = pick-both (fed pl q) _ _ (f .1) in
-          record {
-            room = b .0;
-            line = a .1;
-            lower = c .0;
-            unraise = d .0;
-            mark = sym (mark-length q (s .lines .handled q) (s .lines .queue q)) ∙ f .0;
-            account = g .0;
-            unspend = g .1;
-          };
-      passes = λ p.
-          also-of
-          (also-of (p .room) (also-of (p .lower) (also-of (p .unraise)
-          (also-of (mark-length q (s .lines .handled q) (s .lines .queue q) ∙ p .mark)
-          (both-pick (fed pl q) _ _ (p .account) (p .unspend))))))
-          (p .line);
-    }
-
--- ---- a choice
-module _ (pl : Plan) (s : State) (o : Output) where
-  pub choice-gathers : (c : Choice) → choiceTest pl s o c ≡ true → pickedTest s o c ≡ true
-      → ((isPhase (s .clock .phase) Write || isNobody c) ≡ true) × (pickTestOf pl s o c ≡ true)
-  choice-gathers nobody e f = (or-right (isPhase (s .clock .phase) Write), refl)
-  choice-gathers (sender k) e f =
-      let p = also-true {a = isPhase (s .clock .phase) Write} {b = mayTest pl s o (ofRank (senders o) k)} e in
-      (rw (p .0), also-of (p .1) f)
-
-  pub choice-scatters : (c : Choice) → (isPhase (s .clock .phase) Write || isNobody c) ≡ true
-      → pickTestOf pl s o c ≡ true → (choiceTest pl s o c ≡ true) × (pickedTest s o c ≡ true)
-  choice-scatters nobody e f = (refl, refl)
-  choice-scatters (sender k) e f =
-      let p = also-true {a = mayTest pl s o (ofRank (senders o) k)} {b = downTest s (ofRank (senders o) k)} f in
-      (also-of (by (or-cases (isPhase (s .clock .phase) Write) false e)) (p .0), p .1)
-    where
-      by : (isPhase (s .clock .phase) Write ≡ true) ⊎ (false ≡ true) → isPhase (s .clock .phase) Write ≡ true
-      by (inl t) = t
-      by (inr t) = absurd (false≢true t)
 
 -- ---- the whole
 -- what is asked of each place

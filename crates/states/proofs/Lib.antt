@@ -3,6 +3,8 @@ pub mod Bytes
 pub mod Rows
 pub mod Forms
 pub mod Standing
+pub mod Queues
+pub mod Choices
 pub mod Gathered
 pub mod Equal
 pub mod Quiet

@@ -1,11 +1,10 @@
 -- Rows of zero bytes pass: an idle output, an idle queue. Where all are idle no packet is anywhere.
-use mathlib.Core.Path.{_≡_, refl, ap, _∙_}
-use mathlib.Core.Bool.{Bool, true, false, not, _||_}
+use mathlib.Core.Path.{_≡_, refl, ap}
+use mathlib.Core.Bool.{true, false, not}
 use mathlib.Core.List.{List, []}
 use Prim.Native.Nat.{ℕ, zero, suc, _+_, _*_, _≤_, _<_}
 use native.Mathlib.Nat.{add-zero}
 use native.Mathlib.Omega.{arith}
-use lib.Dec.{eqb}
 use lib.ListN.{getD}
 use borrow.Author.Tests.{le-leb, eq-eqb}
 use Rattle.basis.specs.Choice.{also-of}
@@ -24,21 +23,22 @@ use Rattle.machine.specs.Valid.{Drives, sum, brings, onWires, inAll, inWire, to
 use Rattle.machine.proofs.Numbers.{exists-at}
 use Rattle.machine.proofs.OutNumbers.{drives-at}
 use Rattle.layout.specs.Named.{exists-test, drives-test}
-use Rattle.layout.specs.Offsets.{places, packetWidth, creditByte, flagByte, handledByte, lengthByte, firstPlace, wireByte}
-use Rattle.layout.specs.Offsets.{wirePacket, choiceByte, outputWidth, queueRow, outputRow}
+use Rattle.layout.specs.Offsets.{places, packetWidth, firstPlace, wireByte, wirePacket, choiceByte, outputWidth}
+use Rattle.layout.specs.Offsets.{queueRow, outputRow}
 use Rattle.layout.specs.Decode.{decode}
 use Rattle.states.specs.Forms.{zeros, placesForm, queueForm, outputForm}
-use Rattle.states.specs.Parts.{queueTest, outputTest, pickTest}
+use Rattle.states.specs.Parts.{outputTest, pickTest}
 use Rattle.states.specs.Check.{outputRowTest, queueRowTest}
 use Rattle.states.proofs.Bytes.{zeros-get, zeros-byte}
 use Rattle.states.proofs.Rows.{packets-none}
-use Rattle.states.proofs.Gathered.{QueuePasses, queue-passes}
+use Rattle.states.proofs.Queues.{QueuePasses, queue-passes}
 
 -- ---- bytes
 -- zero bytes within zero bytes
 pub zeros-part : (i n j m : ℕ) (b : List ℕ) → zeros i n b ≡ true → i ≤ j → j + m ≤ i + n → zeros j m b ≡ true
 unfolding zeros
-zeros-part i n j m b e h l = all-of m _ (λ k g. eq-eqb (getD b (j + k) 0) 0 (zeros-byte i n (j + k) b e (omega arith) (omega arith)))
+zeros-part i n j m b e h l =
+    all-of m _ (λ k g. eq-eqb (getD b (j + k) 0) 0 (zeros-byte i n (j + k) b e (omega arith) (omega arith)))
 
 zeros-places : (c i : ℕ) (b : List ℕ) → zeros i (packetWidth * c) b ≡ true → placesForm c 0 i b ≡ true
 unfolding placesForm
@@ -49,7 +49,8 @@ zeros-places (suc c) i b e =
     (zeros-part i (packetWidth * suc c) (i + packetWidth) (packetWidth * c) b e (omega arith) (omega arith)))
 
 -- ---- an output whose seven bytes are zero
-module _ (pl : Plan) (b : List ℕ) (o : Output) (e : zeros (outputRow pl o) outputWidth b ≡ true) (h : Drives pl o) where
+module _ (pl : Plan) (b : List ℕ) (o : Output) (e : zeros (outputRow pl o) outputWidth b ≡ true)
+    (h : Drives pl o) where
   pub zeros-wire : decode pl b .links .wire o ≡ Empty
   unfolding decode
   zeros-wire = rw (drives-test pl o h, zeros-get (outputRow pl o) outputWidth b e wireByte (omega arith))
@@ -62,13 +63,15 @@ module _ (pl : Plan) (b : List ℕ) (o : Output) (e : zeros (outputRow pl o) out
   unfolding outputForm
   zeros-output-form =
       rw (zeros-get (outputRow pl o) outputWidth b e wireByte (omega arith))
-      (zeros-part (outputRow pl o) outputWidth (outputRow pl o + wirePacket) packetWidth b e (omega arith) (omega arith))
+      (zeros-part (outputRow pl o) outputWidth (outputRow pl o + wirePacket) packetWidth b e (omega arith)
+      (omega arith))
 
   zeros-output-test : outputTest pl (decode pl b) o ≡ true
   unfolding outputTest
   zeros-output-test =
       rw (zeros-wire, zeros-choice)
-      (also-of (or-right (isPhase (decode pl b .clock .phase) Read)) (or-right (isPhase (decode pl b .clock .phase) Write)))
+      (also-of (or-right (isPhase (decode pl b .clock .phase) Read))
+      (or-right (isPhase (decode pl b .clock .phase) Write)))
 
   -- its row passes, it picked nobody, and its wire is empty
   pub zeros-output : (outputRowTest pl b o ≡ true) × (pickTest pl (decode pl b) o ≡ true)
@@ -117,7 +120,13 @@ module _ (pl : Plan) (b : List ℕ) (q : Queue) (e : zeros (queueRow pl q + 1) 3
           unraise = rw zeros-flag (or-right (fed pl q));
           mark = rw zeros-mark;
           account =
-              rw (zeros-queue, zeros-flag, w, credit-is, eq-eqb (capacity (pl .head) q + 0 + 0 + 0) (capacity (pl .head) q) (omega arith))
+              rw (
+                zeros-queue,
+                zeros-flag,
+                w,
+                credit-is,
+                eq-eqb (capacity (pl .head) q + 0 + 0 + 0) (capacity (pl .head) q) (omega arith),
+              )
               (or-right (not (fed pl q)));
           unspend = rw (credit-is, eq-eqb (capacity (pl .head) q) (capacity (pl .head) q) refl) (or-right (fed pl q));
         }
@@ -138,7 +147,8 @@ unfolding sum
 sum-nothing zero f h = refl
 sum-nothing (suc n) f h = rw (sum-nothing n f (λ i l. h i (omega arith)), h n (omega arith))
 
-module _ (pl : Plan) (b : List ℕ) (out : (o : Output) → Drives pl o → zeros (outputRow pl o) outputWidth b ≡ true) where
+module _ (pl : Plan) (b : List ℕ)
+    (out : (o : Output) → Drives pl o → zeros (outputRow pl o) outputWidth b ≡ true) where
   -- where every output is idle no wire brings a packet
   pub quiet-wires : (q : Queue) → onWires pl q (decode pl b) ≡ 0
   unfolding onWires

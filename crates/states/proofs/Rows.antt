@@ -1,15 +1,15 @@
 -- A row that has its form agrees with the bytes that the layout gives to what is read from it.
 use mathlib.Core.Path.{_≡_, refl, sym, ap, subst⁻¹}
 use mathlib.Core.Logic.{_⊎_, inl, inr}
-use mathlib.Core.Bool.{Bool, true, false, _||_}
+use mathlib.Core.Bool.{true, false, _||_}
 use mathlib.Core.List.{List, [], _∷_}
 use Prim.Native.Nat.{ℕ, zero, suc, _+_, _≤_, _<_}
 use native.Mathlib.Nat.{add-zero}
 use native.Mathlib.Omega.{arith}
 use lib.Dec.{eqb, ltb, leb}
 use lib.ListN.{length, getD}
-use borrow.Author.Tests.{ltb-true, lt-ltb, leb-true, eqb-true}
-use Rattle.basis.specs.Choice.{pick, also, test, also-true}
+use borrow.Author.Tests.{lt-ltb, leb-true, eqb-true}
+use Rattle.basis.specs.Choice.{pick, test, also-true}
 use Rattle.basis.specs.Bounded.{all-at}
 use Rattle.plan.specs.Plan.{Plan, A, R, S}
 use Rattle.feeding.specs.Queue.{Queue, Exists}
@@ -17,9 +17,9 @@ use Rattle.feeding.specs.Feeds.{Output}
 use Rattle.machine.specs.State.{blank}
 use Rattle.machine.specs.Valid.{Drives}
 use Rattle.layout.specs.Named.{exists-test, drives-test}
-use Rattle.layout.specs.Offsets.{places, packetKind, packetWidth, flagByte, handledByte, lengthByte, firstPlace, wireByte}
+use Rattle.layout.specs.Offsets.{places, packetKind, packetWidth, flagByte, handledByte, firstPlace, wireByte}
 use Rattle.layout.specs.Offsets.{wirePacket, choiceByte, slotRoom, queueRow, outputRow, allowanceRow, entryRow}
-use Rattle.layout.specs.Codes.{flagCode, flagOf, choiceCode, choiceOf}
+use Rattle.layout.specs.Codes.{flagCode, flagOf, choiceCode}
 use Rattle.layout.specs.Places.{packetBytes, noPacket, placeBytes, packetAt, packetsAt}
 use Rattle.layout.specs.Encode.{queueBytes, wireBytes, outputBytes, allowanceBytes, entryBytes, length-wire}
 use Rattle.layout.specs.Decode.{flagAt, markAt, lengthAt, queueIn, wireFrom, wireAt, choiceAt, decode}
@@ -125,7 +125,8 @@ wire-agrees i b e =
     by zero w h t = agrees-append i (i + wirePacket) (0 ∷ []) noPacket b refl (byte-agrees i 0 b w)
         (nothing-agrees (i + wirePacket) b t)
     by (suc zero) w h t = agrees-append i (i + wirePacket) (1 ∷ []) (packetBytes (packetAt (i + wirePacket) b)) b refl
-        (byte-agrees i 1 b w) (packet-agrees (i + wirePacket) b (leb-true (getD b (i + wirePacket + packetKind) 0) 3 t))
+        (byte-agrees i 1 b w)
+        (packet-agrees (i + wirePacket) b (leb-true (getD b (i + wirePacket + packetKind) 0) 3 t))
     by (suc (suc n)) w h t = absurd (omega arith)
 
 pub output-agrees : (pl : Plan) (b : List ℕ) (o : Output) → Drives pl o → outputForm (outputRow pl o) b ≡ true

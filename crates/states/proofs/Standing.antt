@@ -1,27 +1,26 @@
 -- The bytes of a state have the forms of their rows.
-use mathlib.Core.Path.{_≡_, refl, sym, ap, _∙_}
+use mathlib.Core.Path.{_≡_, refl, ap, _∙_}
 use mathlib.Core.Logic.{_⊎_, inl, inr}
-use mathlib.Core.Bool.{Bool, true, false, _||_}
+use mathlib.Core.Bool.{true, _||_}
 use mathlib.Core.List.{List, [], _∷_}
 use Prim.Native.Nat.{ℕ, zero, suc, _+_, _≤_, _<_}
-use native.Mathlib.Nat.{add-zero}
 use native.Mathlib.Omega.{arith}
 use lib.Dec.{eqb, ltb, leb}
 use lib.ListN.{length, getD, length-append}
 use borrow.Author.Tests.{lt-ltb, le-leb, eq-eqb}
-use Rattle.basis.specs.Choice.{also, also-of}
+use Rattle.basis.specs.Choice.{also-of}
 use Rattle.basis.specs.Bounded.{all-of, lt-or-ge, or-right}
 use Rattle.packets.specs.declared.Packet.{Packet}
 use Rattle.packets.specs.declared.Wire.{Wire}
 use Rattle.packets.specs.declared.Wire.the-variants.{Empty, Full}
 use Rattle.plan.specs.Plan.{Plan, R, S}
-use Rattle.feeding.specs.Queue.{Queue, Exists}
+use Rattle.feeding.specs.Queue.{Queue}
 use Rattle.feeding.specs.Feeds.{Output}
 use Rattle.machine.specs.State.{State, blank}
-use Rattle.machine.specs.Valid.{Drives, Bounded}
+use Rattle.machine.specs.Valid.{Bounded}
 use Rattle.layout.specs.Rows.{RowStands, stands-left, stands-right, stands-get, stands-byte}
-use Rattle.layout.specs.Offsets.{phaseByte, places, packetKind, packetWidth, flagByte, handledByte, lengthByte, firstPlace}
-use Rattle.layout.specs.Offsets.{wireByte, wirePacket, slotRoom, size, entryRow}
+use Rattle.layout.specs.Offsets.{phaseByte, places, packetKind, packetWidth, flagByte, handledByte, lengthByte}
+use Rattle.layout.specs.Offsets.{firstPlace, wireByte, wirePacket, slotRoom, size, entryRow}
 use Rattle.layout.specs.Codes.{flagCode, choiceCode, entryCode, phase-small, kind-small, flag-small}
 use Rattle.layout.specs.Places.{packetBytes, noPacket, placeBytes}
 use Rattle.layout.specs.Encode.{queueBytes, wireBytes, outputBytes, entryBytes, encode, encode-append, length-encode}

@@ -1,0 +1,124 @@
+-- Bytes whose rows all have their form are those of a state.
+use mathlib.Core.Path.{_≡_, refl, sym, ap, _∙_}
+use mathlib.Core.Bool.{true}
+use mathlib.Core.List.{List, [], _++_}
+use Prim.Native.Nat.{ℕ, zero, suc, _+_, _*_, _/_, _%_, _≤_, _<_}
+use native.Mathlib.Omega.{arith}
+use lib.ListN.{length, getD}
+use borrow.Author.Tests.{le-leb}
+use Rattle.basis.specs.Choice.{also-of}
+use Rattle.plan.specs.Plan.{Plan, A, R}
+use Rattle.feeding.specs.Queue.{Queue, Exists, queues, queueAt}
+use Rattle.feeding.specs.Feeds.{Output}
+use Rattle.machine.specs.Outputs.{outputs, outputAt}
+use Rattle.machine.specs.Valid.{Drives}
+use Rattle.machine.proofs.Numbers.{exists-at, at-number}
+use Rattle.machine.proofs.OutNumbers.{drives-at, at-output}
+use Rattle.layout.specs.Rows.{front}
+use Rattle.layout.specs.Offsets.{phaseByte, queueWidth, outputWidth, entryWidth, routerEntries, slotRoom, entries}
+use Rattle.layout.specs.Offsets.{queuesAt, outputsAt, allowancesAt, tableAt, size, queueRow, outputRow, allowanceRow}
+use Rattle.layout.specs.Offsets.{entryRow}
+use Rattle.layout.specs.Encode.{queueBytes, outputBytes, allowanceBytes, entryBytes, entryOfNumber, header, queuePart}
+use Rattle.layout.specs.Encode.{outputPart, allowancePart, tablePart, encode, length-queue, length-output}
+use Rattle.layout.specs.Encode.{length-queues, length-outputs, length-allowances, length-table, length-encode}
+use Rattle.layout.specs.Decode.{decode}
+use Rattle.layout.specs.Canonical.{canonical}
+use Rattle.layout.proofs.Numbering.{entry-named}
+use Rattle.layout.proofs.StateBytes.{bytes-same}
+use Rattle.states.specs.Forms.{queueForm, outputForm, sideForm}
+use Rattle.states.proofs.Agree.{Agrees, agrees-at, agrees-none, agrees-append, agrees-all, agrees-front}
+use Rattle.states.proofs.Bytes.{phase-byte}
+use Rattle.states.proofs.Rows.{queue-agrees, output-agrees, allowance-agrees, entry-agrees}
+
+-- what of the bytes themselves must hold
+pub record Formed (pl : Plan) (b : List ℕ) : Type 0 where
+  pub long : size pl ≤ length b
+  pub phase : getD b phaseByte 0 ≤ 2
+  pub queue : (q : Queue) → Exists pl q → queueForm (queueRow pl q) b ≡ true
+  pub output : (o : Output) → Drives pl o → outputForm (outputRow pl o) b ≡ true
+  pub side : (r o : ℕ) → r < R pl → o < 4 → sideForm pl r o b ≡ true
+
+module _ (pl : Plan) (b : List ℕ) (f : Formed pl b) where
+  header-agrees : Agrees 0 (header (decode pl b)) b
+  unfolding decode
+  header-agrees zero l = sym (phase-byte (getD b phaseByte 0) (f .phase))
+  header-agrees (suc zero) l = refl
+  header-agrees (suc (suc k)) l = absurd (omega arith)
+
+  queues-agree : Agrees queuesAt (queuePart pl (decode pl b)) b
+  unfolding queueRow
+  queues-agree =
+      agrees-all queueWidth (queues pl) queuesAt (λ n. queueBytes (decode pl b) (queueAt pl n)) b
+      (λ n. length-queue (decode pl b) (queueAt pl n))
+      (λ n h. let q : Queue = queueAt pl n in
+      agrees-at (queueRow pl q) (queuesAt + queueWidth * n) (queueBytes (decode pl b) q) b (rw (at-number pl n h))
+      (queue-agrees pl b q (exists-at pl n h) (f .queue q (exists-at pl n h))))
+
+  outputs-agree : Agrees (outputsAt pl) (outputPart pl (decode pl b)) b
+  unfolding outputRow
+  outputs-agree =
+      agrees-all outputWidth (outputs pl) (outputsAt pl) (λ n. outputBytes (decode pl b) (outputAt pl n)) b
+      (λ n. length-output (decode pl b) (outputAt pl n))
+      (λ n h. let o : Output = outputAt pl n in
+      agrees-at (outputRow pl o) (outputsAt pl + outputWidth * n) (outputBytes (decode pl b) o) b
+      (rw (at-output pl n h))
+      (output-agrees pl b o (drives-at pl n h) (f .output o (drives-at pl n h))))
+
+  allowances-agree : Agrees (allowancesAt pl) (allowancePart pl (decode pl b)) b
+  unfolding allowanceRow
+  allowances-agree =
+      agrees-all 1 (A pl) (allowancesAt pl) (allowanceBytes (decode pl b)) b (λ n. refl)
+      (λ n h. agrees-at (allowanceRow pl n) (allowancesAt pl + 1 * n) (allowanceBytes (decode pl b) n) b (omega arith)
+      (allowance-agrees pl b n h))
+
+  table-agrees : Agrees (tableAt pl) (tablePart pl (decode pl b)) b
+  unfolding entryRow
+  table-agrees =
+      agrees-all entryWidth (entries pl) (tableAt pl) (λ n. entryBytes (entryOfNumber (decode pl b) n)) b (λ n. refl)
+      (λ n h. let e = entry-named pl n h in
+      agrees-at (entryRow pl (n / routerEntries) (n % routerEntries / slotRoom) (n % slotRoom))
+      (tableAt pl + entryWidth * n) (entryBytes (entryOfNumber (decode pl b) n)) b (rw (e .3))
+      (entry-agrees pl b (n / routerEntries) (n % routerEntries / slotRoom) (n % slotRoom) (e .0) (e .1) (e .2)
+      (f .side (n / routerEntries) (n % routerEntries / slotRoom) (e .0) (e .1))))
+
+  -- the parts, one behind the other
+  from-table : Agrees (tableAt pl) (tablePart pl (decode pl b) ++ []) b
+  unfolding size
+  from-table =
+      agrees-append (tableAt pl) (size pl) (tablePart pl (decode pl b)) [] b
+      (let l = length-table pl (decode pl b) in omega arith) table-agrees (agrees-none (size pl) b)
+
+  from-allowances : Agrees (allowancesAt pl) (allowancePart pl (decode pl b) ++ (tablePart pl (decode pl b) ++ [])) b
+  from-allowances =
+      agrees-append (allowancesAt pl) (tableAt pl) (allowancePart pl (decode pl b)) (tablePart pl (decode pl b) ++ [])
+      b (let l = length-allowances pl (decode pl b) in omega arith) allowances-agree from-table
+
+  from-outputs : Agrees (outputsAt pl)
+      (outputPart pl (decode pl b) ++ (allowancePart pl (decode pl b) ++ (tablePart pl (decode pl b) ++ []))) b
+  from-outputs =
+      agrees-append (outputsAt pl) (allowancesAt pl) (outputPart pl (decode pl b))
+      (allowancePart pl (decode pl b) ++ (tablePart pl (decode pl b) ++ [])) b (rw (length-outputs pl (decode pl b)))
+      outputs-agree from-allowances
+
+  from-queues : Agrees queuesAt (queuePart pl (decode pl b) ++ (outputPart pl (decode pl b)
+      ++ (allowancePart pl (decode pl b) ++ (tablePart pl (decode pl b) ++ [])))) b
+  from-queues =
+      agrees-append queuesAt (outputsAt pl) (queuePart pl (decode pl b))
+      (outputPart pl (decode pl b) ++ (allowancePart pl (decode pl b) ++ (tablePart pl (decode pl b) ++ []))) b
+      (rw (length-queues pl (decode pl b))) queues-agree from-outputs
+
+  state-agrees : Agrees 0 (encode pl (decode pl b) []) b
+  unfolding encode
+  state-agrees =
+      agrees-append 0 queuesAt (header (decode pl b)) (queuePart pl (decode pl b) ++ (outputPart pl (decode pl b)
+      ++ (allowancePart pl (decode pl b) ++ (tablePart pl (decode pl b) ++ [])))) b refl header-agrees from-queues
+
+  -- so they are those of the state that they tell
+  pub formed-canonical : canonical pl b ≡ true
+  unfolding canonical
+  formed-canonical =
+      let n = length-encode pl (decode pl b) in
+      let g = f .long in
+      let e : front (size pl) b ≡ encode pl (decode pl b) [] =
+      ap (λ k. front k b) (sym n) ∙ agrees-front (encode pl (decode pl b) []) b (omega arith) state-agrees in
+      also-of (le-leb (size pl) (length b) (f .long)) (rw e (bytes-same (encode pl (decode pl b) [])))

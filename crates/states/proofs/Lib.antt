@@ -1,0 +1,10 @@
+pub mod Agree
+pub mod Bytes
+pub mod Rows
+pub mod Forms
+pub mod Standing
+pub mod Queues
+pub mod Choices
+pub mod Gathered
+pub mod Equal
+pub mod Quiet

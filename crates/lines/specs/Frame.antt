@@ -28,9 +28,12 @@ placeIn h n = (n - destinations h) % 21
 abbrev pub routerIn : Head → ℕ → ℕ
 routerIn h n = (n - destinations h) / 21
 
--- a port is joined
+-- a joint's byte leads somewhere: kind 1, 2 or 3
+unfoldable pub joinedBy : ℕ → Bool
+joinedBy v = pick (eqb (v / 64) 1) true (pick (eqb (v / 64) 2) true (eqb (v / 64) 3))
+
 abbrev pub joinedAt : List ℕ → ℕ → Bool
-joinedAt joints i = not (eqb (getD joints i 0 / 64) 0)
+joinedAt joints i = joinedBy (getD joints i 0)
 
 -- the side by which K of rank k at side o is entered, k from 0
 abbrev pub crossSide : ℕ → ℕ → ℕ

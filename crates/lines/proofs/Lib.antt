@@ -1,0 +1,4 @@
+pub mod Tallies
+pub mod Frames
+pub mod Lined
+pub mod Rowed

@@ -23,11 +23,25 @@ use Rattle.machine.specs.Calls.{isPhase}
 use Rattle.machine.specs.Valid.{fed, isJoined}
 use Rattle.layout.specs.Codes.{flagOf}
 use Rattle.states.specs.Parts.{frameTest}
-use Rattle.lines.specs.Frame.{flagsOf, frameOf, joinedBy, crossSide, fedInRouter, fedOf, unitOf, placeIn, routerIn}
+use Rattle.lines.specs.Lines.{ofHead}
+use Rattle.lines.specs.Frame.{flagFits, markFits, flagsOf, frameOf, joinedBy, crossSide, fedInRouter, fedOf, unitOf, placeIn, routerIn}
 
 also-assoc : (a b c : Bool) → also (also a b) c ≡ also a (also b c)
 also-assoc true b c = refl
 also-assoc false b c = refl
+
+pub or-false : (a : Bool) → (a || false) ≡ a
+or-false true = refl
+or-false false = refl
+
+-- the head of a queue is its first packet
+pub first : (done : Bool) (k : ℕ) → k ≡ 0 → done ≡ ofHead done k
+first done zero e = refl
+first done (suc k) e = absurd (omega arith)
+
+pub not-first : (done : Bool) (k : ℕ) → (k ≡ 0 → ⊥) → false ≡ ofHead done k
+not-first done zero e = absurd (e refl)
+not-first done (suc k) e = refl
 
 small : (f : ℕ) → leb f 1 ≡ true → (f ≡ 0) ⊎ (f ≡ 1)
 small zero e = inl refl
@@ -41,19 +55,19 @@ module _ (pl : Plan) (phase : Phase) (q : Queue) (c n w : ℕ) where
       ≡ also (leb f 1) (also (leb m 1) (frameTest pl phase q c (flagOf f) (flagOf m) n w))
 
   framed-00 : Framed 0 0
-  unfolding frameOf flagsOf frameTest
+  unfolding frameOf flagsOf flagFits markFits frameTest
   framed-00 = simp also-assoc
 
   framed-01 : Framed 0 1
-  unfolding frameOf flagsOf frameTest
+  unfolding frameOf flagsOf flagFits markFits frameTest
   framed-01 = simp also-assoc
 
   framed-10 : Framed 1 0
-  unfolding frameOf flagsOf frameTest
+  unfolding frameOf flagsOf flagFits markFits frameTest
   framed-10 = simp also-assoc
 
   framed-11 : Framed 1 1
-  unfolding frameOf flagsOf frameTest
+  unfolding frameOf flagsOf flagFits markFits frameTest
   framed-11 = simp also-assoc
 
   -- the four bytes' test is the frame's, of a flag and a mark
@@ -82,6 +96,33 @@ frame-few cap wired unit executing c f m n w e =
     let y = also-true {a = leb f 1} {b = _} x .1 in
     let z = also-true {a = leb m 1} {b = _} y .1 in
     leb-true n cap (also-true {a = leb n cap} {b = _} z .0)
+
+-- ---- the code's ways out
+pub flag-none : (wired executing : Bool) (f : ℕ) → f ≡ 0 → true ≡ flagFits wired executing f
+unfolding flagFits
+flag-none true true f e = rw e
+flag-none true false f e = refl
+flag-none false true f e = rw e
+flag-none false false f e = rw e
+
+pub flag-fed : (wired executing : Bool) (f : ℕ) → (f ≡ 0 → ⊥) → executing ≡ false → wired ≡ flagFits wired executing f
+unfolding flagFits
+flag-fed true executing f e x = rw x
+flag-fed false executing f e x = rw (x, ne-eqb f 0 e)
+
+module _ (cap : ℕ) (wired unit executing : Bool) (c f m n w : ℕ) (t : Bool)
+    (e : t ≡ flagsOf cap wired unit executing f m n) where
+  pub frame-none : t ≡ false → false ≡ frameOf cap wired unit executing c f m n w
+  unfolding frameOf
+  frame-none x = rw (← e, x)
+
+  pub frame-fed : t ≡ true → wired ≡ true → eqb (c + n + w + f) cap ≡ frameOf cap wired unit executing c f m n w
+  unfolding frameOf
+  frame-fed x y = rw (← e, x, y)
+
+  pub frame-unfed : t ≡ true → wired ≡ false → eqb c cap ≡ frameOf cap wired unit executing c f m n w
+  unfolding frameOf
+  frame-unfed x y = rw (← e, x, y)
 
 -- ---- a queue by its number
 module _ (h : Head) (routes : List (List ℕ)) (joints : List ℕ) where

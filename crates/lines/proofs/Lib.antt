@@ -2,3 +2,4 @@ pub mod Tallies
 pub mod Frames
 pub mod Lined
 pub mod Rowed
+pub mod Numbers

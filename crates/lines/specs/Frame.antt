@@ -8,13 +8,18 @@ use Rattle.basis.specs.Choice.{pick, also}
 use Rattle.plan.specs.declared.Head.{Head}
 use Rattle.plan.specs.Head.{destinations}
 
+-- a flag up: where a wire feeds the queue, and not in EXECUTE
+unfoldable pub flagFits : Bool → Bool → ℕ → Bool
+flagFits fed executes f = also (not executes || eqb f 0) (fed || eqb f 0)
+
+-- a mark: on a unit's queue that is not empty
+unfoldable pub markFits : Bool → ℕ → ℕ → Bool
+markFits unit m n = eqb m 0 || also unit (not (eqb n 0))
+
 -- flag f, mark m and length n of a queue of capacity cap
 unfoldable pub flagsOf : ℕ → Bool → Bool → Bool → ℕ → ℕ → ℕ → Bool
 flagsOf cap fed unit executes f m n =
-    also (leb f 1)
-    (also (leb m 1)
-    (also (leb n cap)
-    (also (not executes || eqb f 0) (also (fed || eqb f 0) (eqb m 0 || also unit (not (eqb n 0)))))))
+    also (leb f 1) (also (leb m 1) (also (leb n cap) (also (flagFits fed executes f) (markFits unit m n))))
 
 -- and its credit c, w packets being on the way to it
 unfoldable pub frameOf : ℕ → Bool → Bool → Bool → ℕ → ℕ → ℕ → ℕ → ℕ → Bool

@@ -7,7 +7,7 @@ ghost use Prim.Native.Nat.{ℕ, _+_, _*_, _≤_, _<_};
 ghost use Rattle.plan.specs.Head.{Counts, destinations};
 ghost use Rattle.machine.specs.Valid.{spendsKind};
 ghost use Rattle.lines.specs.Tally.{counted};
-ghost use Rattle.lines.specs.Frame.{flagsOf, frameOf, joinedAt, crossSide, fedInRouter, fedOf, unitOf};
+ghost use Rattle.lines.specs.Frame.{flagFits, markFits, flagsOf, frameOf, joinedAt, crossSide, fedInRouter, fedOf, unitOf};
 ghost use Rattle.lines.specs.Lines.{ofHead};
 
 // What a packet of a kind has spent of its active's allowance.
@@ -37,7 +37,33 @@ pub fn of_head(done: bool, k: usize) -> bool
     if k == 0 { done } else { false }
 }
 
-// Whether flag and mark are flags, the length is within the capacity, and a flag is up only where and when it may be.
+// Whether a flag is up only where a wire feeds the queue, and not in EXECUTE.
+fn flag_ok(fed: bool, executes: bool, f: u8) -> bool
+    ensures { λ r. ⌜ r ≡ flagFits fed executes f ⌝ }
+{
+    if f == 0 {
+        return true;
+    }
+    if executes {
+        return false;
+    }
+    fed
+}
+
+// Whether a mark is on a unit's queue that is not empty.
+fn mark_ok(unit: bool, m: u8, n: u8) -> bool
+    ensures { λ r. ⌜ r ≡ markFits unit m n ⌝ }
+{
+    if m == 0 {
+        return true;
+    }
+    if unit {
+        return n != 0;
+    }
+    false
+}
+
+// Whether flag and mark are flags, the length is within the capacity, and flag and mark are where they may be.
 fn flags_ok(cap: u8, fed: bool, unit: bool, executes: bool, f: u8, m: u8, n: u8) -> bool
     ensures { λ r. ⌜ r ≡ flagsOf cap fed unit executes f m n ⌝ }
 {
@@ -50,21 +76,10 @@ fn flags_ok(cap: u8, fed: bool, unit: bool, executes: bool, f: u8, m: u8, n: u8)
     if cap < n {
         return false;
     }
-    if f == 1 {
-        if executes {
-            return false;
-        }
-        if !fed {
-            return false;
-        }
+    if flag_ok(fed, executes, f) {
+        return mark_ok(unit, m, n);
     }
-    if m == 1 {
-        if !unit {
-            return false;
-        }
-        return n != 0;
-    }
-    true
+    false
 }
 
 // Whether a queue's credit c, flag f, mark m and length n fit, w packets being on the way to it.

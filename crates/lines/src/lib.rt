@@ -66,4 +66,3 @@ pub fn packet_ok(h: Head, lengths: &[[u8; 16]; 16], x: Packet) -> bool
     }
     lengths[a][p] != 0
 }
-

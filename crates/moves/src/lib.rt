@@ -189,5 +189,14 @@ pub fn next(
 {
     let k = x.kind;
     let back = goes_back(k);
-    next_of(h, routes, joints, homes, m, back, index(x.active), index(x.passive))
+    next_of(
+        h,
+        routes,
+        joints,
+        homes,
+        m,
+        back,
+        index(x.active),
+        index(x.passive),
+    )
 }

@@ -106,7 +106,11 @@ pub fn entry_code(x: Entry) -> u8
 pub fn entry_of(b: u8) -> Entry
     ensures { λ x. ⌜ x ≡ entryFrom b ⌝ }
 {
-    if b == 0 { Entry::Free } else { Entry::Booked(b - 1) }
+    if b == 0 {
+        Entry::Free
+    } else {
+        Entry::Booked(b - 1)
+    }
 }
 
 // The entry of the table at an offset.

@@ -1,14 +1,12 @@
 -- Bytes that are no value's: each is read as the last value of its kind.
-use mathlib.Core.Path.{_≡_, refl, ap, sym, _∙_}
+use mathlib.Core.Path.{_≡_, refl, ap}
 use mathlib.Core.Logic.{_≢_}
 use mathlib.Core.Bool.{true, not}
 use Prim.Native.Nat.{ℕ, zero, suc, _+_, _-_, _<_}
 use native.Mathlib.Omega.{arith}
 use lib.Dec.{eqb}
 use borrow.Author.Tests.{ne-eqb}
-use Rattle.packets.specs.declared.Kind.{Kind}
 use Rattle.packets.specs.declared.Kind.the-variants.{Nack}
-use Rattle.packets.specs.declared.Phase.{Phase}
 use Rattle.packets.specs.declared.Phase.the-variants.{Write}
 use Rattle.packets.specs.declared.Entry.{Entry}
 use Rattle.packets.specs.declared.Entry.the-variants.{Booked}

@@ -1,5 +1,5 @@
 -- Packets and wires at an offset: what the bytes that are read make, and what the stores make.
-use mathlib.Core.Path.{_≡_, refl, sym, ap, _∙_}
+use mathlib.Core.Path.{_≡_, ap, _∙_}
 use mathlib.Core.Logic.{_≢_}
 use mathlib.Core.List.{List}
 use Prim.Native.Nat.{ℕ, _+_}
@@ -11,10 +11,10 @@ use Rattle.packets.specs.declared.Kind.{Kind}
 use Rattle.packets.specs.declared.Packet.{Packet}
 use Rattle.packets.specs.declared.Wire.{Wire}
 use Rattle.packets.specs.declared.Wire.the-variants.{Empty, Full}
-use Rattle.layout.specs.Codes.{kindOf, flagOf}
+use Rattle.layout.specs.Codes.{kindOf}
 use Rattle.layout.specs.Places.{packetBytes, noPacket, packetAt}
 use Rattle.layout.specs.Encode.{wireBytes}
-use Rattle.layout.specs.Decode.{wireFrom, wireAt}
+use Rattle.layout.specs.Decode.{wireAt}
 use Rattle.rows.proofs.Codes.{flag-up}
 
 module _ (b : List ℕ) (at : ℕ) where

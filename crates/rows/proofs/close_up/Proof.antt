@@ -42,7 +42,10 @@ loop-less c = omega arith
 
 -- src/lib.rt:215:5
 loop-again : tie.Need-loop-again Inv-loop μ-loop
-loop-again c = (omega arith, up-more _ _ _ (c .before .before .before .before .before .loop .inv .1) (c .before .before .move-place .ensures), c .before .before .move-place .kept .0 ∙ c .before .before .before .before .before .loop .inv .2)
+loop-again c =
+    let inv = c .before .before .before .before .before .loop .inv in
+    let call = c .before .before .move-place in
+    (omega arith, up-more _ _ _ (inv .1) (call .ensures), call .kept .0 ∙ inv .2)
 
 -- src/lib.rt:211:1
 same-length : tie.Need-same-length Inv-loop μ-loop

@@ -60,11 +60,15 @@ slice-write-s c = search needs
 
 -- src/lib.rt:221:1
 same-length : tie.Need-same-length
-same-length c = simp length-set (c .before .before .clear-place .kept .0 ∙ c .before .before .before .before .before .before .close-up .kept .0)
+same-length c =
+    let closed = c .before .before .before .before .before .before .close-up in
+    simp length-set (c .before .before .clear-place .kept .0 ∙ closed .kept .0)
 
 -- src/lib.rt:221:1
 returns : tie.Need-returns
-returns c = popped _ _ _ _ _ (c .before .before .before .before .before .before .before .before .index .ensures) (c .before .before .before .before .before .before .close-up .ensures) (c .before .before .clear-place .ensures)
+returns c =
+    popped _ _ _ _ _ (c .before .before .before .before .before .before .before .before .index .ensures)
+    (c .before .before .before .before .before .before .close-up .ensures) (c .before .before .clear-place .ensures)
 
 pub pop-spec : {M : Type 1} → statement M
 pop-spec =

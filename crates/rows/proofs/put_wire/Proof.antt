@@ -1,4 +1,3 @@
-use mathlib.Core.Path.{_∙_}
 use Rattle.rows.proofs.Wires.{wire-none, wire-some}
 use lib.ListN.{length-set}
 use native.Mathlib.Omega.{arith}
@@ -48,7 +47,9 @@ same-length c = simp length-set at (c .before .before .clear-place .kept .0)
 
 -- src/lib.rt:172:1
 returns : tie.Need-returns
-returns c = wire-none _ _ _ _ (c .before .before .before .before .enum-told .given .1) (c .before .before .clear-place .ensures)
+returns c =
+    let told = c .before .before .before .before .enum-told .given in
+    wire-none _ _ _ _ (told .1) (c .before .before .clear-place .ensures)
 
 -- src/lib.rt:172:1
 same-length-2 : tie.Need-same-length-2
@@ -56,7 +57,9 @@ same-length-2 c = simp length-set at (c .before .before .put-packet .kept .0)
 
 -- src/lib.rt:172:1
 returns-2 : tie.Need-returns-2
-returns-2 c = wire-some _ _ _ _ _ (c .before .before .before .before .before .w .given .1) (c .before .before .put-packet .ensures)
+returns-2 c =
+    let told = c .before .before .before .before .before .w .given in
+    wire-some _ _ _ _ _ (told .1) (c .before .before .put-packet .ensures)
 
 pub put-wire-spec : {M : Type 1} → statement M
 put-wire-spec =

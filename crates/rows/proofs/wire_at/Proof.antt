@@ -24,7 +24,9 @@ packet-at-requires c κs = search needs
 
 -- src/lib.rt:160:1
 returns-2 : tie.Need-returns-2
-returns-2 c = wire-up (c .before .before .before .before .args .s .now) (c .before .before .before .before .args .at) _ (c .before .if1 .left) (c .packet-at .ensures)
+returns-2 c =
+    let args = c .before .before .before .before .args in
+    wire-up (args .s .now) (args .at) _ (c .before .if1 .left) (c .packet-at .ensures)
 
 pub wire-at-spec : {M : Type 1} → statement M
 wire-at-spec =

@@ -16,7 +16,7 @@ use Rattle.sets.specs.Sets.{has, single, both, less, lowest, rest}
 use Rattle.sets.specs.Laws.{has-both, has-less, none-has, lowest-is, has-rest, rest-less}
 use Rattle.reach.specs.Reach.{sideSet, beyond, Idle, throughOf, pullOf, sweepAt, changeOf}
 use Rattle.reach.specs.Trails.{Shaped, cell, Blank, Led, Started, Trail, last, more, Tracked}
-use Rattle.reach.specs.Trails.{Trailed, Lengthens, Room, Turned, Turns}
+use Rattle.reach.specs.Trails.{Trailed, Lengthens, Room, Turned, Turns, Turning}
 use Rattle.reach.proofs.Sweeps.{and-parts, same-or-not, has-pull, unchanged}
 
 -- ---- one word put into the table
@@ -259,6 +259,20 @@ module _ (by : List (List ℕ)) (next : List ℕ) (t : List ℕ) (x new : ℕ) w
             (or-cases _ _ (sym (has-pull by next t x d) ∙ sym (ap (λ (u : ℕ). has u d) f) ∙ p)))
         at r d q (inr s) = older r d (rw (getD-set-other t x r v 0 s) at q)
 
+-- the sides one after another
+pub turning-start : (by : List (List ℕ)) (next t : List ℕ) (x new v : ℕ) {up : List (List ℕ)}
+    → Room by next 1 t up → new ≡ less v (getD t x 0) → Turning by next t x new 0 up
+turning-start by next t x new v (first, b, l, w) e =
+    (first, b, omega arith, turn-start by next t x new first b v e w)
+
+pub turning-on : (by : List (List ℕ)) (next t : List ℕ) (x new o : ℕ) {up up′ : List (List ℕ)}
+    → Turning by next t x new 0 up → Turns by next t x new 0 up o up′ → Turning by next t x new o up′
+turning-on by next t x new o (first, b, l, w) f = (first, b, l, f first b w)
+
+pub turns-done : (by : List (List ℕ)) (next t : List ℕ) (x new : ℕ) {i n : ℕ} {up up′ : List (List ℕ)} → i ≡ n
+    → Turns by next t x new 0 up i up′ → Turns by next t x new 0 up n up′
+turns-done by next t x new e f = rw (← e) f
+
 -- what a step leaves where nothing is new, and else
 pub stepped-none : (by : List (List ℕ)) (next t : List ℕ) (up : List (List ℕ)) (x : ℕ) {v new : ℕ}
     → v ≡ pullOf by next t x → new ≡ less v (getD t x 0) → new ≡ 0
@@ -289,6 +303,10 @@ pub lengthens-on : (by : List (List ℕ)) (next : List ℕ) (j k : ℕ) {t u v :
     → Lengthens by next j t p u q → Lengthens by next k u q v r → Lengthens by next (j + k) t p v r
 lengthens-on by next j k f g = λ first b w. trailed-more by next first (omega arith) (g first (b + j) (f first b w))
 
+pub lengthens-done : (by : List (List ℕ)) (next : List ℕ) (i n : ℕ) {t u : List ℕ} {p q : List (List ℕ)} → i ≡ n
+    → Lengthens by next i t p u q → Lengthens by next n t p u q
+lengthens-done by next i n e f = rw (← e) f
+
 pub room-on : (by : List (List ℕ)) (next : List ℕ) (n j k : ℕ) {t u : List ℕ} {p q : List (List ℕ)} → j + k ≤ n
     → Room by next n t p → Lengthens by next j t p u q → Room by next k u q
 room-on by next n j k l (first, b, m, w) f = (first, b + j, omega arith, f first b w)
@@ -312,6 +330,9 @@ started-more x {t} {up} {up′} l w led = record {
         let f = led .new d (rw s at q) in
         rw s (omega arith)
     at r d m q (inr s) = led .same r d (λ e h. s e) ∙ w .some r d (omega arith) q
+
+pub started-done : {i n : ℕ} {t : List ℕ} {up : List (List ℕ)} → i ≡ n → Started i t up → Started n t up
+started-done e w = rw (← e) w
 
 pub started-trailed : (by : List (List ℕ)) (next : List ℕ) (n : ℕ) {t : List ℕ} {up : List (List ℕ)} → n ≤ 16
     → Idle by next n t → length t ≡ 32 → Started n t up → Trailed by next t 1 t up

@@ -307,6 +307,10 @@ pub lengthens-done : (by : List (List ℕ)) (next : List ℕ) (i n : ℕ) {t u :
     → Lengthens by next i t p u q → Lengthens by next n t p u q
 lengthens-done by next i n e f = rw (← e) f
 
+pub room-of : (by : List (List ℕ)) (next first : List ℕ) (n : ℕ) {b : ℕ} {t : List ℕ} {up : List (List ℕ)}
+    → Trailed by next first b t up → b + n ≤ 600 → Room by next n t up
+room-of by next first n {b} w l = (first, b, l, w)
+
 pub room-on : (by : List (List ℕ)) (next : List ℕ) (n j k : ℕ) {t u : List ℕ} {p q : List (List ℕ)} → j + k ≤ n
     → Room by next n t p → Lengthens by next j t p u q → Room by next k u q
 room-on by next n j k l (first, b, m, w) f = (first, b + j, omega arith, f first b w)

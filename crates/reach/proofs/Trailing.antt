@@ -127,6 +127,11 @@ pub single-le : (x : ℕ) → x < 16 → single x ≤ 32768
 unfolding single
 single-le x l = pow-mono {i = x} {j = 15} (omega arith)
 
+-- a set of one number below 32, however it came about
+pub single-fits : (i : ℕ) {v : ℕ} → v ≡ single i → i < 32 → v ≤ 2147483648
+unfolding single
+single-fits i e l = let a = pow-mono {i = i} {j = 31} (omega arith) in omega arith
+
 -- ---- ways
 module _ (by : List (List ℕ)) (next first : List ℕ) where
   trail-sum : {d x m s : ℕ} → Trail by next first d x m s → s ≤ 32768 * m
@@ -179,11 +184,11 @@ module _ (by : List (List ℕ)) (next : List ℕ) (t : List ℕ) (x new : ℕ) w
     -- what is read on the way is small
     pub turn-small : (o : ℕ) {n k : ℕ} {up : List (List ℕ)} → n ≡ beyond by next x o
         → k ≡ both (throughOf by next t x o) new → b ≤ 600 → Turned by next first b t x new o up
-        → (d : ℕ) → has k d ≡ true → cell up n d ≤ 4000000000
+        → (d : ℕ) → has k d ≡ true → cell up n d ≤ 100000000
     turn-small o {n} {k} {up} e f l w d q =
         let s = through-parts o d (new-parts o k d f q .0) in
         let a = tracked-le by next first l (w .old .some (beyond by next x o) d (s .1)) in
-        rw e (omega arith)
+        rw e a
 
     pub turn-next : (o : ℕ) {n k : ℕ} {up up′ : List (List ℕ)} → x < 16 → o < 4 → n ≡ beyond by next x o
         → k ≡ both (throughOf by next t x o) new → Led x n k up up′ → Turned by next first b t x new o up

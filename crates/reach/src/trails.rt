@@ -27,7 +27,7 @@ const ONE_MORE: u32 = 65536;
 
 // Router x's words for the destinations of a set: those of router n, and x itself.
 fn lead(up: &mut [[u32; 32]; 17], x: usize, n: usize, k: u32)
-    requires { ⌜ (x < 16) × (n < 17) × Shaped (now up) × ((d : ℕ) → has k d ≡ true → cell (now up) n d ≤ 4000000000) ⌝ }
+    requires { ⌜ (x < 16) × (n < 17) × Shaped (now up) × ((d : ℕ) → has k d ≡ true → cell (now up) n d ≤ 100000000) ⌝ }
     ensures { λ _. ⌜ Led x n k (now (up .entry)) (now (up .exit)) ⌝ }
 {
     let mut left = k;

@@ -1,4 +1,4 @@
-use Rattle.reach.proofs.Trailing.{Leading, leading-none, leading-word, leading-more, leading-end, single-le}
+use Rattle.reach.proofs.Trailing.{Leading, leading-none, leading-word, leading-more, leading-end, single-fits}
 use borrow.Author.Needs.{needs}
 use native.Mathlib.Omega.{arith}
 use Rattle.reach.proofs.trails.lead.Statement.{statement}
@@ -51,15 +51,15 @@ single-requires c κs = search needs
 add-up : tie.Need-add-up Inv-loop μ-loop
 add-up c = let w = leading-word (omega arith) (c .before .before .before .lowest .ensures .0) (c .before .before .before .before .before .loop .inv) in
     let a = c .before .before .before .before .before .before .pre .3 _ (w .0) in
-    let b = single-le (c .before .before .before .before .before .before .args .x) (omega arith) in
-    record { fits = omega (arith, a, w .1, b, c .single .ensures) }
+    let b = single-fits _ (c .single .ensures) (omega arith) in
+    record { fits = omega (arith, a, w .1, b) }
 
 -- src/trails.rt:37:20
 add-up-2 : tie.Need-add-up-2 Inv-loop μ-loop
 add-up-2 c = let w = leading-word (omega arith) (c .before .before .before .lowest .ensures .0) (c .before .before .before .before .before .loop .inv) in
     let a = c .before .before .before .before .before .before .pre .3 _ (w .0) in
-    let b = single-le (c .before .before .before .before .before .before .args .x) (omega arith) in
-    record { fits = omega (arith, a, w .1, b, c .single .ensures) }
+    let b = single-fits _ (c .single .ensures) (omega arith) in
+    record { fits = omega (arith, a, w .1, b) }
 
 -- src/trails.rt:37:9
 mul-up-3 : tie.Need-mul-up-3 Inv-loop μ-loop
@@ -83,7 +83,7 @@ loop-less c = omega arith
 
 -- src/trails.rt:34:5
 loop-again : tie.Need-loop-again Inv-loop μ-loop
-loop-again c = leading-more (omega arith) (omega arith) (c .before .before .before .lowest .ensures .0) (omega arith) (c .before .before .rest .ensures .0) (rw (c .single .ensures)) (c .before .before .before .before .before .loop .inv)
+loop-again c = leading-more (omega arith) (omega arith) (c .before .before .before .lowest .ensures .0) (omega arith) (c .before .before .rest .ensures .0) (omega (arith, c .single .ensures)) (c .before .before .before .before .before .loop .inv)
 
 -- src/trails.rt:29:1
 returns : tie.Need-returns Inv-loop μ-loop

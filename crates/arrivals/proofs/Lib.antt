@@ -6,3 +6,4 @@ pub mod Sizes
 pub mod Returning
 pub mod Start
 pub mod Sound
+pub mod Meeting

@@ -20,6 +20,9 @@ ghost use Rattle.sets.specs.Sets.{has};
 ghost use Rattle.arrivals.specs.Pairs.{Swept, Serving, Servings, copyOf, maskOf, lengthOf, lengthsBy, Walks};
 ghost use Rattle.arrivals.specs.Tables.{nextOf, nextsOf, PortsIn, firstOf, firstsOf, nearOf, nearsOf, keptOf, keepsOf, farOf};
 
+// Which routers the walks meet.
+pub mod tracks;
+
 // No router beyond a side.
 const NO_ROUTER: u8 = 16;
 

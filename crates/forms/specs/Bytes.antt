@@ -1,8 +1,8 @@
 -- Tests of stretches of bytes, as the code makes them.
 use mathlib.Core.Path.{_≡_}
-use mathlib.Core.Bool.{Bool, true, not, _||_}
+use mathlib.Core.Bool.{Bool, true}
 use mathlib.Core.List.{List}
-use Prim.Native.Nat.{ℕ, _+_, _*_, _<_, _≤_}
+use Prim.Native.Nat.{ℕ, _+_, _*_, _/_, _%_, _<_}
 use lib.Dec.{eqb, ltb, leb}
 use lib.ListN.{getD}
 use Rattle.basis.specs.Choice.{pick, also}
@@ -63,6 +63,24 @@ sideFits i slots b = also (allBelow 32 (entryFits i slots b)) (anyBelow 32 (entr
 unfoldable pub sidesFit : ℕ → ℕ → ℕ → List ℕ → Bool
 sidesFit i slots n b = allBelow n (λ k. sideFits (i + 64 * k) slots b)
 
--- each active's allowance and what it has spent make the whole
+-- ---- the same by each byte's greatest value, which is zero where the byte must be
+unfoldable pub limitAt : ℕ → ℕ → ℕ
+limitAt slots k = pick (eqb (k % 2) 0) (pick (ltb (k / 2) slots) 4 0) 0
+
+abbrev pub Limits : ℕ → List ℕ → Type 0
+Limits slots l = (k : ℕ) → k < 64 → getD l k 0 ≡ limitAt slots k
+
+-- n bytes from i on, each within its limit; and one of them zero whose limit is not
+unfoldable pub bytesWithin : ℕ → ℕ → List ℕ → List ℕ → Bool
+bytesWithin i n l b = allBelow n (λ k. leb (getD b (i + k) 0) (getD l k 0))
+
+unfoldable pub byteOpen : ℕ → ℕ → List ℕ → List ℕ → Bool
+byteOpen i n l b = anyBelow n (λ k. also (ltb (getD b (i + k) 0) (getD l k 0)) (eqb (getD b (i + k) 0) 0))
+
+-- n sides of which none is used
+unfoldable pub sidesZero : ℕ → ℕ → List ℕ → Bool
+sidesZero i n b = allBelow n (λ k. zeros (i + 64 * k) 64 b)
+
+-- ---- each active's allowance and what it has spent make the whole
 unfoldable pub allowancesFit : ℕ → ℕ → ℕ → List ℕ → List ℕ → Bool
 allowancesFit i n full spent b = allBelow n (λ a. eqb (getD b (i + a) 0 + getD spent a 0) full)

@@ -1,3 +1,4 @@
+use mathlib.Core.Path.{_≡_, refl}
 use mathlib.Core.Bool.{false≢true}
 use Prim.Native.Nat.{_≤_, _-_}
 use borrow.Author.Tests.{not-false}
@@ -11,14 +12,14 @@ use Rattle.forms.proofs.routers_idle.Lts as lts
 use Rattle.forms.proofs.router_idle.Reads as router-idle-reads
 
 abbrev Inv-loop : tie.InvT-loop
-Inv-loop s h i n k₀ k = search needs
+Inv-loop s h i n k₀ k = (k ≤ n) × (n ≡ h .routers) × Routers h s i k
 
 abbrev μ-loop : tie.MeasureT-loop
-μ-loop s h i n k₀ k = search needs
+μ-loop s h i n k₀ k = n - k
 
 -- src/lib.rt:121:5
 loop-holds : tie.Need-loop-holds Inv-loop μ-loop
-loop-holds c = (omega arith, routers-none _ _ _)
+loop-holds c = (omega arith, refl, routers-none _ _ _)
 
 -- src/lib.rt:122:35
 mul-router-idle : tie.Need-mul-router-idle Inv-loop μ-loop
@@ -48,12 +49,13 @@ loop-less c = search needs
 loop-again : tie.Need-loop-again Inv-loop μ-loop
 loop-again c = (
   omega arith,
-  routers-more _ _ _ _ (c .before .before .before .loop .inv .1) (c .before .router-idle .ensures (not-false _ (c .if1 .left))),
+  c .before .before .before .loop .inv .1,
+  routers-more _ _ _ _ (c .before .before .before .loop .inv .2) (c .before .router-idle .ensures (not-false _ (c .if1 .left))),
 )
 
 -- src/lib.rt:116:1
 returns-2 : tie.Need-returns-2 Inv-loop μ-loop
-returns-2 c = λ e. routers-done _ _ _ _ _ (c .before .loop .inv .1) (omega arith)
+returns-2 c = λ e. routers-done _ _ _ _ _ (c .before .loop .inv .2) (omega arith)
 
 pub routers-idle-spec : {M : Type 1} → statement M
 routers-idle-spec =

@@ -1,0 +1,17 @@
+use borrow.Author.Needs.{needs}
+use Rattle.forms.proofs.sides.over.Statement.{statement}
+use Rattle.forms.proofs.sides.over.Tie as tie
+use Rattle.forms.proofs.sides.over.Reads as reads
+use Rattle.forms.proofs.sides.over.Lts as lts
+use Rattle.forms.proofs.sides.bit.Reads as bit-reads
+
+-- src/sides.rt:22:5
+bit-requires : tie.Need-bit-requires
+bit-requires c κs = search needs
+
+-- src/sides.rt:19:1
+returns : tie.Need-returns
+returns c = ?
+
+pub over-spec : {M : Type 1} → statement M
+over-spec = tie.close (tie.spec bit-requires returns)

@@ -1,0 +1,63 @@
+use Rattle.forms.proofs.sides.unused.Statement.{statement}
+use Rattle.forms.proofs.sides.unused.Tie as tie
+use Rattle.forms.proofs.sides.unused.Reads as reads
+use Rattle.forms.proofs.sides.unused.Lts as lts
+use Rattle.forms.proofs.sides.side_zero.Reads as side-zero-reads
+
+abbrev Inv-loop : tie.InvT-loop
+Inv-loop s i n k₀ k = ?
+
+abbrev μ-loop : tie.MeasureT-loop
+μ-loop s i n k₀ k = ?
+
+-- src/sides.rt:65:5
+loop-holds : tie.Need-loop-holds Inv-loop μ-loop
+loop-holds c = ?
+
+-- src/sides.rt:66:30
+mul-side-zero : tie.Need-mul-side-zero Inv-loop μ-loop
+mul-side-zero c = ?
+
+-- src/sides.rt:66:26
+add-side-zero : tie.Need-add-side-zero Inv-loop μ-loop
+add-side-zero c = ?
+
+-- src/sides.rt:66:13
+side-zero-requires : tie.Need-side-zero-requires Inv-loop μ-loop
+side-zero-requires c κs = ?
+
+-- src/sides.rt:67:13
+returns : tie.Need-returns Inv-loop μ-loop
+returns c = ?
+
+-- src/sides.rt:65:9
+add-k : tie.Need-add-k Inv-loop μ-loop
+add-k c = ?
+
+-- src/sides.rt:65:5
+loop-less : tie.Need-loop-less Inv-loop μ-loop
+loop-less c = ?
+
+-- src/sides.rt:65:5
+loop-again : tie.Need-loop-again Inv-loop μ-loop
+loop-again c = ?
+
+-- src/sides.rt:61:1
+returns-2 : tie.Need-returns-2 Inv-loop μ-loop
+returns-2 c = ?
+
+pub unused-spec : {M : Type 1} → statement M
+unused-spec =
+    tie.close
+    (tie.spec
+    Inv-loop
+    μ-loop
+    loop-holds
+    mul-side-zero
+    add-side-zero
+    side-zero-requires
+    returns
+    add-k
+    loop-less
+    loop-again
+    returns-2)

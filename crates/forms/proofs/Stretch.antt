@@ -14,9 +14,11 @@ use borrow.Author.Tests.{eq-eqb, eqb-true}
 use Rattle.basis.specs.Choice.{pick, also, also-true, also-of, same-test}
 use Rattle.basis.specs.Bounded.{allBelow, all-of, below-suc, lt-or-ge}
 use Rattle.plan.specs.declared.Head.{Head}
+use Rattle.plan.specs.Head.{destinations}
+use Rattle.acts.specs.Counts.{outputCount, outputsFrom}
 use Rattle.states.specs.Forms.{zeros}
 use Rattle.states.proofs.Bytes.{zeros-byte}
-use Rattle.forms.specs.Bytes.{wordAt, IdleRow, IdleRows, IdleSide, IdleRouter}
+use Rattle.forms.specs.Bytes.{wordAt, IdleRow, IdleRows, IdleSide, IdleRouter, QuietBytes}
 
 -- ---- the digits of two words together
 pub or-none : (a b : ℕ) → bitOr a b ≡ 0 → (a ≡ 0) × (b ≡ 0)
@@ -172,3 +174,24 @@ module _ (h : Head) (b : List ℕ) (i : ℕ) where
 
   pub routers-done : (k n : ℕ) → Routers k → n ≤ k → Routers n
   routers-done k n f q r l = f r (omega arith)
+
+-- ---- all of them
+pub quiet-of : (h : Head) (b : List ℕ) → zeros (outputsFrom h) (7 * outputCount h) b ≡ true
+    → IdleRows b 2 (h .actives) (h .aout .0) × IdleRows b (2 + 39 * h .actives) (h .passives) (h .pout .0)
+    × IdleRows b (2 + 39 * (destinations h + 21 * h .routers)) (h .actives) (h .ain .0)
+    × IdleRows b (2 + 39 * (destinations h + 21 * h .routers) + 39 * h .actives) (h .passives) (h .pin .0)
+    → Routers h b (2 + 39 * destinations h) (h .routers) → QuietBytes h b
+quiet-of h b z (ao, po, ai, pi) r =
+    record {
+      outputs = z;
+      active-outs = ao;
+      passive-outs = po;
+      routers =
+          λ k l. let q : 2 + 39 * (destinations h + 21 * k) ≡ 2 + 39 * destinations h + 819 * k = omega arith in
+          rw q (r k l);
+      active-ins = ai;
+      passive-ins =
+          λ k l. let q : 2 + 39 * (destinations h + 21 * h .routers + h .actives) + 39 * k
+          ≡ 2 + 39 * (destinations h + 21 * h .routers) + 39 * h .actives + 39 * k = omega arith in
+          rw q (pi k l);
+    }

@@ -23,7 +23,7 @@ fn over(x: u8, m: u8) -> u8
 }
 
 // Not zero where a zero byte has a limit that is not.
-fn open(x: u8, m: u8) -> u8
+fn vacant(x: u8, m: u8) -> u8
     ensures { λ v. ⌜ eqb v 0 ≡ not (also (ltb x m) (eqb x 0)) ⌝ }
 {
     let below = x < m;
@@ -82,7 +82,7 @@ fn bytes_ok(s: &[u8], i: usize, l: &[u8; 64]) -> bool
         let x = s[i + k];
         let m = l[k];
         bad = super::join(bad, over(x, m));
-        free = super::join(free, open(x, m));
+        free = super::join(free, vacant(x, m));
     }
     (bad == 0) & (free != 0)
 }

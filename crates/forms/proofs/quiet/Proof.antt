@@ -1,3 +1,7 @@
+use mathlib.Core.Path.{sym, _∙_}
+use mathlib.Core.Bool.{false≢true}
+use borrow.Author.Tests.{not-false}
+use Rattle.forms.proofs.Stretch.{quiet-of}
 use borrow.Author.Needs.{needs}
 use Rattle.forms.proofs.quiet.Statement.{statement}
 use Rattle.forms.proofs.quiet.Tie as tie
@@ -49,7 +53,7 @@ zeros-requires c κs = search needs
 
 -- src/lib.rt:156:9
 returns : tie.Need-returns
-returns c = ?
+returns c = λ e. absurd (false≢true e)
 
 -- src/lib.rt:158:48
 mul-interfaces-idle : tie.Need-mul-interfaces-idle
@@ -73,7 +77,7 @@ interfaces-idle-requires c κs = search needs
 
 -- src/lib.rt:159:9
 returns-2 : tie.Need-returns-2
-returns-2 c = ?
+returns-2 c = λ e. absurd (false≢true e)
 
 -- src/lib.rt:161:28
 mul-routers-idle : tie.Need-mul-routers-idle
@@ -89,7 +93,8 @@ routers-idle-requires c κs = search needs
 
 -- src/lib.rt:150:1
 returns-3 : tie.Need-returns-3
-returns-3 c = ?
+returns-3 c = λ e. quiet-of _ _ (sym (c .before .before .before .before .before .zeros .ensures) ∙ not-false _ (c .before .before .before .before .if1 .left))
+    (c .before .before .interfaces-idle .ensures (not-false _ (c .before .if2 .left))) (c .routers-idle .ensures e)
 
 pub quiet-spec : {M : Type 1} → statement M
 quiet-spec =

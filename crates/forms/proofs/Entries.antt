@@ -1,19 +1,18 @@
 -- A side's entries by the greatest value of each byte, and sides one after the other.
 use mathlib.Core.Path.{_≡_, refl, sym, ap, _∙_}
 use mathlib.Core.Logic.{_⊎_, inl, inr}
-use mathlib.Core.Bool.{Bool, true, false, not, _&&_, _||_, false≢true}
+use mathlib.Core.Bool.{Bool, true, false, not, _&&_, _||_}
 use mathlib.Core.List.{List}
-use Prim.Native.Nat.{ℕ, zero, suc, _+_, _*_, _/_, _%_, _≤_, _<_}
-use native.Mathlib.Nat.{add-zero}
+use Prim.Native.Nat.{ℕ, _+_, _*_, _/_, _%_, _≤_, _<_}
 use native.Mathlib.Numerals.{add-one}
 use native.Mathlib.Omega.{arith}
 use lib.Dec.{eqb, ltb, leb}
-use lib.ListN.{length, getD, set, replicate, length-set, getD-replicate}
+use lib.ListN.{length, getD, set, replicate, getD-replicate}
 use lib.Seq.{getD-set-same, getD-set-other}
 use borrow.Author.Tests.{eq-eqb, ne-eqb, eqb-true, lt-ltb, le-ltb, ltb-true, ltb-false, le-leb, lt-leb, leb-true}
 use Rattle.basis.specs.Choice.{pick, also, also-true, also-of, same-test, test}
-use Rattle.basis.specs.Bounded.{allBelow, anyBelow, Found, all-at, all-of, all-none, all-more, all-fail, any-true, any-of}
-use Rattle.basis.specs.Bounded.{lt-or-ge}
+use Rattle.basis.specs.Bounded.{allBelow, anyBelow, Found, all-at, all-of, all-none, all-more, all-fail, any-true}
+use Rattle.basis.specs.Bounded.{any-of, lt-or-ge}
 use Rattle.states.specs.Forms.{zeros}
 use Rattle.states.proofs.Bytes.{zeros-byte}
 use Rattle.forms.specs.Bytes.{entryFits, entryFree, sideFits, sidesFit, limitAt, Limits, bytesWithin, byteOpen}
@@ -238,7 +237,8 @@ module _ (i slots : ℕ) (l b : List ℕ) (m : Limits slots l) where
 pub side-unused : (i slots : ℕ) (b : List ℕ) → 0 < slots → zeros i 64 b ≡ true → sideFits i slots b ≡ true
 unfolding sideFits
 side-unused i slots b h e =
-    also-of (all-of 32 _ fits) (any-of 32 _ 0 (omega arith) (also-of (lt-ltb 0 slots h) (byte-none (2 * 0) (omega arith))))
+    also-of (all-of 32 _ fits)
+    (any-of 32 _ 0 (omega arith) (also-of (lt-ltb 0 slots h) (byte-none (2 * 0) (omega arith))))
   where
     byte-none : (k : ℕ) → k < 64 → eqb (getD b (i + k) 0) 0 ≡ true
     byte-none k g = eq-eqb (getD b (i + k) 0) 0 (zeros-byte i 64 (i + k) b e (omega arith) (omega arith))

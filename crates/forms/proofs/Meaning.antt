@@ -10,14 +10,12 @@ use lib.Dec.{eqb, ltb, leb}
 use lib.ListN.{getD}
 use borrow.Author.Tests.{eq-eqb, ne-eqb, eqb-true, lt-ltb, le-ltb, ltb-true, ltb-false, le-leb, leb-true}
 use Rattle.basis.specs.Choice.{pick, also, also-true, also-of, same-test, test}
-use Rattle.basis.specs.Bounded.{allBelow, anyBelow, Found, all-at, all-of, all-same, any-true, any-of, lt-or-ge, or-cases}
+use Rattle.basis.specs.Bounded.{allBelow, anyBelow, Found, all-at, all-of, all-same, any-true, any-of, lt-or-ge}
 use Rattle.basis.specs.Bounded.{or-right}
 use Rattle.packets.specs.declared.Packet.{Packet}
-use Rattle.packets.specs.declared.Entry.{Entry}
 use Rattle.plan.specs.Plan.{Plan, R, A, S}
-use Rattle.plan.specs.Head.{InRange, destinations}
 use Rattle.feeding.specs.Queue.{Queue, activeOut, activeIn, passiveIn, passiveOut, U, Q, F, K, Exists, number, queueAt}
-use Rattle.feeding.specs.Queue.{queues, rank}
+use Rattle.feeding.specs.Queue.{queues}
 use Rattle.feeding.specs.Feeds.{Output}
 use Rattle.machine.specs.Capacity.{capacity}
 use Rattle.machine.specs.Outputs.{outputs, outputAt, outputNumber}
@@ -88,7 +86,9 @@ module _ (pl : Plan) (b : List ℕ) (quiet : QuietBytes (pl .head) b) where
 -- an entry of byte x is in range, and is free
 entry-within : (x : ℕ) → entryTest (entryFrom x) ≡ leb x 4
 entry-within zero = refl
-entry-within (suc x) = same-test (ltb x 4) (leb (suc x) 4) (λ e. let h = ltb-true x 4 e in le-leb (suc x) 4 (omega arith))
+entry-within (suc x) =
+    same-test (ltb x 4) (leb (suc x) 4)
+    (λ e. let h = ltb-true x 4 e in le-leb (suc x) 4 (omega arith))
     (λ e. let h = leb-true (suc x) 4 e in lt-ltb x 4 (omega arith))
 
 entry-free : (x : ℕ) → isFree (entryFrom x) ≡ eqb x 0
@@ -168,7 +168,8 @@ module _ (pl : Plan) (b : List ℕ) (room : S pl ≤ 32) (r o : ℕ) (h : r < R 
       at : (t < S pl) ⊎ (S pl ≤ t) → entryFits from (S pl) b t ≡ true
       at (inl g) =
           also-of {a = leb (getD b (from + 2 * t) 0) (pick (ltb t (S pl)) 4 0)}
-          (rw (lt-ltb t (S pl) g) (rw (entry-of t g, entry-within (getD b (from + 2 * t) 0)) at (all-at (S pl) _ f t g)))
+          (rw (lt-ltb t (S pl) g)
+          (rw (entry-of t g, entry-within (getD b (from + 2 * t) 0)) at (all-at (S pl) _ f t g)))
           (form .0)
       at (inr g) =
           let z = eqb-true (getD b (from + 2 * t) 0) 0 (rw (le-ltb t (S pl) g) at (form .1)) in
@@ -187,7 +188,8 @@ module _ (pl : Plan) (b : List ℕ) (room : S pl ≤ 32) (r o : ℕ) (h : r < R 
       {b = anyBelow 32 (entryFree from (S pl) b)} e in
       let f : (t : ℕ) → t < 32 → entryFits from (S pl) b t ≡ true = all-at 32 _ (p .0) in
       also-of (in-form f) (also-of (in-range f) (free-back (p .1))))
-      (λ e. let p = also-true {a = sideForm pl r o b} {b = also (allBelow (S pl) (λ t. entryTest (decode pl b .table r o t)))
+      (λ e. let p = also-true {a = sideForm pl r o b}
+      {b = also (allBelow (S pl) (λ t. entryTest (decode pl b .table r o t)))
       (anyBelow (S pl) (λ t. isFree (decode pl b .table r o t)))} e in
       let q = also-true {a = allBelow (S pl) (λ t. entryTest (decode pl b .table r o t))}
       {b = anyBelow (S pl) (λ t. isFree (decode pl b .table r o t))} (p .1) in

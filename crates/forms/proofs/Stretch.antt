@@ -1,5 +1,5 @@
 -- Stretches of zero bytes, the words that they make, and rows one behind the other.
-use mathlib.Core.Path.{_≡_, refl, sym, ap, _∙_}
+use mathlib.Core.Path.{_≡_, refl, ap, _∙_}
 use mathlib.Core.Logic.{_⊎_, inl, inr}
 use mathlib.Core.Bool.{Bool, true, false}
 use mathlib.Core.List.{List}
@@ -12,7 +12,7 @@ use lib.Bits.{bitOr, or-add-and, and-le-l, and-le-r}
 use lib.ListN.{getD}
 use borrow.Author.Tests.{eq-eqb, eqb-true}
 use Rattle.basis.specs.Choice.{pick, also, also-true, also-of, same-test}
-use Rattle.basis.specs.Bounded.{allBelow, all-of, below-suc, lt-or-ge}
+use Rattle.basis.specs.Bounded.{allBelow, all-of, lt-or-ge}
 use Rattle.plan.specs.declared.Head.{Head}
 use Rattle.plan.specs.Head.{destinations}
 use Rattle.acts.specs.Counts.{outputCount, outputsFrom}
@@ -81,7 +81,8 @@ word-none i b e = all-of 8 _ at
     at (suc (suc (suc (suc (suc (suc (suc zero))))))) l = byte-none b (i + 7) (omega arith)
     at (suc (suc (suc (suc (suc (suc (suc (suc k)))))))) l = absurd (omega arith)
 
-pub word-byte : (i cap : ℕ) (b : List ℕ) → cap < 256 → wordAt i b ≡ cap → (getD b i 0 ≡ cap) × (zeros (i + 1) 7 b ≡ true)
+pub word-byte : (i cap : ℕ) (b : List ℕ) → cap < 256 → wordAt i b ≡ cap
+    → (getD b i 0 ≡ cap) × (zeros (i + 1) 7 b ≡ true)
 unfolding wordAt zeros
 word-byte i cap b h e = (omega arith, all-of 7 _ at)
   where

@@ -9,7 +9,7 @@ use Rattle.basis.specs.Choice.{pick, also}
 use Rattle.basis.specs.Bounded.{anyBelow, allBelow}
 use Rattle.plan.specs.declared.Head.{Head}
 use Rattle.plan.specs.Head.{destinations}
-use Rattle.acts.specs.Counts.{queueCount, outputCount, outputsFrom, allowancesFrom}
+use Rattle.acts.specs.Counts.{outputCount, outputsFrom}
 use Rattle.states.specs.Forms.{zeros}
 
 -- eight bytes from i on as a number, the first the lowest

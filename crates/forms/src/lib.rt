@@ -4,13 +4,12 @@ ghost use mathlib.Core.Path.{_≡_};
 ghost use mathlib.Core.Bool.{true};
 ghost use Prim.Native.Nat.{_+_, _*_, _≤_, _<_};
 ghost use lib.Dec.{eqb};
-ghost use lib.ListN.{length, getD};
+ghost use lib.ListN.{length};
 ghost use Rattle.basis.specs.Choice.{also};
 ghost use Rattle.plan.specs.Head.{InRange, destinations};
 ghost use Rattle.acts.specs.Counts.{stateSize};
 ghost use Rattle.states.specs.Forms.{zeros};
-ghost use Rattle.forms.specs.Bytes.{wordAt, IdleRow, IdleRows, IdleSide, IdleRouter, QuietBytes, sideFits, sidesFit};
-ghost use Rattle.forms.specs.Bytes.{allowancesFit};
+ghost use Rattle.forms.specs.Bytes.{wordAt, IdleRow, IdleRows, IdleSide, IdleRouter, QuietBytes};
 
 pub mod sides;
 
@@ -45,8 +44,13 @@ fn word(s: &[u8], i: usize) -> u64
     requires { ⌜ i + 8 ≤ length (now s) ⌝ }
     ensures { λ v. ⌜ v ≡ wordAt i (now (s .entry)) ⌝ }
 {
-    wide(s[i]) + 256 * wide(s[i + 1]) + 65536 * wide(s[i + 2]) + 16777216 * wide(s[i + 3])
-        + 4294967296 * wide(s[i + 4]) + 1099511627776 * wide(s[i + 5]) + 281474976710656 * wide(s[i + 6])
+    wide(s[i])
+        + 256 * wide(s[i + 1])
+        + 65536 * wide(s[i + 2])
+        + 16777216 * wide(s[i + 3])
+        + 4294967296 * wide(s[i + 4])
+        + 1099511627776 * wide(s[i + 5])
+        + 281474976710656 * wide(s[i + 6])
         + 72057594037927936 * wide(s[i + 7])
 }
 
@@ -128,7 +132,8 @@ fn routers_idle(s: &[u8], h: Head, i: usize) -> bool
 
 // Whether the interfaces' queues are idle, out and in.
 fn interfaces_idle(s: &[u8], h: Head, i: usize, j: usize) -> bool
-    requires { ⌜ (i + 39 * destinations h ≤ length (now s)) × (j + 39 * destinations h ≤ length (now s)) × InRange h ⌝ }
+    requires { ⌜ (i + 39 * destinations h ≤ length (now s)) × (j + 39 * destinations h ≤ length (now s))
+        × InRange h ⌝ }
     ensures { λ r. ⌜ (r ≡ true → IdleRows (now (s .entry)) i (h .actives) (h .aout .0)
         × IdleRows (now (s .entry)) (i + 39 * h .actives) (h .passives) (h .pout .0)
         × IdleRows (now (s .entry)) j (h .actives) (h .ain .0)
@@ -152,7 +157,11 @@ pub fn quiet(s: &[u8], h: Head) -> bool
     ensures { λ r. ⌜ (r ≡ true → QuietBytes h (now (s .entry))) ⌝ }
 {
     let n = h.actives + h.passives;
-    if !zeros(s, 2 + 39 * (2 * n + 21 * h.routers), 7 * (n + 6 * h.routers)) {
+    if !zeros(
+        s,
+        2 + 39 * (2 * n + 21 * h.routers),
+        7 * (n + 6 * h.routers),
+    ) {
         return false;
     }
     if !interfaces_idle(s, h, 2, 2 + 39 * (n + 21 * h.routers)) {

@@ -3,7 +3,7 @@ ghost use mathlib.Core.Path.{_≡_};
 ghost use mathlib.Core.Bool.{true, not};
 ghost use Prim.Native.Nat.{_+_, _*_, _≤_, _<_};
 ghost use lib.Dec.{ltb, leb, eqb};
-ghost use lib.ListN.{length, getD};
+ghost use lib.ListN.{length};
 ghost use Rattle.basis.specs.Choice.{pick, also};
 ghost use Rattle.states.specs.Forms.{zeros};
 ghost use Rattle.forms.specs.Bytes.{sideFits, sidesFit, Limits, bytesWithin, byteOpen, sidesZero, allowancesFit};

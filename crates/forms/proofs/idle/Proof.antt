@@ -6,10 +6,6 @@ use native.Mathlib.Omega.{arith}
 use borrow.Author.Needs.{needs}
 use Rattle.forms.proofs.idle.Statement.{statement}
 use Rattle.forms.proofs.idle.Tie as tie
-use Rattle.forms.proofs.idle.Reads as reads
-use Rattle.forms.proofs.idle.Lts as lts
-use Rattle.forms.proofs.wide.Reads as wide-reads
-use Rattle.forms.proofs.word.Reads as word-reads
 
 -- src/lib.rt:58:8
 word-requires : tie.Need-word-requires
@@ -57,8 +53,11 @@ word-requires-5 c κs = search needs
 
 -- src/lib.rt:54:1
 returns-2 : tie.Need-returns-2
-returns-2 c = λ e. row-idle _ _ _ (omega arith) (sym (c .before .before .before .before .before .before .word .ensures) ∙ c .before .before .before .before .if1 .left ∙ c .before .before .before .before .before .wide .ensures .0)
-    (by-words (c .before .before .before .word2 .ensures) (c .before .before .word3 .ensures) (c .before .word4 .ensures) (c .word5 .ensures) (eqb-true _ _ e))
+returns-2 c = λ e. row-idle _ _ _ (omega arith) (sym
+    (c .before .before .before .before .before .before .word .ensures)
+    ∙ c .before .before .before .before .if1 .left ∙ c .before .before .before .before .before .wide .ensures .0)
+    (by-words (c .before .before .before .word2 .ensures) (c .before .before .word3 .ensures)
+    (c .before .word4 .ensures) (c .word5 .ensures) (eqb-true _ _ e))
 
 pub idle-spec : {M : Type 1} → statement M
 idle-spec =

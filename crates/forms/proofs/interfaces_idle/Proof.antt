@@ -3,9 +3,6 @@ use mathlib.Core.Bool.{false≢true}
 use borrow.Author.Needs.{needs}
 use Rattle.forms.proofs.interfaces_idle.Statement.{statement}
 use Rattle.forms.proofs.interfaces_idle.Tie as tie
-use Rattle.forms.proofs.interfaces_idle.Reads as reads
-use Rattle.forms.proofs.interfaces_idle.Lts as lts
-use Rattle.forms.proofs.rows_idle.Reads as rows-idle-reads
 
 -- src/lib.rt:137:9
 rows-idle-requires : tie.Need-rows-idle-requires
@@ -54,8 +51,10 @@ rows-idle-requires-4 c κs = search needs
 -- src/lib.rt:130:1
 returns-4 : tie.Need-returns-4
 returns-4 c = λ e. (
-  c .before .before .before .before .before .before .before .before .rows-idle .ensures (not-false _ (c .before .before .before .before .before .before .before .if1 .left)),
-  c .before .before .before .before .before .rows-idle2 .ensures (not-false _ (c .before .before .before .before .if2 .left)),
+  c .before .before .before .before .before .before .before .before .rows-idle .ensures (not-false _
+      (c .before .before .before .before .before .before .before .if1 .left)),
+  c .before .before .before .before .before .rows-idle2 .ensures (not-false _
+      (c .before .before .before .before .if2 .left)),
   c .before .before .before .rows-idle3 .ensures (not-false _ (c .before .before .if3 .left)),
   c .rows-idle4 .ensures e,
 )

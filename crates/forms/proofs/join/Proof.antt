@@ -1,8 +1,6 @@
 use Rattle.forms.proofs.Stretch.{or-test}
 use Rattle.forms.proofs.join.Statement.{statement}
 use Rattle.forms.proofs.join.Tie as tie
-use Rattle.forms.proofs.join.Reads as reads
-use Rattle.forms.proofs.join.Lts as lts
 
 -- src/lib.rt:25:1
 returns : tie.Need-returns

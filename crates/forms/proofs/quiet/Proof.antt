@@ -5,11 +5,6 @@ use Rattle.forms.proofs.Stretch.{quiet-of}
 use borrow.Author.Needs.{needs}
 use Rattle.forms.proofs.quiet.Statement.{statement}
 use Rattle.forms.proofs.quiet.Tie as tie
-use Rattle.forms.proofs.quiet.Reads as reads
-use Rattle.forms.proofs.quiet.Lts as lts
-use Rattle.forms.proofs.interfaces_idle.Reads as interfaces-idle-reads
-use Rattle.forms.proofs.routers_idle.Reads as routers-idle-reads
-use Rattle.forms.proofs.zeros.Reads as zeros-reads
 
 -- src/lib.rt:154:13
 add-n : tie.Need-add-n
@@ -93,7 +88,8 @@ routers-idle-requires c κs = search needs
 
 -- src/lib.rt:150:1
 returns-3 : tie.Need-returns-3
-returns-3 c = λ e. quiet-of _ _ (sym (c .before .before .before .before .before .zeros .ensures) ∙ not-false _ (c .before .before .before .before .if1 .left))
+returns-3 c = λ e. quiet-of _ _ (sym (c .before .before .before .before .before .zeros .ensures) ∙ not-false _
+    (c .before .before .before .before .if1 .left))
     (c .before .before .interfaces-idle .ensures (not-false _ (c .before .if2 .left))) (c .routers-idle .ensures e)
 
 pub quiet-spec : {M : Type 1} → statement M

@@ -3,11 +3,6 @@ use borrow.Author.Tests.{not-false}
 use borrow.Author.Needs.{needs}
 use Rattle.forms.proofs.router_idle.Statement.{statement}
 use Rattle.forms.proofs.router_idle.Tie as tie
-use Rattle.forms.proofs.router_idle.Reads as reads
-use Rattle.forms.proofs.router_idle.Lts as lts
-use Rattle.forms.proofs.idle.Reads as idle-reads
-use Rattle.forms.proofs.rows_idle.Reads as rows-idle-reads
-use Rattle.forms.proofs.sides_idle.Reads as sides-idle-reads
 
 -- src/lib.rt:106:9
 rows-idle-requires : tie.Need-rows-idle-requires
@@ -40,10 +35,11 @@ sides-idle-requires c κs = search needs
 -- src/lib.rt:102:1
 returns-3 : tie.Need-returns-3
 returns-3 c = λ e. record {
-      entering = c .before .before .before .before .rows-idle .ensures (not-false _ (c .before .before .before .if1 .left));
-      unit = c .before .before .idle .ensures (not-false _ (c .before .if2 .left));
-      sides = c .sides-idle .ensures e;
-    }
+  entering = c .before .before .before .before .rows-idle .ensures (not-false _
+      (c .before .before .before .if1 .left));
+  unit = c .before .before .idle .ensures (not-false _ (c .before .if2 .left));
+  sides = c .sides-idle .ensures e;
+}
 
 pub router-idle-spec : {M : Type 1} → statement M
 router-idle-spec =

@@ -7,9 +7,6 @@ use borrow.Author.Needs.{needs}
 use native.Mathlib.Omega.{arith}
 use Rattle.forms.proofs.routers_idle.Statement.{statement}
 use Rattle.forms.proofs.routers_idle.Tie as tie
-use Rattle.forms.proofs.routers_idle.Reads as reads
-use Rattle.forms.proofs.routers_idle.Lts as lts
-use Rattle.forms.proofs.router_idle.Reads as router-idle-reads
 
 abbrev Inv-loop : tie.InvT-loop
 Inv-loop s h i n k₀ k = (k ≤ n) × (n ≡ h .routers) × Routers h s i k
@@ -50,7 +47,8 @@ loop-again : tie.Need-loop-again Inv-loop μ-loop
 loop-again c = (
   omega arith,
   c .before .before .before .loop .inv .1,
-  routers-more _ _ _ _ (c .before .before .before .loop .inv .2) (c .before .router-idle .ensures (not-false _ (c .if1 .left))),
+  routers-more _ _ _ _ (c .before .before .before .loop .inv .2) (c .before .router-idle .ensures (not-false _
+      (c .if1 .left))),
 )
 
 -- src/lib.rt:116:1

@@ -7,9 +7,6 @@ use borrow.Author.Needs.{needs}
 use native.Mathlib.Omega.{arith}
 use Rattle.forms.proofs.rows_idle.Statement.{statement}
 use Rattle.forms.proofs.rows_idle.Tie as tie
-use Rattle.forms.proofs.rows_idle.Reads as reads
-use Rattle.forms.proofs.rows_idle.Lts as lts
-use Rattle.forms.proofs.idle.Reads as idle-reads
 
 abbrev Inv-loop : tie.InvT-loop
 Inv-loop s i n cap k₀ k = (k ≤ n) × IdleRows s i k cap

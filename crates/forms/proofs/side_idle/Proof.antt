@@ -3,10 +3,6 @@ use mathlib.Core.Bool.{false≢true}
 use borrow.Author.Needs.{needs}
 use Rattle.forms.proofs.side_idle.Statement.{statement}
 use Rattle.forms.proofs.side_idle.Tie as tie
-use Rattle.forms.proofs.side_idle.Reads as reads
-use Rattle.forms.proofs.side_idle.Lts as lts
-use Rattle.forms.proofs.idle.Reads as idle-reads
-use Rattle.forms.proofs.rows_idle.Reads as rows-idle-reads
 
 -- src/lib.rt:82:9
 idle-requires : tie.Need-idle-requires
@@ -26,7 +22,11 @@ rows-idle-requires c κs = search needs
 
 -- src/lib.rt:78:1
 returns-2 : tie.Need-returns-2
-returns-2 c = λ e. record { from-unit = c .before .before .idle .ensures (not-false _ (c .before .if1 .left)); crossing = c .rows-idle .ensures e }
+returns-2 c = λ e. record {
+  from-unit = c .before .before .idle .ensures (not-false _
+      (c .before .if1 .left));
+  crossing = c .rows-idle .ensures e;
+}
 
 pub side-idle-spec : {M : Type 1} → statement M
 side-idle-spec =

@@ -6,9 +6,6 @@ use borrow.Author.Needs.{needs}
 use native.Mathlib.Omega.{arith}
 use Rattle.forms.proofs.sides_idle.Statement.{statement}
 use Rattle.forms.proofs.sides_idle.Tie as tie
-use Rattle.forms.proofs.sides_idle.Reads as reads
-use Rattle.forms.proofs.sides_idle.Lts as lts
-use Rattle.forms.proofs.side_idle.Reads as side-idle-reads
 
 abbrev Inv-loop : tie.InvT-loop
 Inv-loop s h i o₀ o = (o ≤ 4) × Sides h s i o
@@ -48,7 +45,8 @@ loop-less c = search needs
 loop-again : tie.Need-loop-again Inv-loop μ-loop
 loop-again c = (
   omega arith,
-  sides-more _ _ _ _ (c .before .before .before .loop .inv .1) (c .before .side-idle .ensures (not-false _ (c .if1 .left))),
+  sides-more _ _ _ _ (c .before .before .before .loop .inv .1) (c .before .side-idle .ensures (not-false _
+      (c .if1 .left))),
 )
 
 -- src/lib.rt:89:1

@@ -2,9 +2,6 @@ use native.Mathlib.Omega.{arith}
 use borrow.Author.Needs.{needs}
 use Rattle.forms.proofs.word.Statement.{statement}
 use Rattle.forms.proofs.word.Tie as tie
-use Rattle.forms.proofs.word.Reads as reads
-use Rattle.forms.proofs.word.Lts as lts
-use Rattle.forms.proofs.wide.Reads as wide-reads
 
 -- src/lib.rt:46:10
 shared-slice-read-wide : tie.Need-shared-slice-read-wide

@@ -7,9 +7,6 @@ use borrow.Author.Needs.{needs}
 use native.Mathlib.Omega.{arith}
 use Rattle.forms.proofs.zeros.Statement.{statement}
 use Rattle.forms.proofs.zeros.Tie as tie
-use Rattle.forms.proofs.zeros.Reads as reads
-use Rattle.forms.proofs.zeros.Lts as lts
-use Rattle.forms.proofs.join.Reads as join-reads
 
 abbrev Inv-loop : tie.InvT-loop
 Inv-loop s i n any₀ k₀ any k = (k ≤ n) × (eqb any 0 ≡ zeros i k s)

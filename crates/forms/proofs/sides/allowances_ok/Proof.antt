@@ -7,9 +7,6 @@ use borrow.Author.Needs.{needs}
 use native.Mathlib.Omega.{arith}
 use Rattle.forms.proofs.sides.allowances_ok.Statement.{statement}
 use Rattle.forms.proofs.sides.allowances_ok.Tie as tie
-use Rattle.forms.proofs.sides.allowances_ok.Reads as reads
-use Rattle.forms.proofs.sides.allowances_ok.Lts as lts
-use Rattle.forms.proofs.sides.low.Reads as low-reads
 
 abbrev Inv-loop : tie.InvT-loop
 Inv-loop s i n full spent a₀ a = (a ≤ n) × (allowancesFit i a full spent s ≡ true)
@@ -51,7 +48,8 @@ low-requires-3 c κs = search needs
 
 -- src/sides.rt:105:13
 returns : tie.Need-returns Inv-loop μ-loop
-returns c = allowances-fail _ _ _ _ _ _ (c .before .before .before .before .before .before .loop-test .taken) (c .before .before .before .before .low .ensures .0) (c .before .before .low2 .ensures .0)
+returns c = allowances-fail _ _ _ _ _ _ (c .before .before .before .before .before .before .loop-test .taken)
+    (c .before .before .before .before .low .ensures .0) (c .before .before .low2 .ensures .0)
     (c .before .low3 .ensures .0) (c .if1 .taken)
 
 -- src/sides.rt:103:9
@@ -66,7 +64,8 @@ loop-less c = omega arith
 loop-again : tie.Need-loop-again Inv-loop μ-loop
 loop-again c = (
   omega arith,
-  allowances-next _ _ _ _ _ (c .before .before .before .before .before .before .before .loop .inv .1) (c .before .before .before .before .low .ensures .0) (c .before .before .low2 .ensures .0)
+  allowances-next _ _ _ _ _ (c .before .before .before .before .before .before .before .loop .inv .1)
+      (c .before .before .before .before .low .ensures .0) (c .before .before .low2 .ensures .0)
       (c .before .low3 .ensures .0) (c .if1 .left),
 )
 

@@ -8,14 +8,10 @@ use borrow.Author.Needs.{needs}
 use native.Mathlib.Omega.{arith}
 use Rattle.forms.proofs.sides.bytes_ok.Statement.{statement}
 use Rattle.forms.proofs.sides.bytes_ok.Tie as tie
-use Rattle.forms.proofs.sides.bytes_ok.Reads as reads
-use Rattle.forms.proofs.sides.bytes_ok.Lts as lts
-use Rattle.forms.proofs.join.Reads as join-reads
-use Rattle.forms.proofs.sides.vacant.Reads as vacant-reads
-use Rattle.forms.proofs.sides.over.Reads as over-reads
 
 abbrev Inv-loop : tie.InvT-loop
-Inv-loop s i l bad₀ free₀ k₀ bad free k = (k ≤ 64) × (eqb bad 0 ≡ bytesWithin i k l s) × (eqb free 0 ≡ not (byteOpen i k l s))
+Inv-loop s i l bad₀ free₀ k₀ bad free k = (k ≤ 64) × (eqb bad 0 ≡ bytesWithin i k l s) × (eqb free 0 ≡ not
+    (byteOpen i k l s))
 
 abbrev μ-loop : tie.MeasureT-loop
 μ-loop s i l bad₀ free₀ k₀ bad free k = 64 - k
@@ -64,8 +60,10 @@ loop-less c = omega arith
 loop-again : tie.Need-loop-again Inv-loop μ-loop
 loop-again c = (
   omega arith,
-  within-next _ _ _ _ (c .before .before .before .before .before .before .before .loop .inv .1) (c .before .before .before .over .ensures) (c .before .before .join .ensures),
-  open-next _ _ _ _ (c .before .before .before .before .before .before .before .loop .inv .2) (c .before .vacant .ensures) (c .join2 .ensures),
+  within-next _ _ _ _ (c .before .before .before .before .before .before .before .loop .inv .1)
+      (c .before .before .before .over .ensures) (c .before .before .join .ensures),
+  open-next _ _ _ _ (c .before .before .before .before .before .before .before .loop .inv .2)
+      (c .before .vacant .ensures) (c .join2 .ensures),
 )
 
 -- src/sides.rt:74:1

@@ -1,8 +1,6 @@
 use borrow.Author.Tests.{lt-ltb, le-ltb}
 use Rattle.forms.proofs.sides.limit.Statement.{statement}
 use Rattle.forms.proofs.sides.limit.Tie as tie
-use Rattle.forms.proofs.sides.limit.Reads as reads
-use Rattle.forms.proofs.sides.limit.Lts as lts
 
 -- src/sides.rt:20:1
 returns : tie.Need-returns

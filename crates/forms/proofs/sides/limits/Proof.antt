@@ -6,9 +6,6 @@ use borrow.Author.Needs.{needs}
 use native.Mathlib.Omega.{arith}
 use Rattle.forms.proofs.sides.limits.Statement.{statement}
 use Rattle.forms.proofs.sides.limits.Tie as tie
-use Rattle.forms.proofs.sides.limits.Reads as reads
-use Rattle.forms.proofs.sides.limits.Lts as lts
-use Rattle.forms.proofs.sides.limit.Reads as limit-reads
 
 abbrev Inv-loop : tie.InvT-loop
 Inv-loop slots l₀ t₀ l t = (t ≤ 32) × (length l ≡ 64) × Filled slots t l
@@ -44,8 +41,10 @@ loop-less c = omega arith
 loop-again : tie.Need-loop-again Inv-loop μ-loop
 loop-again c = (
   omega arith,
-  length-set {A = ℕ} (c .before .before .loop .l) (2 * c .before .before .loop .t) (c .limit .result) ∙ c .before .before .loop .inv .1,
-  filled-more _ _ _ (c .before .before .loop .l) (c .before .loop-test .taken) (c .before .before .loop .inv .1) (c .before .before .loop .inv .2) (c .limit .ensures),
+  length-set {A = ℕ} (c .before .before .loop .l) (2 * c .before .before .loop .t) (c .limit .result)
+      ∙ c .before .before .loop .inv .1,
+  filled-more _ _ _ (c .before .before .loop .l) (c .before .loop-test .taken) (c .before .before .loop .inv .1)
+      (c .before .before .loop .inv .2) (c .limit .ensures),
 )
 
 -- src/sides.rt:42:1

@@ -4,9 +4,6 @@ use Rattle.forms.proofs.Entries.{bit-none, less-not}
 use borrow.Author.Needs.{needs}
 use Rattle.forms.proofs.sides.over.Statement.{statement}
 use Rattle.forms.proofs.sides.over.Tie as tie
-use Rattle.forms.proofs.sides.over.Reads as reads
-use Rattle.forms.proofs.sides.over.Lts as lts
-use Rattle.forms.proofs.sides.bit.Reads as bit-reads
 
 -- src/sides.rt:22:5
 bit-requires : tie.Need-bit-requires
@@ -14,7 +11,8 @@ bit-requires c κs = search needs
 
 -- src/sides.rt:19:1
 returns : tie.Need-returns
-returns c = bit-none (ltb (c .before .args .m) (c .before .args .x)) (c .bit .ensures) ∙ less-not (c .before .args .x) (c .before .args .m)
+returns c = bit-none (ltb (c .before .args .m) (c .before .args .x)) (c .bit .ensures) ∙ less-not
+    (c .before .args .x) (c .before .args .m)
 
 pub over-spec : {M : Type 1} → statement M
 over-spec = tie.close (tie.spec bit-requires returns)

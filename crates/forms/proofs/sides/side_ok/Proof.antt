@@ -3,10 +3,6 @@ use Rattle.forms.proofs.Entries.{side-unused, side-by}
 use borrow.Author.Needs.{needs}
 use Rattle.forms.proofs.sides.side_ok.Statement.{statement}
 use Rattle.forms.proofs.sides.side_ok.Tie as tie
-use Rattle.forms.proofs.sides.side_ok.Reads as reads
-use Rattle.forms.proofs.sides.side_ok.Lts as lts
-use Rattle.forms.proofs.sides.bytes_ok.Reads as bytes-ok-reads
-use Rattle.forms.proofs.sides.side_zero.Reads as side-zero-reads
 
 -- src/sides.rt:95:8
 side-zero-requires : tie.Need-side-zero-requires
@@ -14,7 +10,8 @@ side-zero-requires c κs = search needs
 
 -- src/sides.rt:96:9
 returns : tie.Need-returns
-returns c = sym (side-unused _ _ _ (c .before .before .before .pre .1) (sym (c .before .side-zero .ensures) ∙ c .if1 .taken))
+returns c = sym (side-unused _ _ _ (c .before .before .before .pre .1) (sym (c .before .side-zero .ensures)
+    ∙ c .if1 .taken))
 
 -- src/sides.rt:98:5
 bytes-ok-requires : tie.Need-bytes-ok-requires

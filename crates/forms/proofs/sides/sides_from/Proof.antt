@@ -8,10 +8,6 @@ use borrow.Author.Needs.{needs}
 use native.Mathlib.Omega.{arith}
 use Rattle.forms.proofs.sides.sides_from.Statement.{statement}
 use Rattle.forms.proofs.sides.sides_from.Tie as tie
-use Rattle.forms.proofs.sides.sides_from.Reads as reads
-use Rattle.forms.proofs.sides.sides_from.Lts as lts
-use Rattle.forms.proofs.sides.limits.Reads as limits-reads
-use Rattle.forms.proofs.sides.side_ok.Reads as side-ok-reads
 
 abbrev Inv-loop : tie.InvT-loop
 Inv-loop s i m n slots l k₀ k = (m ≤ k) × (k ≤ n) × (sidesFit i slots k s ≡ true)
@@ -37,11 +33,17 @@ add-side-ok c = omega arith
 
 -- src/sides.rt:108:13
 side-ok-requires : tie.Need-side-ok-requires Inv-loop μ-loop
-side-ok-requires c κs = (omega arith, c .before .before .before .before .before .pre .3, c .before .before .before .limits .ensures)
+side-ok-requires c κs = (
+  omega arith,
+  c .before .before .before .before .before .pre .3,
+  c .before .before .before
+      .limits .ensures,
+)
 
 -- src/sides.rt:109:13
 returns : tie.Need-returns Inv-loop μ-loop
-returns c = sides-fail _ _ _ _ (c .before .before .before .before .loop .k) (c .before .before .before .loop-test .taken) (c .before .side-ok .ensures)
+returns c = sides-fail _ _ _ _ (c .before .before .before .before .loop .k)
+    (c .before .before .before .loop-test .taken) (c .before .side-ok .ensures)
     (not-true _ (c .if1 .taken))
 
 -- src/sides.rt:107:9
@@ -57,7 +59,8 @@ loop-again : tie.Need-loop-again Inv-loop μ-loop
 loop-again c = (
   omega arith,
   omega arith,
-  sides-next _ _ _ _ (c .before .before .before .before .loop .inv .2) (c .before .side-ok .ensures) (not-false _ (c .if1 .left)),
+  sides-next _ _ _ _ (c .before .before .before .before .loop .inv .2) (c .before .side-ok .ensures) (not-false _
+      (c .if1 .left)),
 )
 
 -- src/sides.rt:102:1

@@ -2,10 +2,6 @@ use Rattle.forms.proofs.Entries.{unused-fit, sides-all}
 use borrow.Author.Needs.{needs}
 use Rattle.forms.proofs.sides.sides_ok.Statement.{statement}
 use Rattle.forms.proofs.sides.sides_ok.Tie as tie
-use Rattle.forms.proofs.sides.sides_ok.Reads as reads
-use Rattle.forms.proofs.sides.sides_ok.Lts as lts
-use Rattle.forms.proofs.sides.sides_from.Reads as sides-from-reads
-use Rattle.forms.proofs.sides.unused.Reads as unused-reads
 
 -- src/sides.rt:120:9
 unused-requires : tie.Need-unused-requires
@@ -13,7 +9,8 @@ unused-requires c κs = search needs
 
 -- src/sides.rt:122:9
 returns : tie.Need-returns
-returns c = sides-all _ _ _ _ _ (unused-fit _ _ _ _ (c .before .before .before .pre .2) (c .before .unused .ensures .1)) (c .if1 .taken)
+returns c = sides-all _ _ _ _ _ (unused-fit _ _ _ _ (c .before .before .before .pre .2)
+    (c .before .unused .ensures .1)) (c .if1 .taken)
 
 -- src/sides.rt:124:5
 sides-from-requires : tie.Need-sides-from-requires

@@ -8,9 +8,6 @@ use borrow.Author.Needs.{needs}
 use native.Mathlib.Omega.{arith}
 use Rattle.forms.proofs.sides.unused.Statement.{statement}
 use Rattle.forms.proofs.sides.unused.Tie as tie
-use Rattle.forms.proofs.sides.unused.Reads as reads
-use Rattle.forms.proofs.sides.unused.Lts as lts
-use Rattle.forms.proofs.sides.side_zero.Reads as side-zero-reads
 
 abbrev Inv-loop : tie.InvT-loop
 Inv-loop s i n k₀ k = (k ≤ n) × (sidesZero i k s ≡ true)
@@ -50,7 +47,8 @@ loop-less c = search needs
 loop-again : tie.Need-loop-again Inv-loop μ-loop
 loop-again c = (
   omega arith,
-  unused-more _ _ _ (c .before .before .before .loop .inv .1) (c .before .side-zero .ensures) (not-false _ (c .if1 .left)),
+  unused-more _ _ _ (c .before .before .before .loop .inv .1) (c .before .side-zero .ensures) (not-false _
+      (c .if1 .left)),
 )
 
 -- src/sides.rt:61:1

@@ -5,9 +5,6 @@ use Rattle.forms.proofs.Entries.{bit-none, and-also}
 use borrow.Author.Needs.{needs}
 use Rattle.forms.proofs.sides.vacant.Statement.{statement}
 use Rattle.forms.proofs.sides.vacant.Tie as tie
-use Rattle.forms.proofs.sides.vacant.Reads as reads
-use Rattle.forms.proofs.sides.vacant.Lts as lts
-use Rattle.forms.proofs.sides.bit.Reads as bit-reads
 
 -- src/sides.rt:31:5
 bit-requires : tie.Need-bit-requires

@@ -43,8 +43,8 @@ loop-again c = (
   omega arith,
   length-set {A = ℕ} (c .before .before .loop .l) (2 * c .before .before .loop .t) (c .limit .result)
       ∙ c .before .before .loop .inv .1,
-  filled-more _ _ _ (c .before .before .loop .l) (c .before .loop-test .taken) (c .before .before .loop .inv .1)
-      (c .before .before .loop .inv .2) (c .limit .ensures),
+  filled-more _ (c .before .before .loop .t) _ (c .before .before .loop .l) (omega arith)
+      (c .before .before .loop .inv .1) (c .before .before .loop .inv .2) (c .limit .ensures),
 )
 
 -- src/sides.rt:42:1

@@ -1,1 +1,2 @@
 pub mod OnTrack
+pub mod ComesIn

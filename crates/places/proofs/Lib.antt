@@ -1,2 +1,3 @@
 pub mod OnTrack
 pub mod ComesIn
+pub mod Fitting

@@ -1,3 +1,4 @@
 pub mod OnTrack
 pub mod ComesIn
 pub mod Fitting
+pub mod Crossing

@@ -2,3 +2,4 @@ pub mod OnTrack
 pub mod ComesIn
 pub mod Fitting
 pub mod Crossing
+pub mod Law

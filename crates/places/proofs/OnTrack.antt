@@ -90,7 +90,7 @@ module _ {pl : Plan} (wired : Wired pl) (up : List (List ℕ)) (tracks : Tracks 
       ap (λ (x : Port). trackAt up (x .router) (t .column)) (trip .from)
       ∙ ap (trackAt up (home pl (active a) .router)) (trip .column)
 
-  on-track : (r : ℕ) → r < 16
+  pub on-track : (r : ℕ) → r < 16
       → Decides (has (trackOf up t) r) ((i : ℕ) × Meets pl (passive p) (home pl (active a)) (record { router = r; side = i }))
   on-track r l = told (ap (λ (z : ℕ). has z r) same-track)
       (track-has wired up tracks (passive p) (A pl + p) (omega arith) (passive-at pl p) (home pl (active a)) from-inside

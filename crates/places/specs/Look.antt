@@ -122,6 +122,18 @@ crossBy routes joints homes by up t a port o k hub =
     (answerAs (t .length) hub (comesBy joints by up (getD homes (t .column) 0) a port)
     (nackBy routes joints by up t a port hub) k)
 
+-- ---- what the tables must have, so that every index is inside them
+pub record Marked (up : List (List ℕ)) (t : Trip) : Type 0 where
+  pub home : t .home < 64
+  pub column : t .column < 32
+  -- from a router on the walk it has no more routers than in all
+  pub most : (r : ℕ) → r < 16 → has (trackOf up t) r ≡ true → trackAt up r (t .column) / 65536 ≤ t .length
+
+-- each router of the walk gives a side
+abbrev pub Led : List (List ℕ) → List ℕ → Trip → Type 0
+Led routes joints t =
+    (n : ℕ) → n < t .length → getD (getD routes (nthOf routes joints t n) []) (t .column) 0 < 4
+
 -- ---- interfaces' queues
 abbrev pub activeOutAs : ℕ → ℕ → Kind → Bool
 activeOutAs length hub Setup = eqb hub 0
@@ -146,3 +158,37 @@ passiveInAs length hub Setup = eqb hub length
 passiveInAs length hub Tdown = false
 passiveInAs length hub Ack = false
 passiveInAs length hub Nack = false
+
+-- the n-th out-queue, actives first
+unfoldable pub sentBy : ℕ → ℕ → ℕ → Packet → Bool
+sentBy actives length n x =
+    pick (ltb n actives) (also (eqb n (x .active)) (activeOutAs length (x .hub .0) (x .kind)))
+    (also (eqb (n - actives) (x .passive)) (passiveOutAs length (x .hub .0) (x .kind)))
+
+-- the n-th in-queue, actives first
+unfoldable pub receivedBy : ℕ → ℕ → ℕ → Packet → Bool
+receivedBy actives length n x =
+    pick (ltb n actives) (also (eqb n (x .active)) (activeInAs length (x .hub .0) (x .kind)))
+    (also (eqb (n - actives) (x .passive)) (passiveInAs length (x .hub .0) (x .kind)))
+
+-- ---- all queues by number
+module _ (routes : List (List ℕ)) (joints homes : List ℕ) (by up : List (List ℕ)) (t : Trip) (x : Packet) where
+  -- the sender of rank j at side o of router r
+  unfoldable pub senderBy : ℕ → ℕ → ℕ → Bool
+  senderBy r o j =
+      pick (eqb j 0) (outBy routes up t r o (x .active) (x .kind) (x .hub .0))
+      (crossBy routes joints homes by up t (x .active) (4 * r + pick (ltb (j - 1) o) (j - 1) j) o (x .kind) (x .hub .0))
+
+  -- the k-th queue of router r
+  unfoldable pub routerBy : ℕ → ℕ → Bool → Bool
+  routerBy r k done =
+      pick (ltb k 4) (sideBy joints by up t (4 * r + k) (x .kind) (x .hub .0))
+      (pick (eqb k 4) (unitBy up t r done (x .kind) (x .hub .0)) (senderBy r ((k - 5) / 4) ((k - 5) % 4)))
+
+  -- the n-th queue
+  unfoldable pub fitsBy : Head → ℕ → Bool → Bool
+  fitsBy h n done =
+      pick (ltb n (h .actives + h .passives)) (sentBy (h .actives) (t .length) n x)
+      (pick (ltb (n - (h .actives + h .passives)) (21 * h .routers))
+      (routerBy ((n - (h .actives + h .passives)) / 21) ((n - (h .actives + h .passives)) % 21) done)
+      (receivedBy (h .actives) (t .length) (n - (h .actives + h .passives) - 21 * h .routers) x))

@@ -29,6 +29,7 @@ use Rattle.arrivals.specs.Charted.{Charting}
 use Rattle.arrivals.specs.Tracks.{Tracks}
 use Rattle.load.specs.Lent.{length-at}
 use Rattle.machine.specs.Valid.{PacketOk}
+use Rattle.theory.proofs.Places.Closure.{span-short}
 use Rattle.valid.specs.Test.{fitsTest}
 use Rattle.valid.proofs.Decides.{Decides}
 use Rattle.valid.proofs.Fitting.{fits-decides}
@@ -103,6 +104,11 @@ module _ {h : Head} {routes : List (List ℕ)} {joints homes : List ℕ} {length
         record {
           home = rw e (asked .lent .ports (x .active) (omega (arith, asked .packet .active, inside .0)));
           column = omega (arith, asked .packet .passive);
+          long =
+              let short = span-short (chart .wired) (x .active) (x .passive) (asked .packet .active)
+              (asked .packet .passive) pair in
+              let size = trip .size in
+              omega (arith, chart .routers);
           most = most′;
         }
       where

@@ -3,3 +3,4 @@ pub mod ComesIn
 pub mod Fitting
 pub mod Crossing
 pub mod Law
+pub mod Exits

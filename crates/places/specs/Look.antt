@@ -126,6 +126,7 @@ crossBy routes joints homes by up t a port o k hub =
 pub record Marked (up : List (List ℕ)) (t : Trip) : Type 0 where
   pub home : t .home < 64
   pub column : t .column < 32
+  pub long : t .length ≤ 16
   -- from a router on the walk it has no more routers than in all
   pub most : (r : ℕ) → r < 16 → has (trackOf up t) r ≡ true → trackAt up r (t .column) / 65536 ≤ t .length
 

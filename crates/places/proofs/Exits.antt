@@ -1,0 +1,196 @@
+-- What each way out of a function tells of its test.
+use mathlib.Core.Path.{_≡_, refl, sym, ap, _∙_}
+use mathlib.Core.Bool.{Bool, true, false}
+use mathlib.Core.List.{List, []}
+use Prim.Native.Nat.{ℕ, _+_, _*_, _-_, _/_, _%_, _≤_, _<_}
+use native.Mathlib.Omega.{arith}
+use lib.Dec.{eqb, ltb, leb}
+use lib.ListN.{getD}
+use borrow.Author.Tests.{eq-eqb, ne-eqb, lt-ltb, le-ltb}
+use Rattle.basis.specs.Choice.{pick}
+use Rattle.basis.specs.Fold.{upTo, up-done}
+use Rattle.sets.specs.Sets.{has}
+use Rattle.packets.specs.declared.Kind.{Kind}
+use Rattle.packets.specs.declared.Kind.the-variants.{Setup, Tdown, Ack, Nack}
+use Rattle.packets.specs.declared.Packet.{Packet}
+use Rattle.plan.specs.declared.Head.{Head}
+use Rattle.places.specs.declared.Trip.{Trip}
+use Rattle.places.specs.declared.Standing.{Standing}
+use Rattle.places.specs.Look.{trackAt, trackOf, tripOf, standingOf, freesUpTo, coming, leaving, unitBy, nextBy}
+use Rattle.places.specs.Look.{comesBy, sideBy, columnOf, outBy, onwardOf, nthOf, nackBy, Marked, Led}
+
+-- ---- a pair's walk
+pub trip-is : (h : Head) (homes : List ℕ) (lengths : List (List ℕ)) (x : Packet) {a p k n : ℕ} → a ≡ x .active
+    → p ≡ x .passive → k ≡ getD homes a 0 → n ≡ getD (getD lengths a []) p 0
+    → record { home = k; column = h .actives + p; length = n } ≡ tripOf h homes lengths x
+unfolding tripOf
+trip-is h homes lengths x e f g l = rw (g, l, e, f)
+
+-- ---- a tear-down's hub
+pub frees-none : (hub n : ℕ) → hub ≡ 0 → false ≡ freesUpTo hub n
+unfolding freesUpTo
+frees-none hub n e = rw (le-ltb 0 hub (omega arith))
+
+pub frees-some : (hub n : ℕ) → (hub ≡ 0 → ⊥) → leb hub n ≡ freesUpTo hub n
+unfolding freesUpTo
+frees-some hub n e = rw (lt-ltb 0 hub (omega arith))
+
+-- ---- at a unit
+module _ (v : Standing) (k : Kind) (hub : ℕ) where
+  pub coming-off : v .ahead ≡ 0 → false ≡ coming v k hub
+  unfolding coming
+  coming-off e = rw (eq-eqb (v .ahead) 0 e)
+
+  pub leaving-off : v .ahead ≡ 0 → false ≡ leaving v k hub
+  unfolding leaving
+  leaving-off e = rw (eq-eqb (v .ahead) 0 e)
+
+  module _ (some : v .ahead ≡ 0 → ⊥) where
+    pub coming-setup : k ≡ Setup → {n : ℕ} → n ≡ hub → eqb n (v .behind) ≡ coming v k hub
+    unfolding coming
+    coming-setup e f = rw (ne-eqb (v .ahead) 0 some, e, f)
+
+    pub coming-tdown : k ≡ Tdown → {n : ℕ} → n ≡ hub → {b : Bool} → b ≡ freesUpTo n (v .ahead) → b ≡ coming v k hub
+    unfolding coming
+    coming-tdown e f g = rw (ne-eqb (v .ahead) 0 some, e, ← f) g
+
+    pub coming-ack : k ≡ Ack → false ≡ coming v k hub
+    unfolding coming
+    coming-ack e = rw (ne-eqb (v .ahead) 0 some, e)
+
+    pub coming-nack : k ≡ Nack → false ≡ coming v k hub
+    unfolding coming
+    coming-nack e = rw (ne-eqb (v .ahead) 0 some, e)
+
+    pub leaving-setup : k ≡ Setup → {n : ℕ} → n ≡ hub → eqb n (v .behind + 1) ≡ leaving v k hub
+    unfolding leaving
+    leaving-setup e f = rw (ne-eqb (v .ahead) 0 some, e, f)
+
+    pub leaving-tdown : k ≡ Tdown → {n : ℕ} → n ≡ hub → {b : Bool} → b ≡ freesUpTo n (v .ahead - 1)
+        → b ≡ leaving v k hub
+    unfolding leaving
+    leaving-tdown e f g = rw (ne-eqb (v .ahead) 0 some, e, ← f) g
+
+    pub leaving-ack : k ≡ Ack → false ≡ leaving v k hub
+    unfolding leaving
+    leaving-ack e = rw (ne-eqb (v .ahead) 0 some, e)
+
+    pub leaving-nack : k ≡ Nack → {n : ℕ} → n ≡ hub → eqb n (v .behind) ≡ leaving v k hub
+    unfolding leaving
+    leaving-nack e f = rw (ne-eqb (v .ahead) 0 some, e, f)
+
+-- ---- where a router stands
+module _ (up : List (List ℕ)) (t : Trip) (r : ℕ) {b : Bool} (e : b ≡ has (trackOf up t) r) where
+  pub spot-off : b ≡ false → record { behind = 0; ahead = 0 } ≡ standingOf up t r
+  unfolding standingOf
+  spot-off f = rw (sym e ∙ f)
+
+  module _ (f : b ≡ true) {n : ℕ} (g : n ≡ trackAt up r (t .column) / 65536) where
+    pub spot-fits : Marked up t → r < 16 → n ≤ t .length
+    spot-fits marked l = rw g (marked .most r l (sym e ∙ f))
+
+    pub spot-on : record { behind = t .length - n; ahead = n } ≡ standingOf up t r
+    unfolding standingOf
+    spot-on = rw (sym e ∙ f, g)
+
+behind-most : (up : List (List ℕ)) (t : Trip) (r : ℕ) → standingOf up t r .behind ≤ t .length
+unfolding standingOf
+behind-most up t r = by (has (trackOf up t) r)
+  where
+    by : (b : Bool)
+        → pick {A = Standing} b
+        (record { behind = t .length - trackAt up r (t .column) / 65536; ahead = trackAt up r (t .column) / 65536 })
+        (record { behind = 0; ahead = 0 }) .behind
+        ≤ t .length
+    by true = omega arith
+    by false = omega arith
+
+pub behind-small : (up : List (List ℕ)) (t : Trip) (r : ℕ) {v : Standing} → Marked up t → v ≡ standingOf up t r
+    → v .behind < 256
+behind-small up t r marked e =
+    rw e (let l = behind-most up t r in let n = marked .long in omega arith)
+
+-- ---- by which side a walk comes in
+module _ (joints : List ℕ) (by : List (List ℕ)) (track d port : ℕ) {v : ℕ} (e : v ≡ getD joints port 0) where
+  pub next-none : (v / 64 ≡ 1 → ⊥) → false ≡ nextBy joints by track d port
+  unfolding nextBy
+  next-none f = rw (← e, ne-eqb (v / 64) 1 f)
+
+  module _ (router : v / 64 ≡ 1) {b : Bool} (m : b ≡ has track (v / 4 % 16)) where
+    pub next-off : b ≡ false → false ≡ nextBy joints by track d port
+    unfolding nextBy
+    next-off f = rw (← e, eq-eqb (v / 64) 1 router, ← m, f)
+
+    pub next-on : b ≡ true → {r : Bool} → r ≡ has (getD (getD by (v / 4 % 16) []) (v % 4) 0) d
+        → r ≡ nextBy joints by track d port
+    unfolding nextBy
+    next-on f g = rw (← e, eq-eqb (v / 64) 1 router, ← m, f) g
+
+module _ (joints : List ℕ) (by up : List (List ℕ)) (from d port : ℕ) where
+  pub comes-here : from ≡ port → true ≡ comesBy joints by up from d port
+  unfolding comesBy
+  comes-here e = rw (eq-eqb from port e)
+
+  pub comes-later : (from ≡ port → ⊥) → {b : Bool} → b ≡ nextBy joints by (trackAt up (from / 4) d) d port
+      → b ≡ comesBy joints by up from d port
+  unfolding comesBy
+  comes-later e f = rw (ne-eqb from port e) f
+
+-- ---- places at a router
+module _ (up : List (List ℕ)) (t : Trip) (r : ℕ) (k : Kind) (hub : ℕ) {v : Standing} (e : v ≡ standingOf up t r) where
+  pub unit-done : (done : Bool) → done ≡ true → {b : Bool} → b ≡ leaving v k hub → b ≡ unitBy up t r done k hub
+  unfolding unitBy
+  unit-done done f g = rw (f, ← e) g
+
+  pub unit-new : (done : Bool) → done ≡ false → {b : Bool} → b ≡ coming v k hub → b ≡ unitBy up t r done k hub
+  unfolding unitBy
+  unit-new done f g = rw (f, ← e) g
+
+module _ (joints : List ℕ) (by up : List (List ℕ)) (t : Trip) (port : ℕ) (k : Kind) (hub : ℕ) {v : Standing}
+    (e : v ≡ standingOf up t (port / 4)) {c : Bool} (f : c ≡ coming v k hub) where
+  pub side-off : c ≡ false → false ≡ sideBy joints by up t port k hub
+  unfolding sideBy
+  side-off g = rw (← e, ← f, g)
+
+  pub side-on : c ≡ true → {b : Bool} → b ≡ comesBy joints by up (t .home) (t .column) port
+      → b ≡ sideBy joints by up t port k hub
+  unfolding sideBy
+  side-on g l = rw (← e, ← f, g) l
+
+module _ (routes up : List (List ℕ)) (t : Trip) (r o a : ℕ) (k : Kind) (hub : ℕ) {d s : ℕ} (e : d ≡ columnOf t a k)
+    (f : s ≡ getD (getD routes r []) d 0) where
+  pub out-off : (s ≡ o → ⊥) → false ≡ outBy routes up t r o a k hub
+  unfolding outBy
+  out-off g = rw (← e, ← f, ne-eqb s o g)
+
+  pub out-on : s ≡ o → {v : Standing} → v ≡ standingOf up t r → {b : Bool} → b ≡ leaving v k hub
+      → b ≡ outBy routes up t r o a k hub
+  unfolding outBy
+  out-on g l m = rw (← e, ← f, eq-eqb s o g, ← l) m
+
+-- ---- the n-th router
+pub onward-is : (routes : List (List ℕ)) (joints : List ℕ) (d r : ℕ) {s v : ℕ} → s ≡ getD (getD routes r []) d 0
+    → v ≡ getD joints (4 * r + s) 0 → v / 4 % 16 ≡ onwardOf routes joints d r
+unfolding onwardOf
+onward-is routes joints d r e f = rw (← e, ← f)
+
+module _ (routes : List (List ℕ)) (joints : List ℕ) (t : Trip) {i r : ℕ}
+    (e : r ≡ upTo (λ j. onwardOf routes joints (t .column)) i (t .home / 4)) where
+  pub led-at : Led routes joints t → i < t .length → getD (getD routes r []) (t .column) 0 < 4
+  unfolding nthOf
+  led-at led l = rw e (led i l)
+
+  pub nth-done : {n : ℕ} → i ≡ n → r ≡ nthOf routes joints t n
+  unfolding nthOf
+  nth-done f = up-done (λ j. onwardOf routes joints (t .column)) (t .home / 4) e f
+
+module _ (routes : List (List ℕ)) (joints : List ℕ) (by up : List (List ℕ)) (t : Trip) (a port hub : ℕ) {n : ℕ}
+    (e : n ≡ hub) where
+  pub nack-none : t .length ≤ n → false ≡ nackBy routes joints by up t a port hub
+  unfolding nackBy
+  nack-none l = rw (le-ltb hub (t .length) (omega arith))
+
+  pub nack-some : n < t .length → {d r : ℕ} → d ≡ a → r ≡ nthOf routes joints t n → {b : Bool}
+      → b ≡ nextBy joints by (trackAt up r d) d port → b ≡ nackBy routes joints by up t a port hub
+  unfolding nackBy
+  nack-some l {d} {r} f g m = rw (lt-ltb hub (t .length) (omega arith), ← e, ← f, ← g) m

@@ -29,7 +29,7 @@ use Rattle.theory.proofs.Places.Closure.{stands-below, span-is}
 use Rattle.theory.proofs.Places.CameIn.{stands-inside, stands-exit}
 use Rattle.valid.proofs.Decides.{Decides, like, never, less, same, both}
 use Rattle.places.specs.declared.Trip.{Trip}
-use Rattle.places.specs.Look.{trackAt, onwardOf, nthOf, nextBy, comesBy, nackBy, answerAs, crossBy}
+use Rattle.places.specs.Look.{trackAt, onwardOf, nthOf, nextBy, comesBy, nackBy, answerAs, answerBy, crossBy}
 use Rattle.places.proofs.OnTrack.{active-at, passive-at, told, Trips}
 use Rattle.places.proofs.ComesIn.{byte-router, later-front, front-later, next-decides, comes-decides}
 
@@ -162,7 +162,7 @@ module _ {pl : Plan} {by : List (List ℕ)} {joints homes : List ℕ} (chart : C
     pub cross-decides : (o : ℕ) (k : Kind)
         → Decides (crossBy routes joints homes by up t a (4 * y .router + y .side) o k hub)
         (Fits pl k a p hub (inQueue (K (y .router) (y .side) o)))
-    unfolding crossBy Ahead Back
+    unfolding crossBy answerBy Ahead Back
     cross-decides o k =
         let back : (4 * y .router + y .side) / 4 ≡ y .router = omega arith in
         let few = chart .few in

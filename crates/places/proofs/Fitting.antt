@@ -92,7 +92,7 @@ module _ {pl : Plan} (wired : Wired pl) (a p : ℕ) (ha : a < A pl) (hp : p < P 
   -- ---- interfaces' queues; n is the walk's length
   module _ (n : ℕ) (long : n ≡ span pl a p) (x hub : ℕ) where
     pub active-out : (k : Kind) → Decides (also (eqb x a) (activeOutAs n hub k)) (Fits pl k a p hub (inQueue (activeOut x)))
-    unfolding Ahead Back
+    unfolding activeOutAs Ahead Back
     active-out Setup = both (same x a) (λ e. same hub 0)
     active-out Tdown =
         like (both (same x a) (λ e. frees hub n)) (λ f. (0, (f .0, refl), f .1 .0, omega (arith, f .1 .1, long)))
@@ -102,7 +102,7 @@ module _ {pl : Plan} (wired : Wired pl) (a p : ℕ) (ha : a < A pl) (hp : p < P 
 
     pub passive-out : (k : Kind)
         → Decides (also (eqb x p) (passiveOutAs n hub k)) (Fits pl k a p hub (inQueue (passiveOut x)))
-    unfolding Ahead Back
+    unfolding passiveOutAs Ahead Back
     passive-out Setup = like (both (same x p) (λ e. never (λ (f : ⊥). f))) (λ f. absurd (f .1)) (λ f. absurd f)
     passive-out Tdown = like (both (same x p) (λ e. never (λ (f : ⊥). f))) (λ f. absurd (f .1)) (λ f. absurd (f .1))
     passive-out Ack = like (both (same x p) (λ e. same hub n)) (λ f. ((f .0, f .1 ∙ long), f .1 ∙ long))
@@ -110,7 +110,7 @@ module _ {pl : Plan} (wired : Wired pl) (a p : ℕ) (ha : a < A pl) (hp : p < P 
     passive-out Nack = like (both (same x p) (λ e. same hub n)) (λ f. (f .0, f .1 ∙ long)) (λ f. (f .0, f .1 ∙ sym long))
 
     pub active-in : (k : Kind) → Decides (also (eqb x a) (activeInAs n hub k)) (Fits pl k a p hub (inQueue (activeIn x)))
-    unfolding Ahead Back
+    unfolding activeInAs Ahead Back
     active-in Setup = like (both (same x a) (λ e. never (λ (f : ⊥). f))) (λ f. absurd (f .1)) (λ f. absurd f)
     active-in Tdown = like (both (same x a) (λ e. never (λ (f : ⊥). f))) (λ f. absurd (f .1)) (λ f. absurd (f .1))
     active-in Ack = like (both (same x a) (λ e. same hub n))
@@ -120,7 +120,7 @@ module _ {pl : Plan} (wired : Wired pl) (a p : ℕ) (ha : a < A pl) (hp : p < P 
 
     pub passive-in : (k : Kind)
         → Decides (also (eqb x p) (passiveInAs n hub k)) (Fits pl k a p hub (inQueue (passiveIn x)))
-    unfolding Ahead Back
+    unfolding passiveInAs Ahead Back
     passive-in Setup = like (both (same x p) (λ e. same hub n)) (λ f. (f .0, f .1 ∙ long)) (λ f. (f .0, f .1 ∙ sym long))
     passive-in Tdown = like (both (same x p) (λ e. never (λ (f : ⊥). f))) (λ f. absurd (f .1))
         (λ f. absurd (late (f .0) (f .1 .1) (f .2) (f .3)))

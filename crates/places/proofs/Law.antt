@@ -14,6 +14,7 @@ use Rattle.sets.specs.Sets.{has}
 use Rattle.packets.specs.declared.Kind.{Kind}
 use Rattle.packets.specs.declared.Packet.{Packet}
 use Rattle.plan.specs.declared.Head.{Head}
+use Rattle.plan.specs.Head.{Counts}
 use Rattle.plan.specs.Plan.{Plan, Port, active, passive, R, A, P}
 use Rattle.plan.specs.Rules.{home}
 use Rattle.plan.specs.Tables.{tablePlan}
@@ -55,11 +56,14 @@ pub record Asked (h : Head) (routes : List (List ℕ)) (joints homes : List ℕ)
   pub packet : PacketOk (tablePlan h routes joints) x
   pub serves : served (tablePlan h routes joints) (x .active) (x .passive) ≡ true
 
+pub ask : {h : Head} {routes : List (List ℕ)} {joints homes : List ℕ} {lengths by up : List (List ℕ)} {x : Packet}
+    → Lent h routes joints homes lengths by → Tracks (tablePlan h routes joints) up
+    → PacketOk (tablePlan h routes joints) x
+    → served (tablePlan h routes joints) (x .active) (x .passive) ≡ true → Asked h routes joints homes lengths by up x
+ask l u k v = record { lent = l; tracks = u; packet = k; serves = v }
+
 module _ {h : Head} {routes : List (List ℕ)} {joints homes : List ℕ} {lengths by up : List (List ℕ)} {x : Packet}
     (asked : Asked h routes joints homes lengths by up x) where
-  pl : Plan
-  pl = tablePlan h routes joints
-
   chart : Charting (tablePlan h routes joints) by joints homes
   chart = asked .lent .tables .chart
 
@@ -86,6 +90,13 @@ module _ {h : Head} {routes : List (List ℕ)} {joints homes : List ℕ} {length
       })
 
   -- ---- every index is inside the tables
+  pub in-range : (h .actives ≤ 16) × (x .active < 16) × (x .passive < 16)
+  unfolding tablePlan
+  in-range =
+      let a = asked .lent .range .actives .1 in
+      let p = asked .lent .range .passives .1 in
+      (a, omega (arith, asked .packet .active), omega (arith, asked .packet .passive))
+
   module _ {t : Trip} (e : t ≡ tripOf h homes lengths x) where
     trip : Trips (tablePlan h routes joints) (x .active) (x .passive) t
     trip = trips e
@@ -95,7 +106,7 @@ module _ {h : Head} {routes : List (List ℕ)} {joints homes : List ℕ} {length
     unfolding tablePlan
     inside = (refl, refl, refl)
 
-    pub marked : Marked up t
+    marked : Marked up t
     unfolding tripOf
     marked =
         let ports = asked .lent .ports in
@@ -121,16 +132,21 @@ module _ {h : Head} {routes : List (List ℕ)} {joints homes : List ℕ} {length
             let long = trip .size in
             omega arith
 
-    pub far-inside : getD homes (t .column) 0 < 64
+    far-inside : getD homes (t .column) 0 < 64
     far-inside =
         let column = trip .column in
         asked .lent .ports (t .column) (omega (arith, asked .packet .passive, inside .0, inside .1))
 
-    pub led : Led routes joints t
+    led : Led routes joints t
     led n l =
         let long = trip .size in
         nth-inside chart (x .active) (x .passive) (asked .packet .active) (asked .packet .passive) pair t trip routes
         routed n (omega arith) .1
+
+    pub ready : Counts h × Marked up t × Led routes joints t × (getD homes (t .column) 0 < 64) × (x .active < 16)
+    ready =
+        let range = asked .lent .range in
+        ((range .routers .1, range .actives .1, range .passives .1), marked, led, far-inside, in-range .1)
 
     -- ---- every queue
     -- a place whose test decides Fits

@@ -115,12 +115,16 @@ answerAs length hub far near Tdown = false
 answerAs length hub far near Ack = also (eqb hub length) far
 answerAs length hub far near Nack = pick (eqb hub length) far near
 
+unfoldable pub answerBy : List (List ℕ) → List ℕ → List ℕ → List (List ℕ) → List (List ℕ) → Trip → ℕ → ℕ → Kind → ℕ
+    → Bool
+answerBy routes joints homes by up t a port k hub =
+    answerAs (t .length) hub (comesBy joints by up (getD homes (t .column) 0) a port)
+    (nackBy routes joints by up t a port hub) k
+
 unfoldable pub crossBy : List (List ℕ) → List ℕ → List ℕ → List (List ℕ) → List (List ℕ) → Trip → ℕ → ℕ → ℕ → Kind → ℕ
     → Bool
 crossBy routes joints homes by up t a port o k hub =
-    also (eqb (getD (getD routes (port / 4) []) a 0) o)
-    (answerAs (t .length) hub (comesBy joints by up (getD homes (t .column) 0) a port)
-    (nackBy routes joints by up t a port hub) k)
+    also (eqb (getD (getD routes (port / 4) []) a 0) o) (answerBy routes joints homes by up t a port k hub)
 
 -- ---- what the tables must have, so that every index is inside them
 pub record Marked (up : List (List ℕ)) (t : Trip) : Type 0 where
@@ -136,25 +140,25 @@ Led routes joints t =
     (n : ℕ) → n < t .length → getD (getD routes (nthOf routes joints t n) []) (t .column) 0 < 4
 
 -- ---- interfaces' queues
-abbrev pub activeOutAs : ℕ → ℕ → Kind → Bool
+unfoldable pub activeOutAs : ℕ → ℕ → Kind → Bool
 activeOutAs length hub Setup = eqb hub 0
 activeOutAs length hub Tdown = freesUpTo hub length
 activeOutAs length hub Ack = false
 activeOutAs length hub Nack = false
 
-abbrev pub passiveOutAs : ℕ → ℕ → Kind → Bool
+unfoldable pub passiveOutAs : ℕ → ℕ → Kind → Bool
 passiveOutAs length hub Setup = false
 passiveOutAs length hub Tdown = false
 passiveOutAs length hub Ack = eqb hub length
 passiveOutAs length hub Nack = eqb hub length
 
-abbrev pub activeInAs : ℕ → ℕ → Kind → Bool
+unfoldable pub activeInAs : ℕ → ℕ → Kind → Bool
 activeInAs length hub Setup = false
 activeInAs length hub Tdown = false
 activeInAs length hub Ack = eqb hub length
 activeInAs length hub Nack = leb hub length
 
-abbrev pub passiveInAs : ℕ → ℕ → Kind → Bool
+unfoldable pub passiveInAs : ℕ → ℕ → Kind → Bool
 passiveInAs length hub Setup = eqb hub length
 passiveInAs length hub Tdown = false
 passiveInAs length hub Ack = false

@@ -9,6 +9,7 @@ ghost use mathlib.Core.List.{[]};
 ghost use Prim.Native.Nat.{ℕ, _+_, _*_, _/_, _≤_, _<_};
 ghost use lib.ListN.{getD};
 ghost use Rattle.sets.specs.Sets.{has};
+ghost use Rattle.plan.specs.Head.{Counts};
 ghost use Rattle.plan.specs.Tables.{tablePlan};
 ghost use Rattle.paths.specs.Served.{served};
 ghost use Rattle.feeding.specs.Queue.{queues, queueAt};
@@ -18,7 +19,7 @@ ghost use Rattle.machine.specs.Valid.{PacketOk};
 ghost use Rattle.valid.specs.Test.{fitsTest};
 ghost use Rattle.moves.specs.Lent.{Lent};
 ghost use Rattle.places.specs.Look.{tripOf, standingOf, onwardOf, nthOf, freesUpTo, coming, leaving, unitBy, nextBy, comesBy, sideBy};
-ghost use Rattle.places.specs.Look.{columnOf, outBy, nackBy, crossBy, Marked, Led, activeOutAs, passiveOutAs, activeInAs};
+ghost use Rattle.places.specs.Look.{columnOf, outBy, nackBy, answerBy, crossBy, Marked, Led, activeOutAs, passiveOutAs, activeInAs};
 ghost use Rattle.places.specs.Look.{passiveInAs, sentBy, receivedBy, senderBy, routerBy, fitsBy};
 
 // A pair's walk: the active's port, the passive's column, and how many routers it has.
@@ -245,4 +246,270 @@ fn nack_by(
     let a = wide(x.active);
     let r = nth(routes, joints, t, hub);
     next_by(joints, by, up[r][a], a, port)
+}
+
+// An answer of the passive comes in by a port.
+fn far_by(
+    joints: &[u8; 64],
+    homes: &[u8; 32],
+    by: &[[u32; 4]; 16],
+    up: &[[u32; 32]; 17],
+    t: Trip,
+    port: usize,
+    x: Packet,
+) -> bool
+    requires { ⌜ (t .column < 32) × (getD (now homes) (t .column) 0 < 64) × (port < 64) × (x .active < 16) ⌝ }
+    ensures { λ b. ⌜ b ≡ comesBy (now (joints .entry)) (now (by .entry)) (now (up .entry)) (getD (now (homes .entry)) (t .column) 0) (x .active) port ⌝ }
+{
+    let d = t.column;
+    let from = wide(homes[d]);
+    let a = wide(x.active);
+    comes_by(joints, by, up, from, a, port)
+}
+
+// An answer comes in by a port: with the walk's length as its hub from the passive, or else a NACK from a router.
+fn answer_by(
+    routes: &[[u8; 32]; 16],
+    joints: &[u8; 64],
+    homes: &[u8; 32],
+    by: &[[u32; 4]; 16],
+    up: &[[u32; 32]; 17],
+    t: Trip,
+    port: usize,
+    x: Packet,
+) -> bool
+    requires { ⌜ Marked (now up) t × Led (now routes) (now joints) t × (getD (now homes) (t .column) 0 < 64) × (port < 64) × (x .active < 16) ⌝ }
+    ensures { λ b. ⌜ b ≡ answerBy (now (routes .entry)) (now (joints .entry)) (now (homes .entry)) (now (by .entry)) (now (up .entry)) t (x .active) port (x .kind) (x .hub .0) ⌝ }
+{
+    let hub = wide(x.hub.0);
+    let k = x.kind;
+    match k {
+        Kind::Setup => false,
+        Kind::Tdown => false,
+        Kind::Ack => {
+            if hub != t.length {
+                return false;
+            }
+            far_by(joints, homes, by, up, t, port, x)
+        }
+        Kind::Nack => {
+            if hub == t.length {
+                return far_by(joints, homes, by, up, t, port, x);
+            }
+            nack_by(routes, joints, by, up, t, port, x)
+        }
+    }
+}
+
+// An answer that crosses a router, from a port to a side.
+fn at_cross(
+    routes: &[[u8; 32]; 16],
+    joints: &[u8; 64],
+    homes: &[u8; 32],
+    by: &[[u32; 4]; 16],
+    up: &[[u32; 32]; 17],
+    t: Trip,
+    port: usize,
+    o: usize,
+    x: Packet,
+) -> bool
+    requires { ⌜ Marked (now up) t × Led (now routes) (now joints) t × (getD (now homes) (t .column) 0 < 64) × (port < 64) × (x .active < 16) ⌝ }
+    ensures { λ b. ⌜ b ≡ crossBy (now (routes .entry)) (now (joints .entry)) (now (homes .entry)) (now (by .entry)) (now (up .entry)) t (x .active) port o (x .kind) (x .hub .0) ⌝ }
+{
+    let a = wide(x.active);
+    if wide(routes[port / 4][a]) != o {
+        return false;
+    }
+    answer_by(routes, joints, homes, by, up, t, port, x)
+}
+
+// A sender of a router's side: its unit, or another side, by rank.
+fn at_sender(
+    routes: &[[u8; 32]; 16],
+    joints: &[u8; 64],
+    homes: &[u8; 32],
+    by: &[[u32; 4]; 16],
+    up: &[[u32; 32]; 17],
+    t: Trip,
+    r: usize,
+    o: usize,
+    j: usize,
+    x: Packet,
+) -> bool
+    requires { ⌜ Marked (now up) t × Led (now routes) (now joints) t × (getD (now homes) (t .column) 0 < 64) × (r < 16) × (j < 4) × (x .active < 16) ⌝ }
+    ensures { λ b. ⌜ b ≡ senderBy (now (routes .entry)) (now (joints .entry)) (now (homes .entry)) (now (by .entry)) (now (up .entry)) t x r o j ⌝ }
+{
+    if j == 0 {
+        return at_out(routes, up, t, r, o, x);
+    }
+    if j - 1 < o {
+        return at_cross(routes, joints, homes, by, up, t, 4 * r + (j - 1), o, x);
+    }
+    at_cross(routes, joints, homes, by, up, t, 4 * r + j, o, x)
+}
+
+// A queue of a router, by its place among the router's.
+fn at_router(
+    routes: &[[u8; 32]; 16],
+    joints: &[u8; 64],
+    homes: &[u8; 32],
+    by: &[[u32; 4]; 16],
+    up: &[[u32; 32]; 17],
+    t: Trip,
+    r: usize,
+    k: usize,
+    done: bool,
+    x: Packet,
+) -> bool
+    requires { ⌜ Marked (now up) t × Led (now routes) (now joints) t × (getD (now homes) (t .column) 0 < 64) × (r < 16) × (k < 21) × (x .active < 16) ⌝ }
+    ensures { λ b. ⌜ b ≡ routerBy (now (routes .entry)) (now (joints .entry)) (now (homes .entry)) (now (by .entry)) (now (up .entry)) t x r k done ⌝ }
+{
+    if k < 4 {
+        return at_side(joints, by, up, t, 4 * r + k, x);
+    }
+    if k == 4 {
+        return at_unit(up, t, r, done, x);
+    }
+    at_sender(routes, joints, homes, by, up, t, r, (k - 5) / 4, (k - 5) % 4, x)
+}
+
+// In an active's out-queue.
+fn active_out(length: usize, x: Packet) -> bool
+    ensures { λ b. ⌜ b ≡ activeOutAs length (x .hub .0) (x .kind) ⌝ }
+{
+    let hub = wide(x.hub.0);
+    let k = x.kind;
+    match k {
+        Kind::Setup => hub == 0,
+        Kind::Tdown => frees(hub, length),
+        Kind::Ack => false,
+        Kind::Nack => false,
+    }
+}
+
+// In a passive's out-queue.
+fn passive_out(length: usize, x: Packet) -> bool
+    ensures { λ b. ⌜ b ≡ passiveOutAs length (x .hub .0) (x .kind) ⌝ }
+{
+    let hub = wide(x.hub.0);
+    let k = x.kind;
+    match k {
+        Kind::Setup => false,
+        Kind::Tdown => false,
+        Kind::Ack => hub == length,
+        Kind::Nack => hub == length,
+    }
+}
+
+// In an active's in-queue.
+fn active_in(length: usize, x: Packet) -> bool
+    ensures { λ b. ⌜ b ≡ activeInAs length (x .hub .0) (x .kind) ⌝ }
+{
+    let hub = wide(x.hub.0);
+    let k = x.kind;
+    match k {
+        Kind::Setup => false,
+        Kind::Tdown => false,
+        Kind::Ack => hub == length,
+        Kind::Nack => hub <= length,
+    }
+}
+
+// In a passive's in-queue.
+fn passive_in(length: usize, x: Packet) -> bool
+    ensures { λ b. ⌜ b ≡ passiveInAs length (x .hub .0) (x .kind) ⌝ }
+{
+    let hub = wide(x.hub.0);
+    let k = x.kind;
+    match k {
+        Kind::Setup => hub == length,
+        Kind::Tdown => false,
+        Kind::Ack => false,
+        Kind::Nack => false,
+    }
+}
+
+// In the n-th out-queue, actives first.
+fn sent(actives: usize, length: usize, n: usize, x: Packet) -> bool
+    ensures { λ b. ⌜ b ≡ sentBy actives length n x ⌝ }
+{
+    if n < actives {
+        if n != wide(x.active) {
+            return false;
+        }
+        return active_out(length, x);
+    }
+    if n - actives != wide(x.passive) {
+        return false;
+    }
+    passive_out(length, x)
+}
+
+// In the n-th in-queue, actives first.
+fn received(actives: usize, length: usize, n: usize, x: Packet) -> bool
+    ensures { λ b. ⌜ b ≡ receivedBy actives length n x ⌝ }
+{
+    if n < actives {
+        if n != wide(x.active) {
+            return false;
+        }
+        return active_in(length, x);
+    }
+    if n - actives != wide(x.passive) {
+        return false;
+    }
+    passive_in(length, x)
+}
+
+// In the n-th queue: out-queues first, then each router's, then the in-queues.
+fn looked(
+    h: Head,
+    routes: &[[u8; 32]; 16],
+    joints: &[u8; 64],
+    homes: &[u8; 32],
+    by: &[[u32; 4]; 16],
+    up: &[[u32; 32]; 17],
+    t: Trip,
+    n: usize,
+    done: bool,
+    x: Packet,
+) -> bool
+    requires { ⌜ Counts h × Marked (now up) t × Led (now routes) (now joints) t × (getD (now homes) (t .column) 0 < 64) × (x .active < 16) ⌝ }
+    ensures { λ b. ⌜ b ≡ fitsBy (now (routes .entry)) (now (joints .entry)) (now (homes .entry)) (now (by .entry)) (now (up .entry)) t x h n done ⌝ }
+{
+    let outs = h.actives + h.passives;
+    if n < outs {
+        return sent(h.actives, t.length, n, x);
+    }
+    let m = n - outs;
+    let inner = 21 * h.routers;
+    if m < inner {
+        return at_router(routes, joints, homes, by, up, t, m / 21, m % 21, done, x);
+    }
+    received(h.actives, t.length, m - inner, x)
+}
+
+// May a packet of a served pair stand in the n-th queue, or at its unit if the queue's head has been handled?
+pub fn fits(
+    h: Head,
+    routes: &[[u8; 32]; 16],
+    joints: &[u8; 64],
+    homes: &[u8; 32],
+    lengths: &[[u8; 16]; 16],
+    by: &[[u32; 4]; 16],
+    up: &[[u32; 32]; 17],
+    n: usize,
+    done: bool,
+    x: Packet,
+) -> bool
+    requires { ⌜ Lent h (now routes) (now joints) (now homes) (now lengths) (now by)
+        × Tracks (tablePlan h (now routes) (now joints)) (now up)
+        × (n < queues (tablePlan h (now routes) (now joints)))
+        × PacketOk (tablePlan h (now routes) (now joints)) x
+        × (served (tablePlan h (now routes) (now joints)) (x .active) (x .passive) ≡ true) ⌝ }
+    ensures { λ r. ⌜ r ≡ fitsTest (tablePlan h (now (routes .entry)) (now (joints .entry))) (x .kind) (x .active) (x .passive) (x .hub .0)
+        (headPlace done (queueAt (tablePlan h (now (routes .entry)) (now (joints .entry))) n)) ⌝ }
+{
+    let t = trip_of(h, homes, lengths, x);
+    looked(h, routes, joints, homes, by, up, t, n, done, x)
 }

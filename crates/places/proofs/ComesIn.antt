@@ -115,10 +115,13 @@ module _ {pl : Plan} {by : List (List ℕ)} {joints homes : List ℕ} (chart : C
       ∙ joined-back (chart .wired) e (b .0) y o) in (
         v .0,
         (
-          (b .0 .side, record {
-            steps = l .steps;
-            here = b .1 ∙ ap (λ (n : ℕ). on (record { router = n; side = b .0 .side })) (sym (v .1));
-          }),
+          (
+            b .0 .side,
+            record {
+              steps = l .steps;
+              here = b .1 ∙ ap (λ (n : ℕ). on (record { router = n; side = b .0 .side })) (sym (v .1));
+            },
+          ),
           ap (λ (n : ℕ). pl .route n d) (v .1) ∙ ap (pl .route (b .0 .router)) (sym stands) ∙ sym (v .2),
         ),
       )
@@ -129,12 +132,14 @@ module _ {pl : Plan} {by : List (List ℕ)} {joints homes : List ℕ} (chart : C
       like
       (both (same (byte / 64) 1)
       (λ q. both (track-has (chart .wired) up tracks e d known named x inside w (byte / 4 % 16) (omega arith))
-      (λ m. told (chart .sides (byte / 4 % 16) (byte % 4) d (omega arith) ∙ rw (lt-ltb d (destinations (pl .head)) known))
+      (λ m. told (chart .sides (byte / 4 % 16) (byte % 4) d (omega arith) ∙ rw (lt-ltb d (destinations (pl .head))
+      known))
       (same (pl .route (byte / 4 % 16) d) (byte % 4)))))
       leads-later later-leads
 
   -- the walk comes in by y, at its start or later
-  pub comes-decides : (from : ℕ) → portOf from ≡ x → Decides (comesBy joints by up from d (portNumber y)) (Meets pl e x y)
+  pub comes-decides : (from : ℕ) → portOf from ≡ x → Decides (comesBy joints by up from d (portNumber y)) (Meets pl e x
+      y)
   unfolding comesBy
   comes-decides from start =
       like (either (same from (portNumber y)) (told (ap (λ (z : Port). nextBy joints by (trackAt up (z .router) d) d

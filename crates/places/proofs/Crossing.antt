@@ -64,10 +64,11 @@ module _ {pl : Plan} {by : List (List ℕ)} {joints homes : List ℕ} (chart : C
       let exit = stands-exit (chart .wired) a p ha hp s n r i f in
       let byte = byte-router (getD joints (4 * r + routeTo pl (passive p) r) 0)
       (sym (chart .joined r (routeTo pl (passive p) r) exit)
-      ∙ onward-on pl (passive p) (record { router = r; side = i }) (s .ahead .stop (suc n)) step) in
-      (s .ahead .stop (suc n) .side,
-      rw (given n r i f) (spot-next (onward pl (passive p)) n (on (home pl (active a))) f ∙ step
-      ∙ ap (λ (m : ℕ). on (record { router = m; side = s .ahead .stop (suc n) .side })) (sym (byte .1))))
+      ∙ onward-on pl (passive p) (record { router = r; side = i }) (s .ahead .stop (suc n)) step) in (
+        s .ahead .stop (suc n) .side,
+        rw (given n r i f) (spot-next (onward pl (passive p)) n (on (home pl (active a))) f ∙ step
+            ∙ ap (λ (m : ℕ). on (record { router = m; side = s .ahead .stop (suc n) .side })) (sym (byte .1))),
+      )
 
   pub nth-stands : (n : ℕ) → n < span pl a p → (i : ℕ) × Stands pl a p n (nthOf routes joints t n) i
   unfolding nthOf
@@ -87,11 +88,14 @@ module _ {pl : Plan} {by : List (List ℕ)} {joints homes : List ℕ} (chart : C
   nth-inside n l =
       let f = nth-stands n l in
       let b = stands-inside (chart .wired) a p ha hp s n (nthOf routes joints t n) (f .0) (f .1) in
-      let most = chart .routers in
-      (omega arith, rw (given n (nthOf routes joints t n) (f .0) (f .1))
-      (stands-exit (chart .wired) a p ha hp s n (nthOf routes joints t n) (f .0) (f .1)))
+      let most = chart .routers in (
+        omega arith,
+        rw (given n (nthOf routes joints t n) (f .0) (f .1))
+            (stands-exit (chart .wired) a p ha hp s n (nthOf routes joints t n) (f .0) (f .1)),
+      )
 
-  module _ (up : List (List ℕ)) (tracks : Tracks pl up) (y : Port) (inside : y .router < 16) (four : y .side < 4) (hub : ℕ) where
+  module _ (up : List (List ℕ)) (tracks : Tracks pl up) (y : Port) (inside : y .router < 16) (four : y .side < 4) (hub
+      : ℕ) where
     -- ---- from the passive
     pub far-decides : Decides (comesBy joints by up (getD homes (t .column) 0) a (4 * y .router + y .side))
         (Meets pl (active a) (home pl (passive p)) y)

@@ -25,14 +25,18 @@ use Rattle.theory.proofs.Places.CameIn.{stands-once}
 use Rattle.valid.proofs.Decides.{Decides, like, never, less, most, same, both}
 use Rattle.places.specs.declared.Trip.{Trip}
 use Rattle.places.specs.declared.Standing.{Standing}
-use Rattle.places.specs.Look.{standingOf, freesUpTo, comingAs, coming, leavingAs, leaving, unitBy, comesBy, sideBy}
+use Rattle.places.specs.Look.{standingOf, freesUpTo, comingAs, coming, leavingAs}
+use Rattle.places.specs.Look.{leaving, unitBy, comesBy, sideBy}
 use Rattle.places.specs.Look.{columnOf, outBy, activeOutAs, passiveOutAs, activeInAs, passiveInAs}
 use Rattle.places.proofs.OnTrack.{passive-at, told, Trips, Here, stood, off, standing}
 use Rattle.places.proofs.ComesIn.{comes-decides}
 
 pub frees : (hub n : ℕ) → Decides (freesUpTo hub n) ((1 ≤ hub) × (hub ≤ n))
 unfolding freesUpTo
-frees hub n = like (both (less 0 hub) (λ l. most hub n)) (λ f. (omega (arith, f .0), f .1)) (λ f. (omega (arith, f .0), f .1))
+frees hub n = like (both (less 0 hub) (λ l. most hub n)) (λ f. (omega (arith, f .0), f .1)) (λ f. (
+  omega (arith, f .0),
+  f .1,
+))
 
 module _ {pl : Plan} (wired : Wired pl) (a p : ℕ) (ha : a < A pl) (hp : p < P pl) (s : Served pl a p) where
   -- ---- at the unit of router r
@@ -82,16 +86,27 @@ module _ {pl : Plan} (wired : Wired pl) (a p : ℕ) (ha : a < A pl) (hp : p < P 
             like (same hub (v .behind + 1)) (λ q. (i, v .behind, f, omega (arith, q)))
             (λ g. let n = once (g .1) (v .behind) (g .0) i (g .2) f in omega (arith, g .3))
         as′ Tdown =
-            like (frees hub (v .ahead - 1)) (λ q. (suc (v .behind), (i, v .behind, f, refl), q .0, omega (arith, q .1)))
+            like (frees hub (v .ahead - 1)) (λ q. (
+              suc (v .behind),
+              (i, v .behind, f, refl),
+              q .0,
+              omega (
+                arith,
+                q
+                    .1,
+              ),
+            ))
             (λ g. let n = once (g .1 .1) (v .behind) (g .1 .0) i (g .1 .2) f in
             (g .2, omega (arith, g .1 .3, g .3)))
-        as′ Ack = never (λ g. let l = stands-below wired a p ha hp s hub (record { router = r; side = g .0 .0 }) (g .0 .1) in
+        as′ Ack = never (λ g. let l = stands-below wired a p ha hp s hub (record { router = r; side = g .0 .0 }) (g .0
+            .1) in
             omega (arith, g .1))
         as′ Nack = like (same hub (v .behind)) (λ q. (i, rw q f)) (λ g. once hub (v .behind) (g .0) i (g .1) f)
 
   -- ---- interfaces' queues; n is the walk's length
   module _ (n : ℕ) (long : n ≡ span pl a p) (x hub : ℕ) where
-    pub active-out : (k : Kind) → Decides (also (eqb x a) (activeOutAs n hub k)) (Fits pl k a p hub (inQueue (activeOut x)))
+    pub active-out : (k : Kind) → Decides (also (eqb x a) (activeOutAs n hub k)) (Fits pl k a p hub (inQueue (activeOut
+        x)))
     unfolding activeOutAs Ahead Back
     active-out Setup = both (same x a) (λ e. same hub 0)
     active-out Tdown =
@@ -107,9 +122,14 @@ module _ {pl : Plan} (wired : Wired pl) (a p : ℕ) (ha : a < A pl) (hp : p < P 
     passive-out Tdown = like (both (same x p) (λ e. never (λ (f : ⊥). f))) (λ f. absurd (f .1)) (λ f. absurd (f .1))
     passive-out Ack = like (both (same x p) (λ e. same hub n)) (λ f. ((f .0, f .1 ∙ long), f .1 ∙ long))
         (λ f. (f .0 .0, f .1 ∙ sym long))
-    passive-out Nack = like (both (same x p) (λ e. same hub n)) (λ f. (f .0, f .1 ∙ long)) (λ f. (f .0, f .1 ∙ sym long))
+    passive-out Nack = like (both (same x p) (λ e. same hub n)) (λ f. (f .0, f .1 ∙ long)) (λ f. (
+      f .0,
+      f .1 ∙ sym
+          long,
+    ))
 
-    pub active-in : (k : Kind) → Decides (also (eqb x a) (activeInAs n hub k)) (Fits pl k a p hub (inQueue (activeIn x)))
+    pub active-in : (k : Kind) → Decides (also (eqb x a) (activeInAs n hub k)) (Fits pl k a p hub (inQueue (activeIn
+        x)))
     unfolding activeInAs Ahead Back
     active-in Setup = like (both (same x a) (λ e. never (λ (f : ⊥). f))) (λ f. absurd (f .1)) (λ f. absurd f)
     active-in Tdown = like (both (same x a) (λ e. never (λ (f : ⊥). f))) (λ f. absurd (f .1)) (λ f. absurd (f .1))
@@ -121,7 +141,11 @@ module _ {pl : Plan} (wired : Wired pl) (a p : ℕ) (ha : a < A pl) (hp : p < P 
     pub passive-in : (k : Kind)
         → Decides (also (eqb x p) (passiveInAs n hub k)) (Fits pl k a p hub (inQueue (passiveIn x)))
     unfolding passiveInAs Ahead Back
-    passive-in Setup = like (both (same x p) (λ e. same hub n)) (λ f. (f .0, f .1 ∙ long)) (λ f. (f .0, f .1 ∙ sym long))
+    passive-in Setup = like (both (same x p) (λ e. same hub n)) (λ f. (f .0, f .1 ∙ long)) (λ f. (
+      f .0,
+      f .1 ∙ sym
+          long,
+    ))
     passive-in Tdown = like (both (same x p) (λ e. never (λ (f : ⊥). f))) (λ f. absurd (f .1))
         (λ f. absurd (late (f .0) (f .1 .1) (f .2) (f .3)))
       where
@@ -132,7 +156,8 @@ module _ {pl : Plan} (wired : Wired pl) (a p : ℕ) (ha : a < A pl) (hp : p < P 
 
 -- ---- at a router, by the tables
 module _ {pl : Plan} {by : List (List ℕ)} {joints homes : List ℕ} (chart : Charting pl by joints homes)
-    (up : List (List ℕ)) (tracks : Tracks pl up) (a p : ℕ) (ha : a < A pl) (hp : p < P pl) (s : Served pl a p) (t : Trip)
+    (up : List (List ℕ)) (tracks : Tracks pl up) (a p : ℕ) (ha : a < A pl) (hp : p < P pl) (s : Served pl a p) (t :
+    Trip)
     (trip : Trips pl a p t) (r : ℕ) (l : r < 16) (k : Kind) (hub : ℕ) where
   here : Here pl a p r (standingOf up t r)
   here = standing (chart .wired) up tracks a p ha hp s t trip r l
@@ -157,7 +182,10 @@ module _ {pl : Plan} {by : List (List ℕ)} {joints homes : List ℕ} (chart : C
       (record { router = r; side = i }) four (t .home) (trip .from)))
       (to k) (of k)
     where
-      come : (n j : ℕ) → Stands pl a p n r j → Meets pl (passive p) (home pl (active a)) (record { router = r; side = i })
+      come : (n j : ℕ) → Stands pl a p n r j → Meets pl (passive p) (home pl (active a)) (record {
+        router = r;
+        side = i;
+      })
           → Stands pl a p n r i
       come n j f m = rw (once (chart .wired) a p ha hp s r (standingOf up t r) n (m .steps) j i f (m .here)) (m .here)
 

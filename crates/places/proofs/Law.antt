@@ -49,7 +49,8 @@ decided-same : {s t : Bool} {X : Type 0} → Decides s X → Decides t X → s �
 decided-same {s} {t} d e = same-test s t (λ q. e .passes (d .holds q)) (λ q. d .passes (e .holds q))
 
 -- ---- what a packet of a served pair brings
-pub record Asked (h : Head) (routes : List (List ℕ)) (joints homes : List ℕ) (lengths by up : List (List ℕ)) (x : Packet)
+pub record Asked (h : Head) (routes : List (List ℕ)) (joints homes : List ℕ) (lengths by up : List (List ℕ)) (x :
+    Packet)
     : Type 0 where
   pub lent : Lent h routes joints homes lengths by
   pub tracks : Tracks (tablePlan h routes joints) up
@@ -163,11 +164,13 @@ module _ {h : Head} {routes : List (List ℕ)} {joints homes : List ℕ} {length
     out-is : (r o : ℕ) → r < 16
         → Tested (inQueue (F r o)) (outBy routes up t r o (x .active) (x .kind) (x .hub .0))
     out-is r o l =
-        as-tested (inQueue (F r o)) (out-decides chart up (asked .tracks) (x .active) (x .passive) (asked .packet .active)
+        as-tested (inQueue (F r o)) (out-decides chart up (asked .tracks) (x .active) (x .passive) (asked .packet
+        .active)
         (asked .packet .passive) pair t trip r l (x .kind) (x .hub .0) routes o (λ d m. routed r d l m))
 
     cross-is : (r i o : ℕ) → r < 16 → i < 4
-        → Tested (inQueue (K r i o)) (crossBy routes joints homes by up t (x .active) (4 * r + i) o (x .kind) (x .hub .0))
+        → Tested (inQueue (K r i o)) (crossBy routes joints homes by up t (x .active) (4 * r + i) o (x .kind) (x .hub
+        .0))
     cross-is r i o l m =
         as-tested (inQueue (K r i o)) (cross-decides chart (x .active) (x .passive) (asked .packet .active)
         (asked .packet .passive) pair t trip routes routed up (asked .tracks) (record { router = r; side = i }) l m
@@ -218,7 +221,8 @@ module _ {h : Head} {routes : List (List ℕ)} {joints homes : List ℕ} {length
             rw q (as-tested (inQueue (activeOut n)) (active-out (chart .wired) (x .active) (x .passive)
             (asked .packet .active) (asked .packet .passive) pair (t .length) (trip .size) n (x .hub .0) (x .kind)))
         by′ (inr q) =
-            rw q (as-tested (inQueue (passiveOut (n - h .actives))) (passive-out (chart .wired) (x .active) (x .passive)
+            rw q (as-tested (inQueue (passiveOut (n - h .actives))) (passive-out (chart .wired) (x .active) (x
+            .passive)
             (asked .packet .active) (asked .packet .passive) pair (t .length) (trip .size) (n - h .actives) (x .hub .0)
             (x .kind)))
 
@@ -293,12 +297,12 @@ module _ {h : Head} {routes : List (List ℕ)} {joints homes : List ℕ} {length
             )
 
     -- what is looked up is what is meant
-    pub fits-is : (n : ℕ) (done : Bool)
+    looked-is : (n : ℕ) (done : Bool)
         → fitsBy routes joints homes by up t x h n done
         ≡ fitsTest (tablePlan h routes joints) (x .kind) (x .active) (x .passive) (x .hub .0)
         (headPlace done (queueAt (tablePlan h routes joints) n))
     unfolding fitsBy
-    fits-is n done =
+    looked-is n done =
         by′ (lt-or-ge n (h .actives + h .passives)) (lt-or-ge (n - (h .actives + h .passives)) (21 * h .routers))
       where
         plain : (b : Bool) (q u : Queue) → headPlace done q ≡ inQueue q → headPlace done u ≡ inQueue u
@@ -308,7 +312,8 @@ module _ {h : Head} {routes : List (List ℕ)} {joints homes : List ℕ} {length
 
         by′ : (n < h .actives + h .passives) ⊎ (h .actives + h .passives ≤ n)
             → (n - (h .actives + h .passives) < 21 * h .routers) ⊎ (21 * h .routers ≤ n - (h .actives + h .passives))
-            → Tested (headPlace done (queueAt (tablePlan h routes joints) n)) (fitsBy routes joints homes by up t x h n done)
+            → Tested (headPlace done (queueAt (tablePlan h routes joints) n)) (fitsBy routes joints homes by up t x h n
+            done)
         by′ (inl l) m =
             rw (lt-ltb n (h .actives + h .passives) l, queue-out n l)
             (rw (plain (ltb n (h .actives)) (activeOut n) (passiveOut (n - h .actives)) refl refl) (sent-is n l))
@@ -330,3 +335,8 @@ module _ {h : Head} {routes : List (List ℕ)} {joints homes : List ℕ} {length
             (activeIn (n - (h .actives + h .passives) - 21 * h .routers))
             (passiveIn (n - (h .actives + h .passives) - 21 * h .routers - h .actives)) refl refl)
             (received-is (n - (h .actives + h .passives) - 21 * h .routers)))
+
+    pub fits-is : (n : ℕ) (done : Bool) {b : Bool} → b ≡ fitsBy routes joints homes by up t x h n done
+        → b ≡ fitsTest (tablePlan h routes joints) (x .kind) (x .active) (x .passive) (x .hub .0)
+        (headPlace done (queueAt (tablePlan h routes joints) n))
+    fits-is n done e = e ∙ looked-is n done

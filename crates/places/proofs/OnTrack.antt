@@ -46,7 +46,8 @@ told e d = record { holds = λ q. d .holds (sym e ∙ q); passes = λ x. e ∙ d
 
 -- ---- the track of a walk that arrives
 module _ {pl : Plan} (wired : Wired pl) (up : List (List ℕ)) (tracks : Tracks pl up) (e : Interface) (d : ℕ)
-    (known : d < destinations (pl .head)) (column : interfaceAt (pl .head) d ≡ e) (x : Port) (inside : x .router < R pl)
+    (known : d < destinations (pl .head)) (column : interfaceAt (pl .head) d ≡ e) (x : Port) (inside : x .router < R
+    pl)
     (w : Walk pl e x) where
   arrived : arrives pl (interfaceAt (pl .head) d) x ≡ true
   arrived = ap (λ (f : Interface). arrives pl f x) column ∙ arrives-of wired e x inside w
@@ -91,9 +92,14 @@ module _ {pl : Plan} (wired : Wired pl) (up : List (List ℕ)) (tracks : Tracks 
       ∙ ap (trackAt up (home pl (active a) .router)) (trip .column)
 
   pub on-track : (r : ℕ) → r < 16
-      → Decides (has (trackOf up t) r) ((i : ℕ) × Meets pl (passive p) (home pl (active a)) (record { router = r; side = i }))
+      → Decides (has (trackOf up t) r) ((i : ℕ) × Meets pl (passive p) (home pl (active a)) (record {
+        router = r;
+        side
+            = i;
+      }))
   on-track r l = told (ap (λ (z : ℕ). has z r) same-track)
-      (track-has wired up tracks (passive p) (A pl + p) (omega arith) (passive-at pl p) (home pl (active a)) from-inside
+      (track-has wired up tracks (passive p) (A pl + p) (omega arith) (passive-at pl p) (home pl (active a))
+      from-inside
       (s .ahead) r l)
 
   -- from the n-th router on the walk has so many routers

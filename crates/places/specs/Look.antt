@@ -182,7 +182,8 @@ module _ (routes : List (List ℕ)) (joints homes : List ℕ) (by up : List (Lis
   unfoldable pub senderBy : ℕ → ℕ → ℕ → Bool
   senderBy r o j =
       pick (eqb j 0) (outBy routes up t r o (x .active) (x .kind) (x .hub .0))
-      (crossBy routes joints homes by up t (x .active) (4 * r + pick (ltb (j - 1) o) (j - 1) j) o (x .kind) (x .hub .0))
+      (crossBy routes joints homes by up t (x .active) (4 * r + pick (ltb (j - 1) o) (j - 1) j) o (x .kind) (x .hub
+      .0))
 
   -- the k-th queue of router r
   unfoldable pub routerBy : ℕ → ℕ → Bool → Bool

@@ -1,4 +1,5 @@
-// May a packet stand in a queue? Looked up in tables: which routers each walk meets and how many, what joins each port.
+// May a packet stand in a queue? Looked up in tables: which routers each walk meets and how many, what joins each
+// port.
 use packets::Kind;
 use packets::Packet;
 use plan::Head;
@@ -18,8 +19,10 @@ ghost use Rattle.arrivals.specs.Tracks.{Tracks};
 ghost use Rattle.machine.specs.Valid.{PacketOk};
 ghost use Rattle.valid.specs.Test.{fitsTest};
 ghost use Rattle.moves.specs.Lent.{Lent};
-ghost use Rattle.places.specs.Look.{tripOf, standingOf, onwardOf, nthOf, freesUpTo, coming, leaving, unitBy, nextBy, comesBy, sideBy};
-ghost use Rattle.places.specs.Look.{columnOf, outBy, nackBy, answerBy, crossBy, Marked, Led, activeOutAs, passiveOutAs, activeInAs};
+ghost use Rattle.places.specs.Look.{tripOf, standingOf, onwardOf, nthOf, freesUpTo, coming};
+ghost use Rattle.places.specs.Look.{leaving, unitBy, nextBy, comesBy, sideBy};
+ghost use Rattle.places.specs.Look.{columnOf, outBy, nackBy, answerBy, crossBy, Marked};
+ghost use Rattle.places.specs.Look.{Led, activeOutAs, passiveOutAs, activeInAs};
 ghost use Rattle.places.specs.Look.{passiveInAs, sentBy, receivedBy, senderBy, routerBy, fitsBy};
 
 // A pair's walk: the active's port, the passive's column, and how many routers it has.
@@ -29,7 +32,8 @@ pub struct Trip {
     pub length: usize,
 }
 
-// A router on a walk: how many routers come before it, and how many from it on; none from it on where it is off the walk.
+// A router on a walk: how many routers come before it, and how many from it on; none from it on where it is off
+// the walk.
 pub struct Standing {
     pub behind: usize,
     pub ahead: usize,
@@ -73,10 +77,16 @@ fn spot(up: &[[u32; 32]; 17], t: Trip, r: usize) -> Standing
     let y = t.home / 4;
     let d = t.column;
     if !has(up[y][d], r) {
-        return Standing { behind: 0, ahead: 0 };
+        return Standing {
+            behind: 0,
+            ahead: 0,
+        };
     }
     let ahead = size_of(up[r][d]);
-    Standing { behind: t.length - ahead, ahead: ahead }
+    Standing {
+        behind: t.length - ahead,
+        ahead: ahead,
+    }
 }
 
 // A tear-down's hub: 1 to the routers still ahead.
@@ -141,7 +151,14 @@ fn next_by(joints: &[u8; 64], by: &[[u32; 4]; 16], track: u32, d: usize, port: u
 }
 
 // Does the walk to a column's interface from a port come in by another?
-fn comes_by(joints: &[u8; 64], by: &[[u32; 4]; 16], up: &[[u32; 32]; 17], from: usize, d: usize, port: usize) -> bool
+fn comes_by(
+    joints: &[u8; 64],
+    by: &[[u32; 4]; 16],
+    up: &[[u32; 32]; 17],
+    from: usize,
+    d: usize,
+    port: usize,
+) -> bool
     requires { ⌜ (from < 64) × (d < 32) × (port < 64) ⌝ }
     ensures { λ r. ⌜ r ≡ comesBy (now (joints .entry)) (now (by .entry)) (now (up .entry)) from d port ⌝ }
 {
@@ -164,9 +181,17 @@ fn at_unit(up: &[[u32; 32]; 17], t: Trip, r: usize, done: bool, x: Packet) -> bo
 }
 
 // From a side to the unit.
-fn at_side(joints: &[u8; 64], by: &[[u32; 4]; 16], up: &[[u32; 32]; 17], t: Trip, port: usize, x: Packet) -> bool
+fn at_side(
+    joints: &[u8; 64],
+    by: &[[u32; 4]; 16],
+    up: &[[u32; 32]; 17],
+    t: Trip,
+    port: usize,
+    x: Packet,
+) -> bool
     requires { ⌜ Marked (now up) t × (port < 64) ⌝ }
-    ensures { λ b. ⌜ b ≡ sideBy (now (joints .entry)) (now (by .entry)) (now (up .entry)) t port (x .kind) (x .hub .0) ⌝ }
+    ensures { λ b. ⌜ b ≡ sideBy (now (joints .entry)) (now (by .entry))
+        (now (up .entry)) t port (x .kind) (x .hub .0) ⌝ }
 {
     let v = spot(up, t, port / 4);
     if !comes(v, x) {
@@ -191,7 +216,14 @@ fn column_of(t: Trip, x: Packet) -> usize
 }
 
 // From a unit to a side.
-fn at_out(routes: &[[u8; 32]; 16], up: &[[u32; 32]; 17], t: Trip, r: usize, o: usize, x: Packet) -> bool
+fn at_out(
+    routes: &[[u8; 32]; 16],
+    up: &[[u32; 32]; 17],
+    t: Trip,
+    r: usize,
+    o: usize,
+    x: Packet,
+) -> bool
     requires { ⌜ Marked (now up) t × (r < 16) × (x .active < 16) ⌝ }
     ensures { λ b. ⌜ b ≡ outBy (now (routes .entry)) (now (up .entry)) t r o (x .active) (x .kind) (x .hub .0) ⌝ }
 {
@@ -237,7 +269,8 @@ fn nack_by(
     x: Packet,
 ) -> bool
     requires { ⌜ Marked (now up) t × Led (now routes) (now joints) t × (port < 64) × (x .active < 16) ⌝ }
-    ensures { λ b. ⌜ b ≡ nackBy (now (routes .entry)) (now (joints .entry)) (now (by .entry)) (now (up .entry)) t (x .active) port (x .hub .0) ⌝ }
+    ensures { λ b. ⌜ b ≡ nackBy (now (routes .entry)) (now (joints .entry)) (now (by .entry))
+        (now (up .entry)) t (x .active) port (x .hub .0) ⌝ }
 {
     let hub = wide(x.hub.0);
     if t.length <= hub {
@@ -259,7 +292,8 @@ fn far_by(
     x: Packet,
 ) -> bool
     requires { ⌜ (t .column < 32) × (getD (now homes) (t .column) 0 < 64) × (port < 64) × (x .active < 16) ⌝ }
-    ensures { λ b. ⌜ b ≡ comesBy (now (joints .entry)) (now (by .entry)) (now (up .entry)) (getD (now (homes .entry)) (t .column) 0) (x .active) port ⌝ }
+    ensures { λ b. ⌜ b ≡ comesBy (now (joints .entry)) (now (by .entry)) (now (up .entry)) (getD
+        (now (homes .entry)) (t .column) 0) (x .active) port ⌝ }
 {
     let d = t.column;
     let from = wide(homes[d]);
@@ -278,8 +312,10 @@ fn answer_by(
     port: usize,
     x: Packet,
 ) -> bool
-    requires { ⌜ Marked (now up) t × Led (now routes) (now joints) t × (getD (now homes) (t .column) 0 < 64) × (port < 64) × (x .active < 16) ⌝ }
-    ensures { λ b. ⌜ b ≡ answerBy (now (routes .entry)) (now (joints .entry)) (now (homes .entry)) (now (by .entry)) (now (up .entry)) t (x .active) port (x .kind) (x .hub .0) ⌝ }
+    requires { ⌜ Marked (now up) t × Led (now routes) (now joints) t × (getD (now homes) (t .column) 0 < 64)
+        × (port < 64) × (x .active < 16) ⌝ }
+    ensures { λ b. ⌜ b ≡ answerBy (now (routes .entry)) (now (joints .entry)) (now (homes .entry))
+        (now (by .entry)) (now (up .entry)) t (x .active) port (x .kind) (x .hub .0) ⌝ }
 {
     let hub = wide(x.hub.0);
     let k = x.kind;
@@ -313,8 +349,10 @@ fn at_cross(
     o: usize,
     x: Packet,
 ) -> bool
-    requires { ⌜ Marked (now up) t × Led (now routes) (now joints) t × (getD (now homes) (t .column) 0 < 64) × (port < 64) × (x .active < 16) ⌝ }
-    ensures { λ b. ⌜ b ≡ crossBy (now (routes .entry)) (now (joints .entry)) (now (homes .entry)) (now (by .entry)) (now (up .entry)) t (x .active) port o (x .kind) (x .hub .0) ⌝ }
+    requires { ⌜ Marked (now up) t × Led (now routes) (now joints) t × (getD (now homes) (t .column) 0 < 64)
+        × (port < 64) × (x .active < 16) ⌝ }
+    ensures { λ b. ⌜ b ≡ crossBy (now (routes .entry)) (now (joints .entry)) (now (homes .entry))
+        (now (by .entry)) (now (up .entry)) t (x .active) port o (x .kind) (x .hub .0) ⌝ }
 {
     let a = wide(x.active);
     if wide(routes[port / 4][a]) != o {
@@ -336,8 +374,10 @@ fn at_sender(
     j: usize,
     x: Packet,
 ) -> bool
-    requires { ⌜ Marked (now up) t × Led (now routes) (now joints) t × (getD (now homes) (t .column) 0 < 64) × (r < 16) × (j < 4) × (x .active < 16) ⌝ }
-    ensures { λ b. ⌜ b ≡ senderBy (now (routes .entry)) (now (joints .entry)) (now (homes .entry)) (now (by .entry)) (now (up .entry)) t x r o j ⌝ }
+    requires { ⌜ Marked (now up) t × Led (now routes) (now joints) t × (getD (now homes) (t .column) 0 < 64)
+        × (r < 16) × (j < 4) × (x .active < 16) ⌝ }
+    ensures { λ b. ⌜ b ≡ senderBy (now (routes .entry)) (now (joints .entry)) (now (homes .entry))
+        (now (by .entry)) (now (up .entry)) t x r o j ⌝ }
 {
     if j == 0 {
         return at_out(routes, up, t, r, o, x);
@@ -361,8 +401,10 @@ fn at_router(
     done: bool,
     x: Packet,
 ) -> bool
-    requires { ⌜ Marked (now up) t × Led (now routes) (now joints) t × (getD (now homes) (t .column) 0 < 64) × (r < 16) × (k < 21) × (x .active < 16) ⌝ }
-    ensures { λ b. ⌜ b ≡ routerBy (now (routes .entry)) (now (joints .entry)) (now (homes .entry)) (now (by .entry)) (now (up .entry)) t x r k done ⌝ }
+    requires { ⌜ Marked (now up) t × Led (now routes) (now joints) t × (getD (now homes) (t .column) 0 < 64)
+        × (r < 16) × (k < 21) × (x .active < 16) ⌝ }
+    ensures { λ b. ⌜ b ≡ routerBy (now (routes .entry)) (now (joints .entry)) (now (homes .entry))
+        (now (by .entry)) (now (up .entry)) t x r k done ⌝ }
 {
     if k < 4 {
         return at_side(joints, by, up, t, 4 * r + k, x);
@@ -370,7 +412,18 @@ fn at_router(
     if k == 4 {
         return at_unit(up, t, r, done, x);
     }
-    at_sender(routes, joints, homes, by, up, t, r, (k - 5) / 4, (k - 5) % 4, x)
+    at_sender(
+        routes,
+        joints,
+        homes,
+        by,
+        up,
+        t,
+        r,
+        (k - 5) / 4,
+        (k - 5) % 4,
+        x,
+    )
 }
 
 // In an active's out-queue.
@@ -474,8 +527,10 @@ fn looked(
     done: bool,
     x: Packet,
 ) -> bool
-    requires { ⌜ Counts h × Marked (now up) t × Led (now routes) (now joints) t × (getD (now homes) (t .column) 0 < 64) × (x .active < 16) ⌝ }
-    ensures { λ b. ⌜ b ≡ fitsBy (now (routes .entry)) (now (joints .entry)) (now (homes .entry)) (now (by .entry)) (now (up .entry)) t x h n done ⌝ }
+    requires { ⌜ Counts h × Marked (now up) t × Led (now routes) (now joints) t
+        × (getD (now homes) (t .column) 0 < 64) × (x .active < 16) ⌝ }
+    ensures { λ b. ⌜ b ≡ fitsBy (now (routes .entry)) (now (joints .entry)) (now (homes .entry)) (now (by .entry))
+        (now (up .entry)) t x h n done ⌝ }
 {
     let outs = h.actives + h.passives;
     if n < outs {
@@ -507,7 +562,8 @@ pub fn fits(
         × (n < queues (tablePlan h (now routes) (now joints)))
         × PacketOk (tablePlan h (now routes) (now joints)) x
         × (served (tablePlan h (now routes) (now joints)) (x .active) (x .passive) ≡ true) ⌝ }
-    ensures { λ r. ⌜ r ≡ fitsTest (tablePlan h (now (routes .entry)) (now (joints .entry))) (x .kind) (x .active) (x .passive) (x .hub .0)
+    ensures { λ r. ⌜ r ≡ fitsTest (tablePlan h (now (routes .entry))
+        (now (joints .entry))) (x .kind) (x .active) (x .passive) (x .hub .0)
         (headPlace done (queueAt (tablePlan h (now (routes .entry)) (now (joints .entry))) n)) ⌝ }
 {
     let t = trip_of(h, homes, lengths, x);

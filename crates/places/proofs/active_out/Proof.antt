@@ -37,7 +37,9 @@ returns c = active-out-setup _ _ _ (c .before .before .wide .ensures .0) (c .enu
 
 -- src/lib.rt:377:1
 returns-2 : tie.Need-returns-2
-returns-2 c = active-out-tdown _ _ _ (c .before .before .before .wide .ensures .0) (c .before .enum-told2 .given .1) (c .frees .ensures)
+returns-2 c =
+    active-out-tdown _ _ _ (c .before .before .before .wide .ensures .0) (c .before .enum-told2 .given .1) (c .frees
+    .ensures)
 
 -- src/lib.rt:377:1
 returns-3 : tie.Need-returns-3

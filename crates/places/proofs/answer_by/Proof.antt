@@ -26,7 +26,9 @@ enum-told-3 c = search needs
 
 -- src/lib.rt:291:17
 returns : tie.Need-returns
-returns c = ack-other _ _ _ _ _ _ _ _ _ _ (c .before .before .before .before .wide .ensures .0) (c .before .before .enum-told3 .given .1) (c .if1 .taken)
+returns c =
+    ack-other _ _ _ _ _ _ _ _ _ _ (c .before .before .before .before .wide .ensures .0) (c .before .before .enum-told3
+    .given .1) (c .if1 .taken)
 
 -- src/lib.rt:293:13
 far-by-requires : tie.Need-far-by-requires
@@ -42,7 +44,9 @@ far-by-requires-2 c κs = search needs
 
 -- src/lib.rt:297:17
 returns-2 : tie.Need-returns-2
-returns-2 c = nack-far _ _ _ _ _ _ _ _ _ _ (c .before .before .before .before .before .wide .ensures .0) (c .before .before .before .enum-told4 .given .1) (c .before .if2 .taken) (c .far-by2 .ensures)
+returns-2 c =
+    nack-far _ _ _ _ _ _ _ _ _ _ (c .before .before .before .before .before .wide .ensures .0) (c .before .before
+    .before .enum-told4 .given .1) (c .before .if2 .taken) (c .far-by2 .ensures)
 
 -- src/lib.rt:299:13
 nack-by-requires : tie.Need-nack-by-requires
@@ -58,11 +62,15 @@ returns-4 c = answer-tdown _ _ _ _ _ _ _ _ _ _ (c .enum-told2 .given .1)
 
 -- src/lib.rt:271:1
 returns-5 : tie.Need-returns-5
-returns-5 c = ack-far _ _ _ _ _ _ _ _ _ _ (c .before .before .before .before .before .wide .ensures .0) (c .before .before .before .enum-told3 .given .1) (c .before .if1 .left) (c .far-by .ensures)
+returns-5 c =
+    ack-far _ _ _ _ _ _ _ _ _ _ (c .before .before .before .before .before .wide .ensures .0) (c .before .before
+    .before .enum-told3 .given .1) (c .before .if1 .left) (c .far-by .ensures)
 
 -- src/lib.rt:271:1
 returns-6 : tie.Need-returns-6
-returns-6 c = nack-near _ _ _ _ _ _ _ _ _ _ (c .before .before .before .before .before .wide .ensures .0) (c .before .before .before .enum-told4 .given .1) (c .before .if2 .left) (c .nack-by .ensures)
+returns-6 c =
+    nack-near _ _ _ _ _ _ _ _ _ _ (c .before .before .before .before .before .wide .ensures .0) (c .before .before
+    .before .enum-told4 .given .1) (c .before .if2 .left) (c .nack-by .ensures)
 
 pub answer-by-spec : {M : Type 1} → statement M
 answer-by-spec =

@@ -29,7 +29,9 @@ wide-requires-2 c κs = search needs
 
 -- src/lib.rt:321:9
 returns : tie.Need-returns
-returns c = cross-off _ _ _ _ _ _ _ _ _ _ _ (c .before .before .before .wide .ensures .0) (c .before .wide2 .ensures .0) (c .if1 .taken)
+returns c =
+    cross-off _ _ _ _ _ _ _ _ _ _ _ (c .before .before .before .wide .ensures .0) (c .before .wide2 .ensures .0) (c
+    .if1 .taken)
 
 -- src/lib.rt:323:5
 answer-by-requires : tie.Need-answer-by-requires
@@ -37,7 +39,9 @@ answer-by-requires c κs = search needs
 
 -- src/lib.rt:305:1
 returns-2 : tie.Need-returns-2
-returns-2 c = cross-on _ _ _ _ _ _ _ _ _ _ _ (c .before .before .before .before .wide .ensures .0) (c .before .before .wide2 .ensures .0) (c .before .if1 .left) (c .answer-by .ensures)
+returns-2 c =
+    cross-on _ _ _ _ _ _ _ _ _ _ _ (c .before .before .before .before .wide .ensures .0) (c .before .before .wide2
+    .ensures .0) (c .before .if1 .left) (c .answer-by .ensures)
 
 pub at-cross-spec : {M : Type 1} → statement M
 at-cross-spec =

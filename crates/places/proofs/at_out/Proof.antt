@@ -31,7 +31,9 @@ wide-requires c κs = search needs
 
 -- src/lib.rt:199:9
 returns : tie.Need-returns
-returns c = out-off _ _ _ _ _ _ _ _ (c .before .before .before .column-of .ensures .0) (c .before .wide .ensures .0) (c .if1 .taken)
+returns c =
+    out-off _ _ _ _ _ _ _ _ (c .before .before .before .column-of .ensures .0) (c .before .wide .ensures .0) (c .if1
+    .taken)
 
 -- src/lib.rt:201:9
 spot-requires : tie.Need-spot-requires
@@ -43,7 +45,9 @@ leaves-requires c κs = behind-small _ _ _ (c .before .before .before .before .b
 
 -- src/lib.rt:193:1
 returns-2 : tie.Need-returns-2
-returns-2 c = out-on _ _ _ _ _ _ _ _ (c .before .before .before .before .before .column-of .ensures .0) (c .before .before .before .wide .ensures .0) (c .before .before .if1 .left) (c .before .spot .ensures) (c .leaves .ensures)
+returns-2 c =
+    out-on _ _ _ _ _ _ _ _ (c .before .before .before .before .before .column-of .ensures .0) (c .before .before
+    .before .wide .ensures .0) (c .before .before .if1 .left) (c .before .spot .ensures) (c .leaves .ensures)
 
 pub at-out-spec : {M : Type 1} → statement M
 at-out-spec =

@@ -30,7 +30,8 @@ at-unit-requires c κs = search needs
 
 -- src/lib.rt:371:9
 returns-2 : tie.Need-returns-2
-returns-2 c = router-unit _ _ _ _ _ _ _ _ _ _ (c .before .before .if1 .left) (c .before .if2 .taken) (c .at-unit .ensures)
+returns-2 c =
+    router-unit _ _ _ _ _ _ _ _ _ _ (c .before .before .if1 .left) (c .before .if2 .taken) (c .at-unit .ensures)
 
 -- src/lib.rt:373:53
 sub-at-sender : tie.Need-sub-at-sender
@@ -46,7 +47,8 @@ at-sender-requires c κs = search needs
 
 -- src/lib.rt:352:1
 returns-3 : tie.Need-returns-3
-returns-3 c = router-sender _ _ _ _ _ _ _ _ _ _ (c .before .before .if1 .left) (c .before .if2 .left) (c .at-sender .ensures)
+returns-3 c =
+    router-sender _ _ _ _ _ _ _ _ _ _ (c .before .before .if1 .left) (c .before .if2 .left) (c .at-sender .ensures)
 
 pub at-router-spec : {M : Type 1} → statement M
 at-router-spec =

@@ -37,7 +37,8 @@ at-cross-requires c κs = search needs
 
 -- src/lib.rt:346:9
 returns-2 : tie.Need-returns-2
-returns-2 c = sender-below _ _ _ _ _ _ _ _ _ _ (c .before .before .if1 .left) (c .before .if2 .taken) (c .at-cross .ensures)
+returns-2 c =
+    sender-below _ _ _ _ _ _ _ _ _ _ (c .before .before .if1 .left) (c .before .if2 .taken) (c .at-cross .ensures)
 
 -- src/lib.rt:348:48
 mul-at-cross-2 : tie.Need-mul-at-cross-2
@@ -53,7 +54,8 @@ at-cross-requires-2 c κs = search needs
 
 -- src/lib.rt:327:1
 returns-3 : tie.Need-returns-3
-returns-3 c = sender-above _ _ _ _ _ _ _ _ _ _ (c .before .before .if1 .left) (c .before .if2 .left) (c .at-cross2 .ensures)
+returns-3 c =
+    sender-above _ _ _ _ _ _ _ _ _ _ (c .before .before .if1 .left) (c .before .if2 .left) (c .at-cross2 .ensures)
 
 pub at-sender-spec : {M : Type 1} → statement M
 at-sender-spec =

@@ -19,7 +19,8 @@ comes-requires c κs = search needs
 
 -- src/lib.rt:172:9
 returns : tie.Need-returns
-returns c = side-off _ _ _ _ _ _ _ (c .before .before .spot .ensures) (c .before .comes .ensures) (not-true _ (c .if1 .taken))
+returns c =
+    side-off _ _ _ _ _ _ _ (c .before .before .spot .ensures) (c .before .comes .ensures) (not-true _ (c .if1 .taken))
 
 -- src/lib.rt:174:5
 comes-by-requires : tie.Need-comes-by-requires
@@ -27,7 +28,9 @@ comes-by-requires c κs = search needs
 
 -- src/lib.rt:166:1
 returns-2 : tie.Need-returns-2
-returns-2 c = side-on _ _ _ _ _ _ _ (c .before .before .before .spot .ensures) (c .before .before .comes .ensures) (not-false _ (c .before .if1 .left)) (c .comes-by .ensures)
+returns-2 c =
+    side-on _ _ _ _ _ _ _ (c .before .before .before .spot .ensures) (c .before .before .comes .ensures) (not-false _
+    (c .before .if1 .left)) (c .comes-by .ensures)
 
 pub at-side-spec : {M : Type 1} → statement M
 at-side-spec =

@@ -37,11 +37,15 @@ enum-told-4 c = search needs
 
 -- src/lib.rt:85:1
 returns-2 : tie.Need-returns-2
-returns-2 c = coming-setup _ _ _ (c .before .before .before .before .if1 .left) (c .before .enum-told .given .1) (c .before .before .before .wide .ensures .0)
+returns-2 c =
+    coming-setup _ _ _ (c .before .before .before .before .if1 .left) (c .before .enum-told .given .1) (c .before
+    .before .before .wide .ensures .0)
 
 -- src/lib.rt:85:1
 returns-3 : tie.Need-returns-3
-returns-3 c = coming-tdown _ _ _ (c .before .before .before .before .if1 .left) (c .before .enum-told2 .given .1) (c .before .before .before .wide .ensures .0) (c .frees .ensures)
+returns-3 c =
+    coming-tdown _ _ _ (c .before .before .before .before .if1 .left) (c .before .enum-told2 .given .1) (c .before
+    .before .before .wide .ensures .0) (c .frees .ensures)
 
 -- src/lib.rt:85:1
 returns-4 : tie.Need-returns-4

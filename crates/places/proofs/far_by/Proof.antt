@@ -25,7 +25,8 @@ comes-by-requires c κs = search needs
 
 -- src/lib.rt:252:1
 returns : tie.Need-returns
-returns c = far-is _ _ _ _ _ _ (c .before .before .wide .ensures .0) (c .before .wide2 .ensures .0) (c .comes-by .ensures)
+returns c =
+    far-is _ _ _ _ _ _ (c .before .before .wide .ensures .0) (c .before .wide2 .ensures .0) (c .comes-by .ensures)
 
 pub far-by-spec : {M : Type 1} → statement M
 far-by-spec =

@@ -1,4 +1,3 @@
-use mathlib.Core.Path.{_∙_}
 use Rattle.places.proofs.Law.{ask, in-range, ready, fits-is}
 use Rattle.places.proofs.fits.Statement.{statement}
 use Rattle.places.proofs.fits.Tie as tie
@@ -17,7 +16,9 @@ looked-requires c κs = let p = c .before .pre in ready (ask (p .0) (p .1) (p .3
 
 -- src/lib.rt:493:1
 returns : tie.Need-returns
-returns c = let p = c .before .before .pre in c .looked .ensures ∙ fits-is (ask (p .0) (p .1) (p .3) (p .4)) (c .before .trip-of .ensures) _ _
+returns c =
+    let p = c .before .before .pre in
+    fits-is (ask (p .0) (p .1) (p .3) (p .4)) (c .before .trip-of .ensures) _ _ (c .looked .ensures)
 
 pub fits-spec : {M : Type 1} → statement M
 fits-spec = tie.close (tie.spec trip-of-requires looked-requires returns)

@@ -45,11 +45,15 @@ enum-told-4 c = search needs
 
 -- src/lib.rt:102:1
 returns-2 : tie.Need-returns-2
-returns-2 c = leaving-setup _ _ _ (c .before .before .before .before .if1 .left) (c .before .enum-told .given .1) (c .before .before .before .wide .ensures .0)
+returns-2 c =
+    leaving-setup _ _ _ (c .before .before .before .before .if1 .left) (c .before .enum-told .given .1) (c .before
+    .before .before .wide .ensures .0)
 
 -- src/lib.rt:102:1
 returns-3 : tie.Need-returns-3
-returns-3 c = leaving-tdown _ _ _ (c .before .before .before .before .before .if1 .left) (c .before .before .enum-told2 .given .1) (c .before .before .before .before .wide .ensures .0) (c .frees .ensures)
+returns-3 c =
+    leaving-tdown _ _ _ (c .before .before .before .before .before .if1 .left) (c .before .before .enum-told2 .given
+    .1) (c .before .before .before .before .wide .ensures .0) (c .frees .ensures)
 
 -- src/lib.rt:102:1
 returns-4 : tie.Need-returns-4
@@ -57,7 +61,9 @@ returns-4 c = leaving-ack _ _ _ (c .before .before .before .if1 .left) (c .enum-
 
 -- src/lib.rt:102:1
 returns-5 : tie.Need-returns-5
-returns-5 c = leaving-nack _ _ _ (c .before .before .before .before .if1 .left) (c .before .enum-told4 .given .1) (c .before .before .before .wide .ensures .0)
+returns-5 c =
+    leaving-nack _ _ _ (c .before .before .before .before .if1 .left) (c .before .enum-told4 .given .1) (c .before
+    .before .before .wide .ensures .0)
 
 pub leaves-spec : {M : Type 1} → statement M
 leaves-spec =

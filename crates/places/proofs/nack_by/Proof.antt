@@ -46,7 +46,10 @@ next-by-requires c κs = search needs
 
 -- src/lib.rt:230:1
 returns-2 : tie.Need-returns-2
-returns-2 c = nack-some _ _ _ _ _ _ _ _ (c .before .before .before .before .before .before .wide .ensures .0) (c .before .before .before .before .if1 .left) (c .before .before .before .wide2 .ensures .0) (c .before .before .nth .ensures .0) (c .next-by .ensures)
+returns-2 c =
+    nack-some _ _ _ _ _ _ _ _ (c .before .before .before .before .before .before .wide .ensures .0) (c .before .before
+    .before .before .if1 .left) (c .before .before .before .wide2 .ensures .0) (c .before .before .nth .ensures .0) (c
+    .next-by .ensures)
 
 pub nack-by-spec : {M : Type 1} → statement M
 nack-by-spec =

@@ -26,7 +26,9 @@ has-requires c κs = search needs
 
 -- src/lib.rt:130:9
 returns-2 : tie.Need-returns-2
-returns-2 c = next-off _ _ _ _ _ (c .before .before .before .wide .ensures .0) (c .before .before .if1 .left) (c .before .has .ensures) (not-true _ (c .if2 .taken))
+returns-2 c =
+    next-off _ _ _ _ _ (c .before .before .before .wide .ensures .0) (c .before .before .if1 .left) (c .before .has
+    .ensures) (not-true _ (c .if2 .taken))
 
 -- src/lib.rt:132:9
 mul-has : tie.Need-mul-has
@@ -50,7 +52,10 @@ has-requires-2 c κs = search needs
 
 -- src/lib.rt:120:1
 returns-3 : tie.Need-returns-3
-returns-3 c = next-on _ _ _ _ _ (c .before .before .before .before .before .wide .ensures .0) (c .before .before .before .before .if1 .left) (c .before .before .before .has .ensures) (not-false _ (c .before .before .if2 .left)) (c .has2 .ensures)
+returns-3 c =
+    next-on _ _ _ _ _ (c .before .before .before .before .before .wide .ensures .0) (c .before .before .before .before
+    .if1 .left) (c .before .before .before .has .ensures) (not-false _ (c .before .before .if2 .left)) (c .has2
+    .ensures)
 
 pub next-by-spec : {M : Type 1} → statement M
 next-by-spec =

@@ -22,7 +22,9 @@ active-in-requires c κs = search needs
 
 -- src/lib.rt:456:9
 returns-2 : tie.Need-returns-2
-returns-2 c = received-own _ _ _ _ (c .before .before .before .if1 .taken) (c .before .before .wide .ensures .0) (c .before .if2 .left) (c .active-in .ensures)
+returns-2 c =
+    received-own _ _ _ _ (c .before .before .before .if1 .taken) (c .before .before .wide .ensures .0) (c .before .if2
+    .left) (c .active-in .ensures)
 
 -- src/lib.rt:458:23
 wide-requires-2 : tie.Need-wide-requires-2
@@ -38,7 +40,9 @@ passive-in-requires c κs = search needs
 
 -- src/lib.rt:449:1
 returns-4 : tie.Need-returns-4
-returns-4 c = arrived-own _ _ _ _ (c .before .before .before .if1 .left) (c .before .before .wide2 .ensures .0) (c .before .if3 .left) (c .passive-in .ensures)
+returns-4 c =
+    arrived-own _ _ _ _ (c .before .before .before .if1 .left) (c .before .before .wide2 .ensures .0) (c .before .if3
+    .left) (c .passive-in .ensures)
 
 pub received-spec : {M : Type 1} → statement M
 received-spec =

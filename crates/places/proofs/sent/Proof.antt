@@ -22,7 +22,9 @@ active-out-requires c κs = search needs
 
 -- src/lib.rt:440:9
 returns-2 : tie.Need-returns-2
-returns-2 c = sent-own _ _ _ _ (c .before .before .before .if1 .taken) (c .before .before .wide .ensures .0) (c .before .if2 .left) (c .active-out .ensures)
+returns-2 c =
+    sent-own _ _ _ _ (c .before .before .before .if1 .taken) (c .before .before .wide .ensures .0) (c .before .if2
+    .left) (c .active-out .ensures)
 
 -- src/lib.rt:442:23
 wide-requires-2 : tie.Need-wide-requires-2
@@ -38,7 +40,9 @@ passive-out-requires c κs = search needs
 
 -- src/lib.rt:433:1
 returns-4 : tie.Need-returns-4
-returns-4 c = answered-own _ _ _ _ (c .before .before .before .if1 .left) (c .before .before .wide2 .ensures .0) (c .before .if3 .left) (c .passive-out .ensures)
+returns-4 c =
+    answered-own _ _ _ _ (c .before .before .before .if1 .left) (c .before .before .wide2 .ensures .0) (c .before .if3
+    .left) (c .passive-out .ensures)
 
 pub sent-spec : {M : Type 1} → statement M
 sent-spec =

@@ -54,11 +54,16 @@ size-of-requires c κs = search needs
 
 -- src/lib.rt:78:24
 sub-t8 : tie.Need-sub-t8
-sub-t8 c = spot-fits _ _ _ (c .before .before .before .before .has .ensures) (not-false _ (c .before .before .before .if1 .left)) (c .before .size-of .ensures) (c .before .before .before .before .before .before .before .pre .0) (c .before .before .before .before .before .before .before .pre .1)
+sub-t8 c =
+    spot-fits _ _ _ (c .before .before .before .before .has .ensures) (not-false _ (c .before .before .before .if1
+    .left)) (c .before .size-of .ensures) (c .before .before .before .before .before .before .before .pre .0) (c
+    .before .before .before .before .before .before .before .pre .1)
 
 -- src/lib.rt:68:1
 returns-2 : tie.Need-returns-2
-returns-2 c = spot-on _ _ _ (c .before .before .before .before .has .ensures) (not-false _ (c .before .before .before .if1 .left)) (c .before .size-of .ensures)
+returns-2 c =
+    spot-on _ _ _ (c .before .before .before .before .has .ensures) (not-false _ (c .before .before .before .if1
+    .left)) (c .before .size-of .ensures)
 
 pub spot-spec : {M : Type 1} → statement M
 spot-spec =

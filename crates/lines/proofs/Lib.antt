@@ -3,3 +3,4 @@ pub mod Frames
 pub mod Lined
 pub mod Rowed
 pub mod Numbers
+pub mod Turns

@@ -19,6 +19,7 @@ ghost use Rattle.valid.specs.Test.{packetTest};
 ghost use Rattle.layout.specs.Decode.{decode};
 ghost use Rattle.acts.specs.Counts.{stateSize, queueCount};
 ghost use Rattle.moves.specs.Lent.{Lent};
+ghost use Rattle.lines.specs.Ready.{Ready};
 ghost use Rattle.lines.specs.Tally.{tallied, Tallied};
 ghost use Rattle.lines.specs.Frame.{frameOf, fedInRouter, fedOf, unitOf};
 ghost use Rattle.lines.specs.Lines.{PlaceChecked, PlacesChecked, RowChecked, RowsChecked, Coming, routerCaps, LinesChecked};
@@ -65,4 +66,271 @@ pub fn packet_ok(h: Head, lengths: &[[u8; 16]; 16], x: Packet) -> bool
         return false;
     }
     lengths[a][p] != 0
+}
+
+// Whether the packet at place k of queue n, whose places begin at i, belongs there; it is counted.
+fn place_ok(
+    h: Head,
+    routes: &[[u8; 32]; 16],
+    joints: &[u8; 64],
+    homes: &[u8; 32],
+    lengths: &[[u8; 16]; 16],
+    by: &[[u32; 4]; 16],
+    up: &[[u32; 32]; 17],
+    s: &[u8],
+    n: usize,
+    done: bool,
+    i: usize,
+    k: usize,
+    spent: &mut [u8; 16],
+) -> bool
+    requires { ⌜ Ready h (now routes) (now joints) (now homes) (now lengths) (now by) (now up) × (n < queueCount h) × (k < 7)
+        × (i + 5 * k + 5 ≤ length (now s)) ⌝ }
+    ensures { λ r. ⌜ PlaceChecked (tablePlan h (now (routes .entry)) (now (joints .entry)))
+        (queueAt (tablePlan h (now (routes .entry)) (now (joints .entry))) n) done i (now (s .entry)) k r
+        (now (spent .entry)) (now (spent .exit)) ⌝ }
+{
+    let at = i + 5 * k;
+    if 3 < s[at] {
+        return false;
+    }
+    let x = rows::packet_at(s, at);
+    if !packet_ok(h, lengths, x) {
+        return false;
+    }
+    let first = frame::of_head(done, k);
+    if !places::fits(h, routes, joints, homes, lengths, by, up, n, first, x) {
+        return false;
+    }
+    tally(spent, x);
+    true
+}
+
+// The same of the first m places.
+fn places_ok(
+    h: Head,
+    routes: &[[u8; 32]; 16],
+    joints: &[u8; 64],
+    homes: &[u8; 32],
+    lengths: &[[u8; 16]; 16],
+    by: &[[u32; 4]; 16],
+    up: &[[u32; 32]; 17],
+    s: &[u8],
+    n: usize,
+    done: bool,
+    m: usize,
+    i: usize,
+    spent: &mut [u8; 16],
+) -> bool
+    requires { ⌜ Ready h (now routes) (now joints) (now homes) (now lengths) (now by) (now up) × (n < queueCount h) × (m ≤ 7)
+        × (i + 35 ≤ length (now s)) ⌝ }
+    ensures { λ r. ⌜ PlacesChecked (tablePlan h (now (routes .entry)) (now (joints .entry)))
+        (queueAt (tablePlan h (now (routes .entry)) (now (joints .entry))) n) done m i (now (s .entry)) r
+        (now (spent .entry)) (now (spent .exit)) ⌝ }
+{
+    for k in 0..m {
+        if !place_ok(h, routes, joints, homes, lengths, by, up, s, n, done, i, k, spent) {
+            return false;
+        }
+    }
+    true
+}
+
+// Whether the row of queue n fits, w packets being on the way to it; its packets are counted.
+fn row_busy(
+    h: Head,
+    routes: &[[u8; 32]; 16],
+    joints: &[u8; 64],
+    homes: &[u8; 32],
+    lengths: &[[u8; 16]; 16],
+    by: &[[u32; 4]; 16],
+    up: &[[u32; 32]; 17],
+    s: &[u8],
+    n: usize,
+    cap: u8,
+    w: u8,
+    spent: &mut [u8; 16],
+) -> bool
+    requires { ⌜ Ready h (now routes) (now joints) (now homes) (now lengths) (now by) (now up) × (n < queueCount h)
+        × (stateSize h ≤ length (now s))
+        × (cap ≡ capacity h (queueAt (tablePlan h (now routes) (now joints)) n))
+        × (w ≡ onWires (tablePlan h (now routes) (now joints)) (queueAt (tablePlan h (now routes) (now joints)) n)
+        (decode (tablePlan h (now routes) (now joints)) (now s))) ⌝ }
+    ensures { λ r. ⌜ RowChecked (tablePlan h (now (routes .entry)) (now (joints .entry))) (now (s .entry)) n r
+        (now (spent .entry)) (now (spent .exit)) ⌝ }
+{
+    let i = acts::queue_row(n);
+    let len = s[i + 3];
+    let mark = s[i + 2];
+    if !frame::frame_ok(cap, frame::fed_at(h, joints, n), frame::unit_at(h, n), s[0] == 1, s[i], s[i + 1], mark, len, w) {
+        return false;
+    }
+    let m = index(len);
+    if !forms::zeros(s, i + 4 + 5 * m, 35 - 5 * m) {
+        return false;
+    }
+    places_ok(h, routes, joints, homes, lengths, by, up, s, n, rows::flag_of(mark), m, i + 4, spent)
+}
+
+// The same; an idle row that nothing is on the way to costs a few comparisons.
+fn row_ok(
+    h: Head,
+    routes: &[[u8; 32]; 16],
+    joints: &[u8; 64],
+    homes: &[u8; 32],
+    lengths: &[[u8; 16]; 16],
+    by: &[[u32; 4]; 16],
+    up: &[[u32; 32]; 17],
+    s: &[u8],
+    n: usize,
+    cap: u8,
+    w: u8,
+    spent: &mut [u8; 16],
+) -> bool
+    requires { ⌜ Ready h (now routes) (now joints) (now homes) (now lengths) (now by) (now up) × (n < queueCount h)
+        × (stateSize h ≤ length (now s))
+        × (cap ≡ capacity h (queueAt (tablePlan h (now routes) (now joints)) n))
+        × (w ≡ onWires (tablePlan h (now routes) (now joints)) (queueAt (tablePlan h (now routes) (now joints)) n)
+        (decode (tablePlan h (now routes) (now joints)) (now s))) ⌝ }
+    ensures { λ r. ⌜ RowChecked (tablePlan h (now (routes .entry)) (now (joints .entry))) (now (s .entry)) n r
+        (now (spent .entry)) (now (spent .exit)) ⌝ }
+{
+    if w == 0 {
+        if forms::idle(s, acts::queue_row(n), cap) {
+            return true;
+        }
+    }
+    row_busy(h, routes, joints, homes, lengths, by, up, s, n, cap, w, spent)
+}
+
+// The rows of m queues from `from` on, their capacities in caps; coming says of each queue how many packets are on the way.
+fn rows_ok(
+    h: Head,
+    routes: &[[u8; 32]; 16],
+    joints: &[u8; 64],
+    homes: &[u8; 32],
+    lengths: &[[u8; 16]; 16],
+    by: &[[u32; 4]; 16],
+    up: &[[u32; 32]; 17],
+    s: &[u8],
+    coming: &[u8; 400],
+    from: usize,
+    m: usize,
+    caps: &[u8; 21],
+    spent: &mut [u8; 16],
+) -> bool
+    requires { ⌜ Ready h (now routes) (now joints) (now homes) (now lengths) (now by) (now up) × (from + m ≤ queueCount h)
+        × (m ≤ 21) × (stateSize h ≤ length (now s))
+        × ((k : ℕ) → k < m → getD (now caps) k 0 ≡ capacity h (queueAt (tablePlan h (now routes) (now joints)) (from + k)))
+        × Coming (tablePlan h (now routes) (now joints)) (now s) (now coming) ⌝ }
+    ensures { λ r. ⌜ RowsChecked (tablePlan h (now (routes .entry)) (now (joints .entry))) (now (s .entry)) from m r
+        (now (spent .entry)) (now (spent .exit)) ⌝ }
+{
+    for k in 0..m {
+        if !row_ok(h, routes, joints, homes, lengths, by, up, s, from + k, caps[k], coming[from + k], spent) {
+            return false;
+        }
+    }
+    true
+}
+
+// The capacities of a router's queues.
+fn router_caps(h: Head) -> [u8; 21]
+    ensures { λ t. ⌜ t ≡ routerCaps h ⌝ }
+{
+    let u = h.u.0;
+    let q = h.q.0;
+    let f = h.f.0;
+    let k = h.k.0;
+    [u, u, u, u, q, f, k, k, k, f, k, k, k, f, k, k, k, f, k, k, k]
+}
+
+// The rows of all routers.
+fn routers_ok(
+    h: Head,
+    routes: &[[u8; 32]; 16],
+    joints: &[u8; 64],
+    homes: &[u8; 32],
+    lengths: &[[u8; 16]; 16],
+    by: &[[u32; 4]; 16],
+    up: &[[u32; 32]; 17],
+    s: &[u8],
+    coming: &[u8; 400],
+    spent: &mut [u8; 16],
+) -> bool
+    requires { ⌜ Ready h (now routes) (now joints) (now homes) (now lengths) (now by) (now up)
+        × (stateSize h ≤ length (now s)) × Coming (tablePlan h (now routes) (now joints)) (now s) (now coming) ⌝ }
+    ensures { λ r. ⌜ RowsChecked (tablePlan h (now (routes .entry)) (now (joints .entry))) (now (s .entry))
+        (destinations h) (21 * h .routers) r (now (spent .entry)) (now (spent .exit)) ⌝ }
+{
+    let n = h.routers;
+    let d = h.actives + h.passives;
+    let caps = router_caps(h);
+    for r in 0..n {
+        if !rows_ok(h, routes, joints, homes, lengths, by, up, s, coming, d + 21 * r, 21, &caps, spent) {
+            return false;
+        }
+    }
+    true
+}
+
+// The rows of the interfaces' queues that begin at queue `from`, actives first.
+fn interfaces_ok(
+    h: Head,
+    routes: &[[u8; 32]; 16],
+    joints: &[u8; 64],
+    homes: &[u8; 32],
+    lengths: &[[u8; 16]; 16],
+    by: &[[u32; 4]; 16],
+    up: &[[u32; 32]; 17],
+    s: &[u8],
+    coming: &[u8; 400],
+    from: usize,
+    cap: u8,
+    more: u8,
+    spent: &mut [u8; 16],
+) -> bool
+    requires { ⌜ Ready h (now routes) (now joints) (now homes) (now lengths) (now by) (now up)
+        × (from + destinations h ≤ queueCount h)
+        × (stateSize h ≤ length (now s)) × Coming (tablePlan h (now routes) (now joints)) (now s) (now coming)
+        × ((k : ℕ) → k < h .actives → cap ≡ capacity h (queueAt (tablePlan h (now routes) (now joints)) (from + k)))
+        × ((k : ℕ) → k < h .passives
+        → more ≡ capacity h (queueAt (tablePlan h (now routes) (now joints)) (from + h .actives + k))) ⌝ }
+    ensures { λ r. ⌜ RowsChecked (tablePlan h (now (routes .entry)) (now (joints .entry))) (now (s .entry)) from (destinations h) r
+        (now (spent .entry)) (now (spent .exit)) ⌝ }
+{
+    let caps = [cap; 21];
+    if !rows_ok(h, routes, joints, homes, lengths, by, up, s, coming, from, h.actives, &caps, spent) {
+        return false;
+    }
+    let others = [more; 21];
+    rows_ok(h, routes, joints, homes, lengths, by, up, s, coming, from + h.actives, h.passives, &others, spent)
+}
+
+// All rows.
+pub fn lines_ok(
+    h: Head,
+    routes: &[[u8; 32]; 16],
+    joints: &[u8; 64],
+    homes: &[u8; 32],
+    lengths: &[[u8; 16]; 16],
+    by: &[[u32; 4]; 16],
+    up: &[[u32; 32]; 17],
+    s: &[u8],
+    coming: &[u8; 400],
+    spent: &mut [u8; 16],
+) -> bool
+    requires { ⌜ Ready h (now routes) (now joints) (now homes) (now lengths) (now by) (now up)
+        × (stateSize h ≤ length (now s)) × Coming (tablePlan h (now routes) (now joints)) (now s) (now coming) ⌝ }
+    ensures { λ r. ⌜ LinesChecked (tablePlan h (now (routes .entry)) (now (joints .entry))) (now (s .entry)) r
+        (now (spent .entry)) (now (spent .exit)) ⌝ }
+{
+    if !interfaces_ok(h, routes, joints, homes, lengths, by, up, s, coming, 0, h.aout.0, h.pout.0, spent) {
+        return false;
+    }
+    if !routers_ok(h, routes, joints, homes, lengths, by, up, s, coming, spent) {
+        return false;
+    }
+    let from = h.actives + h.passives + 21 * h.routers;
+    interfaces_ok(h, routes, joints, homes, lengths, by, up, s, coming, from, h.ain.0, h.pin.0, spent)
 }

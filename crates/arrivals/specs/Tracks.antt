@@ -1,4 +1,4 @@
--- Which routers the walks meet, and how many they are, by router and destination.
+-- Which routers the walks of a plan meet.
 use mathlib.Core.Path.{_≡_}
 use mathlib.Core.Bool.{true}
 use mathlib.Core.List.{List, []}
@@ -16,7 +16,8 @@ use Rattle.paths.specs.Steps.{standsOn}
 pub record Tracks (pl : Plan) (up : List (List ℕ)) : Type 0 where
   pub met : (x : Port) (d r : ℕ) → x .router < R pl → d < destinations (pl .head) → r < 16
       → arrives pl (interfaceAt (pl .head) d) x ≡ true
-      → has (getD (getD up (x .router) []) d 0) r ≡ anyBelow (R pl) (λ k. standsOn r (walked pl (interfaceAt (pl .head) d) k x))
+      → has (getD (getD up (x .router) []) d 0) r
+      ≡ anyBelow (R pl) (λ k. standsOn r (walked pl (interfaceAt (pl .head) d) k x))
   pub size : (x : Port) (d : ℕ) → x .router < R pl → d < destinations (pl .head)
       → arrives pl (interfaceAt (pl .head) d) x ≡ true
       → getD (getD up (x .router) []) d 0 / 65536 ≡ walkSize pl (interfaceAt (pl .head) d) x

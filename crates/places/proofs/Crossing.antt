@@ -3,7 +3,7 @@ use mathlib.Core.Path.{_≡_, refl, sym, ap, _∙_}
 use mathlib.Core.Logic.{_⊎_, inl, inr}
 use mathlib.Core.Bool.{Bool, true, false}
 use mathlib.Core.List.{List, []}
-use Prim.Native.Nat.{ℕ, zero, suc, _+_, _*_, _/_, _%_, _≤_, _<_}
+use Prim.Native.Nat.{ℕ, zero, suc, _+_, _*_, _/_, _%_, _<_}
 use native.Mathlib.Omega.{arith}
 use lib.Dec.{eqb}
 use lib.ListN.{getD}
@@ -13,7 +13,7 @@ use Rattle.basis.specs.Fold.{up-none, up-suc}
 use Rattle.basis.specs.Walk.{on, on-same, spot-none, spot-next, way-on}
 use Rattle.packets.specs.declared.Kind.{Kind}
 use Rattle.packets.specs.declared.Kind.the-variants.{Setup, Tdown, Ack, Nack}
-use Rattle.plan.specs.Plan.{Plan, Port, Interface, active, passive, R, A, P, routeTo}
+use Rattle.plan.specs.Plan.{Plan, Port, Interface, active, passive, A, P, routeTo}
 use Rattle.plan.specs.Rules.{portOf, home, portsOf, portOr0}
 use Rattle.plan.specs.Tables.{interfaceAt}
 use Rattle.paths.specs.Walk.{onward, routerOf, walked}

@@ -4,13 +4,13 @@ use mathlib.Core.Bool.{Bool, true, false}
 use mathlib.Core.List.{List, []}
 use Prim.Native.Nat.{ℕ, suc, _+_, _*_, _-_, _/_, _≤_, _<_}
 use native.Mathlib.Omega.{arith}
-use lib.Dec.{eqb, leb}
+use lib.Dec.{eqb}
 use lib.ListN.{getD}
 use borrow.Author.Tests.{eq-eqb, ne-eqb}
 use Rattle.basis.specs.Choice.{also}
 use Rattle.packets.specs.declared.Kind.{Kind}
 use Rattle.packets.specs.declared.Kind.the-variants.{Setup, Tdown, Ack, Nack}
-use Rattle.plan.specs.Plan.{Plan, Port, active, passive, R, A, P, routeTo}
+use Rattle.plan.specs.Plan.{Plan, active, passive, A, P, routeTo}
 use Rattle.plan.specs.Rules.{home}
 use Rattle.paths.specs.Served.{Served}
 use Rattle.feeding.specs.Queue.{activeOut, activeIn, passiveIn, passiveOut, U, Q, F}
@@ -26,7 +26,7 @@ use Rattle.valid.proofs.Decides.{Decides, like, never, less, most, same, both}
 use Rattle.places.specs.declared.Trip.{Trip}
 use Rattle.places.specs.declared.Standing.{Standing}
 use Rattle.places.specs.Look.{standingOf, freesUpTo, comingAs, coming, leavingAs}
-use Rattle.places.specs.Look.{leaving, unitBy, comesBy, sideBy}
+use Rattle.places.specs.Look.{leaving, unitBy, sideBy}
 use Rattle.places.specs.Look.{columnOf, outBy, activeOutAs, passiveOutAs, activeInAs, passiveInAs}
 use Rattle.places.proofs.OnTrack.{passive-at, told, Trips, Here, stood, off, standing}
 use Rattle.places.proofs.ComesIn.{comes-decides}

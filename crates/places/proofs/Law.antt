@@ -1,5 +1,5 @@
 -- What the code looks up is the place test, for a served pair of the plan that the tables are.
-use mathlib.Core.Path.{_≡_, refl, sym, ap, _∙_}
+use mathlib.Core.Path.{_≡_, refl, ap, _∙_}
 use mathlib.Core.Logic.{_⊎_, inl, inr}
 use mathlib.Core.Bool.{Bool, true, false}
 use mathlib.Core.List.{List, []}
@@ -7,23 +7,21 @@ use Prim.Native.Nat.{ℕ, zero, suc, _+_, _*_, _-_, _/_, _%_, _≤_, _<_}
 use native.Mathlib.Omega.{arith}
 use lib.Dec.{eqb, ltb}
 use lib.ListN.{getD}
-use borrow.Author.Tests.{lt-ltb, le-ltb, eq-eqb, ne-eqb, ltb-true, ltb-false, eqb-true, eqb-false}
-use Rattle.basis.specs.Choice.{pick, also, test, same-test}
+use borrow.Author.Tests.{lt-ltb, le-ltb, ne-eqb, ltb-true, ltb-false, eqb-false}
+use Rattle.basis.specs.Choice.{pick, test, same-test}
 use Rattle.basis.specs.Bounded.{lt-or-ge}
 use Rattle.sets.specs.Sets.{has}
-use Rattle.packets.specs.declared.Kind.{Kind}
 use Rattle.packets.specs.declared.Packet.{Packet}
 use Rattle.plan.specs.declared.Head.{Head}
 use Rattle.plan.specs.Head.{Counts}
-use Rattle.plan.specs.Plan.{Plan, Port, active, passive, R, A, P}
+use Rattle.plan.specs.Plan.{active, R, A, P}
 use Rattle.plan.specs.Rules.{home}
 use Rattle.plan.specs.Tables.{tablePlan}
 use Rattle.paths.specs.Served.{Served, served}
 use Rattle.paths.proofs.Through.{same-default}
-use Rattle.feeding.specs.Queue.{Queue, activeOut, activeIn, passiveIn, passiveOut, U, Q, F, K, outs, inBase}
-use Rattle.feeding.specs.Queue.{senderAt, inRouter, queues, queueAt}
-use Rattle.feeding.specs.Feeds.{Place, inQueue, Stands, span, Fits, headPlace}
-use Rattle.wiring.proofs.Wires.{home-inside}
+use Rattle.feeding.specs.Queue.{Queue, activeOut, activeIn, passiveIn, passiveOut, U, Q, F, K}
+use Rattle.feeding.specs.Queue.{senderAt, inRouter, queueAt}
+use Rattle.feeding.specs.Feeds.{Place, inQueue, Fits, headPlace}
 use Rattle.journeys.proofs.Walks.{served-of}
 use Rattle.arrivals.specs.Pairs.{pairWalk}
 use Rattle.arrivals.specs.Charted.{Charting}
@@ -36,10 +34,10 @@ use Rattle.valid.proofs.Decides.{Decides}
 use Rattle.valid.proofs.Fitting.{fits-decides}
 use Rattle.moves.specs.Lent.{Lent}
 use Rattle.places.specs.declared.Trip.{Trip}
-use Rattle.places.specs.Look.{trackAt, trackOf, tripOf, nthOf, unitBy, sideBy, outBy, crossBy, Marked, Led}
-use Rattle.places.specs.Look.{activeOutAs, passiveOutAs, activeInAs, passiveInAs, sentBy, receivedBy, senderBy}
+use Rattle.places.specs.Look.{trackAt, trackOf, tripOf, outBy, crossBy, Marked, Led}
+use Rattle.places.specs.Look.{sentBy, receivedBy, senderBy}
 use Rattle.places.specs.Look.{routerBy, fitsBy}
-use Rattle.places.proofs.OnTrack.{active-at, passive-at, Trips, on-track, rest-is}
+use Rattle.places.proofs.OnTrack.{active-at, Trips, on-track, rest-is}
 use Rattle.places.proofs.Fitting.{active-out, passive-out, active-in, passive-in, unit-decides, side-decides}
 use Rattle.places.proofs.Fitting.{out-decides}
 use Rattle.places.proofs.Crossing.{home-at, nth-inside, cross-decides}

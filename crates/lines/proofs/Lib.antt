@@ -4,3 +4,4 @@ pub mod Lined
 pub mod Rowed
 pub mod Numbers
 pub mod Turns
+pub mod Groups

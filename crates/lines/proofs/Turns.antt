@@ -7,12 +7,14 @@ use Prim.Native.Nat.{ℕ, zero, suc, _+_, _*_, _-_, _≤_, _<_}
 use native.Mathlib.Numerals.{add-one}
 use native.Mathlib.Omega.{arith}
 use lib.Dec.{ltb, leb, eqb}
-use lib.ListN.{getD}
+use lib.ListN.{getD, length}
 use borrow.Author.Tests.{ltb-true, leb-true, le-leb, lt-leb}
 use Rattle.basis.specs.Choice.{pick, also, also-true, also-of, same-test, refuted}
 use Rattle.basis.specs.Bounded.{allBelow, all-none, all-more, all-fail, all-done, all-at, all-of, all-same, lt-or-ge}
 use Rattle.packets.specs.declared.Packet.{Packet}
-use Rattle.plan.specs.Head.{InRange}
+use Rattle.plan.specs.declared.Head.{Head}
+use Rattle.plan.specs.Head.{InRange, Counts}
+use Rattle.plan.specs.Tables.{tablePlan}
 use Rattle.plan.specs.Plan.{Plan, A, P, S}
 use Rattle.paths.specs.Served.{served}
 use Rattle.feeding.specs.Queue.{Queue, Exists, queueAt, queues}
@@ -31,12 +33,13 @@ use Rattle.machine.proofs.Numbers.{exists-at, at-number}
 use Rattle.layout.specs.Offsets.{queueRow}
 use Rattle.layout.specs.Codes.{flagOf}
 use Rattle.layout.specs.Decode.{decode, capacity-most}
+use Rattle.acts.specs.Counts.{queueCount, stateSize}
 use Rattle.states.specs.Forms.{zeros}
 use Rattle.states.specs.Check.{queueRowTest}
 use Rattle.states.proofs.Quiet.{zeros-row}
 use Rattle.forms.specs.Bytes.{IdleRow}
-use Rattle.lines.specs.Frame.{frameOf}
-use Rattle.lines.proofs.Frames.{frame-few}
+use Rattle.lines.specs.Frame.{frameOf, fedOf, unitOf}
+use Rattle.lines.proofs.Frames.{frame-few, fed-law, unit-law}
 use Rattle.lines.proofs.Rowed.{row-law, row-spent}
 use Rattle.lines.proofs.Lined.{sum-like}
 use Rattle.lines.proofs.Tallies.{tallied-none, tallied-then, tallied-like, tallied-one}
@@ -56,8 +59,9 @@ numbers-ok pl x more e =
       hub = leb-true (x .hub .0) 16 (s .1);
     }
 
-pub served-ok : (first more : Bool) → also first more ≡ true → more ≡ true
-served-ok first more e = also-true {a = first} {b = more} e .1
+pub served-ok : (pl : Plan) (x : Packet) → also (packetTest pl x) (served pl (x .active) (x .passive)) ≡ true
+    → served pl (x .active) (x .passive) ≡ true
+served-ok pl x e = also-true {a = packetTest pl x} {b = served pl (x .active) (x .passive)} e .1
 
 -- ---- one place
 module _ (pl : Plan) (q : Queue) (done : Bool) (i : ℕ) (b : List ℕ) (k : ℕ) (t u : List ℕ) where
@@ -213,13 +217,13 @@ sum-split f m (suc n) =
     let e = sum-split f m n in
     rw q (omega arith)
 
-module _ (pl : Plan) (b : List ℕ) (from m n : ℕ) {t u v : List ℕ} where
+module _ (pl : Plan) (b : List ℕ) (from m n : ℕ) where
   further : (k : ℕ) → from + (m + k) ≡ from + m + k
   further k = omega arith
 
-  pub rows-join : {r : Bool} → RowsChecked pl b from m true t u → RowsChecked pl b (from + m) n r u v
+  pub rows-join : {t u v : List ℕ} {r : Bool} → RowsChecked pl b from m true t u → RowsChecked pl b (from + m) n r u v
       → RowsChecked pl b from (m + n) r t v
-  rows-join {r} x y =
+  rows-join x y =
       record {
         test =
             y .test
@@ -237,7 +241,7 @@ module _ (pl : Plan) (b : List ℕ) (from m n : ℕ) {t u v : List ℕ} where
       }
 
   -- the first stretch fails, so all do
-  pub rows-lost : RowsChecked pl b from m false t u → RowsChecked pl b from (m + n) false t u
+  pub rows-lost : {t u : List ℕ} → RowsChecked pl b from m false t u → RowsChecked pl b from (m + n) false t u
   rows-lost x =
       record {
         test = sym (refuted (allBelow (m + n) (λ k. queueRowTest pl b (queueAt pl (from + k))))
@@ -316,3 +320,94 @@ module _ (pl : Plan) (range : InRange (pl .head)) (b : List ℕ) (n : ℕ) (l : 
         test = sym (z .0);
         count = λ x. tallied-like (λ a k. ap (inAll (spends a)) (sym (z .1))) (tallied-none t);
       }
+
+-- ---- the plan of the tables
+plan-head : (h : Head) (routes : List (List ℕ)) (joints : List ℕ) → tablePlan h routes joints .head ≡ h
+unfolding tablePlan
+plan-head h routes joints = refl
+
+module _ (h : Head) (routes : List (List ℕ)) (joints : List ℕ) where
+  pub queue-in : (n : ℕ) → n < queueCount h → n < queues (tablePlan h routes joints)
+  unfolding tablePlan queues
+  queue-in n l = omega arith
+
+  pub active-few : InRange h → (x : Packet) → PacketOk (tablePlan h routes joints) x → x .active < 16
+  unfolding tablePlan
+  active-few range x k = let a = range .actives .1 in let l = k .active in omega arith
+
+  pub head-range : InRange h → InRange (tablePlan h routes joints .head)
+  unfolding tablePlan
+  head-range range = range
+
+  -- the frame that the code tested is the row's
+  pub frame-is : (b : List ℕ) (n j room w : ℕ) → j ≡ 2 + 39 * n
+      → room ≡ capacity h (queueAt (tablePlan h routes joints) n)
+      → w ≡ onWires (tablePlan h routes joints) (queueAt (tablePlan h routes joints) n)
+      (decode (tablePlan h routes joints) b) → {r : Bool}
+      → r ≡ frameOf room (fedOf h joints n) (unitOf h n) (eqb (getD b 0 0) 1) (getD b j 0) (getD b (j + 1) 0)
+      (getD b (j + 2) 0) (getD b (j + 3) 0) w
+      → r ≡ frameOf (capacity (tablePlan h routes joints .head) (queueAt (tablePlan h routes joints) n))
+      (fed (tablePlan h routes joints) (queueAt (tablePlan h routes joints) n))
+      (isUnit (queueAt (tablePlan h routes joints) n)) (eqb (getD b 0 0) 1) (getD b (2 + 39 * n + 0) 0)
+      (getD b (2 + 39 * n + 1) 0) (getD b (2 + 39 * n + 2) 0) (getD b (2 + 39 * n + 3) 0)
+      (onWires (tablePlan h routes joints) (queueAt (tablePlan h routes joints) n)
+      (decode (tablePlan h routes joints) b))
+  frame-is b n j room w e f g {r} x =
+      let p : room ≡ capacity (tablePlan h routes joints .head) (queueAt (tablePlan h routes joints) n) =
+      f ∙ ap (λ (z : Head). capacity z (queueAt (tablePlan h routes joints) n)) (sym (plan-head h routes joints)) in
+      let c : j ≡ 2 + 39 * n + 0 = omega arith in
+      let d : j + 1 ≡ 2 + 39 * n + 1 = omega arith in
+      let k : j + 2 ≡ 2 + 39 * n + 2 = omega arith in
+      let l : j + 3 ≡ 2 + 39 * n + 3 = omega arith in
+      x ∙ λ y. frameOf (p y) (fed-law h routes joints n y) (unit-law h routes joints n y) (eqb (getD b 0 0) 1)
+      (getD b (c y) 0) (getD b (d y) 0) (getD b (k y) 0) (getD b (l y) 0) (g y)
+
+  -- the ways out of the code of a row that is not idle
+  module _ (range : InRange h) (b : List ℕ) (n : ℕ) (l : n < queueCount h) (j room w : ℕ) (e : j ≡ 2 + 39 * n)
+      (f : room ≡ capacity h (queueAt (tablePlan h routes joints) n))
+      (g : w ≡ onWires (tablePlan h routes joints) (queueAt (tablePlan h routes joints) n)
+      (decode (tablePlan h routes joints) b)) {x : Bool}
+      (known : x ≡ frameOf room (fedOf h joints n) (unitOf h n) (eqb (getD b 0 0) 1) (getD b j 0) (getD b (j + 1) 0)
+      (getD b (j + 2) 0) (getD b (j + 3) 0) w) where
+    pub code-frame : (t u : List ℕ) → x ≡ false → RowChecked (tablePlan h routes joints) b n false t u
+    code-frame t u v =
+        row-frame (tablePlan h routes joints) (head-range range) b n (queue-in n l) t u
+        (frame-is b n j room w e f g known) v
+
+    pub code-few : x ≡ true → getD b (j + 3) 0 ≤ 7
+    code-few v =
+        rw e (row-few (tablePlan h routes joints) (head-range range) b n (queue-in n l) b b
+        (frame-is b n j room w e f g known) v)
+
+    pub code-zeros : (t u : List ℕ) → x ≡ true → {m : ℕ} {y : Bool} → m ≡ getD b (j + 3) 0
+        → y ≡ zeros (j + 4 + 5 * m) (35 - 5 * m) b → y ≡ false → RowChecked (tablePlan h routes joints) b n false t u
+    code-zeros t u v k z c =
+        row-zeros (tablePlan h routes joints) (head-range range) b n (queue-in n l) t u
+        (frame-is b n j room w e f g known) v (rw (k, e) at z) c
+
+    pub code-places : (t u : List ℕ) → x ≡ true → {m : ℕ} {y d r : Bool} → m ≡ getD b (j + 3) 0
+        → y ≡ zeros (j + 4 + 5 * m) (35 - 5 * m) b → y ≡ true → d ≡ flagOf (getD b (j + 2) 0)
+        → PlacesChecked (tablePlan h routes joints) (queueAt (tablePlan h routes joints) n) d m (j + 4) b r t u
+        → RowChecked (tablePlan h routes joints) b n r t u
+    code-places t u v k z c o s =
+        row-places (tablePlan h routes joints) (head-range range) b n (queue-in n l) t u
+        (frame-is b n j room w e f g known) v (rw (k, e) at z) c (rw (o, k, e) at s)
+
+  -- and of one that is
+  pub idle-of : InRange h → (b : List ℕ) (n : ℕ) → n < queueCount h → (t : List ℕ) (j room w : ℕ) → j ≡ 2 + 39 * n
+      → room ≡ capacity h (queueAt (tablePlan h routes joints) n)
+      → w ≡ onWires (tablePlan h routes joints) (queueAt (tablePlan h routes joints) n)
+      (decode (tablePlan h routes joints) b) → w ≡ 0 → IdleRow b j room
+      → RowChecked (tablePlan h routes joints) b n true t t
+  idle-of range b n l t j room w e f g z s =
+      row-idle (tablePlan h routes joints) (head-range range) b n (queue-in n l) t t g z (held s)
+    where
+      held : IdleRow b j room
+          → IdleRow b (2 + 39 * n) (capacity (tablePlan h routes joints .head) (queueAt (tablePlan h routes joints) n))
+      held x =
+          record {
+            credit =
+                ap (λ (k : ℕ). getD b k 0) (sym e) ∙ x .credit ∙ f
+                ∙ ap (λ (z : Head). capacity z (queueAt (tablePlan h routes joints) n)) (sym (plan-head h routes joints));
+            rest = ap (λ (k : ℕ). zeros (k + 1) 38 b) (sym e) ∙ x .rest;
+          }

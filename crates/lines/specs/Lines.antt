@@ -1,12 +1,13 @@
 -- What the check of the queues' rows gives: whether each passes, and what their packets have spent.
 use mathlib.Core.Path.{_≡_}
 use mathlib.Core.Bool.{Bool, true, false}
-use mathlib.Core.List.{List, [], _∷_}
-use Prim.Native.Nat.{ℕ, zero, suc, _+_, _*_, _≤_, _<_}
-use lib.Dec.{leb}
-use lib.ListN.{getD}
-use Rattle.basis.specs.Choice.{also}
+use mathlib.Core.List.{List}
+use Prim.Native.Nat.{ℕ, zero, suc, _+_, _*_, _-_, _%_, _≤_, _<_}
+use lib.Dec.{leb, ltb, eqb}
+use lib.ListN.{getD, replicate}
+use Rattle.basis.specs.Choice.{pick, also}
 use Rattle.basis.specs.Bounded.{allBelow}
+use Rattle.basis.specs.Fold.{upTo, fill}
 use Rattle.packets.specs.declared.Packet.{Packet}
 use Rattle.plan.specs.declared.Head.{Head}
 use Rattle.plan.specs.Plan.{Plan}
@@ -66,10 +67,16 @@ Coming pl b coming =
     (n : ℕ) → n < queues pl → getD coming n 0 ≡ onWires pl (queueAt pl n) (decode pl b)
 
 -- the capacities of a router's queues: U, Q, and for each side F and three K
+unfoldable pub capIn : Head → ℕ → ℕ
+capIn h k =
+    pick (ltb k 4) (h .u .0) (pick (eqb k 4) (h .q .0) (pick (eqb ((k - 5) % 4) 0) (h .f .0) (h .k .0)))
+
 unfoldable pub routerCaps : Head → List ℕ
-routerCaps h =
-    let u = h .u .0 in let q = h .q .0 in let f = h .f .0 in let k = h .k .0 in
-    u ∷ u ∷ u ∷ u ∷ q ∷ f ∷ k ∷ k ∷ k ∷ f ∷ k ∷ k ∷ k ∷ f ∷ k ∷ k ∷ k ∷ f ∷ k ∷ k ∷ k ∷ []
+routerCaps h = upTo (fill (capIn h)) 21 (replicate 21 0)
+
+-- one capacity for all of a group
+unfoldable pub sameCaps : ℕ → List ℕ
+sameCaps v = replicate 21 v
 
 -- all queues
 pub record LinesChecked (pl : Plan) (b : List ℕ) (r : Bool) (t u : List ℕ) : Type 0 where

@@ -9,7 +9,8 @@ ghost use mathlib.Core.List.{List, []};
 ghost use Prim.Native.Nat.{ℕ, _+_, _*_, _≤_, _<_};
 ghost use lib.ListN.{getD, length};
 ghost use Rattle.basis.specs.Choice.{also};
-ghost use Rattle.plan.specs.Head.{InRange, destinations};
+ghost use lib.Dec.{eqb};
+ghost use Rattle.plan.specs.Head.{Counts, InRange, destinations};
 ghost use Rattle.plan.specs.Tables.{tablePlan};
 ghost use Rattle.paths.specs.Served.{served};
 ghost use Rattle.feeding.specs.Queue.{queueAt, queues};
@@ -22,7 +23,8 @@ ghost use Rattle.moves.specs.Lent.{Lent};
 ghost use Rattle.lines.specs.Ready.{Ready};
 ghost use Rattle.lines.specs.Tally.{tallied, Tallied};
 ghost use Rattle.lines.specs.Frame.{frameOf, fedInRouter, fedOf, unitOf};
-ghost use Rattle.lines.specs.Lines.{PlaceChecked, PlacesChecked, RowChecked, RowsChecked, Coming, routerCaps, LinesChecked};
+ghost use Rattle.lines.specs.Lines.{PlaceChecked, PlacesChecked, RowChecked, RowsChecked, Coming, LinesChecked};
+ghost use Rattle.lines.specs.Lines.{capIn, routerCaps, sameCaps};
 
 pub mod frame;
 
@@ -136,6 +138,19 @@ fn places_ok(
     true
 }
 
+// Whether the first four bytes of the row of queue n, which stands at i, fit, w packets being on the way to it.
+fn row_frame(h: Head, joints: &[u8; 64], s: &[u8], n: usize, i: usize, cap: u8, w: u8) -> bool
+    requires { ⌜ Counts h × (i + 39 ≤ length (now s)) ⌝ }
+    ensures { λ r. ⌜ r ≡ frameOf cap (fedOf h (now (joints .entry)) n) (unitOf h n) (eqb (getD (now (s .entry)) 0 0) 1)
+        (getD (now (s .entry)) i 0) (getD (now (s .entry)) (i + 1) 0) (getD (now (s .entry)) (i + 2) 0)
+        (getD (now (s .entry)) (i + 3) 0) w ⌝ }
+{
+    let fed = frame::fed_at(h, joints, n);
+    let unit = frame::unit_at(h, n);
+    let executes = s[0] == 1;
+    frame::frame_ok(cap, fed, unit, executes, s[i], s[i + 1], s[i + 2], s[i + 3], w)
+}
+
 // Whether the row of queue n fits, w packets being on the way to it; its packets are counted.
 fn row_busy(
     h: Head,
@@ -160,16 +175,15 @@ fn row_busy(
         (now (spent .entry)) (now (spent .exit)) ⌝ }
 {
     let i = acts::queue_row(n);
-    let len = s[i + 3];
-    let mark = s[i + 2];
-    if !frame::frame_ok(cap, frame::fed_at(h, joints, n), frame::unit_at(h, n), s[0] == 1, s[i], s[i + 1], mark, len, w) {
+    if !row_frame(h, joints, s, n, i, cap, w) {
         return false;
     }
-    let m = index(len);
+    let m = index(s[i + 3]);
     if !forms::zeros(s, i + 4 + 5 * m, 35 - 5 * m) {
         return false;
     }
-    places_ok(h, routes, joints, homes, lengths, by, up, s, n, rows::flag_of(mark), m, i + 4, spent)
+    let done = rows::flag_of(s[i + 2]);
+    places_ok(h, routes, joints, homes, lengths, by, up, s, n, done, m, i + 4, spent)
 }
 
 // The same; an idle row that nothing is on the way to costs a few comparisons.
@@ -234,15 +248,38 @@ fn rows_ok(
     true
 }
 
+// The capacity of the k-th queue of a router: U, Q, and for each side F and three K.
+fn cap_in(h: Head, k: usize) -> u8
+    ensures { λ v. ⌜ v ≡ capIn h k ⌝ }
+{
+    if k < 4 {
+        return h.u.0;
+    }
+    if k == 4 {
+        return h.q.0;
+    }
+    if (k - 5) % 4 == 0 {
+        return h.f.0;
+    }
+    h.k.0
+}
+
 // The capacities of a router's queues.
 fn router_caps(h: Head) -> [u8; 21]
     ensures { λ t. ⌜ t ≡ routerCaps h ⌝ }
 {
-    let u = h.u.0;
-    let q = h.q.0;
-    let f = h.f.0;
-    let k = h.k.0;
-    [u, u, u, u, q, f, k, k, k, f, k, k, k, f, k, k, k, f, k, k, k]
+    let mut t = [0u8; 21];
+    for k in 0..21 {
+        t[k] = cap_in(h, k);
+    }
+    t
+}
+
+// One capacity for all queues of a group.
+fn same_caps(v: u8) -> [u8; 21]
+    ensures { λ t. ⌜ t ≡ sameCaps v ⌝ }
+{
+    [v; 21]
 }
 
 // The rows of all routers.
@@ -299,11 +336,11 @@ fn interfaces_ok(
     ensures { λ r. ⌜ RowsChecked (tablePlan h (now (routes .entry)) (now (joints .entry))) (now (s .entry)) from (destinations h) r
         (now (spent .entry)) (now (spent .exit)) ⌝ }
 {
-    let caps = [cap; 21];
+    let caps = same_caps(cap);
     if !rows_ok(h, routes, joints, homes, lengths, by, up, s, coming, from, h.actives, &caps, spent) {
         return false;
     }
-    let others = [more; 21];
+    let others = same_caps(more);
     rows_ok(h, routes, joints, homes, lengths, by, up, s, coming, from + h.actives, h.passives, &others, spent)
 }
 

@@ -1,0 +1,124 @@
+-- The groups of queues, one behind the other: their capacities, and all their rows.
+use mathlib.Core.Path.{_≡_, refl, sym, ap, _∙_}
+use mathlib.Core.Logic.{_⊎_, inl, inr}
+use mathlib.Core.Bool.{Bool, true, false, false≢true}
+use mathlib.Core.List.{List}
+use Prim.Native.Nat.{ℕ, zero, suc, _+_, _*_, _-_, _/_, _%_, _≤_, _<_}
+use native.Mathlib.Nat.{zero-add}
+use native.Mathlib.Omega.{arith}
+use lib.Dec.{ltb, eqb}
+use lib.ListN.{getD, replicate, length}
+use borrow.Author.Tests.{ltb-true, ltb-false, lt-ltb, le-ltb, eqb-true, eqb-false, ne-eqb}
+use Rattle.basis.specs.Choice.{pick, test}
+use Rattle.basis.specs.Bounded.{allBelow, all-same}
+use Rattle.basis.specs.Fold.{upTo, fill, fill-at}
+use Rattle.plan.specs.declared.Head.{Head}
+use Rattle.plan.specs.Head.{destinations}
+use Rattle.plan.specs.Plan.{Plan}
+use Rattle.plan.specs.Tables.{tablePlan}
+use Rattle.feeding.specs.Queue.{Queue, activeOut, activeIn, passiveIn, passiveOut, Exists, number, queues, queueAt}
+use Rattle.feeding.specs.Queue.{inRouter, senderAt}
+use Rattle.journeys.proofs.Numbers.{queue-at}
+use Rattle.machine.specs.Capacity.{capacity}
+use Rattle.machine.specs.Valid.{sum}
+use Rattle.states.specs.Check.{queueRowTest, queuesPart}
+use Rattle.lines.specs.Lines.{capIn, routerCaps, sameCaps, RowsChecked, LinesChecked, spentIn}
+use Rattle.lines.proofs.Lined.{sum-like}
+use Rattle.lines.proofs.Tallies.{tallied-like}
+
+-- ---- capacities
+same-at : (n v k : ℕ) → k < n → getD (replicate n v) k 0 ≡ v
+same-at zero v k l = absurd (omega arith)
+same-at (suc n) v zero l = refl
+same-at (suc n) v (suc k) l = same-at n v k (omega arith)
+
+pub same-cap : (v k : ℕ) → k < 21 → getD (sameCaps v) k 0 ≡ v
+unfolding sameCaps
+same-cap v k l = same-at 21 v k l
+
+module _ (h : Head) (routes : List (List ℕ)) (joints : List ℕ) where
+  abbrev net : Plan
+  net = tablePlan h routes joints
+
+  sender-cap : (r o j : ℕ) → pick (eqb j 0) (h .f .0) (h .k .0) ≡ capacity h (senderAt r o j)
+  sender-cap r o zero = refl
+  sender-cap r o (suc j) = rw (ne-eqb (suc j) 0 (λ z. omega arith))
+
+  router-cap : (r k : ℕ) → capIn h k ≡ capacity h (inRouter r k)
+  unfolding capIn
+  router-cap r k = by (test (ltb k 4)) (test (eqb k 4))
+    where
+      by : (ltb k 4 ≡ true) ⊎ (ltb k 4 ≡ false) → (eqb k 4 ≡ true) ⊎ (eqb k 4 ≡ false)
+          → capIn h k ≡ capacity h (inRouter r k)
+      by (inl x) y = rw x
+      by (inr x) (inl y) = rw (x, y)
+      by (inr x) (inr y) = rw (x, y) (sender-cap r ((k - 5) / 4) ((k - 5) % 4))
+
+  router-queue : (r k : ℕ) → r < h .routers → k < 21 → queueAt net (destinations h + 21 * r + k) ≡ inRouter r k
+  unfolding queueAt tablePlan
+  router-queue r k hr hk =
+      let a : h .actives ≤ destinations h + 21 * r + k = omega arith in
+      let d : destinations h ≤ destinations h + 21 * r + k = omega arith in
+      let b : destinations h + 21 * r + k < destinations h + 21 * h .routers = omega arith in
+      let x : (destinations h + 21 * r + k - destinations h) / 21 ≡ r = omega arith in
+      let y : (destinations h + 21 * r + k - destinations h) % 21 ≡ k = omega arith in
+      rw (
+        le-ltb (destinations h + 21 * r + k) (h .actives) a,
+        le-ltb (destinations h + 21 * r + k) (destinations h) d,
+        lt-ltb (destinations h + 21 * r + k) (destinations h + 21 * h .routers) b,
+        x,
+        y,
+      )
+
+  pub router-caps : (r k : ℕ) → r < h .routers → k < 21
+      → getD (routerCaps h) k 0 ≡ capacity h (queueAt net (destinations h + 21 * r + k))
+  unfolding routerCaps
+  router-caps r k hr hk =
+      fill-at (capIn h) 21 (replicate 21 0) k 0 hk (omega arith) ∙ router-cap r k
+      ∙ ap (capacity h) (sym (router-queue r k hr hk))
+
+  pub active-out-cap : (k : ℕ) → k < h .actives → h .aout .0 ≡ capacity h (queueAt net (0 + k))
+  unfolding tablePlan number
+  active-out-cap k l =
+      ap (capacity h) (sym (queue-at net (activeOut k) l)) ∙ ap (λ (n : ℕ). capacity h (queueAt net n)) (sym (zero-add k))
+
+  pub passive-out-cap : (k : ℕ) → k < h .passives → h .pout .0 ≡ capacity h (queueAt net (0 + h .actives + k))
+  unfolding tablePlan number
+  passive-out-cap k l =
+      let e : h .actives + k ≡ 0 + h .actives + k = omega arith in
+      ap (capacity h) (sym (queue-at net (passiveOut k) l)) ∙ ap (λ (n : ℕ). capacity h (queueAt net n)) e
+
+  pub active-in-cap : (k : ℕ) → k < h .actives
+      → h .ain .0 ≡ capacity h (queueAt net (destinations h + 21 * h .routers + k))
+  unfolding tablePlan number
+  active-in-cap k l = ap (capacity h) (sym (queue-at net (activeIn k) l))
+
+  pub passive-in-cap : (k : ℕ) → k < h .passives
+      → h .pin .0 ≡ capacity h (queueAt net (destinations h + 21 * h .routers + h .actives + k))
+  unfolding tablePlan number
+  passive-in-cap k l = ap (capacity h) (sym (queue-at net (passiveIn k) l))
+
+  -- ---- all rows are all queues
+  count-is : queues net ≡ destinations h + 21 * h .routers + destinations h
+  unfolding tablePlan queues
+  count-is = omega arith
+
+  pub lines-done : (b : List ℕ) {r : Bool} {t u : List ℕ}
+      → RowsChecked net b 0 (destinations h + 21 * h .routers + destinations h) r t u → LinesChecked net b r t u
+  unfolding queuesPart
+  lines-done b x =
+      record {
+        test =
+            x .test
+            ∙ all-same (destinations h + 21 * h .routers + destinations h) (λ k. queueRowTest net b (queueAt net (0 + k)))
+            (λ k. queueRowTest net b (queueAt net k))
+            (λ k l. ap (λ (n : ℕ). queueRowTest net b (queueAt net n)) (zero-add k))
+            ∙ ap (λ (m : ℕ). allBelow m (λ k. queueRowTest net b (queueAt net k))) (sym count-is);
+        count = λ e.
+            tallied-like
+            (λ a l.
+            sum-like (destinations h + 21 * h .routers + destinations h) (λ k. spentIn net b a (0 + k))
+            (λ k. spentIn net b a k) (λ k i. ap (λ (n : ℕ). spentIn net b a n) (zero-add k))
+            ∙ ap (λ (m : ℕ). sum m (λ k. spentIn net b a k)) (sym count-is))
+            (x .count e);
+      }

@@ -25,6 +25,7 @@ use Rattle.states.specs.Check.{queueRowTest, queuesPart}
 use Rattle.lines.specs.Lines.{capIn, routerCaps, sameCaps, RowsChecked, LinesChecked, spentIn}
 use Rattle.lines.proofs.Lined.{sum-like}
 use Rattle.lines.proofs.Tallies.{tallied-like}
+use Rattle.lines.proofs.Turns.{rows-none, rows-join, rows-lost}
 
 -- ---- capacities
 same-at : (n v k : ℕ) → k < n → getD (replicate n v) k 0 ≡ v
@@ -122,3 +123,70 @@ module _ (h : Head) (routes : List (List ℕ)) (joints : List ℕ) where
             ∙ ap (λ (m : ℕ). sum m (λ k. spentIn net b a k)) (sym count-is))
             (x .count e);
       }
+
+-- ---- routers, 21 rows each
+module _ (pl : Plan) (b : List ℕ) (d : ℕ) where
+  pub routers-start : (t : List ℕ) → RowsChecked pl b d (21 * 0) true t t
+  routers-start t = rows-none pl b d t
+
+  next : (r : ℕ) → 21 * r + 21 ≡ 21 * (r + 1)
+  next r = omega arith
+
+  pub routers-more : (r : ℕ) {t u v : List ℕ} → RowsChecked pl b d (21 * r) true t u
+      → RowsChecked pl b (d + 21 * r) 21 true u v → RowsChecked pl b d (21 * (r + 1)) true t v
+  routers-more r x y = rw (← next r) (rows-join pl b d (21 * r) 21 x y)
+
+  pub routers-fail : (n r : ℕ) {t u v : List ℕ} → r < n → RowsChecked pl b d (21 * r) true t u
+      → RowsChecked pl b (d + 21 * r) 21 false u v → RowsChecked pl b d (21 * n) false t v
+  routers-fail n r l x y =
+      let e : 21 * r + 21 + 21 * (n - (r + 1)) ≡ 21 * n = omega arith in
+      rw (← e) (rows-lost pl b d (21 * r + 21) (21 * (n - (r + 1))) (rows-join pl b d (21 * r) 21 x y))
+
+  pub routers-done : {r n : ℕ} {t u : List ℕ} → RowsChecked pl b d (21 * r) true t u → r ≡ n
+      → RowsChecked pl b d (21 * n) true t u
+  routers-done x e = rw (← e) x
+
+  -- the three groups: interfaces' out-queues, routers, interfaces' in-queues
+  module _ (m n k : ℕ) where
+    pub first-lost : {t u : List ℕ} → RowsChecked pl b d m false t u → RowsChecked pl b d (m + n + k) false t u
+    first-lost x = rows-lost pl b d (m + n) k (rows-lost pl b d m n x)
+
+    pub second-lost : {t u v : List ℕ} → RowsChecked pl b d m true t u → RowsChecked pl b (d + m) n false u v
+        → RowsChecked pl b d (m + n + k) false t v
+    second-lost x y = rows-lost pl b d (m + n) k (rows-join pl b d m n x y)
+
+    pub all-three : {t u v w : List ℕ} {r : Bool} → RowsChecked pl b d m true t u → RowsChecked pl b (d + m) n true u v
+        → RowsChecked pl b (d + (m + n)) k r v w → RowsChecked pl b d (m + n + k) r t w
+    all-three x y z = rows-join pl b d (m + n) k (rows-join pl b d m n x y) z
+
+module _ (h : Head) (routes : List (List ℕ)) (joints : List ℕ) (b : List ℕ) where
+  abbrev plan : Plan
+  plan = tablePlan h routes joints
+
+  abbrev d : ℕ
+  d = destinations h
+
+  abbrev w : ℕ
+  w = 21 * h .routers
+
+  at-first : 0 + d ≡ d
+  at-first = omega arith
+
+  at-last : 0 + (d + w) ≡ d + w
+  at-last = omega arith
+
+  pub lines-first : {t u : List ℕ} → RowsChecked plan b 0 d false t u → LinesChecked plan b false t u
+  lines-first x = lines-done h routes joints b (first-lost plan b 0 d w d x)
+
+  pub lines-second : {t u v : List ℕ} → RowsChecked plan b 0 d true t u → RowsChecked plan b d w false u v
+      → LinesChecked plan b false t v
+  lines-second {t} {u} {v} x y =
+      let f : RowsChecked plan b (0 + d) w false u v = rw at-first y in
+      lines-done h routes joints b (second-lost plan b 0 d w d x f)
+
+  pub lines-all : {t u v z : List ℕ} {r : Bool} → RowsChecked plan b 0 d true t u → RowsChecked plan b d w true u v
+      → RowsChecked plan b (d + w) d r v z → LinesChecked plan b r t z
+  lines-all {t} {u} {v} {z} {r} x y k =
+      let f : RowsChecked plan b (0 + d) w true u v = rw at-first y in
+      let g : RowsChecked plan b (0 + (d + w)) d r v z = rw at-last k in
+      lines-done h routes joints b (all-three plan b 0 d w d x f g)

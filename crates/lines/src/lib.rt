@@ -131,7 +131,21 @@ fn places_ok(
         (now (spent .entry)) (now (spent .exit)) ⌝ }
 {
     for k in 0..m {
-        if !place_ok(h, routes, joints, homes, lengths, by, up, s, n, done, i, k, spent) {
+        if !place_ok(
+            h,
+            routes,
+            joints,
+            homes,
+            lengths,
+            by,
+            up,
+            s,
+            n,
+            done,
+            i,
+            k,
+            spent,
+        ) {
             return false;
         }
     }
@@ -148,7 +162,17 @@ fn row_frame(h: Head, joints: &[u8; 64], s: &[u8], n: usize, i: usize, cap: u8, 
     let fed = frame::fed_at(h, joints, n);
     let unit = frame::unit_at(h, n);
     let executes = s[0] == 1;
-    frame::frame_ok(cap, fed, unit, executes, s[i], s[i + 1], s[i + 2], s[i + 3], w)
+    frame::frame_ok(
+        cap,
+        fed,
+        unit,
+        executes,
+        s[i],
+        s[i + 1],
+        s[i + 2],
+        s[i + 3],
+        w,
+    )
 }
 
 // Whether the row of queue n fits, w packets being on the way to it; its packets are counted.
@@ -183,7 +207,21 @@ fn row_busy(
         return false;
     }
     let done = rows::flag_of(s[i + 2]);
-    places_ok(h, routes, joints, homes, lengths, by, up, s, n, done, m, i + 4, spent)
+    places_ok(
+        h,
+        routes,
+        joints,
+        homes,
+        lengths,
+        by,
+        up,
+        s,
+        n,
+        done,
+        m,
+        i + 4,
+        spent,
+    )
 }
 
 // The same; an idle row that nothing is on the way to costs a few comparisons.
@@ -214,7 +252,20 @@ fn row_ok(
             return true;
         }
     }
-    row_busy(h, routes, joints, homes, lengths, by, up, s, n, cap, w, spent)
+    row_busy(
+        h,
+        routes,
+        joints,
+        homes,
+        lengths,
+        by,
+        up,
+        s,
+        n,
+        cap,
+        w,
+        spent,
+    )
 }
 
 // The rows of m queues from `from` on, their capacities in caps; coming says of each queue how many packets are on the way.
@@ -241,7 +292,20 @@ fn rows_ok(
         (now (spent .entry)) (now (spent .exit)) ⌝ }
 {
     for k in 0..m {
-        if !row_ok(h, routes, joints, homes, lengths, by, up, s, from + k, caps[k], coming[from + k], spent) {
+        if !row_ok(
+            h,
+            routes,
+            joints,
+            homes,
+            lengths,
+            by,
+            up,
+            s,
+            from + k,
+            caps[k],
+            coming[from + k],
+            spent,
+        ) {
             return false;
         }
     }
@@ -304,7 +368,21 @@ fn routers_ok(
     let d = h.actives + h.passives;
     let caps = router_caps(h);
     for r in 0..n {
-        if !rows_ok(h, routes, joints, homes, lengths, by, up, s, coming, d + 21 * r, 21, &caps, spent) {
+        if !rows_ok(
+            h,
+            routes,
+            joints,
+            homes,
+            lengths,
+            by,
+            up,
+            s,
+            coming,
+            d + 21 * r,
+            21,
+            &caps,
+            spent,
+        ) {
             return false;
         }
     }
@@ -337,11 +415,39 @@ fn interfaces_ok(
         (now (spent .entry)) (now (spent .exit)) ⌝ }
 {
     let caps = same_caps(cap);
-    if !rows_ok(h, routes, joints, homes, lengths, by, up, s, coming, from, h.actives, &caps, spent) {
+    if !rows_ok(
+        h,
+        routes,
+        joints,
+        homes,
+        lengths,
+        by,
+        up,
+        s,
+        coming,
+        from,
+        h.actives,
+        &caps,
+        spent,
+    ) {
         return false;
     }
     let others = same_caps(more);
-    rows_ok(h, routes, joints, homes, lengths, by, up, s, coming, from + h.actives, h.passives, &others, spent)
+    rows_ok(
+        h,
+        routes,
+        joints,
+        homes,
+        lengths,
+        by,
+        up,
+        s,
+        coming,
+        from + h.actives,
+        h.passives,
+        &others,
+        spent,
+    )
 }
 
 // All rows.
@@ -362,12 +468,40 @@ pub fn lines_ok(
     ensures { λ r. ⌜ LinesChecked (tablePlan h (now (routes .entry)) (now (joints .entry))) (now (s .entry)) r
         (now (spent .entry)) (now (spent .exit)) ⌝ }
 {
-    if !interfaces_ok(h, routes, joints, homes, lengths, by, up, s, coming, 0, h.aout.0, h.pout.0, spent) {
+    if !interfaces_ok(
+        h,
+        routes,
+        joints,
+        homes,
+        lengths,
+        by,
+        up,
+        s,
+        coming,
+        0,
+        h.aout.0,
+        h.pout.0,
+        spent,
+    ) {
         return false;
     }
     if !routers_ok(h, routes, joints, homes, lengths, by, up, s, coming, spent) {
         return false;
     }
     let from = h.actives + h.passives + 21 * h.routers;
-    interfaces_ok(h, routes, joints, homes, lengths, by, up, s, coming, from, h.ain.0, h.pin.0, spent)
+    interfaces_ok(
+        h,
+        routes,
+        joints,
+        homes,
+        lengths,
+        by,
+        up,
+        s,
+        coming,
+        from,
+        h.ain.0,
+        h.pin.0,
+        spent,
+    )
 }

@@ -43,7 +43,7 @@ blank = record {
   none = λ r d. replicate-row 17 32 0 r d;
 }
 
-stands-at : (r : ℕ) (s : Spot Port) → standsOn r s ≡ true → (i : ℕ) × (s ≡ on (record { router = r; side = i }))
+pub stands-at : (r : ℕ) (s : Spot Port) → standsOn r s ≡ true → (i : ℕ) × (s ≡ on (record { router = r; side = i }))
 stands-at r (on x) t = (x .side, ap (λ (n : ℕ). on (record { router = n; side = x .side })) (eqb-true (x .router) r t))
 stands-at r end t = absurd (false≢true t)
 stands-at r lost t = absurd (false≢true t)

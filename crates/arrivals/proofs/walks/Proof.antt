@@ -13,7 +13,7 @@ use Rattle.arrivals.proofs.firsts.Reads as firsts-reads
 use Rattle.arrivals.proofs.lengths_of.Reads as lengths-of-reads
 use Rattle.arrivals.proofs.nears.Reads as nears-reads
 use Rattle.arrivals.proofs.nexts.Reads as nexts-reads
-use Rattle.arrivals.proofs.serves.Reads as serves-reads
+use Rattle.arrivals.proofs.served.serves.Reads as serves-reads
 use Rattle.reach.proofs.reach.Reads as reach-reads
 use Rattle.sets.proofs.below.Reads as below-reads
 
@@ -57,13 +57,7 @@ reach-requires c κs = (
 
 -- src/lib.rt:285:13
 serves-requires : tie.Need-serves-requires
-serves-requires c κs = (
-  c .before .before .before .before .before .before .before .before .before .before .before .before .before .pre .0,
-  c .before .before .before .before .before .before .before .before .before .before .before .before .before .pre .1,
-  rw (c .before .before .before .before .before .before .before .before .before .before .before .nexts .ensures)
-      (nexts-inside _ _ (c .before .before .before .before .before .before .before .before .before .before .before
-      .before .before .pre .0 .0)),
-)
+serves-requires c κs = (c .before .before .before .before .before .before .before .before .before .before .before .before .before .pre .0, c .before .before .before .before .before .before .before .before .before .before .before .before .before .pre .1, c .before .before .before .before .before .before .before .before .before .before .before .before .before .pre .2)
 
 -- src/lib.rt:286:16
 lengths-of-requires : tie.Need-lengths-of-requires

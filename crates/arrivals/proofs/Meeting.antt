@@ -98,7 +98,8 @@ module _ (pl : Plan) (by : List (List ℕ)) (next first : List ℕ) (wired : Wir
         where
           at : Found 1 (stands q x) → has (single (x .router)) q ≡ true
           at (zero, m, f) =
-              has-single (x .router) q ∙ eq-eqb q (x .router) (sym (eqb-true (x .router) q (sym (first-stands q x) ∙ f)))
+              has-single (x .router) q ∙ eq-eqb q (x .router) (sym (eqb-true (x .router) q (sym (first-stands q x) ∙
+              f)))
           at (suc k, m, f) = absurd (omega arith)
 
   meets-more : (x y : Port) (m s : ℕ) → x .router < R pl → farIn by next first d m (x .router) ≡ true

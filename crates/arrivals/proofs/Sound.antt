@@ -28,8 +28,8 @@ use Rattle.reach.specs.Sizes.{Sized, Told, Grows}
 use Rattle.reach.proofs.Sweeps.{and-parts, common-has}
 use Rattle.arrivals.specs.Tables.{nextsOf, firstsOf, nearsOf, farOf}
 use Rattle.arrivals.specs.Charted.{Charting}
-use Rattle.arrivals.specs.Pairs.{pairWalk, lengthsOf, plainOf, Known, Serving, Servings, copyOf, maskOf}
-use Rattle.arrivals.specs.Pairs.{lengthOf, lengthsBy, Tables, Walks}
+use Rattle.arrivals.specs.Pairs.{pairWalk, lengthsOf, plainOf, atHome, Known, Serving, Servings, copyOf}
+use Rattle.arrivals.specs.Pairs.{maskOf, lengthOf, lengthsBy, Tables, Walks}
 use Rattle.arrivals.specs.Tracks.{Tracks}
 use Rattle.arrivals.proofs.Charts.{ports-in, sides-past, charted, first-idle}
 use Rattle.arrivals.proofs.Sizes.{far-size, arrivals}
@@ -97,23 +97,26 @@ module _ (pl : Plan) (by : List (List ℕ)) (joints homes : List ℕ) (w : Chart
 
   pub serving-served : (a p v : ℕ) → a < A pl → p < P pl
       → Serving by joints homes t (pl .head) all a v → has v (A pl + p) ≡ served pl a p
-  unfolding servedFrom
+  unfolding servedFrom atHome
   serving-served a p v la lp (inl (e, g)) = plain-served a p v la lp g (test (eqb v 0)) e
   serving-served a p v la lp (inr (up, m, k, l, s)) =
       s .members (A pl + p) ∙ by′ (test (arrives pl (passive p) (home pl (active a))))
     where
-      by′ : (arrives pl (passive p) (home pl (active a)) ≡ true) ⊎ (arrives pl (passive p) (home pl (active a)) ≡ false)
+      by′ : (arrives pl (passive p) (home pl (active a)) ≡ true) ⊎ (arrives pl (passive p) (home pl (active a)) ≡
+          false)
           → (has (both (getD t (getD homes a 0 / 4) 0) (farOf (pl .head))) (A pl + p)
           && eqb (both (getD (getD up (getD homes a 0 / 4) []) (A pl + p) 0) m) 0) ≡ served pl a p
       by′ (inl q) =
           rw (at-home a p la lp ∙ q)
           (ap (λ (r : ℕ). eqb (both (getD (getD up r []) (A pl + p) 0) m) 0) (sym (home-at a la))
-          ∙ served-sifted pl (w .wired) a p la t up m (w .routers) (omega arith) (passive-at pl p) (active-at pl a la) f
+          ∙ served-sifted pl (w .wired) a p la t up m (w .routers) (omega arith) (passive-at pl p) (active-at pl a la)
+          f
           (tracks up k) l q)
       by′ (inr q) = rw (at-home a p la lp ∙ q, q)
 
   pub serving-known : (a d v : ℕ) → Serving by joints homes t (pl .head) all a v → has v d ≡ true
       → (A pl ≤ d) × (d < destinations (pl .head))
+  unfolding atHome
   serving-known a d v (inl (e, g)) q =
       far-known (pl .head) d
       (and-parts (has (getD t (getD homes a 0 / 4) 0) d) _ (sym

@@ -54,7 +54,7 @@ plainOf all a v = pick (eqb v 0) true (has all a)
 
 module _ (homes arrive : List ℕ) (h : Head) where
   -- the passives at which active a's walk arrives
-  abbrev pub atHome : ℕ → ℕ
+  unfoldable pub atHome : ℕ → ℕ
   atHome a = both (getD arrive (getD homes a 0 / 4) 0) (farOf h)
 
   unfoldable pub atHomes : List ℕ

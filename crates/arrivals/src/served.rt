@@ -132,13 +132,7 @@ fn serve(
 }
 
 // By active: the passives that it is served with, by the words of all walks.
-fn sifts(
-    up: &[[u32; 32]; 17],
-    homes: &[u8; 32],
-    arrive: &[u32; 32],
-    h: Head,
-    all: u32,
-) -> [u32; 16]
+fn sifts(up: &[[u32; 32]; 17], homes: &[u8; 32], arrive: &[u32; 32], h: Head, all: u32) -> [u32; 16]
     requires { ⌜ Counts h × PortsIn (now homes) (h .actives + h .passives) ⌝ }
     ensures { λ t. ⌜ Choices (now (homes .entry)) (now (arrive .entry)) h all (now (up .entry)) (h .actives) t ⌝ }
 {

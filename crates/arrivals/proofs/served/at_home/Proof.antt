@@ -1,3 +1,4 @@
+use Rattle.arrivals.specs.Pairs.{atHome}
 use borrow.Author.Needs.{needs}
 use Rattle.arrivals.proofs.served.at_home.Statement.{statement}
 use Rattle.arrivals.proofs.served.at_home.Tie as tie
@@ -33,6 +34,7 @@ both-requires c κs = search needs
 
 -- src/served.rt:69:1
 returns : tie.Need-returns
+unfolding atHome
 returns c = rw (c .both .ensures, c .before .far-of .ensures, c .before .before .before .port .ensures .0)
 
 pub at-home-spec : {M : Type 1} → statement M

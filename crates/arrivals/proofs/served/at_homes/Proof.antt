@@ -12,7 +12,8 @@ use Rattle.arrivals.proofs.served.at_homes.Lts as lts
 use Rattle.arrivals.proofs.served.at_home.Reads as at-home-reads
 
 abbrev Inv-loop : tie.InvT-loop
-Inv-loop arrive homes h actives t₀ a₀ t a = (a ≤ actives) × (t ≡ upTo (fill (atHome homes arrive h)) a (replicate 16 0))
+Inv-loop arrive homes h actives t₀ a₀ t a = (a ≤ actives) × (t ≡ upTo (fill (atHome homes arrive h)) a (replicate 16
+    0))
 
 abbrev μ-loop : tie.MeasureT-loop
 μ-loop arrive homes h actives t₀ a₀ t a = actives - a

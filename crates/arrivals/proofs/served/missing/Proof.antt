@@ -46,7 +46,11 @@ loop-less c = omega arith
 
 -- src/served.rt:39:5
 loop-again : tie.Need-loop-again Inv-loop μ-loop
-loop-again c = (omega arith, lacking-more _ _ _ (omega arith) (c .before .before .before .before .loop .inv .1) (c .before .has .ensures) (c .lack .ensures))
+loop-again c = (
+  omega arith,
+  lacking-more _ _ _ (omega arith) (c .before .before .before .before .loop .inv .1) (c
+      .before .has .ensures) (c .lack .ensures),
+)
 
 -- src/served.rt:34:1
 returns : tie.Need-returns Inv-loop μ-loop

@@ -49,7 +49,11 @@ loop-less c = omega arith
 
 -- src/served.rt:106:5
 loop-again : tie.Need-loop-again Inv-loop μ-loop
-loop-again c = (omega arith, all-more _ _ (c .before .before .before .before .loop .inv .1) (c .before .plain .ensures) (not-false _ (c .if1 .left)))
+loop-again c = (
+  omega arith,
+  all-more _ _ (c .before .before .before .before .loop .inv .1) (c .before .plain
+      .ensures) (not-false _ (c .if1 .left)),
+)
 
 -- src/served.rt:102:1
 returns-2 : tie.Need-returns-2 Inv-loop μ-loop

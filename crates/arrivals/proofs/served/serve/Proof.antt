@@ -1,3 +1,5 @@
+use Rattle.arrivals.proofs.Steps.{chosen-plain, chosen-sifted}
+use native.Mathlib.Omega.{arith}
 use borrow.Author.Needs.{needs}
 use Rattle.arrivals.proofs.served.serve.Statement.{statement}
 use Rattle.arrivals.proofs.served.serve.Tie as tie
@@ -19,7 +21,7 @@ plain-requires c κs = search needs
 
 -- src/served.rt:128:9
 returns : tie.Need-returns
-returns c = ?
+returns c = chosen-plain _ _ _ _ _ _ (c .before .before .at-home .ensures) (c .before .plain .ensures) (c .if1 .taken)
 
 -- src/served.rt:130:28
 add-port : tie.Need-add-port
@@ -35,11 +37,12 @@ missing-requires c κs = search needs
 
 -- src/served.rt:131:5
 sift-requires : tie.Need-sift-requires
-sift-requires c κs = search needs
+sift-requires c κs = let l = c .before .port .ensures .1 in omega arith
 
 -- src/served.rt:115:1
 returns-2 : tie.Need-returns-2
-returns-2 c = ?
+returns-2 c = chosen-sifted _ _ _ _ _ _ (c .before .before .before .before .before .before .at-home .ensures) (c
+    .before .before .port .ensures .0) (c .before .missing .ensures) (c .sift .ensures)
 
 pub serve-spec : {M : Type 1} → statement M
 serve-spec =

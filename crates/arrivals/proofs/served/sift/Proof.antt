@@ -58,7 +58,9 @@ loop-less c = omega arith
 
 -- src/served.rt:60:5
 loop-again : tie.Need-loop-again Inv-loop μ-loop
-loop-again c = sifting-more (omega arith) (c .before .before .before .before .lowest .ensures .0) (c .before .before .before .rest .ensures .0) (c .before .both .ensures) (c .kept .ensures) (c .before .before .before .before .before .before .loop .inv)
+loop-again c = sifting-more (omega arith) (c .before .before .before .before .lowest .ensures .0) (c .before .before
+    .before .rest .ensures .0) (c .before .both .ensures) (c .kept .ensures) (c .before .before .before .before
+    .before .before .loop .inv)
 
 -- src/served.rt:54:1
 returns : tie.Need-returns Inv-loop μ-loop

@@ -1,21 +1,21 @@
 -- The words that the sweeps leave say which routers the walks meet, and how many.
 use mathlib.Core.Path.{_≡_, refl, sym, ap, _∙_}
 use mathlib.Core.Logic.{_⊎_, inl, inr}
-use mathlib.Core.Bool.{Bool, true, false, _&&_, _||_, true≢false, false≢true}
+use mathlib.Core.Bool.{Bool, true, false, _&&_, _||_, false≢true}
 use mathlib.Core.List.{List, []}
-use Prim.Native.Nat.{ℕ, zero, suc, _+_, _-_, _*_, _/_, _%_, _^_, _≤_, _<_}
+use Prim.Native.Nat.{ℕ, zero, suc, _+_, _-_, _/_, _%_, _^_, _≤_, _<_}
 use native.Mathlib.Omega.{arith}
 use lib.Dec.{eqb}
 use lib.ListN.{getD, length, replicate, length-replicate, getD-replicate}
 use borrow.Author.Tests.{eqb-true, eq-eqb}
 use Rattle.basis.specs.Choice.{test, same-test}
 use Rattle.basis.specs.Bounded.{anyBelow, any-true, any-of, Found, or-cases, or-right, lt-or-ge}
-use Rattle.basis.specs.Walk.{Spot, on, end, lost, spot, spot-none, spot-next, spot-end, on-end, way-on}
+use Rattle.basis.specs.Walk.{Spot, on, end, lost, spot, spot-none, spot-next, spot-end, way-on}
 use Rattle.plan.specs.declared.Head.{Head}
 use Rattle.plan.specs.Head.{destinations}
 use Rattle.plan.specs.Plan.{Plan, Port, R}
 use Rattle.plan.specs.Tables.{interfaceAt, tablePlan}
-use Rattle.paths.specs.Walk.{onward, routerOf, Walk, walked, arrives, walkSize}
+use Rattle.paths.specs.Walk.{onward, routerOf, walked, arrives, walkSize}
 use Rattle.paths.specs.Steps.{standsOn}
 use Rattle.paths.specs.Drawn.{Arrivals}
 use Rattle.wiring.specs.Wired.{Wired}

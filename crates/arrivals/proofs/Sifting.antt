@@ -1,9 +1,9 @@
 -- Loops that choose: the routers without a way back, and the destinations whose walk meets none of them.
-use mathlib.Core.Path.{_≡_, refl, sym, ap, _∙_}
+use mathlib.Core.Path.{_≡_, refl, sym, _∙_}
 use mathlib.Core.Logic.{_⊎_, inl, inr}
 use mathlib.Core.Bool.{Bool, true, false, not, _&&_, _||_, true≢false}
 use mathlib.Core.List.{List, []}
-use Prim.Native.Nat.{ℕ, zero, suc, _+_, _^_, _≤_, _<_}
+use Prim.Native.Nat.{ℕ, _+_, _^_, _≤_, _<_}
 use native.Mathlib.Omega.{arith}
 use lib.Dec.{eqb, ltb}
 use lib.ListN.{getD}
@@ -12,10 +12,9 @@ use Rattle.basis.specs.Choice.{pick, test}
 use Rattle.basis.specs.Bounded.{lt-or-ge}
 use Rattle.sets.specs.Sets.{has, single, both, either, less, lowest, rest}
 use Rattle.sets.specs.Laws.{has-either, has-less, has-single, none-has, either-lt}
-use Rattle.reach.proofs.Sweeps.{and-parts, same-or-not}
-use Rattle.reach.proofs.Trailing.{single-le, lowest-there, lowest-gone, others-has, others-kept, others-small}
+use Rattle.reach.proofs.Sweeps.{same-or-not}
+use Rattle.reach.proofs.Trailing.{single-le, lowest-there, lowest-gone, others-kept, others-small}
 use Rattle.arrivals.specs.Pairs.{Lacking, Sift}
-use Rattle.arrivals.proofs.Charts.{ltb-alike}
 
 or-none : (b : Bool) → (b || false) ≡ b
 or-none true = refl

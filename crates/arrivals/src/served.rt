@@ -155,7 +155,8 @@ fn sifted(
 ) -> [u32; 16]
     requires { ⌜ Counts h × PortsIn (now homes) (h .actives + h .passives)
         × ((r o d : ℕ) → h .routers ≤ r → o < 4 → has (getD (getD (now by) r []) o 0) d ≡ false) ⌝ }
-    ensures { λ t. ⌜ Servings (now (by .entry)) (now (joints .entry)) (now (homes .entry)) (now (arrive .entry)) h all (h .actives) t ⌝ }
+    ensures { λ t. ⌜ Servings (now (by .entry)) (now (joints .entry)) (now (homes .entry)) (now (arrive .entry))
+        h all (h .actives) t ⌝ }
 {
     let mut up = [[0u32; 32]; 17];
     tracks(h, joints, homes, by, &mut up);
@@ -173,7 +174,8 @@ pub fn serves(
 ) -> [u32; 16]
     requires { ⌜ Counts h × PortsIn (now homes) (h .actives + h .passives)
         × ((r o d : ℕ) → h .routers ≤ r → o < 4 → has (getD (getD (now by) r []) o 0) d ≡ false) ⌝ }
-    ensures { λ t. ⌜ Servings (now (by .entry)) (now (joints .entry)) (now (homes .entry)) (now (arrive .entry)) h all (h .actives) t ⌝ }
+    ensures { λ t. ⌜ Servings (now (by .entry)) (now (joints .entry)) (now (homes .entry)) (now (arrive .entry))
+        h all (h .actives) t ⌝ }
 {
     let t = at_homes(arrive, homes, h);
     if plains(all, &t, h.actives) {

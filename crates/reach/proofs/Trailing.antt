@@ -9,9 +9,9 @@ use lib.Dec.{eqb}
 use lib.ListN.{getD, set, length, length-set}
 use lib.Pow.{pow-mono}
 use lib.Seq.{getD-set-same, getD-set-other, set-getD}
-use borrow.Author.Tests.{eqb-true, eq-eqb, ne-eqb}
+use borrow.Author.Tests.{eq-eqb, ne-eqb}
 use Rattle.basis.specs.Choice.{test}
-use Rattle.basis.specs.Bounded.{anyBelow, any-true, or-cases, below-suc, lt-or-ge}
+use Rattle.basis.specs.Bounded.{anyBelow, any-true, or-cases, lt-or-ge}
 use Rattle.sets.specs.Sets.{has, single, both, less, lowest, rest}
 use Rattle.sets.specs.Laws.{has-both, has-less, none-has, lowest-is, has-rest, rest-less}
 use Rattle.reach.specs.Reach.{sideSet, beyond, Idle, throughOf, pullOf, sweepAt, changeOf}

@@ -1,17 +1,21 @@
 -- A turn of the loops that fill the tables.
-use mathlib.Core.Path.{_≡_, sym, ap, _∙_}
+use mathlib.Core.Path.{_≡_, refl, sym, ap, _∙_}
 use mathlib.Core.Logic.{_⊎_, inl, inr}
-use mathlib.Core.Bool.{Bool, true}
+use mathlib.Core.Bool.{Bool, true, false, true≢false}
 use mathlib.Core.List.{List, []}
 use Prim.Native.Nat.{ℕ, zero, _+_, _/_, _≤_, _<_}
 use native.Mathlib.Omega.{arith}
+use lib.Dec.{eqb}
 use lib.ListN.{getD, set, length, length-set, replicate, length-replicate}
 use lib.Seq.{getD-set-same, getD-set-other}
-use Rattle.basis.specs.Bounded.{allBelow, all-at}
+use borrow.Author.Tests.{lt-ltb}
+use Rattle.basis.specs.Choice.{pick, test}
+use Rattle.basis.specs.Bounded.{allBelow, all-at, all-of}
 use Rattle.basis.specs.Fold.{upTo, fill, length-fill, fill-at, fill-past}
 use Rattle.plan.specs.declared.Head.{Head}
 use Rattle.wiring.proofs.Tables.{replicate-at}
-use Rattle.sets.specs.Sets.{both}
+use Rattle.sets.specs.Sets.{has, both, less, below}
+use Rattle.sets.specs.Laws.{has-less, has-below, none-has}
 use Rattle.reach.proofs.Sweeps.{same-or-not}
 use Rattle.arrivals.specs.Tables.{firstOf, firstStep, nearOf, nearStep, farOf}
 use Rattle.arrivals.specs.Pairs.{plainOf, atHome, atHomes, Lacking, Sift, Chosen, Choices, Known, Serving}
@@ -91,6 +95,26 @@ module _ (by : List (List ℕ)) (joints homes arrive : List ℕ) (h : Head) (all
     none = λ a l. ap (λ (u : List ℕ). getD u a 0) e
         ∙ fill-past (atHome homes arrive h) (h .actives) (replicate 16 0) a 0 l ∙ replicate-at 16 0 a;
   }
+
+  -- every active is one of all
+  pub all-serve : {t : List ℕ} {b m : ℕ} → h .actives ≤ 16 → b ≡ below (h .actives) → m ≡ less b all → m ≡ 0
+      → t ≡ atHomes homes arrive h → Servings by joints homes arrive h all (h .actives) t
+  unfolding plainOf
+  all-serve {t} most e f g k =
+      plain-serve most k refl
+      (all-of (h .actives) (λ a. plainOf all a (getD t a 0)) (λ a l. plain a l (test (has all a)) (eqb (getD t a 0)
+      0)))
+    where
+      plain : (a : ℕ) → a < h .actives → (has all a ≡ true) ⊎ (has all a ≡ false) → (z : Bool) → pick z true (has all
+          a)
+          ≡ true
+      plain a l q true = refl
+      plain a l (inl q) false = q
+      plain a l (inr q) false =
+          absurd
+          (true≢false
+          (sym (has-less (below (h .actives)) all a ∙ rw (has-below (h .actives) a, lt-ltb a (h .actives) l, q))
+          ∙ ap (λ (u : ℕ). has u a) (sym (f ∙ ap (λ (u : ℕ). less u all) e) ∙ g) ∙ none-has a))
 
 pub length-step : (z : List (List ℕ)) (arrive served homes : List ℕ) (a column far : ℕ) {k v : ℕ} {row : List ℕ}
     → k ≡ getD homes a 0 → v ≡ both (getD arrive (k / 4) 0) far → row ≡ lengthOf z (k / 4) (getD served a 0) v column

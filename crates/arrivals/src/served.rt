@@ -3,8 +3,10 @@ use crate::far_of;
 use crate::port;
 use crate::tracks::tracks;
 use plan::Head;
+use sets::below;
 use sets::both;
 use sets::has;
+use sets::less;
 use sets::lowest;
 use sets::rest;
 use sets::with;
@@ -164,7 +166,7 @@ fn sifted(
 }
 
 // By active: the passives that it is served with. The words of the walks are made only where some active needs them.
-pub fn serves(
+fn needed(
     h: Head,
     joints: &[u8; 64],
     homes: &[u8; 32],
@@ -182,4 +184,24 @@ pub fn serves(
         return t;
     }
     sifted(h, joints, homes, by, arrive, all)
+}
+
+// The same; where all routers have a way back to all actives nothing is left to be asked.
+pub fn serves(
+    h: Head,
+    joints: &[u8; 64],
+    homes: &[u8; 32],
+    by: &[[u32; 4]; 16],
+    arrive: &[u32; 32],
+    all: u32,
+) -> [u32; 16]
+    requires { ⌜ Counts h × PortsIn (now homes) (h .actives + h .passives)
+        × ((r o d : ℕ) → h .routers ≤ r → o < 4 → has (getD (getD (now by) r []) o 0) d ≡ false) ⌝ }
+    ensures { λ t. ⌜ Servings (now (by .entry)) (now (joints .entry)) (now (homes .entry)) (now (arrive .entry))
+        h all (h .actives) t ⌝ }
+{
+    if less(below(h.actives), all) == 0 {
+        return at_homes(arrive, homes, h);
+    }
+    needed(h, joints, homes, by, arrive, all)
 }

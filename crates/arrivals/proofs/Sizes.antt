@@ -1,7 +1,7 @@
 -- What the sweeps leave: the destinations at which each router's walk arrives, and how many routers its walk has.
 use mathlib.Core.Path.{_≡_, refl, sym, _∙_}
 use mathlib.Core.Logic.{_⊎_, inl, inr}
-use mathlib.Core.Bool.{Bool, true, _&&_, true≢false}
+use mathlib.Core.Bool.{true, _&&_, true≢false}
 use mathlib.Core.List.{List, []}
 use Prim.Native.Nat.{ℕ, zero, suc, _+_, _≤_, _<_}
 use native.Mathlib.Omega.{arith}
@@ -16,10 +16,9 @@ use Rattle.plan.specs.declared.Joint.the-variants.{Nothing, Router, Active, Pas
 use Rattle.plan.specs.Head.{destinations}
 use Rattle.plan.specs.Plan.{Plan, Port, R}
 use Rattle.plan.specs.Tables.{interfaceAt}
-use Rattle.paths.specs.Walk.{onward, routerOf, arrives, walkSize}
+use Rattle.paths.specs.Walk.{onward, routerOf, Walk, arrives, walkSize}
 use Rattle.paths.specs.Drawn.{Arrivals}
 use Rattle.wiring.specs.Wired.{Wired}
-use Rattle.wiring.proofs.Wires.{near}
 use Rattle.journeys.proofs.Walks.{alike, walk-short}
 use Rattle.sets.specs.Sets.{has, below}
 use Rattle.sets.specs.Laws.{has-below}
@@ -35,7 +34,7 @@ use Rattle.arrivals.proofs.Charts.{first-has, ports-in, charted}
 module _ (pl : Plan) (by : List (List ℕ)) (next first : List ℕ) (wired : Wired pl)
     (chart : Charted pl by next first) (d : ℕ)
     (known : d < destinations (pl .head)) where
-  far-idle : (k r : ℕ) → R pl ≤ r → farIn by next first d k r ≡ true → ⊥
+  pub far-idle : (k r : ℕ) → R pl ≤ r → farIn by next first d k r ≡ true → ⊥
   unfolding farIn
   far-idle zero r l e = true≢false (sym e ∙ chart .idle .here r d l)
   far-idle (suc k) r l e = go (any-true 4 (λ o. has (sideSet by next r o) d && farIn by next first d k
@@ -45,64 +44,95 @@ module _ (pl : Plan) (by : List (List ℕ)) (next first : List ℕ) (wired : Wir
           → ⊥
       go (o, m, q) = true≢false (sym (and-parts _ _ q .0) ∙ chart .idle .sides r o d l m)
 
+  -- a side that has the destination leads on to the router beyond it, if there is one
+  pub side-on : (r s o : ℕ) → r < R pl → o < 4 → has (sideSet by next r o) d ≡ true → beyond by next r o < R pl
+      → (t : ℕ) × (onward pl (interfaceAt (pl .head) d) (record { router = r; side = s })
+      ≡ on (record { router = beyond by next r o; side = t }))
+  side-on r s o l m q b = joint (pl .joint r o) refl
+    where
+      none : ((n t : ℕ) → pl .joint r o ≡ Router n t → ⊥) → ⊥
+      none f = let a = chart .offs r o l m f in omega arith
+
+      joint : (j : Joint) → pl .joint r o ≡ j
+          → (t : ℕ) × (onward pl (interfaceAt (pl .head) d) (record { router = r; side = s })
+          ≡ on (record { router = beyond by next r o; side = t }))
+      joint (Router n t) c = (
+        t,
+        rw (chart .nexts r o n t l m c)
+            (router-on pl by next first wired chart d known r s o n t
+            (eqb-true _ _ (sym (chart .sides r o d l m known) ∙ q)) c),
+      )
+      joint Nothing c = absurd (none (λ n t g. clash (sym c ∙ g)))
+        where
+          clash : {n t : ℕ} → Nothing ≡ Router n t → ⊥
+          clash g = let z : _≡_ {A = ℕ} 0 1 = cc in omega arith
+      joint (Active i) c = absurd (none (λ n t g. clash (sym c ∙ g)))
+        where
+          clash : {n t : ℕ} → Active i ≡ Router n t → ⊥
+          clash g = let z : _≡_ {A = ℕ} 0 1 = cc in omega arith
+      joint (Passive i) c = absurd (none (λ n t g. clash (sym c ∙ g)))
+        where
+          clash : {n t : ℕ} → Passive i ≡ Router n t → ⊥
+          clash g = let z : _≡_ {A = ℕ} 0 1 = cc in omega arith
+
   -- the last router of the walk, k routers after the first
-  abbrev Ends : ℕ → ℕ → ℕ → Type 0
+  abbrev pub Ends : ℕ → ℕ → ℕ → Type 0
   Ends k r s =
       (y : Port) × (spot (onward pl (interfaceAt (pl .head) d)) k (on (record { router = r; side = s })) ≡ on y)
       × (onward pl (interfaceAt (pl .head) d) y ≡ end)
 
-  far-walk : (k r s : ℕ) → r < R pl → farIn by next first d k r ≡ true → Ends k r s
+  pub far-walk : (k r s : ℕ) → r < R pl → farIn by next first d k r ≡ true → Ends k r s
   unfolding farIn
   far-walk zero r s l e =
       (record { router = r; side = s }, spot-none _ _, first-end pl by next first wired chart d known r s l e)
   far-walk (suc k) r s l e = go (λ n t m z. far-walk k n t m z)
       (any-true 4 (λ o. has (sideSet by next r o) d && farIn by next first d k (beyond by next r o)) e)
     where
-      joint : (o : ℕ) → o < 4 → pl .route r d ≡ o → farIn by next first d k (beyond by next r o) ≡ true
+      on-from : (o : ℕ) → o < 4 → has (sideSet by next r o) d ≡ true → farIn by next first d k (beyond by next r o)
+          ≡ true
           → ((n t : ℕ) → n < R pl → farIn by next first d k n ≡ true → Ends k n t)
-          → (j : Joint) → pl .joint r o ≡ j → Ends (suc k) r s
-      joint o m p z rec (Router n t) c =
-          let w = rec n t (near wired c .0) (rw (chart .nexts r o n t l m c) at z) in (
+          → (beyond by next r o < R pl) ⊎ (R pl ≤ beyond by next r o) → Ends (suc k) r s
+      on-from o m p z rec (inl b) =
+          let y = side-on r s o l m p b in
+          let w = rec (beyond by next r o) (y .0) b z in (
             w .0,
             spot-front pl by next first wired chart d known k (record { router = r; side = s })
-                (on (record { router = n; side = t })) (router-on pl by next first wired chart d known r s o n t p c)
-                ∙ w .1,
+                (on (record { router = beyond by next r o; side = y .0 })) (y .1) ∙ w .1,
             w .2,
           )
-      joint o m p z rec Nothing c = absurd (far-idle k _ (chart .offs r o l m (λ n t g. clash (sym c ∙ g))) z)
-        where
-          clash : {n t : ℕ} → Nothing ≡ Router n t → ⊥
-          clash g = let z : _≡_ {A = ℕ} 0 1 = cc in omega arith
-      joint o m p z rec (Active i) c = absurd (far-idle k _ (chart .offs r o l m (λ n t g. clash (sym c ∙ g))) z)
-        where
-          clash : {n t : ℕ} → Active i ≡ Router n t → ⊥
-          clash g = let z : _≡_ {A = ℕ} 0 1 = cc in omega arith
-      joint o m p z rec (Passive i) c = absurd (far-idle k _ (chart .offs r o l m (λ n t g. clash (sym c ∙ g))) z)
-        where
-          clash : {n t : ℕ} → Passive i ≡ Router n t → ⊥
-          clash g = let z : _≡_ {A = ℕ} 0 1 = cc in omega arith
+      on-from o m p z rec (inr b) = absurd (far-idle k _ b z)
 
       go : ((n t : ℕ) → n < R pl → farIn by next first d k n ≡ true → Ends k n t)
           → (o : ℕ) × (o < 4) × ((has (sideSet by next r o) d && farIn by next first d k (beyond by next r o))
           ≡ true) → Ends (suc k) r s
       go rec (o, m, q) =
-          let p = and-parts _ _ q in
-          joint o m (eqb-true _ _ (sym (chart .sides r o d l m known) ∙ p .0)) (p .1) rec (pl .joint r o) refl
+          let p = and-parts _ _ q in on-from o m (p .0) (p .1) rec (lt-or-ge (beyond by next r o) (R pl))
+
+  -- so it is a walk that arrives, of k routers after the first
+  pub far-way : (k : ℕ) (x : Port) → x .router < R pl → farIn by next first d k (x .router) ≡ true
+      → Walk pl (interfaceAt (pl .head) d) x
+  far-way k x l e =
+      let w = far-walk k (x .router) (x .side) l e in
+      let step = onward pl (interfaceAt (pl .head) d) in
+      way-of-end step routerOf (alike pl (interfaceAt (pl .head) d)) (suc k) x (spot-next step k (on x) (w .1) ∙ w .2)
+      .0
+
+  pub far-count : (k : ℕ) (x : Port) → x .router < R pl → farIn by next first d k (x .router) ≡ true
+      → (k < R pl) × (walkSize pl (interfaceAt (pl .head) d) x ≡ suc k)
+  unfolding walkSize
+  far-count k x l e =
+      let w = far-walk k (x .router) (x .side) l e in
+      let step = onward pl (interfaceAt (pl .head) d) in
+      let way = far-way k x l e in
+      let inside = way-on step routerOf way k (w .0) (w .1) .0 in
+      let short = walk-short wired (interfaceAt (pl .head) d) x l way in
+      let less : k < R pl = omega arith in
+      (less, count-is step k (on x) (w .0) (w .1) (w .2) (R pl) less)
 
   -- a size in the table is the walk's
   pub far-size : R pl ≤ 16 → (x : Port) {v : ℕ} → x .router < R pl → Far by next first d (x .router) v
       → v ≡ walkSize pl (interfaceAt (pl .head) d) x
-  unfolding walkSize
-  far-size most x {v} l (k, e, f) =
-      let w = far-walk k (x .router) (x .side) l e in
-      let step = onward pl (interfaceAt (pl .head) d) in
-      let way = way-of-end step routerOf (alike pl (interfaceAt (pl .head) d)) (suc k) x
-      (spot-next step k (on x) (w .1) ∙ w .2) .0 in
-      let inside = way-on step routerOf way k (w .0) (w .1) .0 in
-      let short = walk-short wired (interfaceAt (pl .head) d) x l way in
-      let less : k < R pl = omega arith in
-      let size = count-is step k (on x) (w .0) (w .1) (w .2) (R pl) less in
-      f ∙ whole less ∙ sym size
+  far-size most x {v} l (k, e, f) = let w = far-count k x l e in f ∙ whole (w .0) ∙ sym (w .1)
     where
       whole : k < R pl → pick (ltb (k + 1) 16) (k + 1) 16 ≡ suc k
       whole b = by′ (lt-or-ge (k + 1) 16)

@@ -1,3 +1,4 @@
 pub mod Tables
 pub mod Charted
 pub mod Pairs
+pub mod Tracks

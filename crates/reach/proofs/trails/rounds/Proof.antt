@@ -1,0 +1,120 @@
+use Rattle.reach.proofs.Trailing.{trailed-more, room-of}
+use Rattle.reach.proofs.Sweeps.{Round, round-none, round-more, end-closed, end-full, end-rounds}
+use Rattle.reach.specs.Trails.{Trailed}
+use borrow.Author.Needs.{needs}
+use Prim.Native.Nat.{_+_, _-_, _*_, _≤_}
+use mathlib.Core.Path.{sym, _∙_}
+use native.Mathlib.Omega.{arith}
+use Rattle.reach.proofs.trails.rounds.Statement.{statement}
+use Rattle.reach.proofs.trails.rounds.Tie as tie
+use Rattle.reach.proofs.trails.rounds.Reads as reads
+use Rattle.reach.proofs.trails.rounds.Lts as lts
+use Rattle.reach.proofs.common.Reads as common-reads
+use Rattle.reach.proofs.trails.sweep_down.Reads as sweep-down-reads
+use Rattle.reach.proofs.trails.sweep_up.Reads as sweep-up-reads
+
+abbrev Inv-loop : tie.InvT-loop
+Inv-loop by next n full t₀ up₀ k₀ t up k =
+    (k ≤ n) × Round by next n t₀ k t × Trailed by next t₀ (1 + 32 * k) t up
+
+abbrev μ-loop : tie.MeasureT-loop
+μ-loop by next n full t₀ up₀ k₀ t up k = n - k
+
+-- src/trails.rt:164:5
+loop-holds : tie.Need-loop-holds Inv-loop μ-loop
+loop-holds c = (omega arith, round-none _ _ _ _ (c .pre .3 .long), c .pre .3)
+
+-- src/trails.rt:165:13
+sweep-up-requires : tie.Need-sweep-up-requires Inv-loop μ-loop
+sweep-up-requires c κs = (
+  c .before .before .before .before .pre .0,
+  c .before .before .before .before .pre .1,
+  room-of _ _ _ _ (c .before .before .before .loop .inv .2) (omega arith),
+)
+
+-- src/trails.rt:167:13
+returns : tie.Need-returns Inv-loop μ-loop
+returns c = (
+  end-closed _ _ _ _ _ _ _ (c .before .before .before .before .before .before .pre .0) (c .before .before .before
+      .before .before .before .pre .2) (c .before .before .before .before .before .loop .inv .1) (c .before .sweep-up
+      .ensures .0)
+      (c .before .sweep-up .ensures .1 (c .if1 .taken)),
+  (_, c .before .sweep-up .ensures .2 _ _ (c .before .before .before .before .before .loop .inv .2)),
+)
+
+-- src/trails.rt:169:9
+sweep-down-requires : tie.Need-sweep-down-requires Inv-loop μ-loop
+sweep-down-requires c κs = (
+  c .before .before .before .before .before .before .before .before .pre .0,
+  c .before .before .before .before .before .before .before .before .pre .1,
+  room-of _ _ _ _ (c .before .before .before .sweep-up .ensures .2 _ _ (c .before .before .before .before .before
+      .before .before .loop .inv .2)) (omega arith),
+)
+
+-- src/trails.rt:170:12
+common-requires : tie.Need-common-requires Inv-loop μ-loop
+common-requires c κs = omega arith
+
+-- src/trails.rt:171:13
+returns-2 : tie.Need-returns-2 Inv-loop μ-loop
+returns-2 c = (
+  end-full _ _ _ _ _ _ _ (round-more _ _ _ _ _ _ (c .before .before .before .before .before .before .before .before
+      .before .before .before .before .pre .0) (c .before .before .before .before .before .before .before .before
+      .before .before .before .before .pre .2) (c .before .before .before .before .before .before .before .before
+      .before .before .before .loop .inv .1)
+      (c .before .before .before .before .before .before .before .sweep-up .ensures .0) (c .before .before .before
+      .sweep-down .ensures .0)) (sym (c .before .common .ensures) ∙ c .if2 .taken),
+  (
+    _,
+    c .before .before .before .sweep-down .ensures .1 _ _ (c .before .before .before .before .before .before .before
+        .sweep-up .ensures .2 _ _ (c .before .before .before .before .before .before .before .before .before .before
+        .before .loop .inv .2)),
+  ),
+)
+
+-- src/trails.rt:164:9
+add-k : tie.Need-add-k Inv-loop μ-loop
+add-k c = record { fits = omega arith }
+
+-- src/trails.rt:164:5
+loop-less : tie.Need-loop-less Inv-loop μ-loop
+loop-less c = omega arith
+
+-- src/trails.rt:164:5
+loop-again : tie.Need-loop-again Inv-loop μ-loop
+loop-again c = (
+  omega arith,
+  round-more _ _ _ _ _ _ (c .before .before .before .before .before .before .before .before .before .before .before
+      .before .pre .0) (c .before .before .before .before .before .before .before .before .before .before .before
+      .before .pre .2) (c .before .before .before .before .before .before .before .before .before .before .before
+      .loop .inv .1) (c .before .before .before .before .before .before .before .sweep-up .ensures .0)
+      (c .before .before .before .sweep-down .ensures .0),
+  trailed-more _ _ _ (omega arith)
+      (c .before .before .before .sweep-down .ensures .1 _ _ (c .before .before .before .before .before .before
+      .before .sweep-up .ensures .2 _ _ (c .before .before .before .before .before .before .before .before .before
+      .before .before .loop .inv .2))),
+)
+
+-- src/trails.rt:151:1
+returns-3 : tie.Need-returns-3 Inv-loop μ-loop
+returns-3 c = (
+  end-rounds _ _ _ _ _ _ _ (c .before .loop .inv .1) (omega arith),
+  (_, c .before .loop .inv .2),
+)
+
+pub rounds-spec : {M : Type 1} → statement M
+rounds-spec =
+    tie.close
+    (tie.spec
+    Inv-loop
+    μ-loop
+    loop-holds
+    sweep-up-requires
+    returns
+    sweep-down-requires
+    common-requires
+    returns-2
+    add-k
+    loop-less
+    loop-again
+    returns-3)

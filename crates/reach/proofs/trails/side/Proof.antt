@@ -1,0 +1,68 @@
+use Rattle.reach.proofs.Trailing.{turn-small, turn-next}
+use mathlib.Core.Path.{_∙_, ap}
+use Prim.Native.Nat.{_+_, _*_}
+use native.Mathlib.Omega.{arith}
+use borrow.Author.Needs.{needs}
+use Rattle.reach.proofs.trails.side.Statement.{statement}
+use Rattle.reach.proofs.trails.side.Tie as tie
+use Rattle.reach.proofs.trails.side.Reads as reads
+use Rattle.reach.proofs.trails.side.Lts as lts
+use Rattle.reach.proofs.index.Reads as index-reads
+use Rattle.reach.proofs.through.Reads as through-reads
+use Rattle.reach.proofs.trails.lead.Reads as lead-reads
+use Rattle.sets.proofs.both.Reads as both-reads
+
+-- src/trails.rt:54:24
+mul-index : tie.Need-mul-index
+mul-index c = search needs
+
+-- src/trails.rt:54:24
+add-index : tie.Need-add-index
+add-index c = search needs
+
+-- src/trails.rt:54:19
+element-copy-out-index : tie.Need-element-copy-out-index
+element-copy-out-index c = search needs
+
+-- src/trails.rt:54:9
+index-requires : tie.Need-index-requires
+index-requires c κs = search needs
+
+-- src/trails.rt:55:18
+through-requires : tie.Need-through-requires
+through-requires c κs = (c .before .before .pre .0, c .before .before .pre .1, c .before .before .pre .2)
+
+-- src/trails.rt:55:9
+both-requires : tie.Need-both-requires
+both-requires c κs = search needs
+
+-- src/trails.rt:56:5
+lead-requires : tie.Need-lead-requires
+lead-requires c κs = (
+  c .before .before .before .before .before .pre .0,
+  rw (c .before .before .before .index .ensures) (c .before .before .before .before .before .pre .2 (4 * c .before
+      .before .before .before .before .args .x + c .before .before .before .before .before .args .o) (omega arith)),
+  c .before .before .before .before .before .pre .3 .3 .old .shape,
+  turn-small _ _ _ _ _ _ _ _ (c .before .before .before .index .ensures) (c .before .both .ensures ∙ rw (c .before
+      .before .through .ensures)) (c .before .before .before .before .before .pre .3 .2) (c .before .before .before
+      .before .before .pre .3 .3),
+)
+
+-- src/trails.rt:42:1
+returns : tie.Need-returns
+returns c = λ first b w. turn-next _ _ _ _ _ first b _ (c .before .before .before .before .before .before .pre .0) (c
+    .before .before .before .before .before .before .pre .1) (c .before .before .before .before .index .ensures) (c
+    .before .before .both .ensures ∙ rw (c .before .before .before .through .ensures)) (c .lead .ensures) w
+
+pub side-spec : {M : Type 1} → statement M
+side-spec =
+    tie.close
+    (tie.spec
+    mul-index
+    add-index
+    element-copy-out-index
+    index-requires
+    through-requires
+    both-requires
+    lead-requires
+    returns)

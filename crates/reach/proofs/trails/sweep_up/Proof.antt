@@ -1,0 +1,72 @@
+use Rattle.reach.proofs.Trailing.{lengthens-none, lengthens-on, lengthens-done, room-on}
+use Rattle.reach.proofs.Sweeps.{Swept, swept-none, swept-more, swept-done}
+use Rattle.reach.specs.Trails.{Lengthens}
+use borrow.Author.Needs.{needs}
+use Prim.Native.Nat.{_-_, _≤_}
+use native.Mathlib.Omega.{arith}
+use Rattle.reach.proofs.trails.sweep_up.Statement.{statement}
+use Rattle.reach.proofs.trails.sweep_up.Tie as tie
+use Rattle.reach.proofs.trails.sweep_up.Reads as reads
+use Rattle.reach.proofs.trails.sweep_up.Lts as lts
+use Rattle.reach.proofs.trails.step.Reads as step-reads
+use Rattle.sets.proofs.either.Reads as either-reads
+
+abbrev Inv-loop : tie.InvT-loop
+Inv-loop by next n t₀ up₀ new₀ x₀ t up new x =
+    (x ≤ n) × Swept by next t₀ x new t × Lengthens by next x t₀ up₀ t up
+
+abbrev μ-loop : tie.MeasureT-loop
+μ-loop by next n t₀ up₀ new₀ x₀ t up new x = n - x
+
+-- src/trails.rt:115:5
+loop-holds : tie.Need-loop-holds Inv-loop μ-loop
+loop-holds c = (omega arith, swept-none _ _ _, lengthens-none _ _ _ _)
+
+-- src/trails.rt:116:27
+step-requires : tie.Need-step-requires Inv-loop μ-loop
+step-requires c κs = (
+  omega arith,
+  c .before .before .before .before .pre .1,
+  room-on _ _ _ _ 1 (omega arith) (c
+      .before .before .before .before .pre .2) (c .before .before .before .loop .inv .2),
+)
+
+-- src/trails.rt:116:9
+either-requires : tie.Need-either-requires Inv-loop μ-loop
+either-requires c κs = search needs
+
+-- src/trails.rt:115:9
+add-x : tie.Need-add-x Inv-loop μ-loop
+add-x c = record { fits = omega arith }
+
+-- src/trails.rt:115:5
+loop-less : tie.Need-loop-less Inv-loop μ-loop
+loop-less c = omega arith
+
+-- src/trails.rt:115:5
+loop-again : tie.Need-loop-again Inv-loop μ-loop
+loop-again c = (
+  omega arith,
+  swept-more _ _ _ _ _ _ (c .before .before .before .before .before .loop .inv .1) (c .before .step .ensures .0) (c
+      .before .step .ensures .1) (c .either .ensures),
+  lengthens-on _ _ _ _ (c .before .before .before .before .before .loop .inv .2) (c .before .step .ensures .2),
+)
+
+-- src/trails.rt:101:1
+returns : tie.Need-returns Inv-loop μ-loop
+returns c = swept-done _ _ _ _ _ _ _ (c .before .loop .inv .1) (omega arith) (lengthens-done _ _ _ _ (omega arith) (c
+    .before .loop .inv .2))
+
+pub sweep-up-spec : {M : Type 1} → statement M
+sweep-up-spec =
+    tie.close
+    (tie.spec
+    Inv-loop
+    μ-loop
+    loop-holds
+    step-requires
+    either-requires
+    add-x
+    loop-less
+    loop-again
+    returns)

@@ -10,7 +10,6 @@ use Rattle.basis.specs.Choice.{test, not-both}
 use Rattle.basis.specs.Fold.{upTo, up-keeps}
 use Rattle.kinds.specs.declared.Credit.{Credit}
 use Rattle.packets.specs.Counters.{creditUp}
-use Rattle.plan.specs.declared.Head.{Head}
 use Rattle.plan.specs.Head.{InRange}
 use Rattle.plan.specs.Plan.{Plan}
 use Rattle.feeding.specs.Queue.{Queue, Exists, queues, queueAt}
@@ -28,9 +27,8 @@ use Rattle.layout.specs.Decode.{creditAt, flagAt, capacity-most}
 use Rattle.layout.proofs.Readings.{credit-at, flag-at}
 use Rattle.layout.proofs.Updates.{put-credit, put-flag}
 use Rattle.acts.specs.Acts.{Holds, Steps, steps-none, steps-more, steps-done, holds-then}
-use Rattle.acts.specs.Counts.{queueCount}
 use Rattle.reading.specs.Reading.{settling, Owed, Flagged, Settles, Whole, SettlesTo}
-use Rattle.reading.proofs.Offsets.{row-of, queue-within, queues-of}
+use Rattle.reading.proofs.Offsets.{row-of, queue-within}
 
 -- ---- at every moment of READ a raised flag's queue lacks a credit
 module _ {pl : Plan} (range : InRange (pl .head)) where
@@ -129,35 +127,33 @@ module _ (n i : ℕ) (b : List ℕ) (at : i ≡ 2 + 39 * n) where
             (sym (lowered (queueAt pl n) s (sym (flag-is pl l s rest e) ∙ raised (getD b (i + 1) 0) up)))
 
 -- ---- all flags
-module _ {h : Head} where
-  pub settles-none : (b : List ℕ) → SettlesTo h 0 b b
-  settles-none b = record { steps = λ pl e w. steps-none pl (Core pl) (settling pl) b }
+pub settles-none : (b : List ℕ) → SettlesTo 0 b b
+settles-none b = record { steps = λ pl r w l. steps-none pl (Core pl) (settling pl) b }
 
-  module _ (range : InRange h) {n : ℕ} (l : n < queueCount h) {b c : List ℕ} (x : SettlesTo h n b c) where
-    core-then : (pl : Plan) → pl .head ≡ h → Wired pl → (s : State) → Core pl s → Owed pl n (upTo (settling pl) n s)
-    core-then pl e w s k =
-        let q = queues-of pl e in
-        owed (rw e range) n (upTo (settling pl) n s) (omega arith)
-        (settled-core (rw e range) w n (omega arith) s k)
+module _ {n : ℕ} {b c : List ℕ} (x : SettlesTo n b c) where
+  core-then : (pl : Plan) → InRange (pl .head) → Wired pl → n < queues pl → (s : State) → Core pl s
+      → Owed pl n (upTo (settling pl) n s)
+  core-then pl r w l s k = owed r n (upTo (settling pl) n s) l (settled-core r w n (omega arith) s k)
 
-    -- the bytes at a turn
-    pub settles-at : Whole h b → Flagged n c
-    settles-at g =
-        let q = queues-of (g .plan) (g .head) in
-        record {
-          plan = g .plan;
-          below = omega arith;
-          holds = holds-then (g .plan) (g .holds) (x .steps (g .plan) (g .head) (g .wired))
-              (core-then (g .plan) (g .head) (g .wired));
-        }
+  -- the bytes at a turn
+  pub settles-at : {count : ℕ} → n < count → Whole count b → Flagged n c
+  settles-at l g =
+      let k = g .has in
+      record {
+        plan = g .plan;
+        below = omega arith;
+        holds = holds-then (g .plan) (g .holds) (x .steps (g .plan) (g .range) (g .wired) (omega arith))
+            (core-then (g .plan) (g .range) (g .wired) (omega arith));
+      }
 
-    -- a turn
-    pub settles-more : {d : List ℕ} → Settles n c d → SettlesTo h (n + 1) b d
-    settles-more y =
-        record {
-          steps = λ pl e w. let q = queues-of pl e in
-              steps-more pl (settling pl) n (x .steps pl e w) (core-then pl e w) (y .steps pl (omega arith));
-        }
+  -- a turn
+  pub settles-more : {d : List ℕ} → Settles n c d → SettlesTo (n + 1) b d
+  settles-more y =
+      record {
+        steps = λ pl r w l. steps-more pl (settling pl) n (x .steps pl r w (omega arith))
+            (core-then pl r w (omega arith)) (y .steps pl (omega arith));
+      }
 
-  pub settles-done : {i n : ℕ} {b c : List ℕ} → SettlesTo h i b c → i ≡ n → SettlesTo h n b c
-  settles-done x e = record { steps = λ pl f w. steps-done pl (settling pl) (x .steps pl f w) e }
+pub settles-done : {i n : ℕ} {b c : List ℕ} → SettlesTo i b c → i ≡ n → SettlesTo n b c
+settles-done x e =
+    record { steps = λ pl r w l. steps-done pl (settling pl) (x .steps pl r w (omega arith)) e }

@@ -55,12 +55,19 @@ module _ {pl : Plan} {h : Head} (e : pl .head ≡ h) (range : InRange h) (wired 
     core-after s k = let o = outputs-of pl e in delivered-core wired (rw e range) (outputCount h) (omega arith) s k
 
     -- the bytes after the deliveries
-    pub whole-then : Holds pl (In pl Read) b → Whole h c
+    pub whole-then : Holds pl (In pl Read) b → Whole (queueCount h) c
     whole-then g =
-        record { plan = pl; head = e; wired = wired; holds = holds-then pl (whole-of g) x core-after }
+        let q = queues-of pl e in
+        record {
+          plan = pl;
+          range = rw e range;
+          wired = wired;
+          has = omega arith;
+          holds = holds-then pl (whole-of g) x core-after;
+        }
 
     -- the bytes after READ
-    pub read-done : {d : List ℕ} → SettlesTo h (queueCount h) c d
+    pub read-done : {d : List ℕ} → SettlesTo (queueCount h) c d
         → Steps pl (In pl Read) (doRead pl) b (set d 0 (phaseCode Execute))
     unfolding doRead
     read-done {d} y = record { done = λ s rest i q. by s rest (inv-of pl s (i .good) .core) q }
@@ -74,8 +81,10 @@ module _ {pl : Plan} {h : Head} (e : pl .head ≡ h) (range : InRange h) (wired 
         by : (s : State) (rest : List ℕ) → Core pl s → b ≡ encode pl s rest
             → set d 0 (phaseCode Execute) ≡ encode pl (doRead pl s) rest
         by s rest k q =
+            let n = queues-of pl e in
+            let few : queueCount h ≤ queues pl = omega arith in
             ap (λ (z : List ℕ). set z 0 (phaseCode Execute))
-            (y .steps pl e wired .done (upTo (delivery pl) (outputCount h) s) rest (core-after s k)
+            (y .steps pl (rw e range) wired few .done (upTo (delivery pl) (outputCount h) s) rest (core-after s k)
             (x .done s rest k q))
             ∙ put-phase pl (upTo (settling pl) (queueCount h) (upTo (delivery pl) (outputCount h) s)) rest Execute
             ∙ ap (λ (t : State). encode pl t rest)

@@ -4,12 +4,12 @@ use mathlib.Core.Path.{_≡_}
 use mathlib.Core.Bool.{true}
 use mathlib.Core.List.{List}
 use mathlib.Core.Option.{some}
-use Prim.Native.Nat.{ℕ, _<_}
+use Prim.Native.Nat.{ℕ, _≤_, _<_}
 use lib.ListN.{length}
 use Rattle.basis.specs.Fold.{upTo}
 use Rattle.packets.specs.declared.Packet.{Packet}
 use Rattle.packets.specs.declared.Wire.the-variants.{Full}
-use Rattle.plan.specs.declared.Head.{Head}
+use Rattle.plan.specs.Head.{InRange}
 use Rattle.plan.specs.Plan.{Plan, A, P}
 use Rattle.feeding.specs.Queue.{Queue, Exists, queues, queueAt}
 use Rattle.feeding.specs.Feeds.{Output}
@@ -59,13 +59,15 @@ pub record Flagged (n : ℕ) (b : List ℕ) : Type 0 where
 pub record Settles (n : ℕ) (b c : List ℕ) : Type 0 where
   pub steps : (pl : Plan) → n < queues pl → Steps pl (Owed pl n) (settling pl n) b c
 
--- the bytes of a whole state of some wired plan with this head
-pub record Whole (h : Head) (b : List ℕ) : Type 0 where
+-- the bytes of a whole state of some plan with n queues at least
+pub record Whole (n : ℕ) (b : List ℕ) : Type 0 where
   pub plan : Plan
-  pub head : plan .head ≡ h
+  pub range : InRange (plan .head)
   pub wired : Wired plan
+  pub has : n ≤ queues plan
   pub holds : Holds plan (Core plan) b
 
--- the queues below n are settled, whatever the plan with this head
-pub record SettlesTo (h : Head) (n : ℕ) (b c : List ℕ) : Type 0 where
-  pub steps : (pl : Plan) → pl .head ≡ h → Wired pl → Steps pl (Core pl) (upTo (settling pl) n) b c
+-- the queues below n are settled, whatever the plan that has them
+pub record SettlesTo (n : ℕ) (b c : List ℕ) : Type 0 where
+  pub steps : (pl : Plan) → InRange (pl .head) → Wired pl → n ≤ queues pl
+      → Steps pl (Core pl) (upTo (settling pl) n) b c

@@ -11,6 +11,7 @@ use Rattle.basis.specs.Fold.{upTo, up-keeps}
 use Rattle.packets.specs.declared.Packet.{Packet}
 use Rattle.packets.specs.declared.Wire.{Wire}
 use Rattle.packets.specs.declared.Wire.the-variants.{Empty, Full}
+use Rattle.plan.specs.declared.Head.{Head}
 use Rattle.plan.specs.Head.{InRange}
 use Rattle.plan.specs.Plan.{Plan, A, P}
 use Rattle.feeding.specs.Queue.{Queue, Exists, number, queues}
@@ -36,9 +37,11 @@ use Rattle.layout.specs.Updates.{pushAt}
 use Rattle.layout.proofs.Readings.{wire-at, length-at}
 use Rattle.layout.proofs.Updates.{put-wire, push-queue}
 use Rattle.acts.specs.Acts.{Holds, Steps}
+use Rattle.acts.specs.Counts.{outputCount, outputsFrom}
 use Rattle.moves.specs.Next.{numberOr}
 use Rattle.reading.specs.Reading.{delivery, Joins, Arriving}
-use Rattle.reading.proofs.Offsets.{queue-row, number-or, queue-within}
+use Rattle.reading.proofs.Offsets.{range-counts, outputs-of, queues-of, output-row, queue-row, number-or}
+use Rattle.reading.proofs.Offsets.{queue-within, output-within}
 
 -- ---- at every moment of READ a delivery is possible
 module _ {pl : Plan} (wired : Wired pl) (range : InRange (pl .head)) where
@@ -95,20 +98,32 @@ unfolding deliver arrive
 delivered-is pl o x q s f g =
     ap (λ (w : Wire). arrive pl o w s) f ∙ ap (λ (y : Option Queue). joinNext y x (withWire o Empty s)) g
 
-module _ (pl : Plan) (m i : ℕ) (l : m < outputs pl) (row : i ≡ outputRow pl (outputAt pl m)) where
+module _ (pl : Plan) {h : Head} (e : pl .head ≡ h) (m i : ℕ) (below : m < outputCount h)
+    (at : i ≡ outputsFrom h + 7 * m) where
+  -- output m and its row are the plan's
+  l : m < outputs pl
+  l = let n = outputs-of pl e in omega arith
+
+  row : i ≡ outputRow pl (outputAt pl m)
+  row = output-row pl e m i below at
+
+  -- the row lies inside
+  pub wire-within : {I : State → Type 0} {b : List ℕ} → Holds pl I b → i + 6 ≤ length b
+  wire-within g = let w = output-within pl g m l i row in omega arith
+
   -- the wire that is read
   wire-is : (s : State) (rest b : List ℕ) (w : Wire) → b ≡ encode pl s rest → w ≡ wireAt i b
       → s .links .wire (outputAt pl m) ≡ w
-  wire-is s rest b w e g =
-      sym (g ∙ ap (λ (k : ℕ). wireAt k b) row ∙ wire-at pl s rest b e (outputAt pl m) (drives-at pl m l))
+  wire-is s rest b w f g =
+      sym (g ∙ ap (λ (k : ℕ). wireAt k b) row ∙ wire-at pl s rest b f (outputAt pl m) (drives-at pl m l))
 
   -- an empty wire: nothing is done
   pub deliver-none : (b : List ℕ) {w : Wire} → w ≡ wireAt i b → w ≡ Empty → Steps pl (Arriving pl m) (delivery pl m) b b
   unfolding deliver arrive
   deliver-none b {w} g z =
       record {
-        done = λ s rest a e.
-            e ∙ ap (λ (u : Wire). encode pl (arrive pl (outputAt pl m) u s) rest) (sym (wire-is s rest b w e g ∙ z));
+        done = λ s rest a f.
+            f ∙ ap (λ (u : Wire). encode pl (arrive pl (outputAt pl m) u s) rest) (sym (wire-is s rest b w f g ∙ z));
       }
 
   -- a packet on the wire
@@ -117,15 +132,24 @@ module _ (pl : Plan) (m i : ℕ) (l : m < outputs pl) (row : i ≡ outputRow pl 
     pub joining : (a : Holds pl (Arriving pl m) b) → Joins pl (a .state) (outputAt pl m) x
     joining a = a .fit .joins x (wire-is (a .state) (a .rest) b w (a .same) g ∙ full)
 
+    -- its pair is the plan's
+    pub pair-of : Holds pl (Arriving pl m) b → (x .active < h .actives) × (x .passive < h .passives)
+    pair-of a = rw (← e) (joining a .active, joining a .passive)
+
     module _ (a : Holds pl (Arriving pl m) b) {n : ℕ} (next : n ≡ numberOr pl (nextBy pl (outputAt pl m) x)) where
       -- the number of the next queue
       next-is : n ≡ number pl (joining a .queue)
       next-is = next ∙ number-or pl _ (joining a .queue) (joining a .next) (joining a .has)
 
-      pub next-below : n < queues pl
-      next-below = let k = number-below pl (joining a .queue) (joining a .has) in let e = next-is in omega arith
+      pub next-small : InRange h → n ≤ 65535
+      next-small range =
+          let k = number-below pl (joining a .queue) (joining a .has) in
+          let z = next-is in
+          let q = queues-of pl e in
+          let c = range-counts range in
+          omega arith
 
-      module _ {j : ℕ} (at : j ≡ 2 + 39 * n) {c : List ℕ} (emptied : c ≡ sets b i (wireBytes Empty)) where
+      module _ {j : ℕ} (stands : j ≡ 2 + 39 * n) {c : List ℕ} (emptied : c ≡ sets b i (wireBytes Empty)) where
         after : Holds pl (λ t. length (t .lines .queue (joining a .queue)) < places) c
         after =
             record {
@@ -140,14 +164,14 @@ module _ (pl : Plan) (m i : ℕ) (l : m < outputs pl) (row : i ≡ outputRow pl 
         -- its row lies inside
         pub joins-within : j + 39 ≤ length c
         joins-within = queue-within pl after (joining a .queue) (joining a .has) j
-            (queue-row pl (joining a .queue) n j next-is at)
+            (queue-row pl (joining a .queue) n j next-is stands)
 
         -- and has a place
         pub joins-room : lengthAt j c < 7
         joins-room =
-            let e = queue-row pl (joining a .queue) n j next-is at in
+            let r = queue-row pl (joining a .queue) n j next-is stands in
             let k : lengthAt j c ≡ length (after .state .lines .queue (joining a .queue)) =
-            ap (λ (u : ℕ). lengthAt u c) e
+            ap (λ (u : ℕ). lengthAt u c) r
             ∙ length-at pl (after .state) (after .rest) c (after .same) (joining a .queue) (joining a .has) in
             let f = after .fit in
             omega arith
@@ -156,18 +180,18 @@ module _ (pl : Plan) (m i : ℕ) (l : m < outputs pl) (row : i ≡ outputRow pl 
     pub deliver-full : {n j : ℕ} {c d : List ℕ} → n ≡ numberOr pl (nextBy pl (outputAt pl m) x) → j ≡ 2 + 39 * n
         → c ≡ sets b i (wireBytes Empty) → d ≡ pushAt j x c → Steps pl (Arriving pl m) (delivery pl m) b d
     unfolding after
-    deliver-full {n} {j} {c} {d} next at emptied pushed = record { done = λ s rest a e. by s rest a e }
+    deliver-full {n} {j} {c} {d} next stands emptied pushed = record { done = λ s rest a f. by s rest a f }
       where
         by : (s : State) (rest : List ℕ) → Arriving pl m s → b ≡ encode pl s rest
             → d ≡ encode pl (delivery pl m s) rest
-        by s rest a e =
-            let h : Holds pl (Arriving pl m) b = record { state = s; rest = rest; fit = a; same = e } in
+        by s rest a f =
+            let z : Holds pl (Arriving pl m) b = record { state = s; rest = rest; fit = a; same = f } in
             pushed
             ∙ ap (λ (k : ℕ). pushAt k x c)
-            (queue-row pl (joining h .queue) n j (next-is h next) at)
-            ∙ ap (pushAt (queueRow pl (joining h .queue)) x) (after h next at emptied .same)
-            ∙ push-queue pl (withWire (outputAt pl m) Empty s) rest (joining h .queue) (joining h .has) x
-            (joining h .room)
+            (queue-row pl (joining z .queue) n j (next-is z next) stands)
+            ∙ ap (pushAt (queueRow pl (joining z .queue)) x) (after z next stands emptied .same)
+            ∙ push-queue pl (withWire (outputAt pl m) Empty s) rest (joining z .queue) (joining z .has) x
+            (joining z .room)
             ∙ ap (λ (t : State). encode pl t rest) (sym
-            (delivered-is pl (outputAt pl m) x (joining h .queue) s (wire-is s rest b w e g ∙ full) (joining h .next)))
+            (delivered-is pl (outputAt pl m) x (joining z .queue) s (wire-is s rest b w f g ∙ full) (joining z .next)))
 

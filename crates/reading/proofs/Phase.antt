@@ -67,10 +67,11 @@ module _ {pl : Plan} {h : Head} (e : pl .head ≡ h) (range : InRange h) (wired 
         }
 
     -- the bytes after READ
-    pub read-done : {d : List ℕ} → SettlesTo (queueCount h) c d
-        → Steps pl (In pl Read) (doRead pl) b (set d 0 (phaseCode Execute))
+    pub read-done : {d : List ℕ} {v : ℕ} → SettlesTo (queueCount h) c d → v ≡ phaseCode Execute
+        → Steps pl (In pl Read) (doRead pl) b (set d 0 v)
     unfolding doRead
-    read-done {d} y = record { done = λ s rest i q. by s rest (inv-of pl s (i .good) .core) q }
+    read-done {d} y f =
+        record { done = λ s rest i q. ap (set d 0) f ∙ by s rest (inv-of pl s (i .good) .core) q }
       where
         turned : (n m : ℕ) (s : State) → n ≡ queues pl → m ≡ outputs pl
             → withPhase Execute (upTo (settling pl) n (upTo (delivery pl) m s)) ≡ doRead pl s

@@ -1,6 +1,6 @@
 -- Deliveries: along READ every packet on a wire finds a place in its next queue, and what the code stores is what the
 -- rule makes of the state.
-use mathlib.Core.Path.{_≡_, refl, sym, ap, _∙_}
+use mathlib.Core.Path.{_≡_, sym, ap, _∙_}
 use mathlib.Core.List.{List}
 use mathlib.Core.Option.{Option, some}
 use Prim.Native.Nat.{ℕ, _+_, _*_, _≤_, _<_}
@@ -13,12 +13,11 @@ use Rattle.packets.specs.declared.Wire.{Wire}
 use Rattle.packets.specs.declared.Wire.the-variants.{Empty, Full}
 use Rattle.plan.specs.declared.Head.{Head}
 use Rattle.plan.specs.Head.{InRange}
-use Rattle.plan.specs.Plan.{Plan, A, P}
-use Rattle.feeding.specs.Queue.{Queue, Exists, number, queues}
+use Rattle.plan.specs.Plan.{Plan}
+use Rattle.feeding.specs.Queue.{Queue, Exists, number}
 use Rattle.feeding.specs.Feeds.{Output}
 use Rattle.wiring.specs.Wired.{Wired}
 use Rattle.journeys.proofs.Numbers.{number-below}
-use Rattle.machine.specs.Capacity.{capacity}
 use Rattle.machine.specs.Store.{queue-same}
 use Rattle.machine.specs.Outputs.{nextBy, outputs, outputAt, outputNumber}
 use Rattle.machine.specs.State.{State, withWire, join}
@@ -118,7 +117,8 @@ module _ (pl : Plan) {h : Head} (e : pl .head ≡ h) (m i : ℕ) (below : m < ou
       sym (g ∙ ap (λ (k : ℕ). wireAt k b) row ∙ wire-at pl s rest b f (outputAt pl m) (drives-at pl m l))
 
   -- an empty wire: nothing is done
-  pub deliver-none : (b : List ℕ) {w : Wire} → w ≡ wireAt i b → w ≡ Empty → Steps pl (Arriving pl m) (delivery pl m) b b
+  pub deliver-none : (b : List ℕ) {w : Wire} → w ≡ wireAt i b → w ≡ Empty
+      → Steps pl (Arriving pl m) (delivery pl m) b b
   unfolding deliver arrive
   deliver-none b {w} g z =
       record {
@@ -194,4 +194,3 @@ module _ (pl : Plan) {h : Head} (e : pl .head ≡ h) (m i : ℕ) (below : m < ou
             (joining z .room)
             ∙ ap (λ (t : State). encode pl t rest) (sym
             (delivered-is pl (outputAt pl m) x (joining z .queue) s (wire-is s rest b w f g ∙ full) (joining z .next)))
-

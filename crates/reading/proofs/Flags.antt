@@ -1,4 +1,5 @@
--- Flags: along READ a raised flag's queue lacks a credit, and what the code stores is what the rule makes of the state.
+-- Flags: along READ a raised flag's queue lacks a credit, and what the code stores is what the rule makes of the
+-- state.
 use mathlib.Core.Path.{_≡_, refl, sym, ap, _∙_}
 use mathlib.Core.Logic.{_⊎_, inl, inr, _≢_}
 use mathlib.Core.Bool.{Bool, true, false}
@@ -12,7 +13,7 @@ use Rattle.kinds.specs.declared.Credit.{Credit}
 use Rattle.packets.specs.Counters.{creditUp}
 use Rattle.plan.specs.Head.{InRange}
 use Rattle.plan.specs.Plan.{Plan}
-use Rattle.feeding.specs.Queue.{Queue, Exists, queues, queueAt}
+use Rattle.feeding.specs.Queue.{Queue, queues, queueAt}
 use Rattle.wiring.specs.Wired.{Wired}
 use Rattle.machine.specs.State.{State, withCredit, withFlag}
 use Rattle.machine.specs.Read.{lower, settle}
@@ -20,13 +21,13 @@ use Rattle.machine.specs.Valid.{bit, fed}
 use Rattle.machine.proofs.Numbers.{exists-at}
 use Rattle.theory.specs.Invariant.{Core, account}
 use Rattle.theory.proofs.Keeps.{settle-core}
-use Rattle.layout.specs.Offsets.{places, creditByte, flagByte, queueRow}
-use Rattle.layout.specs.Codes.{flagOf, flagCode}
+use Rattle.layout.specs.Offsets.{places, creditByte, queueRow}
+use Rattle.layout.specs.Codes.{flagOf}
 use Rattle.layout.specs.Encode.{encode}
 use Rattle.layout.specs.Decode.{creditAt, flagAt, capacity-most}
 use Rattle.layout.proofs.Readings.{credit-at, flag-at}
 use Rattle.layout.proofs.Updates.{put-credit, put-flag}
-use Rattle.acts.specs.Acts.{Holds, Steps, steps-none, steps-more, steps-done, holds-then}
+use Rattle.acts.specs.Acts.{steps-none, steps-more, steps-done, holds-then}
 use Rattle.reading.specs.Reading.{settling, Owed, Flagged, Settles, Whole, SettlesTo}
 use Rattle.reading.proofs.Offsets.{row-of, queue-within}
 

@@ -1,36 +1,26 @@
 -- The rows that the code computes are the plan's; they lie inside the bytes of a state; and each store into one gives
 -- the bytes of the state with that part changed.
-use mathlib.Core.Path.{_≡_, refl, sym, ap, _∙_, subst}
-use mathlib.Core.Bool.{Bool}
-use mathlib.Core.List.{List, _∷_}
+use mathlib.Core.Path.{_≡_, refl, sym, ap, _∙_}
+use mathlib.Core.List.{List}
 use mathlib.Core.Option.{Option, some}
 use Prim.Native.Nat.{ℕ, _+_, _*_, _≤_, _<_}
 use native.Mathlib.Omega.{arith}
-use lib.ListN.{length, getD, set}
-use lib.Seq.{sets}
-use Rattle.basis.specs.Choice.{pick}
-use Rattle.kinds.specs.declared.Credit.{Credit}
-use Rattle.packets.specs.declared.Packet.{Packet}
-use Rattle.packets.specs.declared.Wire.{Wire}
+use lib.ListN.{length}
 use Rattle.plan.specs.declared.Head.{Head}
 use Rattle.plan.specs.Head.{InRange, Counts}
 use Rattle.plan.specs.Plan.{Plan}
 use Rattle.plan.specs.Tables.{tablePlan}
 use Rattle.feeding.specs.Queue.{Queue, Exists, number, queues, queueAt}
-use Rattle.feeding.specs.Feeds.{Output}
-use Rattle.journeys.proofs.Numbers.{number-below}
-use Rattle.machine.specs.Outputs.{outputs, outputAt, outputNumber}
-use Rattle.machine.specs.State.{State, withWire, join}
-use Rattle.machine.specs.Valid.{Drives}
-use Rattle.machine.proofs.Numbers.{exists-at, at-number}
+use Rattle.machine.specs.Outputs.{outputs, outputAt}
+use Rattle.machine.specs.State.{State}
+use Rattle.machine.proofs.Numbers.{at-number}
 use Rattle.machine.proofs.OutNumbers.{drives-at, at-output}
-use Rattle.layout.specs.Named.{existsTest, exists-test}
-use Rattle.layout.specs.Offsets.{queueRow, outputRow, size, queueWidth, outputWidth}
-use Rattle.layout.specs.Encode.{encode, wireBytes}
+use Rattle.layout.specs.Named.{exists-test}
+use Rattle.layout.specs.Offsets.{queueRow, outputRow, size}
 use Rattle.layout.proofs.Readings.{length-bytes, queue-inside, output-inside}
 use Rattle.acts.specs.Acts.{Holds}
 use Rattle.acts.specs.Counts.{queueCount, outputCount, outputsFrom, queues-by, outputs-at}
-use Rattle.moves.specs.Next.{noQueue, numberOr}
+use Rattle.moves.specs.Next.{numberOr}
 
 -- the head of the plan that tables give
 pub table-head : (h : Head) (routes : List (List ℕ)) (joints : List ℕ) → tablePlan h routes joints .head ≡ h

@@ -1,15 +1,14 @@
 -- READ: the deliveries, the flags, and the phase.
-use mathlib.Core.Path.{_≡_, sym, ap, _∙_, subst}
+use mathlib.Core.Path.{_≡_, sym, ap, _∙_}
 use mathlib.Core.List.{List}
 use Prim.Native.Nat.{ℕ, _≤_, _<_, _+_}
 use native.Mathlib.Omega.{arith}
-use lib.ListN.{length, set}
+use lib.ListN.{set}
 use Rattle.basis.specs.Fold.{upTo}
 use Rattle.packets.specs.declared.Phase.the-variants.{Read, Execute}
 use Rattle.plan.specs.declared.Head.{Head}
 use Rattle.plan.specs.Head.{InRange}
 use Rattle.plan.specs.Plan.{Plan}
-use Rattle.plan.specs.Tables.{tablePlan}
 use Rattle.feeding.specs.Queue.{queues}
 use Rattle.wiring.specs.Wired.{Wired}
 use Rattle.machine.specs.Outputs.{outputs}
@@ -20,11 +19,10 @@ use Rattle.theory.proofs.Keeps.{inv-of}
 use Rattle.layout.specs.Codes.{phaseCode}
 use Rattle.layout.specs.Encode.{encode}
 use Rattle.layout.proofs.Updates.{put-phase}
-use Rattle.acts.specs.Acts.{Holds, Steps, In, steps-none, steps-more, steps-done, holds-then, holds-less}
+use Rattle.acts.specs.Acts.{Holds, Steps, In, steps-more, holds-then, holds-less}
 use Rattle.acts.specs.Counts.{queueCount, outputCount}
-use Rattle.moves.specs.Wiring.{Wiring}
 use Rattle.reading.specs.Reading.{delivery, settling, Arriving, Whole, SettlesTo}
-use Rattle.reading.proofs.Offsets.{table-head, outputs-of, queues-of}
+use Rattle.reading.proofs.Offsets.{outputs-of, queues-of}
 use Rattle.reading.proofs.Arrivals.{arriving, delivered-core}
 
 module _ {pl : Plan} {h : Head} (e : pl .head ≡ h) (range : InRange h) (wired : Wired pl) where

@@ -5,15 +5,14 @@ use acts::queue_count;
 use acts::queue_row;
 use kinds::Credit;
 use moves::next;
-use packets::credit_up;
 use packets::Phase;
 use packets::Wire;
+use packets::credit_up;
 use plan::Head;
 use rows::phase_code;
 use rows::push;
 use rows::put_wire;
 use rows::wire_at;
-ghost use mathlib.Core.Path.{_≡_};
 ghost use Prim.Native.Nat.{_≤_, _<_};
 ghost use Rattle.basis.specs.Fold.{upTo};
 ghost use Rattle.packets.specs.declared.Phase.the-variants.{Read};
@@ -36,7 +35,8 @@ fn deliver(
     m: usize,
 )
     requires { ⌜ Wiring h (now routes) (now joints) (now homes) × (m < outputCount h)
-        × Holds (tablePlan h (now routes) (now joints)) (Arriving (tablePlan h (now routes) (now joints)) m) (now s) ⌝ }
+        × Holds (tablePlan h (now routes) (now joints)) (Arriving (tablePlan h (now routes) (now joints)) m)
+        (now s) ⌝ }
     ensures { λ _. ⌜ Steps (tablePlan h (now (routes .entry)) (now (joints .entry)))
         (Arriving (tablePlan h (now (routes .entry)) (now (joints .entry))) m)
         (delivery (tablePlan h (now (routes .entry)) (now (joints .entry))) m) (now (s .entry)) (now (s .exit)) ⌝ }
@@ -52,13 +52,7 @@ fn deliver(
 }
 
 // Every wire's packet joins its queue.
-fn deliver_all(
-    h: Head,
-    routes: &[[u8; 32]; 16],
-    joints: &[u8; 64],
-    homes: &[u8; 32],
-    s: &mut [u8],
-)
+fn deliver_all(h: Head, routes: &[[u8; 32]; 16], joints: &[u8; 64], homes: &[u8; 32], s: &mut [u8])
     requires { ⌜ Wiring h (now routes) (now joints) (now homes)
         × Holds (tablePlan h (now routes) (now joints)) (Core (tablePlan h (now routes) (now joints))) (now s) ⌝ }
     ensures { λ _. ⌜ Steps (tablePlan h (now (routes .entry)) (now (joints .entry)))
@@ -98,13 +92,7 @@ fn settle_all(h: Head, s: &mut [u8])
 }
 
 // READ.
-pub fn read(
-    h: Head,
-    routes: &[[u8; 32]; 16],
-    joints: &[u8; 64],
-    homes: &[u8; 32],
-    s: &mut [u8],
-)
+pub fn read(h: Head, routes: &[[u8; 32]; 16], joints: &[u8; 64], homes: &[u8; 32], s: &mut [u8])
     requires { ⌜ Wiring h (now routes) (now joints) (now homes)
         × Holds (tablePlan h (now routes) (now joints)) (In (tablePlan h (now routes) (now joints)) Read) (now s) ⌝ }
     ensures { λ _. ⌜ Steps (tablePlan h (now (routes .entry)) (now (joints .entry)))

@@ -19,7 +19,8 @@ add-if1 c = search needs
 
 -- src/lib.rt:26:8
 slice-read-if1 : tie.Need-slice-read-if1
-slice-read-if1 c = let w = flag-within _ _ _ (c .before .queue-row .ensures) (c .before .before .before .pre .1) in omega arith
+slice-read-if1 c =
+    let w = flag-within _ _ _ (c .before .queue-row .ensures) (c .before .before .before .pre .1) in omega arith
 
 -- src/lib.rt:27:9
 returns : tie.Need-returns
@@ -27,15 +28,21 @@ returns c = settle-none _ _ _ (c .before .before .queue-row .ensures) (c .if1 .t
 
 -- src/lib.rt:29:30
 slice-read-t7 : tie.Need-slice-read-t7
-slice-read-t7 c = let w = flag-within _ _ _ (c .before .before .before .queue-row .ensures) (c .before .before .before .before .before .pre .1) in omega arith
+slice-read-t7 c =
+    let w = flag-within _ _ _ (c .before .before .before .queue-row .ensures)
+    (c .before .before .before .before .before .pre .1) in omega arith
 
 -- src/lib.rt:29:9
 credit-up-requires : tie.Need-credit-up-requires
-credit-up-requires c κs = credit-lacks _ _ _ (c .before .before .before .queue-row .ensures) (c .before .if1 .left) (c .before .before .before .before .before .pre .1)
+credit-up-requires c κs =
+    credit-lacks _ _ _ (c .before .before .before .queue-row .ensures) (c .before .if1 .left)
+    (c .before .before .before .before .before .pre .1)
 
 -- src/lib.rt:30:5
 slice-write-s : tie.Need-slice-write-s
-slice-write-s c = let w = flag-within _ _ _ (c .before .before .before .before .queue-row .ensures) (c .before .before .before .before .before .before .pre .1) in omega arith
+slice-write-s c =
+    let w = flag-within _ _ _ (c .before .before .before .before .queue-row .ensures)
+    (c .before .before .before .before .before .before .pre .1) in omega arith
 
 -- src/lib.rt:31:7
 add-s : tie.Need-add-s
@@ -43,7 +50,9 @@ add-s c = search needs
 
 -- src/lib.rt:31:5
 slice-write-s-2 : tie.Need-slice-write-s-2
-slice-write-s-2 c = let w = flag-within _ _ _ (c .before .before .before .before .queue-row .ensures) (c .before .before .before .before .before .before .pre .1) in simp length-set (omega arith)
+slice-write-s-2 c =
+    let w = flag-within _ _ _ (c .before .before .before .before .queue-row .ensures)
+    (c .before .before .before .before .before .before .pre .1) in simp length-set (omega arith)
 
 -- src/lib.rt:21:1
 same-length : tie.Need-same-length
@@ -51,7 +60,9 @@ same-length c = search needs
 
 -- src/lib.rt:21:1
 returns-2 : tie.Need-returns-2
-returns-2 c = settle-up _ _ _ (c .before .before .before .before .queue-row .ensures) (c .before .before .if1 .left) _ (c .credit-up .ensures)
+returns-2 c =
+    settle-up _ _ _ (c .before .before .before .before .queue-row .ensures) (c .before .before .if1 .left) _
+    (c .credit-up .ensures)
 
 pub settle-spec : {M : Type 1} → statement M
 settle-spec =

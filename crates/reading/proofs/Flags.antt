@@ -21,7 +21,7 @@ use Rattle.machine.specs.Valid.{bit, fed}
 use Rattle.machine.proofs.Numbers.{exists-at}
 use Rattle.theory.specs.Invariant.{Core, account}
 use Rattle.theory.proofs.Keeps.{settle-core}
-use Rattle.layout.specs.Offsets.{places, creditByte, queueRow}
+use Rattle.layout.specs.Offsets.{places, queueRow}
 use Rattle.layout.specs.Codes.{flagOf}
 use Rattle.layout.specs.Encode.{encode}
 use Rattle.layout.specs.Decode.{creditAt, flagAt, capacity-most}
@@ -29,7 +29,7 @@ use Rattle.layout.proofs.Readings.{credit-at, flag-at}
 use Rattle.layout.proofs.Updates.{put-credit, put-flag}
 use Rattle.acts.specs.Acts.{steps-none, steps-more, steps-done, holds-then}
 use Rattle.reading.specs.Reading.{settling, Owed, Flagged, Settles, Whole, SettlesTo}
-use Rattle.reading.proofs.Offsets.{row-of, queue-within}
+use Rattle.reading.proofs.Offsets.{first, row-of, queue-within}
 
 -- ---- at every moment of READ a raised flag's queue lacks a credit
 module _ {pl : Plan} (range : InRange (pl .head)) where
@@ -53,10 +53,6 @@ module _ {pl : Plan} (range : InRange (pl .head)) where
       (λ i t h k. settle-core wired range (queueAt pl i) t (exists-at pl i (omega arith)) k) c
 
 -- ---- one flag
--- the first byte of a row
-first : (i : ℕ) → i ≡ i + creditByte
-first i = omega arith
-
 -- a byte that is not 0 is a raised flag
 raised : (v : ℕ) → v ≢ 0 → flagOf v ≡ true
 raised zero ne = absurd (ne refl)

@@ -16,7 +16,7 @@ use Rattle.machine.specs.State.{State}
 use Rattle.machine.proofs.Numbers.{at-number}
 use Rattle.machine.proofs.OutNumbers.{drives-at, at-output}
 use Rattle.layout.specs.Named.{exists-test}
-use Rattle.layout.specs.Offsets.{queueRow, outputRow, size}
+use Rattle.layout.specs.Offsets.{creditByte, queueRow, outputRow, size}
 use Rattle.layout.proofs.Readings.{length-bytes, queue-inside, output-inside}
 use Rattle.acts.specs.Acts.{Holds}
 use Rattle.acts.specs.Counts.{queueCount, outputCount, outputsFrom, queues-by, outputs-at}
@@ -46,6 +46,10 @@ module _ (pl : Plan) {h : Head} (e : pl .head ≡ h) where
       let a = outputs-at pl in
       let b : i ≡ outputsFrom (pl .head) + 7 * m = rw e g in
       omega arith
+
+-- a row begins with its credit
+pub first : (i : ℕ) → i ≡ i + creditByte
+first i = omega arith
 
 -- the row of a queue, and of a queue's number
 module _ (pl : Plan) where

@@ -25,6 +25,11 @@ ghost use Rattle.acts.specs.Counts.{queueCount, outputCount};
 ghost use Rattle.moves.specs.Wiring.{Wiring};
 ghost use Rattle.reading.specs.Reading.{delivery, Arriving, Flagged, Settles, Whole, SettlesTo};
 
+// The byte of the phase, and that of the flag in a queue's row, behind the credit's.
+const PHASE_BYTE: usize = 0;
+
+const FLAG_BYTE: usize = 1;
+
 // The wire of output m: a packet on it joins its next queue, and the wire empties.
 fn deliver(
     h: Head,
@@ -72,12 +77,12 @@ fn settle(s: &mut [u8], n: usize)
     ensures { λ _. ⌜ Settles n (now (s .entry)) (now (s .exit)) ⌝ }
 {
     let i = queue_row(n);
-    if s[i + 1] == 0 {
+    if s[i + FLAG_BYTE] == 0 {
         return;
     }
     let c = credit_up(Credit(s[i]));
     s[i] = c.0;
-    s[i + 1] = 0;
+    s[i + FLAG_BYTE] = 0;
 }
 
 // Every raised flag becomes a credit.
@@ -101,5 +106,5 @@ pub fn read(h: Head, routes: &[[u8; 32]; 16], joints: &[u8; 64], homes: &[u8; 32
 {
     deliver_all(h, routes, joints, homes, s);
     settle_all(h, s);
-    s[0] = phase_code(Phase::Execute);
+    s[PHASE_BYTE] = phase_code(Phase::Execute);
 }

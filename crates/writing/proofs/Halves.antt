@@ -1,10 +1,11 @@
--- The two halves of a turn on bytes: a head leaves its queue and the flag rises; a packet enters the wire for a credit.
-use mathlib.Core.Path.{_≡_, refl, sym, ap, _∙_}
+-- The two halves of a turn on bytes: a head leaves its queue and the flag rises; a packet enters the wire for a
+-- credit.
+use mathlib.Core.Path.{_≡_, sym, ap, _∙_}
 use mathlib.Core.Bool.{true, false}
 use mathlib.Core.List.{List}
 use Prim.Native.Nat.{ℕ, _+_, _*_, _-_, _%_, _≤_, _<_}
 use native.Mathlib.Omega.{arith}
-use lib.ListN.{length, getD, set}
+use lib.ListN.{getD, set}
 use lib.Seq.{sets}
 use Rattle.kinds.specs.declared.Credit.{Credit}
 use Rattle.packets.specs.declared.Packet.{Packet}
@@ -22,13 +23,11 @@ use Rattle.machine.specs.Valid.{Drives}
 use Rattle.layout.specs.Offsets.{creditByte, queueRow, outputRow}
 use Rattle.layout.specs.Places.{packetAt}
 use Rattle.layout.specs.Encode.{encode, wireBytes}
-use Rattle.layout.specs.Decode.{creditAt}
 use Rattle.layout.specs.Updates.{popAt}
 use Rattle.layout.proofs.Readings.{credit-at, head-at}
 use Rattle.layout.proofs.Updates.{put-credit, put-flag, put-handled, put-wire, put-choice, pop-queue}
-use Rattle.acts.specs.Acts.{Steps}
-use Rattle.reading.proofs.Offsets.{queue-row}
-use Rattle.writing.specs.Writing.{behind, left, entered, Any, Headed, Sends, Raises, Takes, Enters}
+use Rattle.reading.proofs.Offsets.{first, queue-row}
+use Rattle.writing.specs.Writing.{behind, left, entered, Headed, Sends, Raises, Takes, Enters}
 use Rattle.writing.proofs.Senders.{role-out, role-passing, role-handling}
 
 -- ---- the flag
@@ -98,10 +97,6 @@ takes h m i {x} {b} {c} {d} e f g =
         ∙ ap (λ (l : List Packet). encode pl (withQueue q (behind l) s) rest) (sym (a .line)))
 
 -- ---- a packet enters
--- the first byte of a row
-pub first : (i : ℕ) → i ≡ i + creditByte
-first i = omega arith
-
 pub enters : (i n j : ℕ) (x : Packet) {b c : List ℕ} {v : Credit} → j ≡ 2 + 39 * n
     → v ≡ creditDown (record { 0 = getD b j 0 }) → c ≡ sets (set b j (v .0)) i (wireBytes (Full x))
     → Enters i n x b (set c (i + 6) 0)

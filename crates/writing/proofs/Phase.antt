@@ -3,7 +3,7 @@ use mathlib.Core.Path.{_≡_, sym, ap, _∙_}
 use mathlib.Core.List.{List}
 use Prim.Native.Nat.{ℕ, suc, _+_, _≤_, _<_}
 use native.Mathlib.Omega.{arith}
-use lib.ListN.{length, getD, set}
+use lib.ListN.{getD, set}
 use Rattle.basis.specs.Fold.{upTo, up-keeps-at}
 use Rattle.kinds.specs.declared.Slot.{Slot}
 use Rattle.packets.specs.declared.Phase.the-variants.{Read, Write}

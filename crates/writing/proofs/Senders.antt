@@ -1,19 +1,18 @@
 -- The senders of an output: their numbers as the code computes them, and their roles.
-use mathlib.Core.Path.{_≡_, refl, sym, ap, _∙_, subst}
+use mathlib.Core.Path.{_≡_, sym, _∙_}
 use mathlib.Core.Logic.{_⊎_, inl, inr, _≢_}
-use mathlib.Core.Bool.{Bool, true, false}
 use mathlib.Core.Option.{some}
 use Prim.Native.Nat.{ℕ, zero, suc, _+_, _*_, _-_, _/_, _%_, _≤_, _<_}
 use native.Mathlib.Omega.{arith}
-use lib.Dec.{eqb, ltb}
+use lib.Dec.{ltb}
 use borrow.Author.Tests.{lt-ltb, le-ltb, ne-eqb, eq-eqb}
 use Rattle.basis.specs.Choice.{pick}
 use Rattle.basis.specs.Bounded.{lt-or-ge}
 use Rattle.plan.specs.declared.Head.{Head}
 use Rattle.plan.specs.Head.{destinations}
-use Rattle.plan.specs.Plan.{Plan, R, A, P}
+use Rattle.plan.specs.Plan.{Plan, A, P}
 use Rattle.feeding.specs.Queue.{Queue, activeOut, activeIn, passiveIn, passiveOut, U, Q, F, K, number, rank, senderAt}
-use Rattle.feeding.specs.Role.{Role, sending, receiving, handling, passing, role}
+use Rattle.feeding.specs.Role.{Role, sending, handling, passing, role}
 use Rattle.feeding.specs.Feeds.{Output, ofActive, ofPassive, ofSide, toUnit, fromUnit, outputOf}
 use Rattle.journeys.proofs.Places.{some-same, some-not-none}
 use Rattle.machine.specs.Outputs.{senders, outputs, routerOutput, outputAt, outputNumber}
@@ -101,13 +100,21 @@ module _ (h : Head) (m k : ℕ) where
     module _ (high : 4 ≤ (m - destinations h) % 6) where
       pub sender-unit : (m - destinations h) % 6 ≡ 4 → base + k ≡ senderOf h m k
       unfolding senderOf
-      sender-unit l = rw (le-ltb m (destinations h) past, le-ltb ((m - destinations h) % 6) 4 high,
-        eq-eqb ((m - destinations h) % 6) 4 l, e)
+      sender-unit l = rw (
+        le-ltb m (destinations h) past,
+        le-ltb ((m - destinations h) % 6) 4 high,
+        eq-eqb ((m - destinations h) % 6) 4 l,
+        e,
+      )
 
       pub sender-from : (m - destinations h) % 6 ≢ 4 → base + 4 ≡ senderOf h m k
       unfolding senderOf
-      sender-from l = rw (le-ltb m (destinations h) past, le-ltb ((m - destinations h) % 6) 4 high,
-        ne-eqb ((m - destinations h) % 6) 4 l, e)
+      sender-from l = rw (
+        le-ltb m (destinations h) past,
+        le-ltb ((m - destinations h) % 6) 4 high,
+        ne-eqb ((m - destinations h) % 6) 4 l,
+        e,
+      )
 
 -- ---- roles
 -- the role of an output's senders

@@ -1,11 +1,11 @@
 -- One output's turn: at every moment of WRITE a choice can be sent, and what the code stores is what the rule makes of
 -- the state.
 use mathlib.Core.Path.{_≡_, refl, sym, ap, _∙_, subst}
-use mathlib.Core.Logic.{_⊎_, inl, inr, _≢_}
+use mathlib.Core.Logic.{_⊎_, inl, inr}
 use mathlib.Core.Bool.{true, false}
 use mathlib.Core.List.{List, _∷_}
 use mathlib.Core.Option.{Option, some}
-use Prim.Native.Nat.{ℕ, zero, suc, _+_, _*_, _≤_, _<_}
+use Prim.Native.Nat.{ℕ, suc, _+_, _*_, _≤_, _<_}
 use native.Mathlib.Omega.{arith}
 use lib.ListN.{length, getD}
 use Rattle.basis.specs.Choice.{test}
@@ -15,13 +15,13 @@ use Rattle.packets.specs.declared.Wire.the-variants.{Full}
 use Rattle.plan.specs.declared.Head.{Head}
 use Rattle.plan.specs.Head.{InRange}
 use Rattle.plan.specs.Plan.{Plan, A, P}
-use Rattle.feeding.specs.Queue.{Queue, Exists, number, queues}
+use Rattle.feeding.specs.Queue.{Queue, Exists, number}
 use Rattle.feeding.specs.Feeds.{Output, headPlace}
 use Rattle.wiring.specs.Wired.{Wired}
 use Rattle.journeys.proofs.Numbers.{number-below}
-use Rattle.machine.specs.Outputs.{nextBy, senders, outputs, outputAt}
+use Rattle.machine.specs.Outputs.{nextBy, outputs, outputAt}
 use Rattle.machine.specs.State.{State, Choice, nobody, sender, withQueue, withWire, withChoice}
-use Rattle.machine.specs.Write.{ofRank, raise, spend, sendHead, sendFrom, sendBy, send}
+use Rattle.machine.specs.Write.{raise, spend, sendHead, sendFrom, sendBy, send}
 use Rattle.machine.specs.Valid.{fed}
 use Rattle.machine.proofs.Numbers.{sender-exists}
 use Rattle.machine.proofs.OutNumbers.{drives-at}
@@ -32,20 +32,19 @@ use Rattle.theory.proofs.Places.Makes.{next-belongs}
 use Rattle.theory.proofs.Places.Senders.{raise-credit, candidate-ready}
 use Rattle.theory.proofs.Kept.Parts.{kept-of}
 use Rattle.theory.proofs.Kept.Lines.{head-belongs}
-use Rattle.layout.specs.Offsets.{places, choiceByte, queueRow, outputRow}
+use Rattle.layout.specs.Offsets.{places, queueRow, outputRow}
 use Rattle.layout.specs.Codes.{choiceOf}
 use Rattle.layout.specs.Encode.{encode}
-use Rattle.layout.specs.Decode.{creditAt, lengthAt, choiceAt, capacity-most}
+use Rattle.layout.specs.Decode.{lengthAt, choiceAt, capacity-most}
 use Rattle.layout.proofs.Readings.{choice-at, length-at, credit-at}
 use Rattle.acts.specs.Acts.{Holds, Steps}
 use Rattle.acts.specs.Counts.{outputCount, outputsFrom}
 use Rattle.moves.specs.Next.{numberOr}
 use Rattle.reading.proofs.Offsets.{range-counts, outputs-of, queues-of, output-row, queue-row, number-or}
-use Rattle.reading.proofs.Offsets.{queue-within, output-within}
+use Rattle.reading.proofs.Offsets.{first, queue-within, output-within}
 use Rattle.writing.specs.Writing.{sending, Leaves, Picking, senderOf, behind, left, Any, Headed, Sends}
 use Rattle.writing.specs.Writing.{Takes, Enters}
 use Rattle.writing.proofs.Senders.{sender-number}
-use Rattle.writing.proofs.Halves.{first}
 
 -- ---- a choice that can be sent
 module _ {pl : Plan} (wired : Wired pl) (range : InRange (pl .head)) where
@@ -265,7 +264,8 @@ module _ (pl : Plan) {h : Head} (e : pl .head ≡ h) (m i : ℕ) (below : m < ou
                     let a : Holds pl (Picking pl m) b = record { state = s; rest = rest; fit = p; same = f } in
                     entered .steps pl (outputAt pl m) (leaving a .next) (drives-at pl m l) row (leaving a .there)
                     (next-is a) .done (left (leaving a .queue) s) rest (record {}) (after a)
-                    ∙ ap (λ (y : Packet). encode pl (withChoice (outputAt pl m) nobody (withWire (outputAt pl m) (Full y)
+                    ∙ ap (λ (y : Packet). encode pl (withChoice (outputAt pl m) nobody
+                    (withWire (outputAt pl m) (Full y)
                     (spend (some (leaving a .next)) (left (leaving a .queue) s)))) rest) (head-is a)
                     ∙ ap (λ (t : State). encode pl t rest)
                     (sym (sent-is pl (outputAt pl m) k s (chosen s rest f) (leaving a)))

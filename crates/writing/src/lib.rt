@@ -7,11 +7,11 @@ use kinds::Credit;
 use kinds::Slot;
 use moves::base_of;
 use moves::next;
-use packets::credit_down;
-use packets::slot_next;
 use packets::Packet;
 use packets::Phase;
 use packets::Wire;
+use packets::credit_down;
+use packets::slot_next;
 use plan::Head;
 use rows::packet_at;
 use rows::phase_code;
@@ -30,6 +30,11 @@ ghost use Rattle.acts.specs.Acts.{Holds, Steps, In};
 ghost use Rattle.acts.specs.Counts.{outputCount};
 ghost use Rattle.moves.specs.Wiring.{Wiring};
 ghost use Rattle.writing.specs.Writing.{sending, Picking, Picked, senderOf, Raises, Takes, Enters};
+
+// The bytes of the phase and of the slot.
+const PHASE_BYTE: usize = 0;
+
+const SLOT_BYTE: usize = 1;
 
 // The bytes of a queue's row that a sending changes, and the byte of an output's choice.
 const FLAG_BYTE: usize = 1;
@@ -136,13 +141,7 @@ fn send(
 }
 
 // Every output has its turn.
-fn send_all(
-    h: Head,
-    routes: &[[u8; 32]; 16],
-    joints: &[u8; 64],
-    homes: &[u8; 32],
-    s: &mut [u8],
-)
+fn send_all(h: Head, routes: &[[u8; 32]; 16], joints: &[u8; 64], homes: &[u8; 32], s: &mut [u8])
     requires { ⌜ Wiring h (now routes) (now joints) (now homes)
         × Holds (tablePlan h (now routes) (now joints)) (Picked (tablePlan h (now routes) (now joints))) (now s) ⌝ }
     ensures { λ _. ⌜ Steps (tablePlan h (now (routes .entry)) (now (joints .entry)))
@@ -157,21 +156,15 @@ fn send_all(
 }
 
 // WRITE.
-pub fn write(
-    h: Head,
-    routes: &[[u8; 32]; 16],
-    joints: &[u8; 64],
-    homes: &[u8; 32],
-    s: &mut [u8],
-)
+pub fn write(h: Head, routes: &[[u8; 32]; 16], joints: &[u8; 64], homes: &[u8; 32], s: &mut [u8])
     requires { ⌜ Wiring h (now routes) (now joints) (now homes)
         × Holds (tablePlan h (now routes) (now joints)) (In (tablePlan h (now routes) (now joints)) Write) (now s) ⌝ }
     ensures { λ _. ⌜ Steps (tablePlan h (now (routes .entry)) (now (joints .entry)))
         (In (tablePlan h (now (routes .entry)) (now (joints .entry))) Write)
         (doWrite (tablePlan h (now (routes .entry)) (now (joints .entry)))) (now (s .entry)) (now (s .exit)) ⌝ }
 {
-    let t = slot_next(Slot(s[1]), h.slots);
+    let t = slot_next(Slot(s[SLOT_BYTE]), h.slots);
     send_all(h, routes, joints, homes, s);
-    s[1] = t.0;
-    s[0] = phase_code(Phase::Read);
+    s[SLOT_BYTE] = t.0;
+    s[PHASE_BYTE] = phase_code(Phase::Read);
 }

@@ -51,9 +51,12 @@ next-requires c κs =
     let p = pair-of (tablePlan _ _ _) (table-head _ _ _) _ _
     (c .before .before .before .before .before .before .before .pre .1)
     (c .before .before .before .before .before .output-row .ensures) (c .before .before .before .wire-at .ensures)
-    (c .before .w .given .1) (c .before .before .before .before .before .before .before .pre .2) in
-    (c .before .before .before .before .before .before .before .pre .0,
-    c .before .before .before .before .before .before .before .pre .1, p .0, p .1)
+    (c .before .w .given .1) (c .before .before .before .before .before .before .before .pre .2) in (
+      c .before .before .before .before .before .before .before .pre .0,
+      c .before .before .before .before .before .before .before .pre .1,
+      p .0,
+      p .1,
+    )
 
 -- src/lib.rt:50:5
 put-wire-requires : tie.Need-put-wire-requires
@@ -78,22 +81,24 @@ queue-row-requires c κs =
 
 -- src/lib.rt:51:5
 push-requires : tie.Need-push-requires
-push-requires c κs =
-    (joins-within (tablePlan _ _ _) (table-head _ _ _) _ _
-    (c .before .before .before .before .before .before .before .before .before .before .before .before .before .before
-    .pre .1) (c .before .before .before .before .before .before .before .before .before .before .before .before
-    .output-row .ensures) (c .before .before .before .before .before .before .before .before .before .before .wire-at
-    .ensures) (c .before .before .before .before .before .before .before .before .w .given .1)
-    (c .before .before .before .before .before .before .before .before .before .before .before .before .before .before
-    .pre .2) (c .before .before .before .before .before .before .next .ensures) (c .queue-row .ensures)
-    (c .before .before .before .before .put-wire .ensures), joins-room (tablePlan _ _ _) (table-head _ _ _) _ _
-    (c .before .before .before .before .before .before .before .before .before .before .before .before .before .before
-    .pre .1) (c .before .before .before .before .before .before .before .before .before .before .before .before
-    .output-row .ensures) (c .before .before .before .before .before .before .before .before .before .before .wire-at
-    .ensures) (c .before .before .before .before .before .before .before .before .w .given .1)
-    (c .before .before .before .before .before .before .before .before .before .before .before .before .before .before
-    .pre .2) (c .before .before .before .before .before .before .next .ensures) (c .queue-row .ensures)
-    (c .before .before .before .before .put-wire .ensures))
+push-requires c κs = (
+  joins-within (tablePlan _ _ _) (table-head _ _ _) _ _
+      (c .before .before .before .before .before .before .before .before .before .before .before .before .before .before
+      .pre .1) (c .before .before .before .before .before .before .before .before .before .before .before .before
+      .output-row .ensures) (c .before .before .before .before .before .before .before .before .before .before .wire-at
+      .ensures) (c .before .before .before .before .before .before .before .before .w .given .1)
+      (c .before .before .before .before .before .before .before .before .before .before .before .before .before .before
+      .pre .2) (c .before .before .before .before .before .before .next .ensures) (c .queue-row .ensures)
+      (c .before .before .before .before .put-wire .ensures),
+  joins-room (tablePlan _ _ _) (table-head _ _ _) _ _
+      (c .before .before .before .before .before .before .before .before .before .before .before .before .before .before
+      .pre .1) (c .before .before .before .before .before .before .before .before .before .before .before .before
+      .output-row .ensures) (c .before .before .before .before .before .before .before .before .before .before .wire-at
+      .ensures) (c .before .before .before .before .before .before .before .before .w .given .1)
+      (c .before .before .before .before .before .before .before .before .before .before .before .before .before .before
+      .pre .2) (c .before .before .before .before .before .before .next .ensures) (c .queue-row .ensures)
+      (c .before .before .before .before .put-wire .ensures),
+)
 
 -- src/lib.rt:30:1
 same-length-2 : tie.Need-same-length-2

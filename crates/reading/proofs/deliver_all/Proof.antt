@@ -19,7 +19,7 @@ use Rattle.reading.proofs.deliver.Reads as deliver-reads
 abbrev Inv-loop : tie.InvT-loop
 Inv-loop h routes joints homes s₀ count m₀ s m =
     (m ≤ count) × Steps (tablePlan h routes joints) (Core (tablePlan h routes joints)) (upTo (delivery
-        (tablePlan h routes joints)) m) s₀ s
+    (tablePlan h routes joints)) m) s₀ s
     × (length s ≡ length s₀)
 
 abbrev μ-loop : tie.MeasureT-loop
@@ -36,10 +36,13 @@ loop-holds c = (omega arith, steps-none _ _ _ _, refl)
 -- src/lib.rt:71:9
 deliver-requires : tie.Need-deliver-requires Inv-loop μ-loop
 deliver-requires c κs =
-    let n = c .before .before .before .output-count .ensures in (c .before .before .before .before .before .pre .0,
-    omega arith, delivers-at (table-head _ _ _) (c .before .before .before .before .before .pre .0 .range)
-    (c .before .before .before .before .before .pre .0 .wired) (omega arith) (c .before .before .loop .inv .1)
-    (c .before .before .before .before .before .pre .1))
+    let n = c .before .before .before .output-count .ensures in (
+      c .before .before .before .before .before .pre .0,
+      omega arith,
+      delivers-at (table-head _ _ _) (c .before .before .before .before .before .pre .0 .range)
+          (c .before .before .before .before .before .pre .0 .wired) (omega arith) (c .before .before .loop .inv .1)
+          (c .before .before .before .before .before .pre .1),
+    )
 
 -- src/lib.rt:70:9
 add-m : tie.Need-add-m Inv-loop μ-loop
@@ -52,11 +55,14 @@ loop-less c = omega arith
 -- src/lib.rt:70:5
 loop-again : tie.Need-loop-again Inv-loop μ-loop
 loop-again c =
-    let n = c .before .before .before .before .before .before .output-count .ensures in (omega arith, delivers-more
-    (table-head _ _ _) (c .before .before .before .before .before .before .before .before .pre .0 .range)
-    (c .before .before .before .before .before .before .before .before .pre .0 .wired) (omega arith)
-    (c .before .before .before .before .before .loop .inv .1) (c .before .before .deliver .ensures),
-    c .before .before .deliver .kept .1 .1 .1 .1 .0 ∙ c .before .before .before .before .before .loop .inv .2)
+    let n = c .before .before .before .before .before .before .output-count .ensures in (
+      omega arith,
+      delivers-more
+          (table-head _ _ _) (c .before .before .before .before .before .before .before .before .pre .0 .range)
+          (c .before .before .before .before .before .before .before .before .pre .0 .wired) (omega arith)
+          (c .before .before .before .before .before .loop .inv .1) (c .before .before .deliver .ensures),
+      c .before .before .deliver .kept .1 .1 .1 .1 .0 ∙ c .before .before .before .before .before .loop .inv .2,
+    )
 
 -- src/lib.rt:55:1
 same-length : tie.Need-same-length Inv-loop μ-loop

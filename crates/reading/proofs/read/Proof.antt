@@ -15,17 +15,21 @@ use Rattle.rows.proofs.phase_code.Reads as phase-code-reads
 
 -- src/lib.rt:114:5
 deliver-all-requires : tie.Need-deliver-all-requires
-deliver-all-requires c κs =
-    (c .before .before .pre .0, whole-of (table-head _ _ _) (c .before .before .pre .0 .range)
-    (c .before .before .pre .0 .wired) (c .before .before .pre .1))
+deliver-all-requires c κs = (
+  c .before .before .pre .0,
+  whole-of (table-head _ _ _) (c .before .before .pre .0 .range)
+      (c .before .before .pre .0 .wired) (c .before .before .pre .1),
+)
 
 -- src/lib.rt:115:5
 settle-all-requires : tie.Need-settle-all-requires
-settle-all-requires c κs =
-    (range-counts (c .before .before .before .before .before .before .pre .0 .range), whole-then (table-head _ _ _)
-    (c .before .before .before .before .before .before .pre .0 .range)
-    (c .before .before .before .before .before .before .pre .0 .wired)
-    (c .before .before .before .deliver-all .ensures) (c .before .before .before .before .before .before .pre .1))
+settle-all-requires c κs = (
+  range-counts (c .before .before .before .before .before .before .pre .0 .range),
+  whole-then (table-head _ _ _)
+      (c .before .before .before .before .before .before .pre .0 .range)
+      (c .before .before .before .before .before .before .pre .0 .wired)
+      (c .before .before .before .deliver-all .ensures) (c .before .before .before .before .before .before .pre .1),
+)
 
 -- src/lib.rt:116:12
 phase-code-requires : tie.Need-phase-code-requires
@@ -35,8 +39,11 @@ phase-code-requires c κs = search needs
 slice-write-s : tie.Need-slice-write-s
 slice-write-s c =
     let w = header-within (tablePlan _ _ _) (c .before .before .before .before .before .before .before .before .before
-    .before .pre .1) in omega (arith, c .before .before .before .settle-all .kept .1 .0,
-    c .before .before .before .before .before .before .before .deliver-all .kept .1 .1 .1 .1 .0)
+    .before .pre .1) in omega (
+      arith,
+      c .before .before .before .settle-all .kept .1 .0,
+      c .before .before .before .before .before .before .before .deliver-all .kept .1 .1 .1 .1 .0,
+    )
 
 -- src/lib.rt:101:1
 same-length : tie.Need-same-length

@@ -28,8 +28,11 @@ loop-holds c = (omega arith, settles-none _, refl)
 -- src/lib.rt:41:9
 settle-requires : tie.Need-settle-requires Inv-loop μ-loop
 settle-requires c κs =
-    let q = c .before .before .before .queue-count .ensures in (omega arith, settles-at
-    (c .before .before .loop .inv .1) (omega arith) (c .before .before .before .before .before .pre .1))
+    let q = c .before .before .before .queue-count .ensures in (
+      omega arith,
+      settles-at
+          (c .before .before .loop .inv .1) (omega arith) (c .before .before .before .before .before .pre .1),
+    )
 
 -- src/lib.rt:40:9
 add-n : tie.Need-add-n Inv-loop μ-loop
@@ -42,9 +45,12 @@ loop-less c = omega arith
 -- src/lib.rt:40:5
 loop-again : tie.Need-loop-again Inv-loop μ-loop
 loop-again c =
-    let q = c .before .before .before .before .before .before .queue-count .ensures in (omega arith, settles-more
-    (c .before .before .before .before .before .loop .inv .1) (c .before .before .settle .ensures),
-    c .before .before .settle .kept .0 ∙ c .before .before .before .before .before .loop .inv .2)
+    let q = c .before .before .before .before .before .before .queue-count .ensures in (
+      omega arith,
+      settles-more
+          (c .before .before .before .before .before .loop .inv .1) (c .before .before .settle .ensures),
+      c .before .before .settle .kept .0 ∙ c .before .before .before .before .before .loop .inv .2,
+    )
 
 -- src/lib.rt:35:1
 same-length : tie.Need-same-length Inv-loop μ-loop

@@ -44,7 +44,9 @@ same-length c = simp length-set (omega (arith, simp length-set at (c .before .be
 
 -- src/lib.rt:101:1
 returns : tie.Need-returns
-returns c = enters _ _ _ _ (c .before .before .before .before .before .before .queue-row .ensures) (c .before .before .before .before .credit-down .ensures) (c .before .before .put-wire .ensures)
+returns c =
+    enters _ _ _ _ (c .before .before .before .before .before .before .queue-row .ensures)
+    (c .before .before .before .before .credit-down .ensures) (c .before .before .put-wire .ensures)
 
 pub enter-spec : {M : Type 1} → statement M
 enter-spec =

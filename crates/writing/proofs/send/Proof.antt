@@ -1,9 +1,9 @@
 use Rattle.plan.specs.Tables.{tablePlan}
 use Rattle.reading.proofs.Offsets.{table-head, range-counts}
 use Rattle.writing.proofs.Turns.{next-small, next-within, next-credit, send-done}
-use Rattle.writing.proofs.Turns.{choice-within, send-none, sender-small, sender-within, sender-some, sender-few, pair-of, wire-within}
+use Rattle.writing.proofs.Turns.{choice-within, send-none, sender-small, sender-within, sender-some, sender-few}
+use Rattle.writing.proofs.Turns.{pair-of, wire-within}
 use native.Mathlib.Omega.{arith}
-use lib.ListN.{length-set}
 use borrow.Author.Needs.{needs}
 use Rattle.writing.proofs.send.Statement.{statement}
 use Rattle.writing.proofs.send.Tie as tie
@@ -27,11 +27,15 @@ add-c c = search needs
 
 -- src/lib.rt:129:13
 slice-read-c : tie.Need-slice-read-c
-slice-read-c c = let w = choice-within (tablePlan _ _ _) (table-head _ _ _) _ _ (c .before .before .before .pre .1) (c .before .output-row .ensures) (c .before .before .before .pre .2) in omega arith
+slice-read-c c =
+    let w = choice-within (tablePlan _ _ _) (table-head _ _ _) _ _ (c .before .before .before .pre .1)
+    (c .before .output-row .ensures) (c .before .before .before .pre .2) in omega arith
 
 -- src/lib.rt:131:9
 returns : tie.Need-returns
-returns c = send-none (tablePlan _ _ _) (table-head _ _ _) _ _ (c .before .before .before .before .pre .1) (c .before .before .output-row .ensures) _ (c .if1 .taken)
+returns c =
+    send-none (tablePlan _ _ _) (table-head _ _ _) _ _ (c .before .before .before .before .pre .1)
+    (c .before .before .output-row .ensures) _ (c .if1 .taken)
 
 -- src/lib.rt:133:29
 rank-requires : tie.Need-rank-requires
@@ -43,19 +47,88 @@ sender-of-requires c κs = search needs
 
 -- src/lib.rt:134:27
 queue-row-requires : tie.Need-queue-row-requires
-queue-row-requires c κs = sender-small (tablePlan _ _ _) (table-head _ _ _) _ _ (c .before .before .before .before .before .before .before .pre .1) (c .before .before .before .before .before .output-row .ensures) (c .before .before .rank .ensures .0) (c .before .sender-of .ensures) (c .before .before .before .before .before .before .before .pre .2) (c .before .before .before .before .before .before .before .pre .0 .range)
+queue-row-requires c κs =
+    sender-small (tablePlan _ _ _) (table-head _ _ _) _ _
+    (c .before .before .before .before .before .before .before .pre .1)
+    (c .before .before .before .before .before .output-row .ensures) (c .before .before .rank .ensures .0)
+    (c .before .sender-of .ensures) (c .before .before .before .before .before .before .before .pre .2)
+    (c .before .before .before .before .before .before .before .pre .0 .range)
 
 -- src/lib.rt:134:9
 take-requires : tie.Need-take-requires
-take-requires c κs = (range-counts (c .before .before .before .before .before .before .before .before .pre .0 .range), c .before .before .before .before .before .before .before .before .pre .1, sender-within (tablePlan _ _ _) (table-head _ _ _) _ _ (c .before .before .before .before .before .before .before .before .pre .1) (c .before .before .before .before .before .before .output-row .ensures) (c .before .before .before .rank .ensures .0) (c .before .before .sender-of .ensures) (c .queue-row .ensures) (c .before .before .before .before .before .before .before .before .pre .2), sender-some (tablePlan _ _ _) (table-head _ _ _) _ _ (c .before .before .before .before .before .before .before .before .pre .1) (c .before .before .before .before .before .before .output-row .ensures) (c .before .before .before .rank .ensures .0) (c .before .before .sender-of .ensures) (c .queue-row .ensures) (c .before .before .before .before .before .before .before .before .pre .2), sender-few (tablePlan _ _ _) (table-head _ _ _) _ _ (c .before .before .before .before .before .before .before .before .pre .1) (c .before .before .before .before .before .before .output-row .ensures) (c .before .before .before .rank .ensures .0) (c .before .before .sender-of .ensures) (c .queue-row .ensures) (c .before .before .before .before .before .before .before .before .pre .2))
+take-requires c κs = (
+  range-counts (c .before .before .before .before .before .before .before .before .pre .0 .range),
+  c .before .before .before .before .before .before .before .before .pre .1,
+  sender-within (tablePlan _ _ _)
+      (table-head _ _ _) _ _ (c .before .before .before .before .before .before .before .before .pre .1)
+      (c .before .before .before .before .before .before .output-row .ensures)
+      (c .before .before .before .rank .ensures .0) (c .before .before .sender-of .ensures) (c .queue-row .ensures)
+      (c .before .before .before .before .before .before .before .before .pre .2),
+  sender-some (tablePlan _ _ _)
+      (table-head _ _ _) _ _ (c .before .before .before .before .before .before .before .before .pre .1)
+      (c .before .before .before .before .before .before .output-row .ensures)
+      (c .before .before .before .rank .ensures .0) (c .before .before .sender-of .ensures) (c .queue-row .ensures)
+      (c .before .before .before .before .before .before .before .before .pre .2),
+  sender-few (tablePlan _ _ _)
+      (table-head _ _ _) _ _ (c .before .before .before .before .before .before .before .before .pre .1)
+      (c .before .before .before .before .before .before .output-row .ensures)
+      (c .before .before .before .rank .ensures .0) (c .before .before .sender-of .ensures) (c .queue-row .ensures)
+      (c .before .before .before .before .before .before .before .before .pre .2),
+)
 
 -- src/lib.rt:135:17
 next-requires : tie.Need-next-requires
-next-requires c κs = let p = pair-of (tablePlan _ _ _) (table-head _ _ _) _ _ (c .before .before .before .before .before .before .before .before .before .before .before .before .pre .1) (c .before .before .before .before .before .before .before .before .before .before .output-row .ensures) (c .before .before .before .before .before .before .before .rank .ensures .0) (c .before .before .before .before .before .before .sender-of .ensures) (c .before .before .before .before .queue-row .ensures) (c .before .before .before .take .ensures) (c .before .before .before .before .before .before .before .before .before .before .before .before .pre .2) in (c .before .before .before .before .before .before .before .before .before .before .before .before .pre .0, c .before .before .before .before .before .before .before .before .before .before .before .before .pre .1, p .0, p .1)
+next-requires c κs =
+    let p = pair-of (tablePlan _ _ _) (table-head _ _ _) _ _
+    (c .before .before .before .before .before .before .before .before .before .before .before .before .pre .1)
+    (c .before .before .before .before .before .before .before .before .before .before .output-row .ensures)
+    (c .before .before .before .before .before .before .before .rank .ensures .0)
+    (c .before .before .before .before .before .before .sender-of .ensures)
+    (c .before .before .before .before .queue-row .ensures) (c .before .before .before .take .ensures)
+    (c .before .before .before .before .before .before .before .before .before .before .before .before .pre .2) in (
+      c .before .before .before .before .before .before .before .before .before .before .before .before .pre .0,
+      c .before .before .before .before .before .before .before .before .before .before .before .before .pre .1,
+      p .0,
+      p .1,
+    )
 
 -- src/lib.rt:135:5
 enter-requires : tie.Need-enter-requires
-enter-requires c κs = (wire-within (tablePlan _ _ _) (table-head _ _ _) _ _ (c .before .before .before .before .before .before .before .before .before .before .before .before .before .pre .1) (c .before .before .before .before .before .before .before .before .before .before .before .output-row .ensures) (c .before .before .before .before .before .before .before .before .rank .ensures .0) (c .before .before .before .before .before .before .before .sender-of .ensures) (c .before .before .before .before .before .queue-row .ensures) (c .before .before .before .before .take .ensures) (c .before .before .before .before .before .before .before .before .before .before .before .before .before .pre .2), next-small (tablePlan _ _ _) (table-head _ _ _) _ _ (c .before .before .before .before .before .before .before .before .before .before .before .before .before .pre .1) (c .before .before .before .before .before .before .before .before .before .before .before .output-row .ensures) (c .before .before .before .before .before .before .before .before .rank .ensures .0) (c .before .before .before .before .before .before .before .sender-of .ensures) (c .before .before .before .before .before .queue-row .ensures) (c .before .before .before .before .take .ensures) (c .next .ensures) (c .before .before .before .before .before .before .before .before .before .before .before .before .before .pre .2) (c .before .before .before .before .before .before .before .before .before .before .before .before .before .pre .0 .range), next-within (tablePlan _ _ _) (table-head _ _ _) _ _ (c .before .before .before .before .before .before .before .before .before .before .before .before .before .pre .1) (c .before .before .before .before .before .before .before .before .before .before .before .output-row .ensures) (c .before .before .before .before .before .before .before .before .rank .ensures .0) (c .before .before .before .before .before .before .before .sender-of .ensures) (c .before .before .before .before .before .queue-row .ensures) (c .before .before .before .before .take .ensures) (c .next .ensures) (c .before .before .before .before .before .before .before .before .before .before .before .before .before .pre .2), next-credit (tablePlan _ _ _) (table-head _ _ _) _ _ (c .before .before .before .before .before .before .before .before .before .before .before .before .before .pre .1) (c .before .before .before .before .before .before .before .before .before .before .before .output-row .ensures) (c .before .before .before .before .before .before .before .before .rank .ensures .0) (c .before .before .before .before .before .before .before .sender-of .ensures) (c .before .before .before .before .before .queue-row .ensures) (c .before .before .before .before .take .ensures) (c .next .ensures) (c .before .before .before .before .before .before .before .before .before .before .before .before .before .pre .2))
+enter-requires c κs = (
+  wire-within (tablePlan _ _ _) (table-head _ _ _) _ _
+      (c .before .before .before .before .before .before .before .before .before .before .before .before .before .pre .1)
+      (c .before .before .before .before .before .before .before .before .before .before .before .output-row .ensures)
+      (c .before .before .before .before .before .before .before .before .rank .ensures .0)
+      (c .before .before .before .before .before .before .before .sender-of .ensures)
+      (c .before .before .before .before .before .queue-row .ensures) (c .before .before .before .before .take .ensures)
+      (c .before .before .before .before .before .before .before .before .before .before .before .before .before .pre
+      .2),
+  next-small (tablePlan _ _ _) (table-head _ _ _) _ _
+      (c .before .before .before .before .before .before .before .before .before .before .before .before .before .pre .1)
+      (c .before .before .before .before .before .before .before .before .before .before .before .output-row .ensures)
+      (c .before .before .before .before .before .before .before .before .rank .ensures .0)
+      (c .before .before .before .before .before .before .before .sender-of .ensures)
+      (c .before .before .before .before .before .queue-row .ensures) (c .before .before .before .before .take .ensures)
+      (c .next .ensures) (c .before .before .before .before .before .before .before .before .before .before .before
+      .before .before .pre .2) (c .before .before .before .before .before .before .before .before .before .before .before
+      .before .before .pre .0 .range),
+  next-within (tablePlan _ _ _) (table-head _ _ _) _ _
+      (c .before .before .before .before .before .before .before .before .before .before .before .before .before .pre .1)
+      (c .before .before .before .before .before .before .before .before .before .before .before .output-row .ensures)
+      (c .before .before .before .before .before .before .before .before .rank .ensures .0)
+      (c .before .before .before .before .before .before .before .sender-of .ensures)
+      (c .before .before .before .before .before .queue-row .ensures) (c .before .before .before .before .take .ensures)
+      (c .next .ensures) (c .before .before .before .before .before .before .before .before .before .before .before
+      .before .before .pre .2),
+  next-credit (tablePlan _ _ _) (table-head _ _ _) _ _
+      (c .before .before .before .before .before .before .before .before .before .before .before .before .before .pre .1)
+      (c .before .before .before .before .before .before .before .before .before .before .before .output-row .ensures)
+      (c .before .before .before .before .before .before .before .before .rank .ensures .0)
+      (c .before .before .before .before .before .before .before .sender-of .ensures)
+      (c .before .before .before .before .before .queue-row .ensures) (c .before .before .before .before .take .ensures)
+      (c .next .ensures) (c .before .before .before .before .before .before .before .before .before .before .before
+      .before .before .pre .2),
+)
 
 -- src/lib.rt:114:1
 same-length : tie.Need-same-length
@@ -63,7 +136,16 @@ same-length c = search needs
 
 -- src/lib.rt:114:1
 returns-2 : tie.Need-returns-2
-returns-2 c = send-done (tablePlan _ _ _) (table-head _ _ _) _ _ (c .before .before .before .before .before .before .before .before .before .before .before .before .before .before .before .before .pre .1) (c .before .before .before .before .before .before .before .before .before .before .before .before .before .before .output-row .ensures) (c .before .before .before .before .before .before .before .before .before .before .before .rank .ensures .0) (c .before .before .before .before .before .before .before .before .before .before .sender-of .ensures) (c .before .before .before .before .before .before .before .before .queue-row .ensures) (c .before .before .before .before .before .before .before .take .ensures) (c .before .before .before .next .ensures) (c .before .before .enter .ensures)
+returns-2 c =
+    send-done (tablePlan _ _ _) (table-head _ _ _) _ _
+    (c .before .before .before .before .before .before .before .before .before .before .before .before .before .before
+    .before .before .pre .1) (c .before .before .before .before .before .before .before .before .before .before .before
+    .before .before .before .output-row .ensures)
+    (c .before .before .before .before .before .before .before .before .before .before .before .rank .ensures .0)
+    (c .before .before .before .before .before .before .before .before .before .before .sender-of .ensures)
+    (c .before .before .before .before .before .before .before .before .queue-row .ensures)
+    (c .before .before .before .before .before .before .before .take .ensures)
+    (c .before .before .before .next .ensures) (c .before .before .enter .ensures)
 
 pub send-spec : {M : Type 1} → statement M
 send-spec =

@@ -17,7 +17,8 @@ use Rattle.writing.proofs.send.Reads as send-reads
 
 abbrev Inv-loop : tie.InvT-loop
 Inv-loop h routes joints homes s₀ count m₀ s m =
-    (m ≤ count) × Steps (tablePlan h routes joints) (Picked (tablePlan h routes joints)) (upTo (sending (tablePlan h routes joints)) m) s₀ s
+    (m ≤ count) × Steps (tablePlan h routes joints) (Picked (tablePlan h routes joints)) (upTo (sending
+    (tablePlan h routes joints)) m) s₀ s
     × (length s ≡ length s₀)
 
 abbrev μ-loop : tie.MeasureT-loop
@@ -33,7 +34,14 @@ loop-holds c = (omega arith, steps-none _ _ _ _, refl)
 
 -- src/lib.rt:155:9
 send-requires : tie.Need-send-requires Inv-loop μ-loop
-send-requires c κs = let n = c .before .before .before .output-count .ensures in (c .before .before .before .before .before .pre .0, omega arith, sends-at (table-head _ _ _) (c .before .before .before .before .before .pre .0 .range) (c .before .before .before .before .before .pre .0 .wired) (omega arith) (c .before .before .loop .inv .1) (c .before .before .before .before .before .pre .1))
+send-requires c κs =
+    let n = c .before .before .before .output-count .ensures in (
+      c .before .before .before .before .before .pre .0,
+      omega arith,
+      sends-at (table-head _ _ _) (c .before .before .before .before .before .pre .0 .range)
+          (c .before .before .before .before .before .pre .0 .wired) (omega arith) (c .before .before .loop .inv .1)
+          (c .before .before .before .before .before .pre .1),
+    )
 
 -- src/lib.rt:154:9
 add-m : tie.Need-add-m Inv-loop μ-loop
@@ -45,7 +53,15 @@ loop-less c = omega arith
 
 -- src/lib.rt:154:5
 loop-again : tie.Need-loop-again Inv-loop μ-loop
-loop-again c = let n = c .before .before .before .before .before .before .output-count .ensures in (omega arith, sends-more (table-head _ _ _) (c .before .before .before .before .before .before .before .before .pre .0 .range) (c .before .before .before .before .before .before .before .before .pre .0 .wired) (omega arith) (c .before .before .before .before .before .loop .inv .1) (c .before .before .send .ensures), c .before .before .send .kept .1 .1 .1 .1 .0 ∙ c .before .before .before .before .before .loop .inv .2)
+loop-again c =
+    let n = c .before .before .before .before .before .before .output-count .ensures in (
+      omega arith,
+      sends-more
+          (table-head _ _ _) (c .before .before .before .before .before .before .before .before .pre .0 .range)
+          (c .before .before .before .before .before .before .before .before .pre .0 .wired) (omega arith)
+          (c .before .before .before .before .before .loop .inv .1) (c .before .before .send .ensures),
+      c .before .before .send .kept .1 .1 .1 .1 .0 ∙ c .before .before .before .before .before .loop .inv .2,
+    )
 
 -- src/lib.rt:139:1
 same-length : tie.Need-same-length Inv-loop μ-loop

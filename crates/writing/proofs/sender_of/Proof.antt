@@ -44,7 +44,9 @@ add-result-4 c = search needs
 
 -- src/lib.rt:66:9
 returns-3 : tie.Need-returns-3
-returns-3 c = sender-unit _ _ _ (c .before .before .before .if1 .left) (c .before .before .base-of .ensures .0) (c .before .if2 .left) (c .if3 .taken)
+returns-3 c =
+    sender-unit _ _ _ (c .before .before .before .if1 .left) (c .before .before .base-of .ensures .0)
+    (c .before .if2 .left) (c .if3 .taken)
 
 -- src/lib.rt:68:5
 add-result-5 : tie.Need-add-result-5
@@ -52,7 +54,9 @@ add-result-5 c = search needs
 
 -- src/lib.rt:52:1
 returns-4 : tie.Need-returns-4
-returns-4 c = sender-from _ _ _ (c .before .before .before .if1 .left) (c .before .before .base-of .ensures .0) (c .before .if2 .left) (c .if3 .left)
+returns-4 c =
+    sender-from _ _ _ (c .before .before .before .if1 .left) (c .before .before .base-of .ensures .0)
+    (c .before .if2 .left) (c .if3 .left)
 
 pub sender-of-spec : {M : Type 1} → statement M
 sender-of-spec =

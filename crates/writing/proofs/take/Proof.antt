@@ -30,7 +30,9 @@ same-length c = search needs
 
 -- src/lib.rt:89:1
 returns : tie.Need-returns
-returns c = takes _ _ _ (c .before .before .before .before .before .before .before .before .packet-at .ensures) (c .before .before .before .before .before .before .pop .ensures) (c .before .before .raise .ensures)
+returns c =
+    takes _ _ _ (c .before .before .before .before .before .before .before .before .packet-at .ensures)
+    (c .before .before .before .before .before .before .pop .ensures) (c .before .before .raise .ensures)
 
 pub take-spec : {M : Type 1} → statement M
 take-spec =

@@ -1,0 +1,102 @@
+-- The rows of the interfaces' queues are those of every plan that has the head, and they lie inside a state's bytes.
+use mathlib.Core.Path.{_≡_, refl, sym, ap, _∙_, subst}
+use mathlib.Core.List.{List}
+use Prim.Native.Nat.{ℕ, _+_, _*_, _≤_, _<_}
+use native.Mathlib.Omega.{arith}
+use lib.ListN.{length}
+use Rattle.plan.specs.declared.Head.{Head}
+use Rattle.plan.specs.Head.{InRange}
+use Rattle.plan.specs.Plan.{Plan, R, A, P, S}
+use Rattle.feeding.specs.Queue.{activeOut, activeIn, passiveIn, passiveOut, number}
+use Rattle.layout.specs.Offsets.{queueRow, allowanceRow, entryRow}
+use Rattle.layout.proofs.Readings.{length-bytes}
+use Rattle.acts.specs.Counts.{stateSize, tableFrom, size-by, allowances-at, table-at}
+use Rattle.visits.specs.Visits.{Ready, activeOutRow, passiveOutRow, activeInRow, passiveInRow, allowanceByte}
+
+-- ---- rows by the head alone
+module _ {h : Head} (pl : Plan) (head : pl .head ≡ h) where
+  pub active-there : (a : ℕ) → a < h .actives → a < A pl
+  active-there a l = let e = ap (λ (x : Head). x .actives) head in omega arith
+
+  pub active-past : (a : ℕ) → h .actives ≤ a → A pl ≤ a
+  active-past a l = let e = ap (λ (x : Head). x .actives) head in omega arith
+
+  pub passive-there : (p : ℕ) → p < h .passives → p < P pl
+  passive-there p l = let e = ap (λ (x : Head). x .passives) head in omega arith
+
+  pub passive-past : (p : ℕ) → h .passives ≤ p → P pl ≤ p
+  passive-past p l = let e = ap (λ (x : Head). x .passives) head in omega arith
+
+  pub router-there : (r : ℕ) → r < h .routers → r < R pl
+  router-there r l = let e = ap (λ (x : Head). x .routers) head in omega arith
+
+  pub router-past : (r : ℕ) → h .routers ≤ r → R pl ≤ r
+  router-past r l = let e = ap (λ (x : Head). x .routers) head in omega arith
+
+  pub slot-there : (t : ℕ) → t < h .slots → t < S pl
+  slot-there t l = let e = ap (λ (x : Head). x .slots) head in omega arith
+
+  pub slot-past : (t : ℕ) → h .slots ≤ t → S pl ≤ t
+  slot-past t l = let e = ap (λ (x : Head). x .slots) head in omega arith
+
+  pub range-of : InRange h → InRange (pl .head)
+  range-of range = subst (λ (x : Head). InRange x) (sym head) range
+
+  pub active-out-row : (a : ℕ) → activeOutRow a ≡ queueRow pl (activeOut a)
+  unfolding activeOutRow queueRow number
+  active-out-row a = refl
+
+  pub passive-out-row : (p : ℕ) → passiveOutRow h p ≡ queueRow pl (passiveOut p)
+  unfolding passiveOutRow queueRow number
+  passive-out-row p = rw (← head)
+
+  pub active-in-row : (a : ℕ) → activeInRow h a ≡ queueRow pl (activeIn a)
+  unfolding activeInRow queueRow number
+  active-in-row a = rw (← head)
+
+  pub passive-in-row : (p : ℕ) → passiveInRow h p ≡ queueRow pl (passiveIn p)
+  unfolding passiveInRow queueRow number
+  passive-in-row p = rw (← head)
+
+  pub allowance-byte : (a : ℕ) → allowanceByte h a ≡ allowanceRow pl a
+  unfolding allowanceByte allowanceRow
+  allowance-byte a = rw (← head) (ap (λ (n : ℕ). n + a) (sym (allowances-at pl)))
+
+  pub entry-byte : (r o t : ℕ) → tableFrom h + 2 * (128 * r + 32 * o + t) ≡ entryRow pl r o t
+  unfolding entryRow
+  entry-byte r o t = rw (← head) (ap (λ (n : ℕ). n + 2 * (128 * r + 32 * o + t)) (sym (table-at pl)))
+
+-- ---- inside
+module _ {h : Head} {b : List ℕ} (ready : Ready h b) where
+  pub long : stateSize h ≤ length b
+  long =
+      let pl = ready .plan in
+      let e = ready .held .same in
+      let l : length b ≡ stateSize h + length (ready .held .rest) =
+      ap length e ∙ length-bytes pl (ready .held .state) (ready .held .rest)
+      ∙ ap (λ (n : ℕ). n + length (ready .held .rest)) (size-by pl ∙ ap stateSize (ready .head)) in
+      omega arith
+
+  pub active-out-inside : (a : ℕ) → a < h .actives → activeOutRow a + 39 ≤ length b
+  unfolding activeOutRow
+  active-out-inside a l = omega (arith, long)
+
+  pub passive-out-inside : (p : ℕ) → p < h .passives → passiveOutRow h p + 39 ≤ length b
+  unfolding passiveOutRow
+  passive-out-inside p l = omega (arith, long)
+
+  pub active-in-inside : (a : ℕ) → a < h .actives → activeInRow h a + 39 ≤ length b
+  unfolding activeInRow
+  active-in-inside a l = omega (arith, long)
+
+  pub passive-in-inside : (p : ℕ) → p < h .passives → passiveInRow h p + 39 ≤ length b
+  unfolding passiveInRow
+  passive-in-inside p l = omega (arith, long)
+
+  pub allowance-inside : (a : ℕ) → a < h .actives → allowanceByte h a < length b
+  unfolding allowanceByte
+  allowance-inside a l = omega (arith, long)
+
+  pub entry-inside : (r o t : ℕ) → r < h .routers → o < 4 → t < 32
+      → tableFrom h + 2 * (128 * r + 32 * o + t) < length b
+  entry-inside r o t hr ho ht = omega (arith, long)

@@ -1,0 +1,1 @@
+// The calls between the phases, on the bytes of a good state.

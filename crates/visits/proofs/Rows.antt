@@ -43,23 +43,23 @@ module _ {h : Head} (pl : Plan) (head : pl .head ≡ h) where
   range-of range = subst (λ (x : Head). InRange x) (sym head) range
 
   pub active-out-row : (a : ℕ) → activeOutRow a ≡ queueRow pl (activeOut a)
-  unfolding activeOutRow queueRow number
+  unfolding queueRow number
   active-out-row a = refl
 
   pub passive-out-row : (p : ℕ) → passiveOutRow h p ≡ queueRow pl (passiveOut p)
-  unfolding passiveOutRow queueRow number
+  unfolding queueRow number
   passive-out-row p = rw (← head)
 
   pub active-in-row : (a : ℕ) → activeInRow h a ≡ queueRow pl (activeIn a)
-  unfolding activeInRow queueRow number
+  unfolding queueRow number
   active-in-row a = rw (← head)
 
   pub passive-in-row : (p : ℕ) → passiveInRow h p ≡ queueRow pl (passiveIn p)
-  unfolding passiveInRow queueRow number
+  unfolding queueRow number
   passive-in-row p = rw (← head)
 
   pub allowance-byte : (a : ℕ) → allowanceByte h a ≡ allowanceRow pl a
-  unfolding allowanceByte allowanceRow
+  unfolding allowanceRow
   allowance-byte a = rw (← head) (ap (λ (n : ℕ). n + a) (sym (allowances-at pl)))
 
   pub entry-byte : (r o t : ℕ) → tableFrom h + 2 * (128 * r + 32 * o + t) ≡ entryRow pl r o t
@@ -78,23 +78,18 @@ module _ {h : Head} {b : List ℕ} (ready : Ready h b) where
       omega arith
 
   pub active-out-inside : (a : ℕ) → a < h .actives → activeOutRow a + 39 ≤ length b
-  unfolding activeOutRow
   active-out-inside a l = omega (arith, long)
 
   pub passive-out-inside : (p : ℕ) → p < h .passives → passiveOutRow h p + 39 ≤ length b
-  unfolding passiveOutRow
   passive-out-inside p l = omega (arith, long)
 
   pub active-in-inside : (a : ℕ) → a < h .actives → activeInRow h a + 39 ≤ length b
-  unfolding activeInRow
   active-in-inside a l = omega (arith, long)
 
   pub passive-in-inside : (p : ℕ) → p < h .passives → passiveInRow h p + 39 ≤ length b
-  unfolding passiveInRow
   passive-in-inside p l = omega (arith, long)
 
   pub allowance-inside : (a : ℕ) → a < h .actives → allowanceByte h a < length b
-  unfolding allowanceByte
   allowance-inside a l = omega (arith, long)
 
   pub entry-inside : (r o t : ℕ) → r < h .routers → o < 4 → t < 32

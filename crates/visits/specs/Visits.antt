@@ -36,19 +36,19 @@ pub record Walked (h : Head) (lengths : List (List ℕ)) (v : Visit) (b : List �
   pub acts : (pl : Plan) → pl .head ≡ h → lengths ≡ lengthsOf pl → Acts pl (visit v) b x d
 
 -- ---- rows of the interfaces' queues, by the head alone
-unfoldable pub activeOutRow : ℕ → ℕ
+abbrev pub activeOutRow : ℕ → ℕ
 activeOutRow a = 2 + 39 * a
 
-unfoldable pub passiveOutRow : Head → ℕ → ℕ
+abbrev pub passiveOutRow : Head → ℕ → ℕ
 passiveOutRow h p = 2 + 39 * (h .actives + p)
 
-unfoldable pub activeInRow : Head → ℕ → ℕ
+abbrev pub activeInRow : Head → ℕ → ℕ
 activeInRow h a = 2 + 39 * (destinations h + 21 * h .routers + a)
 
-unfoldable pub passiveInRow : Head → ℕ → ℕ
+abbrev pub passiveInRow : Head → ℕ → ℕ
 passiveInRow h p = 2 + 39 * (destinations h + 21 * h .routers + h .actives + p)
 
-unfoldable pub allowanceByte : Head → ℕ → ℕ
+abbrev pub allowanceByte : Head → ℕ → ℕ
 allowanceByte h a = allowancesFrom h + a
 
 -- ---- what accepted calls leave

@@ -55,6 +55,12 @@ cleared-more i b l =
     ∙ ap (λ (x : List ℕ). zeros i ++ set x 0 0) (drop-cons b i 0 l) ∙ sym (zeros-end i (drop (suc i) b))
     ∙ ap (λ (k : ℕ). zeros k ++ drop k b) (sym (add-one i))
 
+pub cleared-turn : (i : ℕ) (b : List ℕ) {s : List ℕ} → s ≡ cleared i b → i < length b → set s i 0 ≡ cleared (i + 1) b
+cleared-turn i b e l = ap (λ (x : List ℕ). set x i 0) e ∙ cleared-more i b l
+
+pub cleared-done : (b : List ℕ) {i n : ℕ} {s : List ℕ} → s ≡ cleared i b → i ≡ n → s ≡ cleared n b
+cleared-done b e k = e ∙ ap (λ (j : ℕ). cleared j b) k
+
 -- zero bytes laid behind zero bytes
 pub laid-zero : (at : ℕ) (t : List ℕ) (n : ℕ) (b : List ℕ) → ((i : ℕ) → i < n → getD t i 0 ≡ 0)
     → at + n ≤ length b → laid at t n (cleared at b) ≡ cleared (at + n) b

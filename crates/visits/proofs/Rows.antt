@@ -5,7 +5,7 @@ use Prim.Native.Nat.{ℕ, _+_, _*_, _≤_, _<_}
 use native.Mathlib.Omega.{arith}
 use lib.ListN.{length}
 use Rattle.plan.specs.declared.Head.{Head}
-use Rattle.plan.specs.Head.{InRange}
+use Rattle.plan.specs.Head.{InRange, Counts}
 use Rattle.plan.specs.Plan.{Plan, R, A, P, S}
 use Rattle.feeding.specs.Queue.{activeOut, activeIn, passiveIn, passiveOut, number}
 use Rattle.layout.specs.Offsets.{queueRow, allowanceRow, entryRow}
@@ -77,21 +77,40 @@ module _ {h : Head} {b : List ℕ} (ready : Ready h b) where
       ∙ ap (λ (n : ℕ). n + length (ready .held .rest)) (size-by pl ∙ ap stateSize (ready .head)) in
       omega arith
 
-  pub active-out-inside : (a : ℕ) → a < h .actives → activeOutRow a + 39 ≤ length b
-  active-out-inside a l = omega (arith, long)
+  pub phase-inside : 0 < length b
+  phase-inside = omega (arith, long)
 
-  pub passive-out-inside : (p : ℕ) → p < h .passives → passiveOutRow h p + 39 ≤ length b
-  passive-out-inside p l = omega (arith, long)
+  pub active-out-inside : (a row : ℕ) → a < h .actives → row ≡ activeOutRow a → row + 39 ≤ length b
+  active-out-inside a row l at = omega (arith, long)
 
-  pub active-in-inside : (a : ℕ) → a < h .actives → activeInRow h a + 39 ≤ length b
-  active-in-inside a l = omega (arith, long)
+  pub passive-out-inside : (p row : ℕ) → p < h .passives → row ≡ passiveOutRow h p → row + 39 ≤ length b
+  passive-out-inside p row l at = omega (arith, long)
 
-  pub passive-in-inside : (p : ℕ) → p < h .passives → passiveInRow h p + 39 ≤ length b
-  passive-in-inside p l = omega (arith, long)
+  pub active-in-inside : (a row : ℕ) → a < h .actives → row ≡ activeInRow h a → row + 39 ≤ length b
+  active-in-inside a row l at = omega (arith, long)
 
-  pub allowance-inside : (a : ℕ) → a < h .actives → allowanceByte h a < length b
-  allowance-inside a l = omega (arith, long)
+  pub passive-in-inside : (p row : ℕ) → p < h .passives → row ≡ passiveInRow h p → row + 39 ≤ length b
+  passive-in-inside p row l at = omega (arith, long)
 
-  pub entry-inside : (r o t : ℕ) → r < h .routers → o < 4 → t < 32
-      → tableFrom h + 2 * (128 * r + 32 * o + t) < length b
-  entry-inside r o t hr ho ht = omega (arith, long)
+  pub allowance-inside : (a byte : ℕ) → a < h .actives → byte ≡ allowanceByte h a → byte < length b
+  allowance-inside a byte l at = omega (arith, long)
+
+  pub entry-inside : (r o t i : ℕ) → r < h .routers → o < 4 → t < 32
+      → i ≡ tableFrom h + 2 * (128 * r + 32 * o + t) → i < length b
+  entry-inside r o t i hr ho ht at = omega (arith, long)
+
+-- ---- what the code's offsets ask
+pub few-counts : {h : Head} → InRange h → Counts h
+few-counts range = (range .routers .1, range .actives .1, range .passives .1)
+
+pub active-few : {h : Head} (a : ℕ) → InRange h → a < h .actives → a < 16
+active-few a range l = let m = range .actives .1 in omega arith
+
+pub passive-few : {h : Head} (p : ℕ) → InRange h → p < h .passives → p < 16
+passive-few p range l = let m = range .passives .1 in omega arith
+
+pub slot-few : {h : Head} (t : ℕ) → InRange h → t < h .slots → t < 32
+slot-few t range l = let m = range .slots .1 in omega arith
+
+pub router-few : {h : Head} (r : ℕ) → InRange h → r < h .routers → r < 16
+router-few r range l = let m = range .routers .1 in omega arith

@@ -25,9 +25,11 @@ use Rattle.layout.specs.Decode.{lengthAt, capacity-most}
 use Rattle.layout.specs.Updates.{pushAt, popAt}
 use Rattle.layout.proofs.Readings.{length-at}
 use Rattle.layout.proofs.Updates.{put-flag, push-queue, pop-queue, put-allowance}
-use Rattle.visits.specs.Visits.{Ready, passiveOutRow, passiveInRow, activeInRow, allowanceByte}
+use Rattle.visits.specs.Visits.{Ready, activeOutRow, passiveOutRow, passiveInRow, activeInRow, allowanceByte}
 use Rattle.visits.specs.Visits.{launchedAt, takenAt, repliedAt, consumedAt}
-use Rattle.visits.proofs.Rows.{active-there, passive-there}
+use Rattle.visits.proofs.Rows.{active-there, passive-there, active-out-inside, passive-out-inside}
+use Rattle.visits.proofs.Rows.{active-in-inside, passive-in-inside, allowance-inside, active-few, passive-few}
+use Rattle.visits.proofs.Rows.{slot-few}
 use Rattle.visits.proofs.Rows.{passive-out-row, passive-in-row, active-in-row, allowance-byte}
 use Rattle.visits.proofs.Tests.{Headed, queued, has-head, head-is, allowed}
 
@@ -120,35 +122,81 @@ module _ {h : Head} {b : List ℕ} (range : InRange h) (ready : Ready h b) where
   in-range : InRange (plan .head)
   in-range = rw (ready .head) range
 
-  pub consumed-few : (a row : ℕ) → a < h .actives → row ≡ activeInRow h a → lengthAt row b ≤ 7
-  consumed-few a row l at =
-      let there = active-there plan (ready .head) a l in
-      let e = queued plan state rest b (ready .held .same) (activeIn a) there row
-      (at ∙ active-in-row plan (ready .head) a) in
-      omega (arith, few plan in-range state (ready .held .fit) (activeIn a) there)
+  in-few : (q : Queue) → Exists plan q → (row : ℕ) → row ≡ queueRow plan q → lengthAt row b ≤ 7
+  in-few q there row at =
+      let e = queued plan state rest b (ready .held .same) q there row at in
+      omega (arith, few plan in-range state (ready .held .fit) q there)
 
-  pub allowance-fits : (a byte : ℕ) → a < h .actives → byte ≡ allowanceByte h a → getD b byte 0 ≤ 7
-  allowance-fits a byte l at =
-      let there = active-there plan (ready .head) a l in
-      let e = allowed plan state rest b (ready .held .same) a there byte (at ∙ allowance-byte plan (ready .head) a) in
-      omega (arith, allowance-few plan in-range state (ready .held .fit) a there)
+  -- what Launch's step asks
+  pub launch-ready : (a p t row byte : ℕ) → a < h .actives → p < h .passives → t < h .slots → row ≡ activeOutRow a
+      → byte ≡ allowanceByte h a → (getD b byte 0 ≡ 0 → ⊥) → lengthAt row b < h .aout .0
+      → (row + 39 ≤ length b) × (lengthAt row b < 7) × (byte < length b) × (1 ≤ getD b byte 0) × (a < 16) × (p < 16)
+      × (t < 32)
+  launch-ready a p t row byte la lp lt at byted left room =
+      let m = range .aout .1 in (
+        active-out-inside ready a row la at,
+        omega arith,
+        allowance-inside ready a byte la byted,
+        omega arith,
+        active-few a range la,
+        passive-few p range lp,
+        slot-few t range lt,
+      )
 
-  pub replied-few : (p row : ℕ) → p < h .passives → row ≡ passiveInRow h p → lengthAt row b ≤ 7
-  replied-few p row l at =
-      let there = passive-there plan (ready .head) p l in
-      let e = queued plan state rest b (ready .held .same) (passiveIn p) there row
-      (at ∙ passive-in-row plan (ready .head) p) in
-      omega (arith, few plan in-range state (ready .held .fit) (passiveIn p) there)
+  -- what Consume's asks
+  pub consume-ready : (a row byte : ℕ) → a < h .actives → row < 20000 → row ≡ activeInRow h a
+      → byte ≡ allowanceByte h a → (lengthAt row b ≡ 0 → ⊥)
+      → (row < 20000) × (row + 39 ≤ length b) × (1 ≤ lengthAt row b) × (lengthAt row b ≤ 7) × (byte < length b)
+      × (getD b byte 0 ≤ 7)
+  consume-ready a row byte la small at byted some =
+      let there = active-there plan (ready .head) a la in
+      let e = allowed plan state rest b (ready .held .same) a there byte
+      (byted ∙ allowance-byte plan (ready .head) a) in
+      let m = allowance-few plan in-range state (ready .held .fit) a there in (
+        small,
+        active-in-inside ready a row la at,
+        omega arith,
+        in-few (activeIn a) there row (at ∙ active-in-row plan (ready .head) a),
+        allowance-inside ready a byte la byted,
+        omega arith,
+      )
 
-  pub replied-room : (p from to : ℕ) → p < h .passives → from ≡ passiveInRow h p → to ≡ passiveOutRow h p
-      → (lengthAt from b ≡ 0 → ⊥) → lengthAt to b < 7 → lengthAt to (takenAt from b) < 7
-  replied-room p from to l out into some room =
-      let there = passive-there plan (ready .head) p l in
-      let e = ready .held .same in
+  -- what Reply's asks
+  pub reply-ready : (p from to : ℕ) → p < h .passives → from < 20000 → from ≡ passiveInRow h p → to ≡ passiveOutRow h p
+      → (lengthAt from b ≡ 0 → ⊥) → lengthAt to b < h .pout .0
+      → (from < 20000) × (from + 39 ≤ length b) × (1 ≤ lengthAt from b) × (lengthAt from b ≤ 7) × (to + 39 ≤ length b)
+      × (lengthAt to (takenAt from b) < 7)
+  reply-ready p from to lp little out into some room =
+      let there = passive-there plan (ready .head) p lp in
+      let same = ready .held .same in
       let o = out ∙ passive-in-row plan (ready .head) p in
       let i = into ∙ passive-out-row plan (ready .head) p in
-      let k = has-head plan state rest b e (passiveIn p) there from o some in
+      let k = has-head plan state rest b same (passiveIn p) there from o some in
       let m = few plan in-range state (ready .held .fit) (passiveIn p) there in
-      let x = out-same plan state rest b e p there from to o i k m in
-      let y = queued plan state rest b e (passiveOut p) there to i in
-      omega arith
+      let x = out-same plan state rest b same p there from to o i k m in
+      let y = queued plan state rest b same (passiveOut p) there to i in
+      let z = range .pout .1 in (
+        little,
+        passive-in-inside ready p from lp out,
+        omega arith,
+        in-few (passiveIn p) there from o,
+        passive-out-inside ready p to lp into,
+        omega arith,
+      )
+
+-- ---- the steps as the code makes them
+pub launch-made : (b : List ℕ) (row byte a p t : ℕ) {x : Packet} {c : List ℕ} → x ≡ setupOf a p t → c ≡ pushAt row x b
+    → set c byte (getD b byte 0 - 1) ≡ launchedAt row byte a p t b
+unfolding launchedAt
+launch-made b row byte a p t e f =
+    ap (λ (l : List ℕ). set l byte (getD b byte 0 - 1)) (f ∙ ap (λ (y : Packet). pushAt row y b) e)
+
+pub reply-room : (b : List ℕ) (from to : ℕ) {c : List ℕ} → c ≡ takenAt from b → lengthAt to (takenAt from b) < 7
+    → lengthAt to c < 7
+reply-room b from to e l = rw e l
+
+pub reply-made : (b : List ℕ) (from to choice : ℕ) {x y : Packet} {c d : List ℕ} → x ≡ packetAt (from + firstPlace) b
+    → y ≡ repliedAs (replyKind choice) x → c ≡ takenAt from b → d ≡ pushAt to y c → d ≡ repliedAt from to choice b
+unfolding repliedAt
+reply-made b from to choice e f g k =
+    k ∙ ap₂ (pushAt to) (f ∙ ap (repliedAs (replyKind choice)) e) g

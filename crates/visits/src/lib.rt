@@ -9,8 +9,8 @@ use packets::Packet;
 use plan::Head;
 ghost use mathlib.Core.Path.{_≡_};
 ghost use Prim.Native.Nat.{ℕ, _+_, _*_, _≤_, _<_};
-ghost use lib.ListN.{getD, length};
 ghost use mathlib.Core.List.{[]};
+ghost use lib.ListN.{getD, length};
 ghost use Rattle.plan.specs.Head.{InRange, Counts};
 ghost use Rattle.machine.specs.Execute.{unmarked};
 ghost use Rattle.machine.specs.Visits.{setupOf, replyKind, repliedAs};
@@ -93,7 +93,7 @@ fn flag_up(s: &[u8], at: usize) -> bool
     requires { ⌜ (at < 20000) × (at + 39 ≤ length (now s)) ⌝ }
     ensures { λ r. ⌜ r ≡ flagAt at (now (s .entry)) ⌝ }
 {
-    s[at + FLAG_BYTE] != 0
+    rows::flag_of(s[at + FLAG_BYTE])
 }
 
 // How many packets are in the queue whose row is at an offset.
@@ -163,4 +163,163 @@ fn answer(x: Packet, choice: usize) -> Packet
         slot: slot,
         hub: hub,
     }
+}
+
+// The head leaves the queue whose row is at an offset, and the queue's flag rises.
+fn take(s: &mut [u8], at: usize)
+    requires { ⌜ (at < 20000) × (at + 39 ≤ length (now s)) × (1 ≤ lengthAt at (now s)) × (lengthAt at (now s) ≤ 7) ⌝ }
+    ensures { λ _. ⌜ now (s .exit) ≡ takenAt at (now (s .entry)) ⌝ }
+{
+    rows::pop(s, at);
+    s[at + FLAG_BYTE] = 1;
+}
+
+// 'a SETUP, hub 0, joins and the allowance falls by one'
+fn launch_step(s: &mut [u8], row: usize, byte: usize, a: usize, p: usize, t: usize)
+    requires { ⌜ (row + 39 ≤ length (now s)) × (lengthAt row (now s) < 7) × (byte < length (now s))
+        × (1 ≤ getD (now s) byte 0) × (a < 16) × (p < 16) × (t < 32) ⌝ }
+    ensures { λ _. ⌜ now (s .exit) ≡ launchedAt row byte a p t (now (s .entry)) ⌝ }
+{
+    let n = s[byte];
+    let x = set_up(a, p, t);
+    rows::push(s, row, x);
+    s[byte] = n - 1;
+}
+
+// 'the packet is .. removed, the flag rises, the allowance grows by one'
+fn consume_step(s: &mut [u8], row: usize, byte: usize)
+    requires { ⌜ (row < 20000) × (row + 39 ≤ length (now s)) × (1 ≤ lengthAt row (now s)) × (lengthAt row (now s) ≤ 7)
+        × (byte < length (now s)) × (getD (now s) byte 0 ≤ 7) ⌝ }
+    ensures { λ _. ⌜ now (s .exit) ≡ consumedAt row byte (now (s .entry)) ⌝ }
+{
+    let n = s[byte];
+    take(s, row);
+    s[byte] = n + 1;
+}
+
+// 'the head becomes ACK or NACK, slot and hub kept, in the out-queue; the flag rises'
+fn reply_step(s: &mut [u8], from: usize, to: usize, choice: usize)
+    requires { ⌜ (from < 20000) × (from + 39 ≤ length (now s)) × (1 ≤ lengthAt from (now s)) × (lengthAt from (now s) ≤ 7)
+        × (to + 39 ≤ length (now s)) × (lengthAt to (takenAt from (now s)) < 7) ⌝ }
+    ensures { λ _. ⌜ now (s .exit) ≡ repliedAt from to choice (now (s .entry)) ⌝ }
+{
+    let x = rows::packet_at(s, from + FIRST_PLACE);
+    take(s, from);
+    let y = answer(x, choice);
+    rows::push(s, to, y);
+}
+
+// '**Launch** (active, passive, slot): 8 not READ; 9 a number out of range; 10 pair not served; 11 allowance 0; 12 out-queue full.'
+pub fn launch(
+    h: Head,
+    lengths: &[[u8; 16]; 16],
+    s: &mut [u8],
+    active: usize,
+    passive: usize,
+    slot: usize,
+) -> Answer
+    requires { ⌜ InRange h × Ready h (now s) ⌝ }
+    ensures { λ x. ⌜ Walked h (now (lengths .entry)) (ofLaunch active passive slot) (now (s .entry)) x (now (s .exit)) ⌝ }
+{
+    if s[PHASE_BYTE] != READ {
+        return Answer::Refused(Refusal::WrongPhase);
+    }
+    if h.actives <= active {
+        return Answer::Refused(Refusal::BadNumber);
+    }
+    if h.passives <= passive {
+        return Answer::Refused(Refusal::BadNumber);
+    }
+    if index(h.slots) <= slot {
+        return Answer::Refused(Refusal::BadNumber);
+    }
+    if walk_length(lengths, active, passive) == 0 {
+        return Answer::Refused(Refusal::NotServed);
+    }
+    let byte = allowance(h, active);
+    if s[byte] == 0 {
+        return Answer::Refused(Refusal::NoAllowance);
+    }
+    let row = active_out(active);
+    if h.aout.0 <= queued(s, row) {
+        return Answer::Refused(Refusal::QueueFull);
+    }
+    launch_step(s, row, byte, active, passive, slot);
+    Answer::Done
+}
+
+// '**Reply** (passive, 1 accept or 0 decline): 8 not WRITE; 9 number or choice out of range; 14 in-queue flag up; 13 in-queue empty;
+// 12 out-queue full.'
+pub fn reply(h: Head, s: &mut [u8], passive: usize, choice: usize) -> Answer
+    requires { ⌜ InRange h × Ready h (now s) ⌝ }
+    ensures { λ x. ⌜ Visits h (ofReply passive choice) (now (s .entry)) x (now (s .exit)) ⌝ }
+{
+    if s[PHASE_BYTE] != WRITE {
+        return Answer::Refused(Refusal::WrongPhase);
+    }
+    if h.passives <= passive {
+        return Answer::Refused(Refusal::BadNumber);
+    }
+    if 1 < choice {
+        return Answer::Refused(Refusal::BadNumber);
+    }
+    let from = passive_in(h, passive);
+    if flag_up(s, from) {
+        return Answer::Refused(Refusal::FlagUp);
+    }
+    if queued(s, from) == 0 {
+        return Answer::Refused(Refusal::QueueEmpty);
+    }
+    let to = passive_out(h, passive);
+    if h.pout.0 <= queued(s, to) {
+        return Answer::Refused(Refusal::QueueFull);
+    }
+    reply_step(s, from, to, choice);
+    Answer::Done
+}
+
+// '**Consume** (active): 8 not WRITE; 9; 14; 13; 15 head is an unmarked NACK.'
+pub fn consume(h: Head, s: &mut [u8], active: usize) -> Answer
+    requires { ⌜ InRange h × Ready h (now s) ⌝ }
+    ensures { λ x. ⌜ Visits h (ofConsume active) (now (s .entry)) x (now (s .exit)) ⌝ }
+{
+    if s[PHASE_BYTE] != WRITE {
+        return Answer::Refused(Refusal::WrongPhase);
+    }
+    if h.actives <= active {
+        return Answer::Refused(Refusal::BadNumber);
+    }
+    let row = active_in(h, active);
+    if flag_up(s, row) {
+        return Answer::Refused(Refusal::FlagUp);
+    }
+    if queued(s, row) == 0 {
+        return Answer::Refused(Refusal::QueueEmpty);
+    }
+    let x = rows::packet_at(s, row + FIRST_PLACE);
+    if is_unmarked(x) {
+        return Answer::Refused(Refusal::Unmarked);
+    }
+    let byte = allowance(h, active);
+    consume_step(s, row, byte);
+    Answer::Taken(x)
+}
+
+// '**Entry** (router, side, slot): 9.'
+pub fn entry(h: Head, s: &[u8], router: usize, side: usize, slot: usize) -> Answer
+    requires { ⌜ InRange h × Ready h (now s) ⌝ }
+    ensures { λ x. ⌜ Visits h (ofEntry router side slot) (now (s .entry)) x (now (s .entry)) ⌝ }
+{
+    if h.routers <= router {
+        return Answer::Refused(Refusal::BadNumber);
+    }
+    if 4 <= side {
+        return Answer::Refused(Refusal::BadNumber);
+    }
+    if index(h.slots) <= slot {
+        return Answer::Refused(Refusal::BadNumber);
+    }
+    let i = acts::entry_row(h, router, side, slot);
+    let x = rows::entry_at(s, i);
+    Answer::Holds(x)
 }

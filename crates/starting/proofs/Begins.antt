@@ -2,12 +2,12 @@
 use mathlib.Core.Path.{_≡_, refl, sym, ap, ap₂, _∙_, subst}
 use mathlib.Core.List.{List, [], _∷_, _++_, append-assoc}
 use Prim.Native.Nat.{ℕ, suc, _+_, _*_, _≤_, _<_}
-use native.Mathlib.Nat.{one-mul}
+use native.Mathlib.Nat.{one-mul, zero-add}
 use native.Mathlib.Omega.{arith}
 use lib.ListN.{length, getD, set, length-append}
 use Rattle.basis.specs.Fold.{upTo, up-same}
 use Rattle.plan.specs.declared.Head.{Head}
-use Rattle.plan.specs.Head.{InRange}
+use Rattle.plan.specs.Head.{InRange, Counts, destinations}
 use Rattle.plan.specs.Plan.{Plan, R, A}
 use Rattle.feeding.specs.Queue.{queues, queueAt}
 use Rattle.machine.specs.Outputs.{outputs, outputAt}
@@ -16,11 +16,14 @@ use Rattle.layout.specs.Rows.{rows, rows-same, rows-length, past}
 use Rattle.layout.specs.Offsets.{size, entries, allowancesAt}
 use Rattle.layout.specs.Places.{placeBytes}
 use Rattle.layout.specs.Encode.{queueBytes, outputBytes, allowanceBytes, entryBytes, entryOfNumber, encode}
-use Rattle.acts.specs.Counts.{queueCount, allowancesFrom, stateSize, queues-by, size-by, allowances-at}
-use Rattle.starting.specs.Starting.{Started, zeros, cleared, laid, sixteen, creditOf, credited, allowanceOf}
-use Rattle.starting.proofs.Zeros.{length-zeros, zeros-split, zeros-rows}
+use Rattle.acts.specs.Counts.{queueCount, allowancesFrom, tableFrom, stateSize, queues-by, size-by, allowances-at}
+use Rattle.starting.specs.Starting.{Started, zeros, cleared, laid, credits, freeEntries, sixteen, routerCredits}
+use Rattle.starting.specs.Starting.{creditOf, credited, allowanceOf}
+use Rattle.starting.proofs.Zeros.{length-zeros, zeros-split, zeros-rows, laid-zero}
 use Rattle.starting.proofs.Fills.{filled}
-use Rattle.starting.proofs.Credits.{sixteen-at, credit-of}
+use Rattle.starting.proofs.Credits.{sixteen-at, free-at, credit-of, active-out-credit, passive-out-credit}
+use Rattle.starting.proofs.Credits.{router-part, active-in-credit, passive-in-credit, router-credits-at}
+use Rattle.starting.proofs.Credits.{credited-none, credited-more}
 
 module _ (pl : Plan) (rest : List ℕ) where
   -- ---- the parts of a state's bytes: the header, the queues' rows, the outputs' rows, the allowances, the table
@@ -135,3 +138,65 @@ started {h} {b} {d} range made =
           (sym e) made
           ∙ begun pl (let k = ap (λ (x : Head). x .actives) e in let m = range .actives .1 in omega arith) b;
     }
+
+-- ---- the code's steps put together
+-- what is laid by values that the code computed
+pub laid-as : (n : ℕ) (b : List ℕ) {at from : ℕ} {t u d : List ℕ} → at ≡ from → t ≡ u → d ≡ laid at t n b → d ≡ laid from u n b
+laid-as n b e f g = g ∙ ap₂ (λ (i : ℕ) (x : List ℕ). laid i x n b) e f
+
+-- two groups of queues, one after the other
+pub two-groups : (m k n l : ℕ) (b : List ℕ) {t u v w c d : List ℕ} → t ≡ v → c ≡ credits m t k b → u ≡ w → d ≡ credits n u l c
+    → d ≡ credits n w l (credits m v k b)
+two-groups m k n l b e f g i =
+    i ∙ ap₂ (λ (x y : List ℕ). credits n x l y) g (f ∙ ap (λ (x : List ℕ). credits m x k b) e)
+
+-- out-queues, routers' queues, in-queues
+pub all-groups : (h : Head) → Counts h → (b : List ℕ) {c d e t : List ℕ}
+    → c ≡ credits (h .actives) (sixteen (h .pout .0)) (h .passives)
+    (credits 0 (sixteen (h .aout .0)) (h .actives) b)
+    → t ≡ routerCredits h → d ≡ credits (destinations h) t (21 * h .routers) c
+    → e ≡ credits (destinations h + 21 * h .routers + h .actives) (sixteen (h .pin .0)) (h .passives)
+    (credits (destinations h + 21 * h .routers) (sixteen (h .ain .0)) (h .actives) d)
+    → e ≡ credited h (queueCount h) b
+all-groups h few b {c} p q r i =
+    let fa = few .1 in
+    let fp = few .2 in
+    let one = credited-more h b 0 (h .actives) (sixteen (h .aout .0))
+    (λ i l. sixteen-at (h .aout .0) i (omega arith) ∙ sym (active-out-credit h i l)) (credited-none h b) refl in
+    let two = credited-more h b (0 + h .actives) (h .passives) (sixteen (h .pout .0))
+    (λ i l. sixteen-at (h .pout .0) i (omega arith)
+    ∙ sym (passive-out-credit h i l) ∙ ap (λ (n : ℕ). creditOf h (n + i)) (sym (zero-add (h .actives)))) one
+    (p ∙ ap (λ (n : ℕ). credits n (sixteen (h .pout .0)) (h .passives)
+    (credits 0 (sixteen (h .aout .0)) (h .actives) b)) (sym (zero-add (h .actives)))) in
+    let known : c ≡ credited h (destinations h) b =
+    two ∙ ap (λ (n : ℕ). credited h (n + h .passives) b) (zero-add (h .actives)) in
+    let three = credited-more h b (destinations h) (21 * h .routers) (routerCredits h)
+    (λ j l. router-credits-at h few j l ∙ sym (router-part h j l)) known
+    (r ∙ ap (λ (x : List ℕ). credits (destinations h) x (21 * h .routers) c) q) in
+    let four = credited-more h b (destinations h + 21 * h .routers) (h .actives) (sixteen (h .ain .0))
+    (λ i l. sixteen-at (h .ain .0) i (omega arith) ∙ sym (active-in-credit h i l)) three refl in
+    let five = credited-more h b (destinations h + 21 * h .routers + h .actives) (h .passives) (sixteen (h .pin .0))
+    (λ i l. sixteen-at (h .pin .0) i (omega arith) ∙ sym (passive-in-credit h i l)) four i in
+    let count : destinations h + 21 * h .routers + h .actives + h .passives ≡ queueCount h = omega arith in
+    five ∙ ap (λ (n : ℕ). credited h n b) count
+
+-- all of Start
+pub start-made : {h : Head} → InRange h → {at : ℕ} {b c d e f : List ℕ} → stateSize h ≤ length b → at ≡ tableFrom h
+    → c ≡ cleared at b → d ≡ laid (tableFrom h) freeEntries (256 * h .routers) c → e ≡ credited h (queueCount h) d
+    → f ≡ laid (allowancesFrom h) (sixteen (allowanceOf h)) (h .actives) e → Started h b f
+start-made {h} range {at} {b} long i p q r s =
+    let few = range .routers .1 in
+    let zero-table : laid (tableFrom h) freeEntries (256 * h .routers) (cleared (tableFrom h) b)
+    ≡ cleared (stateSize h) b =
+    laid-zero (tableFrom h) freeEntries (256 * h .routers) b (λ i l. free-at i (omega arith)) long in
+    started range
+    (s ∙ ap (laid (allowancesFrom h) (sixteen (allowanceOf h)) (h .actives))
+    (r ∙ ap (credited h (queueCount h))
+    (q ∙ ap (laid (tableFrom h) freeEntries (256 * h .routers)) (p ∙ ap (λ (n : ℕ). cleared n b) i) ∙ zero-table)))
+
+-- what the steps ask: counts that are few, and a length that stays
+pub few-counts : {h : Head} → InRange h → Counts h
+few-counts range = (range .routers .1, range .actives .1, range .passives .1)
+
+pub long-still : {n : ℕ} {m k : ℕ} → n ≤ k → m ≡ k → n ≤ m
+long-still l e = omega arith

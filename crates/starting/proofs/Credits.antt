@@ -9,7 +9,7 @@ use lib.Dec.{eqb, ltb}
 use lib.ListN.{length, getD, set, replicate, length-replicate}
 use borrow.Author.Tests.{lt-ltb, le-ltb, ne-eqb}
 use Rattle.basis.specs.Choice.{pick, pick-out}
-use Rattle.basis.specs.Fold.{upTo, fill, fill-at}
+use Rattle.basis.specs.Fold.{upTo, fill, fill-at, length-fill}
 use Rattle.plan.specs.declared.Head.{Head}
 use Rattle.plan.specs.Head.{Counts, destinations}
 use Rattle.plan.specs.Plan.{Plan, R, A, P}
@@ -126,6 +126,12 @@ router-credits-at h few j l =
     let m = few .0 in
     fill-at (λ j. routerCredit h (j % 21)) (21 * h .routers) (replicate 336 (h .k .0)) j 0 l
     (rw length-replicate (omega arith))
+
+pub length-router-credits : (h : Head) → length (routerCredits h) ≡ 336
+unfolding routerCredits
+length-router-credits h =
+    length-fill (λ j. routerCredit h (j % 21)) (21 * h .routers) (replicate 336 (h .k .0))
+    ∙ length-replicate 336 (h .k .0)
 
 -- ---- stored
 module _ (h : Head) (b : List ℕ) where

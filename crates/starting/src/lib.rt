@@ -84,3 +84,78 @@ fn router_credits(h: Head) -> [u8; 336]
     }
     t
 }
+
+// 'table empty'
+fn free_table(h: Head, s: &mut [u8])
+    requires { ⌜ Counts h × (stateSize h ≤ length (now s)) ⌝ }
+    ensures { λ _. ⌜ now (s .exit) ≡ laid (tableFrom h) freeEntries (256 * h .routers) (now (s .entry)) ⌝ }
+{
+    let t = free_entries();
+    let at = acts::table_row(h);
+    lay(s, at, &t, 256 * h.routers);
+}
+
+// The smaller of two capacities.
+fn smaller(c: Credit, d: Credit) -> u8
+    ensures { λ v. ⌜ v ≡ min (c .0) (d .0) ⌝ }
+{
+    if c.0 <= d.0 { c.0 } else { d.0 }
+}
+
+// 'each active's allowance = the smaller of its two capacities'
+fn allow(h: Head, s: &mut [u8])
+    requires { ⌜ Counts h × (stateSize h ≤ length (now s)) ⌝ }
+    ensures { λ _. ⌜ now (s .exit) ≡ laid (allowancesFrom h) (sixteen (allowanceOf h)) (h .actives) (now (s .entry)) ⌝ }
+{
+    let t = same(smaller(h.aout, h.ain));
+    let at = acts::allowance_row(h, 0);
+    lay(s, at, &t, h.actives);
+}
+
+// The credits of the out-queues.
+fn out_credits(h: Head, s: &mut [u8])
+    requires { ⌜ Counts h × (stateSize h ≤ length (now s)) ⌝ }
+    ensures { λ _. ⌜ now (s .exit) ≡ credits (h .actives) (sixteen (h .pout .0)) (h .passives)
+        (credits 0 (sixteen (h .aout .0)) (h .actives) (now (s .entry))) ⌝ }
+{
+    let a = same(h.aout.0);
+    lay_credits(s, 0, &a, h.actives);
+    let p = same(h.pout.0);
+    lay_credits(s, h.actives, &p, h.passives);
+}
+
+// The credits of the in-queues.
+fn in_credits(h: Head, s: &mut [u8])
+    requires { ⌜ Counts h × (stateSize h ≤ length (now s)) ⌝ }
+    ensures { λ _. ⌜ now (s .exit) ≡ credits (destinations h + 21 * h .routers + h .actives) (sixteen (h .pin .0)) (h .passives)
+        (credits (destinations h + 21 * h .routers) (sixteen (h .ain .0)) (h .actives) (now (s .entry))) ⌝ }
+{
+    let n = h.actives + h.passives + 21 * h.routers;
+    let a = same(h.ain.0);
+    lay_credits(s, n, &a, h.actives);
+    let p = same(h.pin.0);
+    lay_credits(s, n + h.actives, &p, h.passives);
+}
+
+// 'credit of each queue fed by a wire = its capacity'
+fn all_credits(h: Head, s: &mut [u8])
+    requires { ⌜ Counts h × (stateSize h ≤ length (now s)) ⌝ }
+    ensures { λ _. ⌜ now (s .exit) ≡ credited h (queueCount h) (now (s .entry)) ⌝ }
+{
+    out_credits(h, s);
+    let t = router_credits(h);
+    lay_credits(s, h.actives + h.passives, &t, 21 * h.routers);
+    in_credits(h, s);
+}
+
+// '*Start*: READ, queues, wires and table empty, flags down, no choices, credit of each queue fed by a wire = its capacity, each
+// active's allowance = the smaller of its two capacities.'
+pub fn start(h: Head, s: &mut [u8])
+    requires { ⌜ InRange h × (stateSize h ≤ length (now s)) ⌝ }
+    ensures { λ _. ⌜ Started h (now (s .entry)) (now (s .exit)) ⌝ }
+{
+    clear(s, acts::table_row(h));
+    free_table(h, s);
+    all_credits(h, s);
+    allow(h, s);
+}

@@ -1,7 +1,7 @@
 -- Zero bytes with the credits and the allowances stored are the bytes of Start's state.
 use mathlib.Core.Path.{_≡_, refl, sym, ap, ap₂, _∙_, subst}
 use mathlib.Core.List.{List, [], _∷_, _++_, append-assoc}
-use Prim.Native.Nat.{ℕ, suc, _+_, _*_, _≤_, _<_}
+use Prim.Native.Nat.{ℕ, suc, _+_, _*_, _≤_}
 use native.Mathlib.Nat.{one-mul, zero-add}
 use native.Mathlib.Omega.{arith}
 use lib.ListN.{length, getD, set, length-append}
@@ -10,12 +10,12 @@ use Rattle.plan.specs.declared.Head.{Head}
 use Rattle.plan.specs.Head.{InRange, Counts, destinations}
 use Rattle.plan.specs.Plan.{Plan, R, A}
 use Rattle.feeding.specs.Queue.{queues, queueAt}
-use Rattle.machine.specs.Outputs.{outputs, outputAt}
+use Rattle.machine.specs.Outputs.{outputs}
 use Rattle.machine.specs.State.{blank, start, startAllowance}
 use Rattle.layout.specs.Rows.{rows, rows-same, rows-length, past}
 use Rattle.layout.specs.Offsets.{size, entries, allowancesAt}
 use Rattle.layout.specs.Places.{placeBytes}
-use Rattle.layout.specs.Encode.{queueBytes, outputBytes, allowanceBytes, entryBytes, entryOfNumber, encode}
+use Rattle.layout.specs.Encode.{queueBytes, outputBytes, encode}
 use Rattle.acts.specs.Counts.{queueCount, allowancesFrom, tableFrom, stateSize, queues-by, size-by, allowances-at}
 use Rattle.starting.specs.Starting.{Started, zeros, cleared, laid, credits, freeEntries, sixteen, routerCredits}
 use Rattle.starting.specs.Starting.{creditOf, credited, allowanceOf}
@@ -89,7 +89,8 @@ module _ (pl : Plan) (rest : List ℕ) where
       (omega arith)
 
   allowed-parts : A pl ≤ 16
-      → laid (allowancesAt pl) (sixteen (startAllowance pl)) (A pl) (parts credit (λ j. 0 ∷ [])) ≡ parts credit allowance
+      → laid (allowancesAt pl) (sixteen (startAllowance pl)) (A pl) (parts credit (λ j. 0 ∷ []))
+      ≡ parts credit allowance
   unfolding laid
   allowed-parts few =
       let n : ℕ = allowancesAt pl in
@@ -141,12 +142,13 @@ started {h} {b} {d} range made =
 
 -- ---- the code's steps put together
 -- what is laid by values that the code computed
-pub laid-as : (n : ℕ) (b : List ℕ) {at from : ℕ} {t u d : List ℕ} → at ≡ from → t ≡ u → d ≡ laid at t n b → d ≡ laid from u n b
+pub laid-as : (n : ℕ) (b : List ℕ) {at from : ℕ} {t u d : List ℕ} → at ≡ from → t ≡ u → d ≡ laid at t n b
+    → d ≡ laid from u n b
 laid-as n b e f g = g ∙ ap₂ (λ (i : ℕ) (x : List ℕ). laid i x n b) e f
 
 -- two groups of queues, one after the other
-pub two-groups : (m k n l : ℕ) (b : List ℕ) {t u v w c d : List ℕ} → t ≡ v → c ≡ credits m t k b → u ≡ w → d ≡ credits n u l c
-    → d ≡ credits n w l (credits m v k b)
+pub two-groups : (m k n l : ℕ) (b : List ℕ) {t u v w c d : List ℕ} → t ≡ v → c ≡ credits m t k b → u ≡ w
+    → d ≡ credits n u l c → d ≡ credits n w l (credits m v k b)
 two-groups m k n l b e f g i =
     i ∙ ap₂ (λ (x y : List ℕ). credits n x l y) g (f ∙ ap (λ (x : List ℕ). credits m x k b) e)
 

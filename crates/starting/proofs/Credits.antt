@@ -1,22 +1,22 @@
 -- The credit of each queue by its number is its capacity; and the arrays that are stored hold these credits.
 use mathlib.Core.Path.{_≡_, refl, sym, ap, ap₂, _∙_}
-use mathlib.Core.Bool.{Bool, true, false}
-use mathlib.Core.List.{List, []}
-use Prim.Native.Nat.{ℕ, zero, suc, _+_, _*_, _-_, _/_, _%_, _≤_, _<_}
+use mathlib.Core.List.{List}
+use Prim.Native.Nat.{ℕ, zero, suc, _+_, _*_, _-_, _/_, _%_, _<_}
 use native.Mathlib.Nat.{add-zero, add-suc}
 use native.Mathlib.Omega.{arith}
 use lib.Dec.{eqb, ltb}
 use lib.ListN.{length, getD, set, replicate, length-replicate}
 use borrow.Author.Tests.{lt-ltb, le-ltb, ne-eqb}
 use Rattle.basis.specs.Choice.{pick, pick-out}
-use Rattle.basis.specs.Fold.{upTo, fill, fill-at, length-fill}
+use Rattle.basis.specs.Fold.{upTo, fill-at, length-fill}
 use Rattle.plan.specs.declared.Head.{Head}
 use Rattle.plan.specs.Head.{Counts, destinations}
-use Rattle.plan.specs.Plan.{Plan, R, A, P}
-use Rattle.feeding.specs.Queue.{Queue, activeOut, activeIn, passiveIn, passiveOut, U, Q, F, K, outs, inBase, senderAt}
+use Rattle.plan.specs.Plan.{Plan, A}
+use Rattle.feeding.specs.Queue.{Queue, activeOut, activeIn, passiveIn, passiveOut, U, Q, outs, inBase, senderAt}
 use Rattle.feeding.specs.Queue.{inRouter, queueAt}
 use Rattle.machine.specs.Capacity.{capacity}
-use Rattle.starting.specs.Starting.{credits, freeEntries, sixteen, routerCredit, routerCredits, creditOf, credited}
+use Rattle.starting.specs.Starting.{credits, freeEntries, sixteen, routerCredit, routerCredits, creditOf}
+use Rattle.starting.specs.Starting.{credited}
 
 -- ---- equal bytes
 same-at : (n : ℕ) (v i : ℕ) → i < n → getD (replicate n v) i 0 ≡ v

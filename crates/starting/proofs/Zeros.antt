@@ -1,13 +1,13 @@
 -- Zero bytes: split, as rows, and grown by a store.
 use mathlib.Core.Path.{_≡_, refl, sym, ap, _∙_}
-use mathlib.Core.List.{List, [], _∷_, _++_, append-assoc}
+use mathlib.Core.List.{List, _∷_, _++_, append-assoc}
 use Prim.Native.Nat.{ℕ, zero, suc, _+_, _*_, _≤_, _<_}
-use native.Mathlib.Nat.{zero-add, suc-add, add-zero, add-suc, mul-zero, mul-suc}
+use native.Mathlib.Nat.{zero-add, suc-add, add-zero, mul-zero, mul-suc}
 use native.Mathlib.Numerals.{add-one}
 use native.Mathlib.Omega.{arith}
-use lib.ListN.{length, getD, set, drop, replicate, length-append, length-drop, length-replicate}
+use lib.ListN.{length, getD, set, drop, length-replicate}
 use lib.Seq.{drop-cons}
-use Rattle.basis.specs.Fold.{upTo, up-none, up-suc}
+use Rattle.basis.specs.Fold.{upTo}
 use Rattle.layout.specs.Rows.{rows, past}
 use Rattle.layout.proofs.Lines.{set-behind}
 use Rattle.starting.specs.Starting.{zeros, cleared, laid}
@@ -41,10 +41,6 @@ zeros-rows w i (suc n) r =
 pub cleared-none : (b : List ℕ) → b ≡ cleared 0 b
 unfolding cleared zeros past
 cleared-none b = refl
-
-pub length-cleared : (n : ℕ) (b : List ℕ) → n ≤ length b → length (cleared n b) ≡ length b
-unfolding cleared past
-length-cleared n b l = rw (length-append (zeros n) (drop n b), length-zeros n, length-drop n b) (omega arith)
 
 -- one byte more
 pub cleared-more : (i : ℕ) (b : List ℕ) → i < length b → set (cleared i b) i 0 ≡ cleared (i + 1) b

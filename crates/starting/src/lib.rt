@@ -6,8 +6,8 @@ ghost use Prim.Native.Nat.{_+_, _*_, _≤_, _<_, min};
 ghost use lib.ListN.{length};
 ghost use Rattle.plan.specs.Head.{InRange, Counts, destinations};
 ghost use Rattle.acts.specs.Counts.{queueCount, allowancesFrom, tableFrom, stateSize};
-ghost use Rattle.starting.specs.Starting.{Started, cleared, laid, credits, freeEntries, sixteen, routerCredit, routerCredits};
-ghost use Rattle.starting.specs.Starting.{credited, allowanceOf};
+ghost use Rattle.starting.specs.Starting.{Started, cleared, laid, credits, freeEntries, sixteen};
+ghost use Rattle.starting.specs.Starting.{routerCredit, routerCredits, credited, allowanceOf};
 
 // A free entry's byte.
 const FREE: u8 = 0;
@@ -105,7 +105,8 @@ fn smaller(c: Credit, d: Credit) -> u8
 // 'each active's allowance = the smaller of its two capacities'
 fn allow(h: Head, s: &mut [u8])
     requires { ⌜ Counts h × (stateSize h ≤ length (now s)) ⌝ }
-    ensures { λ _. ⌜ now (s .exit) ≡ laid (allowancesFrom h) (sixteen (allowanceOf h)) (h .actives) (now (s .entry)) ⌝ }
+    ensures { λ _. ⌜ now (s .exit)
+        ≡ laid (allowancesFrom h) (sixteen (allowanceOf h)) (h .actives) (now (s .entry)) ⌝ }
 {
     let t = same(smaller(h.aout, h.ain));
     let at = acts::allowance_row(h, 0);
@@ -127,7 +128,8 @@ fn out_credits(h: Head, s: &mut [u8])
 // The credits of the in-queues.
 fn in_credits(h: Head, s: &mut [u8])
     requires { ⌜ Counts h × (stateSize h ≤ length (now s)) ⌝ }
-    ensures { λ _. ⌜ now (s .exit) ≡ credits (destinations h + 21 * h .routers + h .actives) (sixteen (h .pin .0)) (h .passives)
+    ensures { λ _. ⌜ now (s .exit)
+        ≡ credits (destinations h + 21 * h .routers + h .actives) (sixteen (h .pin .0)) (h .passives)
         (credits (destinations h + 21 * h .routers) (sixteen (h .ain .0)) (h .actives) (now (s .entry))) ⌝ }
 {
     let n = h.actives + h.passives + 21 * h.routers;
@@ -148,8 +150,8 @@ fn all_credits(h: Head, s: &mut [u8])
     in_credits(h, s);
 }
 
-// '*Start*: READ, queues, wires and table empty, flags down, no choices, credit of each queue fed by a wire = its capacity, each
-// active's allowance = the smaller of its two capacities.'
+// '*Start*: READ, queues, wires and table empty, flags down, no choices, credit of each queue fed by a wire = its
+// capacity, each active's allowance = the smaller of its two capacities.'
 pub fn start(h: Head, s: &mut [u8])
     requires { ⌜ InRange h × (stateSize h ≤ length (now s)) ⌝ }
     ensures { λ _. ⌜ Started h (now (s .entry)) (now (s .exit)) ⌝ }

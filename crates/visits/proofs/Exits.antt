@@ -1,18 +1,16 @@
 -- The calls' returns, in the order of the code: each from the tests that led to it.
 use mathlib.Core.Path.{_≡_, refl, sym, ap, _∙_}
-use mathlib.Core.Bool.{Bool, true, false, not, _&&_}
-use mathlib.Core.List.{List, [], _∷_}
-use mathlib.Core.Option.{Option, none, some}
+use mathlib.Core.Bool.{true, false, not, _&&_}
+use mathlib.Core.List.{List, []}
 use Prim.Native.Nat.{ℕ, _+_, _*_, _≤_, _<_}
 use native.Mathlib.Omega.{arith}
-use lib.Dec.{eqb, ltb, leb}
-use lib.ListN.{length, getD}
+use lib.Dec.{ltb, leb}
+use lib.ListN.{getD}
 use borrow.Author.Tests.{lt-ltb, le-ltb, le-leb, lt-leb}
 use Rattle.kinds.specs.declared.Refusal.the-variants.{WrongPhase, BadNumber, NotServed, NoAllowance, QueueFull}
 use Rattle.kinds.specs.declared.Refusal.the-variants.{QueueEmpty, FlagUp, Unmarked}
 use Rattle.packets.specs.declared.Packet.{Packet}
 use Rattle.packets.specs.declared.Entry.{Entry}
-use Rattle.packets.specs.declared.Answer.{Answer}
 use Rattle.packets.specs.declared.Answer.the-variants.{Refused, Done, Taken, Holds}
 use Rattle.plan.specs.declared.Head.{Head}
 use Rattle.plan.specs.Head.{InRange}
@@ -20,10 +18,8 @@ use Rattle.plan.specs.Plan.{Plan, R, A, P, S}
 use Rattle.paths.specs.Served.{served}
 use Rattle.arrivals.specs.Pairs.{lengthsOf}
 use Rattle.feeding.specs.Queue.{activeOut, activeIn, passiveIn, passiveOut}
-use Rattle.machine.specs.State.{State}
 use Rattle.machine.specs.Execute.{unmarked}
 use Rattle.machine.specs.Calls.{ofLaunch, ofReply, ofConsume, ofEntry, launch, reply, consume, entry, consumed}
-use Rattle.machine.specs.Ruled.{Good}
 use Rattle.layout.specs.Encode.{encode}
 use Rattle.layout.specs.Decode.{entryAt, flagAt, lengthAt}
 use Rattle.layout.specs.Places.{packetAt}
@@ -32,11 +28,12 @@ use Rattle.acts.specs.Counts.{tableFrom}
 use Rattle.visits.specs.Visits.{Visits, Walked, activeOutRow, passiveOutRow, activeInRow, passiveInRow}
 use Rattle.visits.specs.Visits.{allowanceByte, launchedAt, repliedAt, consumedAt}
 use Rattle.visits.proofs.Rows.{active-out-row, passive-out-row, active-in-row, passive-in-row, allowance-byte}
-use Rattle.visits.proofs.Rows.{active-there, active-past, passive-there, passive-past, router-there, router-past}
-use Rattle.visits.proofs.Rows.{slot-there, slot-past, entry-byte, range-of}
+use Rattle.visits.proofs.Rows.{active-there, active-past, passive-there, passive-past, router-there}
+use Rattle.visits.proofs.Rows.{router-past, slot-there, slot-past, entry-byte, range-of}
 use Rattle.visits.proofs.Refuse.{passed, here, later, refuses, accepts}
-use Rattle.visits.proofs.Tests.{read-wrong, read-right, write-wrong, write-right, queued, flag-tells, empty-tells}
-use Rattle.visits.proofs.Tests.{some-tells, full-tells, room-tells, has-head, head-is, unmarked-tells}
+use Rattle.visits.proofs.Tests.{read-wrong, read-right, write-wrong, write-right, queued, flag-tells}
+use Rattle.visits.proofs.Tests.{empty-tells, some-tells, full-tells, room-tells, has-head, head-is}
+use Rattle.visits.proofs.Tests.{unmarked-tells}
 use Rattle.visits.proofs.Tests.{none-tells, left-tells}
 use Rattle.visits.proofs.Steps.{few, launched-bytes, removed-bytes, replied-bytes}
 use Rattle.visits.proofs.Served.{not-served, is-served}
@@ -64,8 +61,11 @@ module _ (h : Head) (b : List ℕ) (r o t : ℕ) where
           record {
             acts = λ pl e. refuses pl (entry r o t) b BadNumber
                 (λ s rest g k.
-                here (rw (lt-ltb r (R pl) (router-there pl e r router), lt-ltb o 4 side,
-                le-ltb t (S pl) (slot-past pl e t l))));
+                here (rw (
+                  lt-ltb r (R pl) (router-there pl e r router),
+                  lt-ltb o 4 side,
+                  le-ltb t (S pl) (slot-past pl e t l),
+                )));
           }
 
       pub looked : InRange h → t < h .slots → (i : ℕ) (x : Entry) → i ≡ tableFrom h + 2 * (128 * r + 32 * o + t)
@@ -76,8 +76,11 @@ module _ (h : Head) (b : List ℕ) (r o t : ℕ) where
                 let m = range .slots .1 in
                 accepts pl (entry r o t) b
                 (λ s rest g k.
-                later (rw (lt-ltb r (R pl) (router-there pl e r router), lt-ltb o 4 side,
-                lt-ltb t (S pl) (slot-there pl e t l))) passed)
+                later (rw (
+                  lt-ltb r (R pl) (router-there pl e r router),
+                  lt-ltb o 4 side,
+                  lt-ltb t (S pl) (slot-there pl e t l),
+                )) passed)
                 (λ s rest g k.
                 ap Holds (read ∙ ap (λ (n : ℕ). entryAt n b) (at ∙ entry-byte pl e r o t)
                 ∙ entry-at pl s rest b k r o t (router-there pl e r router) side (omega arith)))
@@ -116,15 +119,21 @@ module _ (h : Head) (lengths : List (List ℕ)) (b : List ℕ) (a p t : ℕ) whe
             record {
               acts = λ pl e w. refuses pl (launch a p t) b BadNumber
                   (λ s rest g k. later (read-right pl s rest b k phase)
-                  (here (rw (lt-ltb a (A pl) (active-there pl e a active),
-                  lt-ltb p (P pl) (passive-there pl e p passive), le-ltb t (S pl) (slot-past pl e t l)))));
+                  (here (rw (
+                    lt-ltb a (A pl) (active-there pl e a active),
+                    lt-ltb p (P pl) (passive-there pl e p passive),
+                    le-ltb t (S pl) (slot-past pl e t l),
+                  ))));
             }
 
         module _ (slot : t < h .slots) where
           numbers : (pl : Plan) → pl .head ≡ h → not (ltb a (A pl) && ltb p (P pl) && ltb t (S pl)) ≡ false
           numbers pl e =
-              rw (lt-ltb a (A pl) (active-there pl e a active), lt-ltb p (P pl) (passive-there pl e p passive),
-              lt-ltb t (S pl) (slot-there pl e t slot))
+              rw (
+                lt-ltb a (A pl) (active-there pl e a active),
+                lt-ltb p (P pl) (passive-there pl e p passive),
+                lt-ltb t (S pl) (slot-there pl e t slot),
+              )
 
           module _ (range : InRange h) where
             pub launch-pair : getD (getD lengths a []) p 0 ≡ 0
@@ -138,59 +147,59 @@ module _ (h : Head) (lengths : List (List ℕ)) (b : List ℕ) (a p t : ℕ) whe
                 }
 
             module _ (some-walk : getD (getD lengths a []) p 0 ≡ 0 → ⊥) (byte : ℕ) (byted : byte ≡ allowanceByte h a)
-                where
-              serves : (pl : Plan) → pl .head ≡ h → lengths ≡ lengthsOf pl → not (served pl a p) ≡ false
-              serves pl e w =
-                  ap not (is-served pl (range-of pl e range) a p lengths w (active-there pl e a active)
-                  (passive-there pl e p passive) some-walk)
+              where
+                serves : (pl : Plan) → pl .head ≡ h → lengths ≡ lengthsOf pl → not (served pl a p) ≡ false
+                serves pl e w =
+                    ap not (is-served pl (range-of pl e range) a p lengths w (active-there pl e a active)
+                    (passive-there pl e p passive) some-walk)
 
-              pub launch-allowance : getD b byte 0 ≡ 0
-                  → Walked h lengths (ofLaunch a p t) b (Refused NoAllowance) b
-              launch-allowance z =
-                  record {
-                    acts = λ pl e w. refuses pl (launch a p t) b NoAllowance
-                        (λ s rest g k. later (read-right pl s rest b k phase) (later (numbers pl e)
-                        (later (serves pl e w)
-                        (here (none-tells pl s rest b k a (active-there pl e a active) byte
-                        (byted ∙ allowance-byte pl e a) z)))));
-                  }
-
-              module _ (left : getD b byte 0 ≡ 0 → ⊥) (row : ℕ) (at : row ≡ activeOutRow a) where
-                pub launch-full : h .aout .0 ≤ lengthAt row b
-                    → Walked h lengths (ofLaunch a p t) b (Refused QueueFull) b
-                launch-full l =
+                pub launch-allowance : getD b byte 0 ≡ 0
+                    → Walked h lengths (ofLaunch a p t) b (Refused NoAllowance) b
+                launch-allowance z =
                     record {
-                      acts = λ pl e w. refuses pl (launch a p t) b QueueFull
+                      acts = λ pl e w. refuses pl (launch a p t) b NoAllowance
                           (λ s rest g k. later (read-right pl s rest b k phase) (later (numbers pl e)
                           (later (serves pl e w)
-                          (later (left-tells pl s rest b k a (active-there pl e a active) byte
-                          (byted ∙ allowance-byte pl e a) left)
-                          (here (full-tells pl s rest b k (activeOut a) (active-there pl e a active) row
-                          (at ∙ active-out-row pl e a)
-                          (let m = ap (λ (x : Head). x .aout .0) e in omega arith)))))));
+                          (here (none-tells pl s rest b k a (active-there pl e a active) byte
+                          (byted ∙ allowance-byte pl e a) z)))));
                     }
 
-                pub launched : lengthAt row b < h .aout .0 → (d : List ℕ) → d ≡ launchedAt row byte a p t b
-                    → Walked h lengths (ofLaunch a p t) b Done d
-                launched l d made =
-                    record {
-                      acts = λ pl e w.
-                          let m = ap (λ (x : Head). x .aout .0) e in
-                          let few = range .aout .1 in
-                          accepts pl (launch a p t) b
-                          (λ s rest g k. later (read-right pl s rest b k phase) (later (numbers pl e)
-                          (later (serves pl e w)
-                          (later (left-tells pl s rest b k a (active-there pl e a active) byte
-                          (byted ∙ allowance-byte pl e a) left)
-                          (later (room-tells pl s rest b k (activeOut a) (active-there pl e a active) row
-                          (at ∙ active-out-row pl e a) (omega arith)) passed)))))
-                          (λ s rest g k. refl)
-                          (λ s rest g k. made
-                          ∙ launched-bytes pl s rest b k a (active-there pl e a active) byte
-                          (byted ∙ allowance-byte pl e a) p t row (at ∙ active-out-row pl e a)
-                          (let q = queued pl s rest b k (activeOut a) (active-there pl e a active) row
-                          (at ∙ active-out-row pl e a) in omega arith));
-                    }
+                module _ (left : getD b byte 0 ≡ 0 → ⊥) (row : ℕ) (at : row ≡ activeOutRow a) where
+                  pub launch-full : h .aout .0 ≤ lengthAt row b
+                      → Walked h lengths (ofLaunch a p t) b (Refused QueueFull) b
+                  launch-full l =
+                      record {
+                        acts = λ pl e w. refuses pl (launch a p t) b QueueFull
+                            (λ s rest g k. later (read-right pl s rest b k phase) (later (numbers pl e)
+                            (later (serves pl e w)
+                            (later (left-tells pl s rest b k a (active-there pl e a active) byte
+                            (byted ∙ allowance-byte pl e a) left)
+                            (here (full-tells pl s rest b k (activeOut a) (active-there pl e a active) row
+                            (at ∙ active-out-row pl e a)
+                            (let m = ap (λ (x : Head). x .aout .0) e in omega arith)))))));
+                      }
+
+                  pub launched : lengthAt row b < h .aout .0 → (d : List ℕ) → d ≡ launchedAt row byte a p t b
+                      → Walked h lengths (ofLaunch a p t) b Done d
+                  launched l d made =
+                      record {
+                        acts = λ pl e w.
+                            let m = ap (λ (x : Head). x .aout .0) e in
+                            let few = range .aout .1 in
+                            accepts pl (launch a p t) b
+                            (λ s rest g k. later (read-right pl s rest b k phase) (later (numbers pl e)
+                            (later (serves pl e w)
+                            (later (left-tells pl s rest b k a (active-there pl e a active) byte
+                            (byted ∙ allowance-byte pl e a) left)
+                            (later (room-tells pl s rest b k (activeOut a) (active-there pl e a active) row
+                            (at ∙ active-out-row pl e a) (omega arith)) passed)))))
+                            (λ s rest g k. refl)
+                            (λ s rest g k. made
+                            ∙ launched-bytes pl s rest b k a (active-there pl e a active) byte
+                            (byted ∙ allowance-byte pl e a) p t row (at ∙ active-out-row pl e a)
+                            (let q = queued pl s rest b k (activeOut a) (active-there pl e a active) row
+                            (at ∙ active-out-row pl e a) in omega arith));
+                      }
 
 -- ---- Consume
 module _ (h : Head) (b : List ℕ) (a : ℕ) where

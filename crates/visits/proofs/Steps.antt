@@ -1,20 +1,18 @@
 -- The bytes that accepted calls leave are those of the states that the rules give; and what good states keep small, so
 -- that the code's sums fit.
-use mathlib.Core.Path.{_≡_, refl, sym, ap, ap₂, _∙_}
+use mathlib.Core.Path.{_≡_, sym, ap, ap₂, _∙_}
 use mathlib.Core.Bool.{true}
-use mathlib.Core.List.{List, [], _∷_}
-use Prim.Native.Nat.{ℕ, _+_, _-_, _≤_, _<_, min}
+use mathlib.Core.List.{List}
+use Prim.Native.Nat.{ℕ, _+_, _-_, _≤_, _<_}
 use native.Mathlib.Nat.{min-le-left}
 use native.Mathlib.Omega.{arith}
 use lib.ListN.{length, getD, set}
 use Rattle.packets.specs.declared.Packet.{Packet}
-use Rattle.packets.specs.declared.Kind.{Kind}
 use Rattle.plan.specs.declared.Head.{Head}
 use Rattle.plan.specs.Head.{InRange}
 use Rattle.plan.specs.Plan.{Plan, A, P}
 use Rattle.feeding.specs.Queue.{Queue, Exists, activeOut, activeIn, passiveIn, passiveOut}
-use Rattle.machine.specs.Capacity.{capacity}
-use Rattle.machine.specs.State.{State, startAllowance, withQueue, withFlag, join}
+use Rattle.machine.specs.State.{State, withQueue, withFlag, join}
 use Rattle.machine.specs.Visits.{setupOf, launched, replyKind, repliedAs, replied, removed}
 use Rattle.machine.specs.Ruled.{Good}
 use Rattle.layout.specs.Offsets.{flagByte, firstPlace, queueRow, allowanceRow}

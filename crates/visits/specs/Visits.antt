@@ -32,8 +32,8 @@ pub record Visits (h : Head) (v : Visit) (b : List ℕ) (x : Answer) (d : List �
 
 -- and that has these lengths of walks: 0 exactly where a pair is not served
 pub record Walked (h : Head) (lengths : List (List ℕ)) (v : Visit) (b : List ℕ) (x : Answer) (d : List ℕ) : Type 0
-    where
-  pub acts : (pl : Plan) → pl .head ≡ h → lengths ≡ lengthsOf pl → Acts pl (visit v) b x d
+  where
+    pub acts : (pl : Plan) → pl .head ≡ h → lengths ≡ lengthsOf pl → Acts pl (visit v) b x d
 
 -- ---- rows of the interfaces' queues, by the head alone
 abbrev pub activeOutRow : ℕ → ℕ

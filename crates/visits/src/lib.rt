@@ -1,5 +1,5 @@
-// The calls between the phases, on the bytes of a good state: Launch, Reply, Consume and Entry. Each has its refusals one after
-// another in document 01's order, and then its step. A refusal writes nothing.
+// The calls between the phases, on the bytes of a good state: Launch, Reply, Consume and Entry. Each has its refusals
+// one after another in document 01's order, and then its step. A refusal writes nothing.
 use kinds::Hub;
 use kinds::Refusal;
 use kinds::Slot;
@@ -8,7 +8,7 @@ use packets::Kind;
 use packets::Packet;
 use plan::Head;
 ghost use mathlib.Core.Path.{_≡_};
-ghost use Prim.Native.Nat.{ℕ, _+_, _*_, _≤_, _<_};
+ghost use Prim.Native.Nat.{_+_, _*_, _≤_, _<_};
 ghost use mathlib.Core.List.{[]};
 ghost use lib.ListN.{getD, length};
 ghost use Rattle.plan.specs.Head.{InRange, Counts};
@@ -16,8 +16,8 @@ ghost use Rattle.machine.specs.Execute.{unmarked};
 ghost use Rattle.machine.specs.Visits.{setupOf, replyKind, repliedAs};
 ghost use Rattle.machine.specs.Calls.{ofLaunch, ofReply, ofConsume, ofEntry};
 ghost use Rattle.layout.specs.Decode.{flagAt, lengthAt};
-ghost use Rattle.visits.specs.Visits.{Ready, Visits, Walked, activeOutRow, passiveOutRow, activeInRow, passiveInRow};
-ghost use Rattle.visits.specs.Visits.{allowanceByte, launchedAt, takenAt, repliedAt, consumedAt};
+ghost use Rattle.visits.specs.Visits.{Ready, Visits, Walked, activeOutRow, passiveOutRow, activeInRow};
+ghost use Rattle.visits.specs.Visits.{passiveInRow, allowanceByte, launchedAt, takenAt, repliedAt, consumedAt};
 
 // The byte of the phase, and its values in READ and in WRITE.
 const PHASE_BYTE: usize = 0;
@@ -199,8 +199,8 @@ fn consume_step(s: &mut [u8], row: usize, byte: usize)
 
 // 'the head becomes ACK or NACK, slot and hub kept, in the out-queue; the flag rises'
 fn reply_step(s: &mut [u8], from: usize, to: usize, choice: usize)
-    requires { ⌜ (from < 20000) × (from + 39 ≤ length (now s)) × (1 ≤ lengthAt from (now s)) × (lengthAt from (now s) ≤ 7)
-        × (to + 39 ≤ length (now s)) × (lengthAt to (takenAt from (now s)) < 7) ⌝ }
+    requires { ⌜ (from < 20000) × (from + 39 ≤ length (now s)) × (1 ≤ lengthAt from (now s))
+        × (lengthAt from (now s) ≤ 7) × (to + 39 ≤ length (now s)) × (lengthAt to (takenAt from (now s)) < 7) ⌝ }
     ensures { λ _. ⌜ now (s .exit) ≡ repliedAt from to choice (now (s .entry)) ⌝ }
 {
     let x = rows::packet_at(s, from + FIRST_PLACE);
@@ -209,7 +209,8 @@ fn reply_step(s: &mut [u8], from: usize, to: usize, choice: usize)
     rows::push(s, to, y);
 }
 
-// '**Launch** (active, passive, slot): 8 not READ; 9 a number out of range; 10 pair not served; 11 allowance 0; 12 out-queue full.'
+// '**Launch** (active, passive, slot): 8 not READ; 9 a number out of range; 10 pair not served; 11 allowance 0; 12
+// out-queue full.'
 pub fn launch(
     h: Head,
     lengths: &[[u8; 16]; 16],
@@ -219,7 +220,8 @@ pub fn launch(
     slot: usize,
 ) -> Answer
     requires { ⌜ InRange h × Ready h (now s) ⌝ }
-    ensures { λ x. ⌜ Walked h (now (lengths .entry)) (ofLaunch active passive slot) (now (s .entry)) x (now (s .exit)) ⌝ }
+    ensures { λ x. ⌜ Walked h (now (lengths .entry)) (ofLaunch active passive slot) (now (s .entry)) x
+        (now (s .exit)) ⌝ }
 {
     if s[PHASE_BYTE] != READ {
         return Answer::Refused(Refusal::WrongPhase);
@@ -248,8 +250,8 @@ pub fn launch(
     Answer::Done
 }
 
-// '**Reply** (passive, 1 accept or 0 decline): 8 not WRITE; 9 number or choice out of range; 14 in-queue flag up; 13 in-queue empty;
-// 12 out-queue full.'
+// '**Reply** (passive, 1 accept or 0 decline): 8 not WRITE; 9 number or choice out of range; 14 in-queue flag up; 13
+// in-queue empty; 12 out-queue full.'
 pub fn reply(h: Head, s: &mut [u8], passive: usize, choice: usize) -> Answer
     requires { ⌜ InRange h × Ready h (now s) ⌝ }
     ensures { λ x. ⌜ Visits h (ofReply passive choice) (now (s .entry)) x (now (s .exit)) ⌝ }

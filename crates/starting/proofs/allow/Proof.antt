@@ -29,10 +29,12 @@ slice-aggregate-lay c = sym (ap length (c .before .before .before .same .ensures
 
 lay-requires : tie.Need-lay-requires
 lay-requires c κs =
-    let a = c .before .before .before .before .before .before .pre .0 .1 in
-    let m = c .before .before .before .before .before .before .pre .1 in
+    let c5 = c .before .before .before .before .before in
+    let a = c5 .before .pre .0 .1 in
+    let m = c5 .before .pre .1 in
     let at = c .before .before .allowance-row .ensures in
-    let l = ap length (c .before .before .before .same .ensures) ∙ length-sixteen (c .before .before .before .before .smaller .result) in
+    let l = ap length (c .before .before .before .same .ensures) ∙ length-sixteen
+    (c .before .before .before .before .smaller .result) in
     (omega arith, omega arith)
 
 same-length : tie.Need-same-length
@@ -40,7 +42,10 @@ same-length c = c .before .before .lay .kept .0
 
 returns : tie.Need-returns
 returns c =
-    laid-as _ _ (c .before .before .before .before .before .allowance-row .ensures ∙ add-zero _) (c .before .before .before .before .before .before .same .ensures ∙ ap sixteen (c .before .before .before .before .before .before .before .smaller .ensures)) (c .before .before .lay .ensures)
+    let c5 = c .before .before .before .before .before in
+    laid-as _ _ (c5 .allowance-row .ensures ∙ add-zero _)
+    (c5 .before .same .ensures ∙ ap sixteen (c5 .before .before .smaller .ensures))
+    (c .before .before .lay .ensures)
 
 pub allow-spec : {M : Type 1} → statement M
 allow-spec =

@@ -22,12 +22,15 @@ slice-aggregate-lay : tie.Need-slice-aggregate-lay
 slice-aggregate-lay c = sym (ap length (c .before .before .before .free-entries .ensures) ∙ length-free)
 
 mul-lay : tie.Need-mul-lay
-mul-lay c = let r = c .before .before .before .before .before .before .pre .0 .0 in omega arith
+mul-lay c =
+    let c5 = c .before .before .before .before .before in
+    let r = c5 .before .pre .0 .0 in omega arith
 
 lay-requires : tie.Need-lay-requires
 lay-requires c κs =
-    let r = c .before .before .before .before .before .before .pre .0 .0 in
-    let m = c .before .before .before .before .before .before .pre .1 in
+    let c5 = c .before .before .before .before .before in
+    let r = c5 .before .pre .0 .0 in
+    let m = c5 .before .pre .1 in
     let at = c .before .before .before .table-row .ensures in
     let l = ap length (c .before .before .before .before .free-entries .ensures) ∙ length-free in
     (omega arith, omega arith)
@@ -37,7 +40,9 @@ same-length c = c .before .before .lay .kept .0
 
 returns : tie.Need-returns
 returns c =
-    laid-as _ _ (c .before .before .before .before .before .before .table-row .ensures) (c .before .before .before .before .before .before .before .free-entries .ensures) (c .before .before .lay .ensures)
+    let c5 = c .before .before .before .before .before in
+    laid-as _ _ (c5 .before .table-row .ensures) (c5 .before .before .free-entries .ensures)
+    (c .before .before .lay .ensures)
 
 pub free-table-spec : {M : Type 1} → statement M
 free-table-spec =

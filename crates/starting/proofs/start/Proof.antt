@@ -19,25 +19,46 @@ clear-requires c κs = let m = c .before .before .before .pre .1 in let at = c .
 
 free-table-requires : tie.Need-free-table-requires
 free-table-requires c κs =
-    (few-counts (c .before .before .before .before .before .before .before .pre .0), long-still (c .before .before .before .before .before .before .before .pre .1) (c .before .before .before .clear .kept .0))
+    let c5 = c .before .before .before .before .before in (
+      few-counts (c5 .before .before .pre .0),
+      long-still (c5 .before .before .pre .1) (c .before .before .before .clear .kept .0),
+    )
 
 all-credits-requires : tie.Need-all-credits-requires
 all-credits-requires c κs =
-    (few-counts (c .before .before .before .before .before .before .before .before .before .before .before .pre .0), long-still (c .before .before .before .before .before .before .before .before .before .before .before .pre .1) (c .before .before .before .free-table .kept .1 .0 ∙ c .before .before .before .before .before .before .before .clear .kept .0))
+    let c5 = c .before .before .before .before .before in
+    let c10 = c5 .before .before .before .before .before in (
+      few-counts (c10 .before .pre .0),
+      long-still (c10 .before .pre .1)
+          (c .before .before .before .free-table .kept .1 .0 ∙ c5 .before .before .clear .kept .0),
+    )
 
 allow-requires : tie.Need-allow-requires
 allow-requires c κs =
-    (few-counts (c .before .before .before .before .before .before .before .before .before .before .before .before .before .before .before .pre .0),
-    long-still (c .before .before .before .before .before .before .before .before .before .before .before .before .before .before .before .pre .1) (c .before .before .before .all-credits .kept .1 .0 ∙ c .before .before .before .before .before .before .before .free-table .kept .1 .0 ∙ c .before .before .before .before .before .before .before .before .before .before .before .clear .kept .0))
+    let c5 = c .before .before .before .before .before in
+    let c10 = c5 .before .before .before .before .before in
+    let c15 = c10 .before .before .before .before .before in (
+      few-counts (c15 .pre .0),
+      long-still (c15 .pre .1)
+          (c .before .before .before .all-credits .kept .1 .0 ∙ c5 .before .before .free-table .kept .1 .0
+          ∙ c10 .before .clear .kept .0),
+    )
 
 same-length : tie.Need-same-length
 same-length c =
-    c .before .before .allow .kept .1 .0 ∙ c .before .before .before .before .before .before .all-credits .kept .1 .0 ∙ c .before .before .before .before .before .before .before .before .before .before .free-table .kept .1 .0 ∙ c .before .before .before .before .before .before .before .before .before .before .before .before .before .before .clear .kept .0
+    let c5 = c .before .before .before .before .before in
+    let c10 = c5 .before .before .before .before .before in
+    c .before .before .allow .kept .1 .0 ∙ c5 .before .all-credits .kept .1 .0 ∙ c10 .free-table .kept .1 .0
+    ∙ c10 .before .before .before .before .clear .kept .0
 
 returns : tie.Need-returns
 returns c =
-    start-made (c .before .before .before .before .before .before .before .before .before .before .before .before .before .before .before .before .before .before .pre .0) (c .before .before .before .before .before .before .before .before .before .before .before .before .before .before .before .before .before .before .pre .1) (c .before .before .before .before .before .before .before .before .before .before .before .before .before .before .before .table-row .ensures) (c .before .before .before .before .before .before .before .before .before .before .before .before .before .before .clear .ensures) (c .before .before .before .before .before .before .before .before .before .before .free-table .ensures)
-    (c .before .before .before .before .before .before .all-credits .ensures) (c .before .before .allow .ensures)
+    let c5 = c .before .before .before .before .before in
+    let c10 = c5 .before .before .before .before .before in
+    let c15 = c10 .before .before .before .before .before in
+    start-made (c15 .before .before .before .pre .0) (c15 .before .before .before .pre .1) (c15 .table-row .ensures)
+    (c10 .before .before .before .before .clear .ensures) (c10 .free-table .ensures)
+    (c5 .before .all-credits .ensures) (c .before .before .allow .ensures)
 
 pub start-spec : {M : Type 1} → statement M
 start-spec =

@@ -14,8 +14,12 @@ slice-read-n : tie.Need-slice-read-n
 slice-read-n c = search needs
 
 take-requires : tie.Need-take-requires
-take-requires c κs =
-    (c .before .before .before .pre .0, c .before .before .before .pre .1, c .before .before .before .pre .2, c .before .before .before .pre .3)
+take-requires c κs = (
+  c .before .before .before .pre .0,
+  c .before .before .before .pre .1,
+  c .before .before .before .pre .2,
+  c .before .before .before .pre .3,
+)
 
 add-s : tie.Need-add-s
 add-s c = omega arith
@@ -29,7 +33,11 @@ same-length c = simp length-set (c .before .before .take .kept .0)
 returns : tie.Need-returns
 unfolding Rattle.visits.specs.Visits.consumedAt
 returns c =
-    ap (λ (b : List ℕ). set b (c .before .before .before .before .before .before .args .byte) (getD (c .before .before .before .before .before .before .args .s .now) (c .before .before .before .before .before .before .args .byte) 0 + 1)) (c .before .before .take .ensures)
+    let c5 = c .before .before .before .before .before in
+    ap
+    (λ (b : List ℕ). set b (c5 .before .args .byte)
+    (getD (c5 .before .args .s .now) (c5 .before .args .byte) 0 + 1))
+    (c .before .before .take .ensures)
 
 pub consume-step-spec : {M : Type 1} → statement M
 consume-step-spec =

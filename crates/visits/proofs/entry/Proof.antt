@@ -21,23 +21,31 @@ index-requires c κs = search needs
 
 returns-3 : tie.Need-returns-3
 returns-3 c =
-    look-slot _ _ _ _ _ (c .before .before .before .if1 .left) (c .before .before .if2 .left) (omega (arith, c .before .index .ensures))
+    look-slot _ _ _ _ _ (c .before .before .before .if1 .left) (c .before .before .if2 .left)
+    (omega (arith, c .before .index .ensures))
 
 entry-row-requires : tie.Need-entry-row-requires
 entry-row-requires c κs =
-    let range = c .before .before .before .before .before .before .pre .0 in
+    let c5 = c .before .before .before .before .before in
+    let range = c5 .before .pre .0 in
     let r = router-few _ range (c .before .before .before .if1 .left) in
-    let t = slot-few (c .before .before .before .before .before .before .args .slot) range (omega (arith, c .before .index .ensures)) in
+    let t = slot-few (c5 .before .args .slot) range (omega (arith, c .before .index .ensures)) in
     (few-counts range, omega arith, omega arith, omega arith)
 
 entry-at-requires : tie.Need-entry-at-requires
 entry-at-requires c κs =
-    entry-inside (c .before .before .before .before .before .before .before .pre .1) _ _ _ _ (c .before .before .before .before .if1 .left) (c .before .before .before .if2 .left)
-    (slot-few (c .before .before .before .before .before .before .before .args .slot) (c .before .before .before .before .before .before .before .pre .0) (omega (arith, c .before .before .index .ensures))) (c .entry-row .ensures)
+    let c5 = c .before .before .before .before .before in
+    entry-inside (c5 .before .before .pre .1) _ _ _ _ (c .before .before .before .before .if1 .left)
+    (c .before .before .before .if2 .left)
+    (slot-few (c5 .before .before .args .slot) (c5 .before .before .pre .0)
+    (omega (arith, c .before .before .index .ensures)))
+    (c .entry-row .ensures)
 
 returns-4 : tie.Need-returns-4
 returns-4 c =
-    looked _ _ _ _ _ (c .before .before .before .before .before .if1 .left) (c .before .before .before .before .if2 .left) (c .before .before .before .before .before .before .before .before .pre .0) (omega (arith, c .before .before .before .index .ensures)) _ _
+    let c5 = c .before .before .before .before .before in
+    looked _ _ _ _ _ (c5 .if1 .left) (c .before .before .before .before .if2 .left)
+    (c5 .before .before .before .pre .0) (omega (arith, c .before .before .before .index .ensures)) _ _
     (c .before .entry-row .ensures) (c .entry-at .ensures)
 
 pub entry-spec : {M : Type 1} → statement M

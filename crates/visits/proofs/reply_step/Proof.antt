@@ -18,23 +18,34 @@ packet-at-requires : tie.Need-packet-at-requires
 packet-at-requires c κs = omega arith
 
 take-requires : tie.Need-take-requires
-take-requires c κs =
-    (c .before .before .before .before .pre .0, c .before .before .before .before .pre .1, c .before .before .before .before .pre .2, c .before .before .before .before .pre .3)
+take-requires c κs = (
+  c .before .before .before .before .pre .0,
+  c .before .before .before .before .pre .1,
+  c .before .before .before .before .pre .2,
+  c .before .before .before .before .pre .3,
+)
 
 answer-requires : tie.Need-answer-requires
 answer-requires c κs = search needs
 
 push-requires : tie.Need-push-requires
 push-requires c κs =
-    (omega (arith, c .before .before .before .before .take .kept .0), reply-room _ _ _ (c .before .before .before .before .take .ensures) (c .before .before .before .before .before .before .before .before .before .pre .5))
+    let c5 = c .before .before .before .before .before in (
+      omega (arith, c .before .before .before .before .take .kept .0),
+      reply-room _ _ _ (c .before .before .before .before .take .ensures) (c5 .before .before .before .before .pre .5),
+    )
 
 same-length : tie.Need-same-length
 same-length c =
-    c .before .before .push .kept .0 ∙ c .before .before .before .before .before .before .before .take .kept .0
+    let c5 = c .before .before .before .before .before in
+    c .before .before .push .kept .0 ∙ c5 .before .before .take .kept .0
 
 returns : tie.Need-returns
 returns c =
-    reply-made _ _ _ _ (c .before .before .before .before .before .before .before .before .before .packet-at .ensures) (c .before .before .before .before .answer .ensures) (c .before .before .before .before .before .before .before .take .ensures) (c .before .before .push .ensures)
+    let c5 = c .before .before .before .before .before in
+    reply-made _ _ _ _ (c5 .before .before .before .before .packet-at .ensures)
+    (c .before .before .before .before .answer .ensures) (c5 .before .before .take .ensures)
+    (c .before .before .push .ensures)
 
 pub reply-step-spec : {M : Type 1} → statement M
 reply-step-spec =

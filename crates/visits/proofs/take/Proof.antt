@@ -25,7 +25,8 @@ same-length c = simp length-set (c .before .before .pop .kept .0)
 returns : tie.Need-returns
 unfolding Rattle.visits.specs.Visits.takenAt
 returns c =
-    ap (λ (b : List ℕ). set b (c .before .before .before .before .before .args .at + 1) 1) (c .before .before .pop .ensures)
+    let c5 = c .before .before .before .before .before in
+    ap (λ (b : List ℕ). set b (c5 .args .at + 1) 1) (c .before .before .pop .ensures)
 
 pub take-spec : {M : Type 1} → statement M
 take-spec =

@@ -14,14 +14,14 @@ returns : tie.Need-returns
 returns c = look-router _ _ _ _ _ (c .if1 .taken)
 
 returns-2 : tie.Need-returns-2
-returns-2 c = look-side _ _ _ _ _ (c .before .if1 .left) (c .if2 .taken)
+returns-2 c = look-side _ _ _ _ _ (c .before .if1 .left) (omega (arith, c .if2 .taken))
 
 index-requires : tie.Need-index-requires
 index-requires c κs = search needs
 
 returns-3 : tie.Need-returns-3
 returns-3 c =
-    look-slot _ _ _ _ _ (c .before .before .before .if1 .left) (c .before .before .if2 .left)
+    look-slot _ _ _ _ _ (c .before .before .before .if1 .left) (omega (arith, c .before .before .if2 .left))
     (omega (arith, c .before .index .ensures))
 
 entry-row-requires : tie.Need-entry-row-requires
@@ -35,16 +35,15 @@ entry-row-requires c κs =
 entry-at-requires : tie.Need-entry-at-requires
 entry-at-requires c κs =
     let c5 = c .before .before .before .before .before in
-    entry-inside (c5 .before .before .pre .1) _ _ _ _ (c .before .before .before .before .if1 .left)
-    (c .before .before .before .if2 .left)
-    (slot-few (c5 .before .before .args .slot) (c5 .before .before .pre .0)
-    (omega (arith, c .before .before .index .ensures)))
-    (c .entry-row .ensures)
+    let start = c5 .before .before in
+    let slot = slot-few (start .args .slot) (start .pre .0) (omega (arith, c .before .before .index .ensures)) in
+    entry-inside (start .pre .1) _ _ _ _ (c .before .before .before .before .if1 .left)
+    (omega (arith, c .before .before .before .if2 .left)) (omega (arith, slot)) (c .entry-row .ensures)
 
 returns-4 : tie.Need-returns-4
 returns-4 c =
     let c5 = c .before .before .before .before .before in
-    looked _ _ _ _ _ (c5 .if1 .left) (c .before .before .before .before .if2 .left)
+    looked _ _ _ _ _ (c5 .if1 .left) (omega (arith, c .before .before .before .before .if2 .left))
     (c5 .before .before .before .pre .0) (omega (arith, c .before .before .before .index .ensures)) _ _
     (c .before .entry-row .ensures) (c .entry-at .ensures)
 

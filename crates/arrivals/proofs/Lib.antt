@@ -3,7 +3,7 @@ pub mod Arrive
 pub mod Everywhere
 pub mod Charts
 pub mod Sizes
-pub mod Returning
+pub mod Sifting
 pub mod Start
 pub mod Sound
 pub mod Meeting

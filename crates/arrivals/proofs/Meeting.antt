@@ -1,21 +1,21 @@
 -- The words that the sweeps leave say which routers the walks meet, and how many.
 use mathlib.Core.Path.{_≡_, refl, sym, ap, _∙_}
 use mathlib.Core.Logic.{_⊎_, inl, inr}
-use mathlib.Core.Bool.{Bool, true, false, _&&_, _||_, true≢false, false≢true}
+use mathlib.Core.Bool.{Bool, true, false, _&&_, _||_, false≢true}
 use mathlib.Core.List.{List, []}
-use Prim.Native.Nat.{ℕ, zero, suc, _+_, _-_, _*_, _/_, _%_, _^_, _≤_, _<_}
+use Prim.Native.Nat.{ℕ, zero, suc, _+_, _-_, _/_, _%_, _^_, _≤_, _<_}
 use native.Mathlib.Omega.{arith}
 use lib.Dec.{eqb}
 use lib.ListN.{getD, length, replicate, length-replicate, getD-replicate}
 use borrow.Author.Tests.{eqb-true, eq-eqb}
 use Rattle.basis.specs.Choice.{test, same-test}
 use Rattle.basis.specs.Bounded.{anyBelow, any-true, any-of, Found, or-cases, or-right, lt-or-ge}
-use Rattle.basis.specs.Walk.{Spot, on, end, lost, spot, spot-none, spot-next, spot-end, on-end, way-on}
+use Rattle.basis.specs.Walk.{Spot, on, end, lost, spot, spot-none, spot-next, spot-end, way-on}
 use Rattle.plan.specs.declared.Head.{Head}
 use Rattle.plan.specs.Head.{destinations}
 use Rattle.plan.specs.Plan.{Plan, Port, R}
 use Rattle.plan.specs.Tables.{interfaceAt, tablePlan}
-use Rattle.paths.specs.Walk.{onward, routerOf, Walk, walked, arrives, walkSize}
+use Rattle.paths.specs.Walk.{onward, routerOf, walked, arrives, walkSize}
 use Rattle.paths.specs.Steps.{standsOn}
 use Rattle.paths.specs.Drawn.{Arrivals}
 use Rattle.wiring.specs.Wired.{Wired}
@@ -43,7 +43,7 @@ blank = record {
   none = λ r d. replicate-row 17 32 0 r d;
 }
 
-stands-at : (r : ℕ) (s : Spot Port) → standsOn r s ≡ true → (i : ℕ) × (s ≡ on (record { router = r; side = i }))
+pub stands-at : (r : ℕ) (s : Spot Port) → standsOn r s ≡ true → (i : ℕ) × (s ≡ on (record { router = r; side = i }))
 stands-at r (on x) t = (x .side, ap (λ (n : ℕ). on (record { router = n; side = x .side })) (eqb-true (x .router) r t))
 stands-at r end t = absurd (false≢true t)
 stands-at r lost t = absurd (false≢true t)
@@ -98,7 +98,8 @@ module _ (pl : Plan) (by : List (List ℕ)) (next first : List ℕ) (wired : Wir
         where
           at : Found 1 (stands q x) → has (single (x .router)) q ≡ true
           at (zero, m, f) =
-              has-single (x .router) q ∙ eq-eqb q (x .router) (sym (eqb-true (x .router) q (sym (first-stands q x) ∙ f)))
+              has-single (x .router) q ∙ eq-eqb q (x .router) (sym (eqb-true (x .router) q (sym (first-stands q x) ∙
+              f)))
           at (suc k, m, f) = absurd (omega arith)
 
   meets-more : (x y : Port) (m s : ℕ) → x .router < R pl → farIn by next first d m (x .router) ≡ true

@@ -26,14 +26,14 @@ use Rattle.reach.specs.declared.Span.{Span}
 use Rattle.reach.specs.Reach.{Reached, commonOf}
 use Rattle.reach.specs.Sizes.{Sized, Told, Grows}
 use Rattle.reach.proofs.Sweeps.{and-parts, common-has}
-use Rattle.arrivals.specs.Tables.{nextsOf, firstsOf, nearsOf, keepsOf, farOf}
+use Rattle.arrivals.specs.Tables.{nextsOf, firstsOf, nearsOf, farOf}
 use Rattle.arrivals.specs.Charted.{Charting}
-use Rattle.arrivals.specs.Pairs.{pairWalk, lengthsOf, Serving, Servings, copyOf, maskOf, lengthOf}
-use Rattle.arrivals.specs.Pairs.{lengthsBy, Tables, Walks}
+use Rattle.arrivals.specs.Pairs.{pairWalk, lengthsOf, plainOf, atHome, Known, Serving, Servings, copyOf}
+use Rattle.arrivals.specs.Pairs.{maskOf, lengthOf, lengthsBy, Tables, Walks}
+use Rattle.arrivals.specs.Tracks.{Tracks}
 use Rattle.arrivals.proofs.Charts.{ports-in, sides-past, charted, first-idle}
 use Rattle.arrivals.proofs.Sizes.{far-size, arrivals}
-use Rattle.arrivals.proofs.Returning.{returning, served-kept, kept-charting}
-use Rattle.arrivals.proofs.Everywhere.{served-everywhere}
+use Rattle.arrivals.proofs.Everywhere.{served-everywhere, served-sifted}
 use Rattle.arrivals.proofs.Start.{far-has, far-known, sized-start}
 
 -- ---- one active's passives
@@ -51,7 +51,8 @@ active-at pl a l = rw (lt-ltb a (A pl) l)
 
 module _ (pl : Plan) (by : List (List ℕ)) (joints homes : List ℕ) (w : Charting pl by joints homes) (t : List ℕ)
     (all : ℕ)
-    (f : Arrivals pl t) (common : all ≡ commonOf t (below (destinations (pl .head))) (R pl)) where
+    (f : Arrivals pl t) (common : all ≡ commonOf t (below (destinations (pl .head))) (R pl))
+    (tracks : (up : List (List ℕ)) → Known by joints homes t (pl .head) up → Tracks pl up) where
   -- the home of an active
   home-at : (a : ℕ) → a < A pl → home pl (active a) .router ≡ getD homes a 0 / 4
   unfolding home
@@ -63,54 +64,70 @@ module _ (pl : Plan) (by : List (List ℕ)) (joints homes : List ℕ) (w : Chart
   home-in a l = home-inside (active a) (w .wired) l .0
 
   -- membership at the home: the walk arrives
-  at-home : (pl′ : Plan) → pl′ .head ≡ pl .head → (u : List ℕ) → Arrivals pl′ u → (a p : ℕ) → a < A pl → p < P pl
-      → has (both (getD u (getD homes a 0 / 4) 0) (farOf (pl .head))) (A pl + p)
-      ≡ arrives pl′ (passive p) (home pl (active a))
-  at-home pl′ same u g a p la lp =
+  at-home : (a p : ℕ) → a < A pl → p < P pl
+      → has (both (getD t (getD homes a 0 / 4) 0) (farOf (pl .head))) (A pl + p)
+      ≡ arrives pl (passive p) (home pl (active a))
+  at-home a p la lp =
       let x = home pl (active a) in
-      let inside : home pl (active a) .router < R pl′ = rw same (home-in a la) in
-      has-both (getD u (getD homes a 0 / 4) 0) (farOf (pl .head)) (A pl + p)
-      ∙ rw (far-has (pl .head) p, lt-ltb p (P pl) lp) (and-all (has (getD u (getD homes a 0 / 4) 0) (A pl + p)))
-      ∙ ap (λ (r : ℕ). has (getD u r 0) (A pl + p)) (sym (home-at a la))
-      ∙ g .there x (A pl + p) inside (rw same (omega arith))
-      ∙ ap (λ (e : Interface). arrives pl′ e x) (ap (λ (h : Head). interfaceAt h (A pl + p)) same ∙ passive-at pl p)
+      has-both (getD t (getD homes a 0 / 4) 0) (farOf (pl .head)) (A pl + p)
+      ∙ rw (far-has (pl .head) p, lt-ltb p (P pl) lp) (and-all (has (getD t (getD homes a 0 / 4) 0) (A pl + p)))
+      ∙ ap (λ (r : ℕ). has (getD t r 0) (A pl + p)) (sym (home-at a la))
+      ∙ f .there x (A pl + p) (home-in a la) (omega arith)
+      ∙ ap (λ (e : Interface). arrives pl e x) (passive-at pl p)
 
-  pub serving-served : (a p v : ℕ) → a < A pl → p < P pl
-      → Serving by (nextsOf joints (R pl)) homes t (pl .head) all a v → has v (A pl + p) ≡ served pl a p
-  unfolding returning servedFrom
-  serving-served a p v la lp (inl (e, g)) =
-      ap (λ (u : ℕ). has u (A pl + p)) g ∙ at-home pl refl t f a p la lp
+  -- where all at which the walk arrives are served
+  plain-served : (a p v : ℕ) → a < A pl → p < P pl
+      → v ≡ both (getD t (getD homes a 0 / 4) 0) (farOf (pl .head))
+      → (eqb v 0 ≡ true) ⊎ (eqb v 0 ≡ false) → plainOf all a v ≡ true → has v (A pl + p) ≡ served pl a p
+  unfolding plainOf servedFrom
+  plain-served a p v la lp g (inl z) e =
+      let is : v ≡ 0 = eqb-true v 0 z in
+      let none : arrives pl (passive p) (home pl (active a)) ≡ false =
+      sym (at-home a p la lp) ∙ ap (λ (u : ℕ). has u (A pl + p)) (sym g ∙ is) ∙ none-has (A pl + p) in
+      ap (λ (u : ℕ). has u (A pl + p)) is ∙ none-has (A pl + p) ∙ rw none
+  plain-served a p v la lp g (inr z) e =
+      ap (λ (u : ℕ). has u (A pl + p)) g ∙ at-home a p la lp
       ∙ sym (served-everywhere pl (w .wired) a p la back)
     where
       back : (x : Port) → x .router < R pl → arrives pl (active a) x ≡ true
       back x l =
           let there = common-has t (below (destinations (pl .head))) (R pl) a
-          (sym (ap (λ (u : ℕ). has u a) common) ∙ e) .1 (x .router) l in
+          (sym (ap (λ (u : ℕ). has u a) common) ∙ rw z at e) .1 (x .router) l in
           ap (λ (i : Interface). arrives pl i x) (sym (active-at pl a la)) ∙ sym (f .there x a l (omega arith)) ∙ there
-  serving-served a p v la lp (inr (inl (z, g))) =
-      let none : arrives pl (passive p) (home pl (active a)) ≡ false =
-      sym (at-home pl refl t f a p la lp) ∙ ap (λ (u : ℕ). has u (A pl + p)) (sym g ∙ z) ∙ none-has (A pl + p) in
-      ap (λ (u : ℕ). has u (A pl + p)) z ∙ none-has (A pl + p) ∙ rw none
-  serving-served a p v la lp (inr (inr (u, r, g))) =
-      ap (λ (x : ℕ). has x (A pl + p)) g
-      ∙ at-home (returning pl a) refl u
-      (arrivals (returning pl a) (keepsOf by t (R pl) a) joints homes
-      (kept-charting pl by joints homes t w f a la) u r) a p la lp
-      ∙ sym (served-kept pl (w .wired) a p la)
 
-  pub serving-known : (a d v : ℕ) → Serving by (nextsOf joints (R pl)) homes t (pl .head) all a v → has v d ≡ true
+  pub serving-served : (a p v : ℕ) → a < A pl → p < P pl
+      → Serving by joints homes t (pl .head) all a v → has v (A pl + p) ≡ served pl a p
+  unfolding servedFrom atHome
+  serving-served a p v la lp (inl (e, g)) = plain-served a p v la lp g (test (eqb v 0)) e
+  serving-served a p v la lp (inr (up, m, k, l, s)) =
+      s .members (A pl + p) ∙ by′ (test (arrives pl (passive p) (home pl (active a))))
+    where
+      by′ : (arrives pl (passive p) (home pl (active a)) ≡ true) ⊎ (arrives pl (passive p) (home pl (active a)) ≡
+          false)
+          → (has (both (getD t (getD homes a 0 / 4) 0) (farOf (pl .head))) (A pl + p)
+          && eqb (both (getD (getD up (getD homes a 0 / 4) []) (A pl + p) 0) m) 0) ≡ served pl a p
+      by′ (inl q) =
+          rw (at-home a p la lp ∙ q)
+          (ap (λ (r : ℕ). eqb (both (getD (getD up r []) (A pl + p) 0) m) 0) (sym (home-at a la))
+          ∙ served-sifted pl (w .wired) a p la t up m (w .routers) (omega arith) (passive-at pl p) (active-at pl a la)
+          f
+          (tracks up k) l q)
+      by′ (inr q) = rw (at-home a p la lp ∙ q, q)
+
+  pub serving-known : (a d v : ℕ) → Serving by joints homes t (pl .head) all a v → has v d ≡ true
       → (A pl ≤ d) × (d < destinations (pl .head))
+  unfolding atHome
   serving-known a d v (inl (e, g)) q =
       far-known (pl .head) d
       (and-parts (has (getD t (getD homes a 0 / 4) 0) d) _ (sym
       (has-both (getD t (getD homes a 0 / 4) 0) (farOf (pl .head)) d) ∙ sym (ap (λ (u : ℕ). has u d) g) ∙ q) .1)
-  serving-known a d v (inr (inl (z, g))) q = absurd (true≢false (sym q ∙ ap (λ (u : ℕ). has u d) z ∙ none-has d))
-  serving-known a d v (inr (inr (u, r, g))) q =
+  serving-known a d v (inr (up, m, k, l, s)) q =
       far-known (pl .head) d
-      (and-parts (has (getD u (getD homes a 0 / 4) 0) d) _ (sym
-      (has-both (getD u (getD homes a 0 / 4) 0) (farOf (pl .head)) d) ∙ sym (ap (λ (x : ℕ). has x d) g) ∙ q) .1)
+      (and-parts (has (getD t (getD homes a 0 / 4) 0) d) _ (sym
+      (has-both (getD t (getD homes a 0 / 4) 0) (farOf (pl .head)) d)
+      ∙ and-parts (has (both (getD t (getD homes a 0 / 4) 0) (farOf (pl .head))) d) _ (sym (s .members d) ∙ q) .0) .1)
 
-  pub served-pairs : (serve : List ℕ) → Servings by (nextsOf joints (R pl)) homes t (pl .head) all (A pl) serve
+  pub served-pairs : (serve : List ℕ) → Servings by joints homes t (pl .head) all (A pl) serve
       → Serves pl serve
   served-pairs serve s = record {
     pairs = λ a p la lp. serving-served a p (getD serve a 0) la lp (s .some a la);
@@ -144,7 +161,7 @@ module _ (pl : Plan) (by : List (List ℕ)) (joints homes : List ℕ) (w : Chart
         (A pl + p) known (w .routers) x (home-in a la) there
         ∙ ap (λ (i : Interface). walkSize pl i x) (passive-at pl p)
 
-    module _ (serve : List ℕ) (sv : Servings by (nextsOf joints (R pl)) homes t (pl .head) all (A pl) serve) where
+    module _ (serve : List ℕ) (sv : Servings by joints homes t (pl .head) all (A pl) serve) where
       -- the size, where the pair is served
       masked-at : (a p : ℕ) → a < A pl → p < 16
           → pick (has (getD serve a 0) (A pl + p)) (getD (getD z (getD homes a 0 / 4) []) p 0) 0
@@ -165,7 +182,7 @@ module _ (pl : Plan) (by : List (List ℕ)) (joints homes : List ℕ) (w : Chart
               (sv .some a la) ∙ q in
               let there : arrives pl (passive p) (home pl (active a)) ≡ true = also-true q .0 in
               let member = and-parts _ _ (sym (has-both (getD t (getD homes a 0 / 4) 0) (farOf (pl .head))
-              (A pl + p)) ∙ at-home pl refl t f a p la k ∙ there) .0 in
+              (A pl + p)) ∙ at-home a p la k ∙ there) .0 in
               rw (has-it, lt-ltb p (P pl) k, q) (size-at a p la k member)
           go (inl k) (inr q) =
               let has-it : has (getD serve a 0) (A pl + p) ≡ false = serving-served a p (getD serve a 0) la k
@@ -278,14 +295,14 @@ pub walks-sound : (h : Head) (routes : List (List ℕ)) (joints homes : List ℕ
     → z₀ ≡ nearsOf first homes (h .actives) (h .passives) → full ≡ below (h .actives + h .passives) → far ≡ farOf h
     → Reached by next (h .routers) full first t → all ≡ commonOf t full (h .routers)
     → Grows by next routes (record { routers = h .routers; all = full; sized = far; column = h .actives }) first z₀ t z
-    → Servings by next homes t h all (h .actives) serve → lengths ≡ lengthsBy z t serve homes h
+    → Servings by joints homes t h all (h .actives) serve → lengths ≡ lengthsBy z t serve homes h
     → Walks h routes joints homes by t lengths serve
 unfolding tablePlan
 walks-sound h routes joints homes by {next} {first} {z₀} {full} {far} t z {all} {serve}
     {lengths} ma mp en ef ez eu er r ea g sv el w = (
       f,
-      served-pairs pl by joints homes (w .chart) t all f common serve servings,
-      el ∙ lengths-are pl by joints homes (w .chart) t all f common s z size er refl mp serve servings,
+      served-pairs pl by joints homes (w .chart) t all f common know serve sv,
+      el ∙ lengths-are pl by joints homes (w .chart) t all f common know s z size er refl mp serve sv,
     )
   where
     pl : Plan
@@ -300,8 +317,8 @@ walks-sound h routes joints homes by {next} {first} {z₀} {full} {far} t z {all
     common : all ≡ commonOf t (below (destinations h)) (h .routers)
     common = rw eu at ea
 
-    servings : Servings by (nextsOf joints (h .routers)) homes t h all (h .actives) serve
-    servings = rw en at sv
+    know : (up : List (List ℕ)) → Known by joints homes t h up → Tracks (tablePlan h routes joints) up
+    know up k = k routes w
 
     ports : (d : ℕ) → d < destinations h → getD homes d 0 < 64
     ports = ports-in (tablePlan h routes joints) by joints homes (w .chart)

@@ -1,21 +1,25 @@
 -- A turn of the loops that fill the tables.
-use mathlib.Core.Path.{_≡_, sym, ap, ap₂, _∙_}
+use mathlib.Core.Path.{_≡_, refl, sym, ap, _∙_}
 use mathlib.Core.Logic.{_⊎_, inl, inr}
-use mathlib.Core.Bool.{Bool, true, false}
+use mathlib.Core.Bool.{Bool, true, false, true≢false}
 use mathlib.Core.List.{List, []}
 use Prim.Native.Nat.{ℕ, zero, _+_, _/_, _≤_, _<_}
 use native.Mathlib.Omega.{arith}
-use lib.ListN.{getD, set, length-set, replicate, length-replicate}
+use lib.Dec.{eqb}
+use lib.ListN.{getD, set, length, length-set, replicate, length-replicate}
 use lib.Seq.{getD-set-same, getD-set-other}
-use Rattle.basis.specs.Fold.{upTo, fill, fill-past}
+use borrow.Author.Tests.{lt-ltb}
+use Rattle.basis.specs.Choice.{pick, test}
+use Rattle.basis.specs.Bounded.{allBelow, all-at, all-of}
+use Rattle.basis.specs.Fold.{upTo, fill, length-fill, fill-at, fill-past}
 use Rattle.plan.specs.declared.Head.{Head}
-use Rattle.wiring.proofs.Tables.{replicate-at, replicate-row}
-use Rattle.sets.specs.Sets.{has, both, below}
-use Rattle.sets.specs.Laws.{none-has}
+use Rattle.wiring.proofs.Tables.{replicate-at}
+use Rattle.sets.specs.Sets.{has, both, less, below}
+use Rattle.sets.specs.Laws.{has-less, has-below, none-has}
 use Rattle.reach.proofs.Sweeps.{same-or-not}
-use Rattle.arrivals.specs.Tables.{firstOf, firstStep, nearOf, nearStep, keptOf, keepsOf, firstsOf, farOf}
-use Rattle.reach.specs.Reach.{Reached}
-use Rattle.arrivals.specs.Pairs.{Swept, Serving, Servings, lengthOf, lengthsBy}
+use Rattle.arrivals.specs.Tables.{firstOf, firstStep, nearOf, nearStep, farOf}
+use Rattle.arrivals.specs.Pairs.{plainOf, atHome, atHomes, Lacking, Sift, Chosen, Choices, Known, Serving}
+use Rattle.arrivals.specs.Pairs.{Servings, lengthOf, lengthsBy}
 
 pub first-step : (by : List (List ℕ)) (homes : List ℕ) (d : ℕ) (t : List ℕ) {k v : ℕ} → k ≡ getD homes d 0
     → v ≡ firstOf by (getD t (k / 4) 0) k d → set t (k / 4) v ≡ firstStep by homes d t
@@ -32,70 +36,85 @@ near-step t homes actives p z {k} e f =
     ∙ ap (λ (i : ℕ). set z (i / 4) (set (getD z (i / 4) []) p (nearOf (getD t (i / 4) 0) (actives + p)))) e
 
 -- ---- a turn of the loop over actives
-module _ (by : List (List ℕ)) (next homes arrive : List ℕ) (h : Head) (all : ℕ) where
-  pub servings-none : Servings by next homes arrive h all 0 (replicate 16 0)
-  servings-none = record {
+module _ (homes arrive : List ℕ) (h : Head) (all : ℕ) (up : List (List ℕ)) where
+  pub choices-none : Choices homes arrive h all up 0 (replicate 16 0)
+  choices-none = record {
     long = length-replicate 16 zero;
     some = λ a l. absurd
         (omega arith);
     none = λ a l. replicate-at 16 0 a;
   }
 
-  pub servings-more : (n : ℕ) {t : List ℕ} {w : ℕ} → n < 16 → Servings by next homes arrive h all n t
-      → Serving by next homes arrive h all n w → Servings by next homes arrive h all (n + 1) (set t n w)
-  servings-more n {t} {w} l s f = record {
+  pub choices-more : (n : ℕ) {t : List ℕ} {w : ℕ} → n < 16 → Choices homes arrive h all up n t
+      → Chosen homes arrive h all up n w → Choices homes arrive h all up (n + 1) (set t n w)
+  choices-more n {t} {w} l s f = record {
     long = length-set t n w ∙ s .long;
     some = λ a k. some′ a k (same-or-not a n);
     none = λ a k. getD-set-other t n a w 0 (λ e. omega arith) ∙ s .none a (omega arith);
   }
     where
-      some′ : (a : ℕ) → a < n + 1 → (a ≡ n) ⊎ (a ≡ n → ⊥) → Serving by next homes arrive h all a (getD (set t n w) a 0)
+      some′ : (a : ℕ) → a < n + 1 → (a ≡ n) ⊎ (a ≡ n → ⊥) → Chosen homes arrive h all up a (getD (set t n w) a 0)
       some′ a k (inl e) = rw (e, getD-set-same t n w 0 (rw (s .long) l)) f
       some′ a k (inr e) = rw (getD-set-other t n a w 0 e) (s .some a (omega arith))
 
-  pub servings-done : (i n : ℕ) {t : List ℕ} → i ≡ n → Servings by next homes arrive h all i t
-      → Servings by next homes arrive h all n t
-  servings-done i n e s = rw (← e) s
+  pub choices-done : (i n : ℕ) {t : List ℕ} → i ≡ n → Choices homes arrive h all up i t
+      → Choices homes arrive h all up n t
+  choices-done i n e s = rw (← e) s
 
--- past the routers nothing is kept
-pub keeps-past : (by : List (List ℕ)) (arrive : List ℕ) (routers a r o d : ℕ) → routers ≤ r → o < 4
-    → has (getD (getD (keepsOf by arrive routers a) r []) o 0) d ≡ false
-unfolding keepsOf
-keeps-past by arrive routers a r o d l m =
-    ap (λ (x : List ℕ). has (getD x o 0) d) (fill-past (λ i. keptOf (getD by i [])
-    (has (getD arrive i 0) a)) routers (replicate 16 (replicate 4 0)) r [] l)
-    ∙ ap (λ (x : ℕ). has x d) (replicate-row 16 4 0 r o) ∙ none-has d
+-- what one active is served with, by the test made
+pub chosen-plain : (homes arrive : List ℕ) (h : Head) (all : ℕ) (up : List (List ℕ)) (a : ℕ) {v : ℕ} {b : Bool}
+    → v ≡ atHome homes arrive h a → b ≡ plainOf all a v → b ≡ true → Chosen homes arrive h all up a v
+chosen-plain homes arrive h all up a e f g = inl (sym f ∙ g, e)
 
--- ---- what a call leaves, by the tests made
-pub serving-all : (by : List (List ℕ)) (next homes arrive : List ℕ) (h : Head) (all a : ℕ) {k w far : ℕ} {t : Bool}
-    → k ≡ getD homes a 0 → t ≡ has all a → t ≡ true → far ≡ farOf h → w ≡ both (getD arrive (k / 4) 0) far
-    → Serving by next homes arrive h all a w
-serving-all by next homes arrive h all a e f g i j =
-    inl (sym f ∙ g, j ∙ ap₂ (λ (x y : ℕ). both (getD arrive (x / 4) 0) y) e i)
+pub chosen-sifted : (homes arrive : List ℕ) (h : Head) (all : ℕ) (up : List (List ℕ)) (a : ℕ) {k v m w : ℕ}
+    → v ≡ atHome homes arrive h a → k ≡ getD homes a 0 → Lacking arrive a (h .routers) m → Sift up (k / 4) v m w
+    → Chosen homes arrive h all up a w
+chosen-sifted homes arrive h all up a {m = m} e f l s = inr (m, l, rw (e, f) at s)
 
-pub serving-none : (by : List (List ℕ)) (next homes arrive : List ℕ) (h : Head) (all a : ℕ) {k w far : ℕ}
-    → k ≡ getD homes a 0 → far ≡ farOf h → w ≡ both (getD arrive (k / 4) 0) far → w ≡ 0
-    → Serving by next homes arrive h all a w
-serving-none by next homes arrive h all a e i j z =
-    inr (inl (z, j ∙ ap₂ (λ (x y : ℕ). both (getD arrive (x / 4) 0) y) e i))
+-- ---- all actives
+module _ (by : List (List ℕ)) (joints homes arrive : List ℕ) (h : Head) (all : ℕ) where
+  pub choices-serve : {up : List (List ℕ)} {n : ℕ} {t : List ℕ} → Known by joints homes arrive h up
+      → Choices homes arrive h all up n t → Servings by joints homes arrive h all n t
+  choices-serve {up} k s = record { long = s .long; some = λ a l. by′ a (s .some a l); none = s .none }
+    where
+      by′ : (a : ℕ) {w : ℕ} → Chosen homes arrive h all up a w → Serving by joints homes arrive h all a w
+      by′ a (inl e) = inl e
+      by′ a (inr (m, l, f)) = inr (up, m, k, l, f)
 
-pub serving-swept : (by : List (List ℕ)) (next homes arrive : List ℕ) (h : Head) (all a : ℕ) {k w : ℕ}
-    → k ≡ getD homes a 0 → Swept by next homes arrive h a (k / 4) w → Serving by next homes arrive h all a w
-serving-swept by next homes arrive h all a e s = inr (inr (
-  s .0,
-  s .1,
-  s .2
-      ∙ ap (λ (x : ℕ). both (getD (s .0) (x / 4) 0) (farOf h)) e,
-))
+  pub plain-serve : {t : List ℕ} {b : Bool} → h .actives ≤ 16 → t ≡ atHomes homes arrive h
+      → b ≡ allBelow (h .actives) (λ a. plainOf all a (getD t a 0)) → b ≡ true
+      → Servings by joints homes arrive h all (h .actives) t
+  unfolding atHomes
+  plain-serve {t} most e f g = record {
+    long = ap length e ∙ length-fill (atHome homes arrive h) (h .actives) (replicate 16 0) ∙ length-replicate 16 zero;
+    some = λ a l. inl (
+      all-at (h .actives) (λ i. plainOf all i (getD t i 0)) (sym f ∙ g) a l,
+      ap (λ (u : List ℕ). getD u a 0) e ∙ fill-at (atHome homes arrive h) (h .actives) (replicate 16 0) a 0 l
+          (rw (length-replicate 16 zero) (omega arith)),
+    );
+    none = λ a l. ap (λ (u : List ℕ). getD u a 0) e
+        ∙ fill-past (atHome homes arrive h) (h .actives) (replicate 16 0) a 0 l ∙ replicate-at 16 0 a;
+  }
 
-pub swept-by : (by : List (List ℕ)) (next homes arrive : List ℕ) (h : Head) (a x : ℕ) {kept : List (List ℕ)}
-    {first t : List ℕ} {n w far : ℕ}
-    → kept ≡ keepsOf by arrive (h .routers) a → first ≡ firstsOf kept homes (h .actives + h .passives)
-    → n ≡ below (h .actives + h .passives) → Reached kept next (h .routers) n first t → far ≡ farOf h → w
-    ≡ both (getD t x 0) far
-    → Swept by next homes arrive h a x w
-swept-by by next homes arrive h a x {t = t} e f g r i j =
-    (t, rw (f, e, g) at r, j ∙ ap (both (getD t x 0)) i)
+  -- every active is one of all
+  pub all-serve : {t : List ℕ} {b m : ℕ} → h .actives ≤ 16 → b ≡ below (h .actives) → m ≡ less b all → m ≡ 0
+      → t ≡ atHomes homes arrive h → Servings by joints homes arrive h all (h .actives) t
+  unfolding plainOf
+  all-serve {t} most e f g k =
+      plain-serve most k refl
+      (all-of (h .actives) (λ a. plainOf all a (getD t a 0)) (λ a l. plain a l (test (has all a)) (eqb (getD t a 0)
+      0)))
+    where
+      plain : (a : ℕ) → a < h .actives → (has all a ≡ true) ⊎ (has all a ≡ false) → (z : Bool) → pick z true (has all
+          a)
+          ≡ true
+      plain a l q true = refl
+      plain a l (inl q) false = q
+      plain a l (inr q) false =
+          absurd
+          (true≢false
+          (sym (has-less (below (h .actives)) all a ∙ rw (has-below (h .actives) a, lt-ltb a (h .actives) l, q))
+          ∙ ap (λ (u : ℕ). has u a) (sym (f ∙ ap (λ (u : ℕ). less u all) e) ∙ g) ∙ none-has a))
 
 pub length-step : (z : List (List ℕ)) (arrive served homes : List ℕ) (a column far : ℕ) {k v : ℕ} {row : List ℕ}
     → k ≡ getD homes a 0 → v ≡ both (getD arrive (k / 4) 0) far → row ≡ lengthOf z (k / 4) (getD served a 0) v column

@@ -1,14 +1,14 @@
 -- Which pairs are served and how long their walks are: what the code computes, and what it means.
 use mathlib.Core.Path.{_≡_}
 use mathlib.Core.Logic.{_⊎_}
-use mathlib.Core.Bool.{true}
+use mathlib.Core.Bool.{Bool, true, not, _&&_}
 use mathlib.Core.List.{List, []}
-use Prim.Native.Nat.{ℕ, _+_, _/_, _≤_, _<_}
+use Prim.Native.Nat.{ℕ, _+_, _/_, _^_, _≤_, _<_}
 use lib.Dec.{eqb, ltb}
 use lib.ListN.{getD, length, replicate}
 use Rattle.basis.specs.Choice.{pick}
 use Rattle.basis.specs.Fold.{upTo, fill}
-use Rattle.sets.specs.Sets.{has, both, below}
+use Rattle.sets.specs.Sets.{has, both}
 use Rattle.plan.specs.declared.Head.{Head}
 use Rattle.plan.specs.Plan.{Plan, active, passive, A, P}
 use Rattle.plan.specs.Rules.{home}
@@ -16,9 +16,9 @@ use Rattle.plan.specs.Tables.{tablePlan}
 use Rattle.paths.specs.Walk.{walkSize}
 use Rattle.paths.specs.Served.{served}
 use Rattle.paths.specs.Drawn.{Arrivals, Serves}
-use Rattle.reach.specs.Reach.{Reached}
-use Rattle.arrivals.specs.Tables.{firstsOf, keepsOf, farOf}
+use Rattle.arrivals.specs.Tables.{farOf}
 use Rattle.arrivals.specs.Charted.{Charting}
+use Rattle.arrivals.specs.Tracks.{Tracks}
 
 -- ---- what is meant
 -- the number of routers on the walk of a pair that is served, else 0
@@ -31,22 +31,57 @@ lengthsOf pl =
     upTo (fill (λ a. upTo (fill (λ p. pick (ltb p (P pl)) (pairWalk pl a p) 0)) 16 (replicate 16 0))) (A pl)
     (replicate 16 (replicate 16 0))
 
--- ---- what the code computes
-module _ (by : List (List ℕ)) (next homes arrive : List ℕ) (h : Head) where
-  -- active a's passives at router x, by a sweep over the routers that return to it
-  abbrev pub Swept : ℕ → ℕ → ℕ → Type 0
-  Swept a x w =
-      (t : List ℕ)
-      × Reached (keepsOf by arrive (h .routers) a) next (h .routers) (below (h .actives + h .passives))
-      (firstsOf (keepsOf by arrive (h .routers) a) homes (h .actives + h .passives)) t
-      × (w ≡ both (getD t x 0) (farOf h))
+-- ---- tables that give a plan
+-- tables that give a plan whose joints match, with rows of 32 routes
+pub record Tables (h : Head) (routes : List (List ℕ)) (joints homes : List ℕ) (by : List (List ℕ)) : Type 0 where
+  pub chart : Charting (tablePlan h routes joints) by joints homes
+  pub rows : (r : ℕ) → r < 16 → length (getD routes r []) ≡ 32
+  pub past : (r d : ℕ) → h .actives + h .passives ≤ d → getD (getD routes r []) d 7 ≡ 7
 
-  -- active a's passives: those at which its walk arrives, if all routers return to it or there are none; else by a
-  -- sweep
+-- ---- what the code computes
+-- the routers below n that have no way back to active a
+pub record Lacking (arrive : List ℕ) (a n s : ℕ) : Type 0 where
+  pub small : s < 2 ^ 16
+  pub members : (r : ℕ) → has s r ≡ (ltb r n && not (has (getD arrive r 0) a))
+
+-- the members of v whose word at router x has none of the routers missing
+pub record Sift (up : List (List ℕ)) (x v missing w : ℕ) : Type 0 where
+  pub members : (d : ℕ) → has w d ≡ (has v d && eqb (both (getD (getD up x []) d 0) missing) 0)
+
+-- an active is served with all of v: there is none, or all routers have a way back to it
+unfoldable pub plainOf : ℕ → ℕ → ℕ → Bool
+plainOf all a v = pick (eqb v 0) true (has all a)
+
+module _ (homes arrive : List ℕ) (h : Head) where
+  -- the passives at which active a's walk arrives
+  unfoldable pub atHome : ℕ → ℕ
+  atHome a = both (getD arrive (getD homes a 0 / 4) 0) (farOf h)
+
+  unfoldable pub atHomes : List ℕ
+  atHomes = upTo (fill atHome) (h .actives) (replicate 16 0)
+
+  -- active a's passives: all at which its walk arrives, or those of them whose walk meets no router without a way back
+  abbrev pub Chosen : ℕ → List (List ℕ) → ℕ → ℕ → Type 0
+  Chosen all up a w =
+      ((plainOf all a w ≡ true) × (w ≡ atHome a))
+      ⊎ ((m : ℕ) × Lacking arrive a (h .routers) m × Sift up (getD homes a 0 / 4) (atHome a) m w)
+
+  pub record Choices (all : ℕ) (up : List (List ℕ)) (n : ℕ) (t : List ℕ) : Type 0 where
+    pub long : length t ≡ 16
+    pub some : (a : ℕ) → a < n → Chosen all up a (getD t a 0)
+    pub none : (a : ℕ) → n ≤ a → getD t a 0 ≡ 0
+
+module _ (by : List (List ℕ)) (joints homes arrive : List ℕ) (h : Head) where
+  -- the words of the walks of every plan that has these tables
+  abbrev pub Known : List (List ℕ) → Type 0
+  Known up =
+      (routes : List (List ℕ)) → Tables h routes joints homes by → Tracks (tablePlan h routes joints) up
+
   abbrev pub Serving : ℕ → ℕ → ℕ → Type 0
   Serving all a w =
-      ((has all a ≡ true) × (w ≡ both (getD arrive (getD homes a 0 / 4) 0) (farOf h)))
-      ⊎ ((w ≡ 0) × (w ≡ both (getD arrive (getD homes a 0 / 4) 0) (farOf h))) ⊎ Swept a (getD homes a 0 / 4) w
+      ((plainOf all a w ≡ true) × (w ≡ atHome homes arrive h a))
+      ⊎ ((up : List (List ℕ)) × (m : ℕ) × Known up × Lacking arrive a (h .routers) m
+      × Sift up (getD homes a 0 / 4) (atHome homes arrive h a) m w)
 
   pub record Servings (all n : ℕ) (t : List ℕ) : Type 0 where
     pub long : length t ≡ 16
@@ -71,12 +106,6 @@ lengthsBy z arrive serve homes h =
     (h .actives) (replicate 16 (replicate 16 0))
 
 -- ---- a plan's tables are right
--- tables that give a plan whose joints match, with rows of 32 routes
-pub record Tables (h : Head) (routes : List (List ℕ)) (joints homes : List ℕ) (by : List (List ℕ)) : Type 0 where
-  pub chart : Charting (tablePlan h routes joints) by joints homes
-  pub rows : (r : ℕ) → r < 16 → length (getD routes r []) ≡ 32
-  pub past : (r d : ℕ) → h .actives + h .passives ≤ d → getD (getD routes r []) d 7 ≡ 7
-
 abbrev pub Walks : Head → List (List ℕ) → List ℕ → List ℕ → List (List ℕ) → List ℕ → List (List ℕ) → List ℕ → Type 0
 Walks h routes joints homes by arrive lengths serve =
     Tables h routes joints homes by

@@ -1,6 +1,4 @@
--- The tables that walks are swept with: the router beyond each side, the destinations one step away, and the sets by
--- side of the routers that have a way back.
-use mathlib.Core.Bool.{Bool}
+-- The tables that walks are swept with: the router beyond each side and the destinations one step away.
 use mathlib.Core.List.{List, []}
 use Prim.Native.Nat.{ℕ, _+_, _*_, _/_, _%_, _<_}
 use lib.Dec.{eqb}
@@ -45,14 +43,6 @@ nearStep t homes actives p z =
 -- by router and passive: 1 where it is one step away
 unfoldable pub nearsOf : List ℕ → List ℕ → ℕ → ℕ → List (List ℕ)
 nearsOf t homes actives passives = upTo (nearStep t homes actives) passives (replicate 17 (replicate 16 0))
-
--- the sets by side of the routers from which the walk back to active a arrives
-abbrev pub keptOf : List ℕ → Bool → List ℕ
-keptOf row keep = pick keep row (replicate 4 0)
-
-unfoldable pub keepsOf : List (List ℕ) → List ℕ → ℕ → ℕ → List (List ℕ)
-keepsOf by arrive routers a =
-    upTo (fill (λ r. keptOf (getD by r []) (has (getD arrive r 0) a))) routers (replicate 16 (replicate 4 0))
 
 -- the destinations that are passives
 unfoldable pub farOf : Head → ℕ

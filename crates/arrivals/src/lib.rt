@@ -15,11 +15,12 @@ ghost use mathlib.Core.List.{List, []};
 ghost use Prim.Native.Nat.{ℕ, _+_, _*_, _/_, _%_, _≤_, _<_};
 ghost use lib.ListN.{getD, length};
 ghost use Rattle.plan.specs.Head.{Counts};
-ghost use Rattle.reach.specs.Reach.{Inside};
 ghost use Rattle.sets.specs.Sets.{has};
-ghost use Rattle.arrivals.specs.Pairs.{Swept, Serving, Servings, copyOf, maskOf, lengthOf, lengthsBy, Walks};
-ghost use Rattle.arrivals.specs.Tables.{nextOf, nextsOf, PortsIn, firstOf, firstsOf, nearOf, nearsOf, keptOf, keepsOf, farOf};
+ghost use Rattle.arrivals.specs.Pairs.{copyOf, maskOf, lengthOf, lengthsBy, Walks};
+ghost use Rattle.arrivals.specs.Tables.{nextOf, nextsOf, PortsIn, firstOf, firstsOf, nearOf, nearsOf, farOf};
 
+// Which pairs are served.
+pub mod served;
 // Which routers the walks meet.
 pub mod tracks;
 
@@ -103,106 +104,12 @@ fn nears(t: &[u32; 32], homes: &[u8; 32], actives: usize, passives: usize) -> [[
     z
 }
 
-// A router's sets by side, or none.
-fn kept(row: [u32; 4], keep: bool) -> [u32; 4]
-    ensures { λ t. ⌜ t ≡ keptOf row keep ⌝ }
-{
-    if keep { row } else { [0u32; 4] }
-}
-
-// The sets by side of the routers from which the walk back to an active arrives; none of the others.
-fn keeps(by: &[[u32; 4]; 16], arrive: &[u32; 32], routers: usize, a: usize) -> [[u32; 4]; 16]
-    requires { ⌜ (routers ≤ 16) × (a < 32) ⌝ }
-    ensures { λ t. ⌜ t ≡ keepsOf (now (by .entry)) (now (arrive .entry)) routers a ⌝ }
-{
-    let mut t = [[0u32; 4]; 16];
-    for r in 0..routers {
-        t[r] = kept(by[r], has(arrive[r], a));
-    }
-    t
-}
-
 // The destinations that are passives.
 fn far_of(h: Head) -> u32
     requires { ⌜ Counts h ⌝ }
     ensures { λ s. ⌜ s ≡ farOf h ⌝ }
 {
     less(below(h.actives + h.passives), below(h.actives))
-}
-
-// The passives that an active is served with, where some router lacks a way back to it: by a sweep over the routers that have one.
-fn swept(
-    by: &[[u32; 4]; 16],
-    next: &[u8; 64],
-    routes: &[[u8; 32]; 16],
-    homes: &[u8; 32],
-    arrive: &[u32; 32],
-    h: Head,
-    a: usize,
-    x: usize,
-) -> u32
-    requires { ⌜ Counts h × (a < h .actives) × (x < 16) × PortsIn (now homes) (h .actives + h .passives) × Inside (now next) ⌝ }
-    ensures { λ w. ⌜ Swept (now (by .entry)) (now (next .entry)) (now (homes .entry)) (now (arrive .entry)) h a x w ⌝ }
-{
-    let n = h.actives + h.passives;
-    let kept = keeps(by, arrive, h.routers, a);
-    let mut t = firsts(&kept, homes, n);
-    let mut z = [[0u8; 16]; 17];
-    let s = Span {
-        routers: h.routers,
-        all: below(n),
-        sized: 0,
-        column: h.actives,
-    };
-    reach::reach(&kept, next, routes, s, &mut t, &mut z);
-    both(t[x], far_of(h))
-}
-
-// The passives that an active is served with. Where every router has a way back to it, they are those at which its walk arrives;
-// where its walk arrives at none, there are none.
-fn serve(
-    by: &[[u32; 4]; 16],
-    next: &[u8; 64],
-    routes: &[[u8; 32]; 16],
-    homes: &[u8; 32],
-    arrive: &[u32; 32],
-    h: Head,
-    all: u32,
-    a: usize,
-) -> u32
-    requires { ⌜ Counts h × (a < h .actives) × PortsIn (now homes) (h .actives + h .passives) × Inside (now next) ⌝ }
-    ensures { λ w. ⌜ Serving (now (by .entry)) (now (next .entry)) (now (homes .entry)) (now (arrive .entry)) h all a w ⌝ }
-{
-    let x = port(homes, a, h.actives + h.passives) / 4;
-    let v = both(arrive[x], far_of(h));
-    if has(all, a) {
-        return v;
-    }
-    if v == 0 {
-        return v;
-    }
-    swept(by, next, routes, homes, arrive, h, a, x)
-}
-
-// By active: the passives that it is served with.
-fn serves(
-    by: &[[u32; 4]; 16],
-    next: &[u8; 64],
-    routes: &[[u8; 32]; 16],
-    homes: &[u8; 32],
-    arrive: &[u32; 32],
-    h: Head,
-    all: u32,
-) -> [u32; 16]
-    requires { ⌜ Counts h × PortsIn (now homes) (h .actives + h .passives) × Inside (now next) ⌝ }
-    ensures { λ t. ⌜ Servings (now (by .entry)) (now (next .entry)) (now (homes .entry)) (now (arrive .entry)) h all (h .actives) t ⌝ }
-{
-    let actives = h.actives;
-    let mut t = [0u32; 16];
-    for a in 0..actives {
-        t[a] = serve(by, next, routes, homes, arrive, h, all, a);
-    }
-    t
 }
 
 // A router's sizes.
@@ -296,7 +203,7 @@ pub fn walks(
         column: h.actives,
     };
     let all = reach::reach(by, &next, routes, s, &mut t, &mut z);
-    let w = serves(by, &next, routes, homes, &t, h, all);
+    let w = served::serves(h, joints, homes, by, &t, all);
     *lengths = lengths_of(&z, &t, &w, homes, h);
     *arrive = t;
     w

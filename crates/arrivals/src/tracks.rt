@@ -15,8 +15,8 @@ ghost use Rattle.arrivals.specs.Tables.{PortsIn};
 ghost use Rattle.arrivals.specs.Pairs.{Tables};
 ghost use Rattle.arrivals.specs.Tracks.{Tracks};
 
-// By router and destination: the set of the routers that the walk meets, and 65536 times their number, where it arrives.
-// The last row, for 'no router', stays 0.
+// By router and destination: the set of the routers that the walk meets, and 65536 times their number, where it
+// arrives. The last row, for 'no router', stays 0.
 pub fn tracks(
     h: Head,
     joints: &[u8; 64],
@@ -27,7 +27,8 @@ pub fn tracks(
     requires { ⌜ Counts h × PortsIn (now homes) (h .actives + h .passives)
         × ((r o d : ℕ) → h .routers ≤ r → o < 4 → has (getD (getD (now by) r []) o 0) d ≡ false)
         × (now up ≡ replicate 17 (replicate 32 0)) ⌝ }
-    ensures { λ _. ⌜ ((routes : List (List ℕ)) → Tables h routes (now (joints .entry)) (now (homes .entry)) (now (by .entry))
+    ensures { λ _. ⌜ ((routes : List (List ℕ))
+        → Tables h routes (now (joints .entry)) (now (homes .entry)) (now (by .entry))
         → Tracks (tablePlan h routes (now (joints .entry))) (now (up .exit))) ⌝ }
 {
     let n = h.actives + h.passives;

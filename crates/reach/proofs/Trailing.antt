@@ -9,9 +9,9 @@ use lib.Dec.{eqb}
 use lib.ListN.{getD, set, length, length-set}
 use lib.Pow.{pow-mono}
 use lib.Seq.{getD-set-same, getD-set-other, set-getD}
-use borrow.Author.Tests.{eqb-true, eq-eqb, ne-eqb}
+use borrow.Author.Tests.{eq-eqb, ne-eqb}
 use Rattle.basis.specs.Choice.{test}
-use Rattle.basis.specs.Bounded.{anyBelow, any-true, or-cases, below-suc, lt-or-ge}
+use Rattle.basis.specs.Bounded.{anyBelow, any-true, or-cases, lt-or-ge}
 use Rattle.sets.specs.Sets.{has, single, both, less, lowest, rest}
 use Rattle.sets.specs.Laws.{has-both, has-less, none-has, lowest-is, has-rest, rest-less}
 use Rattle.reach.specs.Reach.{sideSet, beyond, Idle, throughOf, pullOf, sweepAt, changeOf}
@@ -47,6 +47,28 @@ module _ (up : List (List ℕ)) (x d v : ℕ) (shape : Shaped up) (row : x < 17)
       wide′ r l (inl q) = rw (q, here) (length-set (getD up x []) d v ∙ shape .wide x row)
       wide′ r l (inr q) = ap length (getD-set-other up x r (set (getD up x []) d v) [] q) ∙ shape .wide r l
 
+-- ---- a set without its lowest member, as a loop over the members leaves it
+module _ (left left′ d : ℕ) (some : 0 < left) (small : left < 2 ^ 32) (low : d ≡ lowest left)
+    (less′ : left′ ≡ rest left) where
+  pub lowest-there : has left d ≡ true
+  lowest-there = rw low (lowest-is left some (omega arith) .there)
+
+  pub others-has : (i : ℕ) → has left′ i ≡ (has left i && not (eqb i d))
+  others-has i = rw (less′, low) (has-rest left i some (omega arith))
+
+  pub lowest-gone : has left′ d ≡ false
+  lowest-gone = others-has d ∙ rw (lowest-there, eq-eqb d d refl)
+
+  pub others-kept : (i : ℕ) → (i ≡ d → ⊥) → has left′ i ≡ has left i
+  others-kept i q = others-has i ∙ rw (ne-eqb i d q) (and-all (has left i))
+    where
+      and-all : (b : Bool) → (b && true) ≡ b
+      and-all true = refl
+      and-all false = refl
+
+  pub others-small : left′ < 2 ^ 32
+  others-small = let a = rest-less left some in rw less′ (omega arith)
+
 -- ---- the loop over the members of a set: left are those that are still to do
 pub record Leading (x n k left : ℕ) (up₀ up : List (List ℕ)) : Type 0 where
   pub shape : Shaped up
@@ -77,34 +99,19 @@ pub leading-more : {x n k left left′ d v : ℕ} {up₀ up : List (List ℕ)} �
     → Leading x n k left′ up₀ (putAt up x d v)
 leading-more {x} {n} {k} {left} {left′} {d} {v} {up₀} {up} lx p e ld f g w = record {
   shape = shaped-put up x d v (w .shape) (omega arith);
-  small = let a = rest-less left p in rw f (omega (arith, w .small));
-  within = λ i q. w .within i (and-parts (has left i) _ (sym (left-has i) ∙ q) .0);
+  small = others-small left left′ d p (w .small) e f;
+  within = λ i q. w .within i (and-parts (has left i) _ (sym (others-has left left′ d p (w .small) e f i) ∙ q) .0);
   same = λ r i a. cell-other up x d v (w .shape) (omega arith) r i
-      (λ q s. a q (rw s known) (rw s gone)) ∙ w .same r i (λ q b c. a q b (left-has i ∙ rw c));
+      (λ q s. a q (rw s known) (rw s (lowest-gone left left′ d p (w .small) e f)))
+      ∙ w .same r i (λ q b c. a q b (others-has left left′ d p (w .small) e f i ∙ rw c));
   new = λ i a b. at i a b (same-or-not i d);
 }
   where
-    l : left < 2 ^ 64
-    l = omega (arith, w .small)
-
     there : has left d ≡ true
-    there = rw e (lowest-is left p l .there)
+    there = lowest-there left left′ d p (w .small) e f
 
     known : has k d ≡ true
     known = w .within d there
-
-    left-has : (i : ℕ) → has left′ i ≡ (has left i && not (eqb i d))
-    left-has i = rw (f, e) (has-rest left i p l)
-
-    gone : has left′ d ≡ false
-    gone = left-has d ∙ rw (there, eq-eqb d d refl)
-
-    kept : (i : ℕ) → (i ≡ d → ⊥) → has left′ i ≡ has left i
-    kept i q = left-has i ∙ rw (ne-eqb i d q) (all (has left i))
-      where
-        all : (b : Bool) → (b && true) ≡ b
-        all true = refl
-        all false = refl
 
     at : (i : ℕ) → has k i ≡ true → has left′ i ≡ false → (i ≡ d) ⊎ (i ≡ d → ⊥)
         → cell (putAt up x d v) x i ≡ cell up₀ n i + single x + 65536
@@ -114,7 +121,7 @@ leading-more {x} {n} {k} {left} {left′} {d} {v} {up₀} {up} lx p e ld f g w =
         ∙ ap (λ (u : ℕ). u + single x + 65536) (w .same n d (λ _ _ c. true≢false (sym there ∙ c))))
     at i a b (inr q) =
         cell-other up x d v (w .shape) (omega arith) x i (λ _ s. q s)
-        ∙ w .new i a (sym (kept i q) ∙ b)
+        ∙ w .new i a (sym (others-kept left left′ d p (w .small) e f i q) ∙ b)
 
 pub leading-end : {x n k left : ℕ} {up₀ up : List (List ℕ)} → left ≡ 0 → Leading x n k left up₀ up → Led x n k up₀ up
 leading-end {x} {n} {k} {left} e w = record {

@@ -1,5 +1,5 @@
-// The routers that walks meet, by router and destination: their set in the low 16 digits, and 65536 times their number. The
-// words are made as the walks are found, from their ends.
+// The routers that walks meet, by router and destination: their set in the low 16 digits, and 65536 times their number.
+// The words are made as the walks are found, from their ends.
 use crate::common;
 use crate::index;
 use crate::pull;
@@ -16,8 +16,9 @@ ghost use mathlib.Core.List.{List, []};
 ghost use Prim.Native.Nat.{ℕ, _+_, _*_, _≤_, _<_};
 ghost use lib.ListN.{getD, length};
 ghost use Rattle.sets.specs.Sets.{has};
-ghost use Rattle.reach.specs.Reach.{throughOf, pullOf, sweepAt, changeOf, upOf, downOf, commonOf, Closed, Reached, Inside, Idle};
-ghost use Rattle.reach.specs.Trails.{Shaped, Blank, cell, Led, Started, Trailed, Lengthens, Room, Turns, Turning};
+ghost use Rattle.reach.specs.Reach.{sweepAt, changeOf, upOf, downOf, Closed, Reached, Inside, Idle};
+ghost use Rattle.reach.specs.Trails.{Shaped, Blank, cell, Led, Started, Trailed, Lengthens, Room};
+ghost use Rattle.reach.specs.Trails.{Turns, Turning};
 
 // The row for 'no router'.
 const NO_ROUTER: usize = 16;
@@ -49,7 +50,8 @@ fn side(
     new: u32,
 )
     requires { ⌜ (x < 16) × (o < 4) × Inside (now next) × Turning (now by) (now next) (now t) x new o (now up) ⌝ }
-    ensures { λ _. ⌜ Turns (now (by .entry)) (now (next .entry)) (now (t .entry)) x new o (now (up .entry)) (o + 1) (now (up .exit)) ⌝ }
+    ensures { λ _. ⌜ Turns (now (by .entry)) (now (next .entry)) (now (t .entry)) x new
+        o (now (up .entry)) (o + 1) (now (up .exit)) ⌝ }
 {
     let n = index(next[4 * x + o]);
     let k = both(through(by, next, t, x, o), new);
@@ -66,7 +68,8 @@ fn sides(
     new: u32,
 )
     requires { ⌜ (x < 16) × Inside (now next) × Turning (now by) (now next) (now t) x new 0 (now up) ⌝ }
-    ensures { λ _. ⌜ Turns (now (by .entry)) (now (next .entry)) (now (t .entry)) x new 0 (now (up .entry)) 4 (now (up .exit)) ⌝ }
+    ensures { λ _. ⌜ Turns (now (by .entry)) (now (next .entry)) (now (t .entry)) x new
+        0 (now (up .entry)) 4 (now (up .exit)) ⌝ }
 {
     for o in 0..4 {
         side(by, next, t, up, x, o, new);
@@ -159,7 +162,8 @@ fn rounds(
     requires { ⌜ (n ≤ 16) × Inside (now next) × Idle (now by) (now next) n (now t)
         × Trailed (now by) (now next) (now t) 1 (now t) (now up) ⌝ }
     ensures { λ _. ⌜ Reached (now (by .entry)) (now (next .entry)) n full (now (t .entry)) (now (t .exit))
-        × ((b : ℕ) × Trailed (now (by .entry)) (now (next .entry)) (now (t .entry)) b (now (t .exit)) (now (up .exit))) ⌝ }
+        × ((b : ℕ) × Trailed (now (by .entry)) (now (next .entry)) (now (t .entry)) b
+        (now (t .exit)) (now (up .exit))) ⌝ }
 {
     for k in 0..n {
         let new = sweep_up(by, next, n, t, up);
@@ -182,9 +186,11 @@ pub fn trails(
     t: &mut [u32; 32],
     up: &mut [[u32; 32]; 17],
 )
-    requires { ⌜ (n ≤ 16) × Inside (now next) × Idle (now by) (now next) n (now t) × (length (now t) ≡ 32) × Blank (now up) ⌝ }
+    requires { ⌜ (n ≤ 16) × Inside (now next) × Idle (now by) (now next) n (now t)
+        × (length (now t) ≡ 32) × Blank (now up) ⌝ }
     ensures { λ _. ⌜ Reached (now (by .entry)) (now (next .entry)) n full (now (t .entry)) (now (t .exit))
-        × ((b : ℕ) × Trailed (now (by .entry)) (now (next .entry)) (now (t .entry)) b (now (t .exit)) (now (up .exit))) ⌝ }
+        × ((b : ℕ) × Trailed (now (by .entry)) (now (next .entry)) (now (t .entry)) b
+        (now (t .exit)) (now (up .exit))) ⌝ }
 {
     starts(t, n, up);
     rounds(by, next, n, full, t, up);

@@ -13,7 +13,7 @@ use Rattle.arrivals.proofs.firsts.Reads as firsts-reads
 use Rattle.arrivals.proofs.lengths_of.Reads as lengths-of-reads
 use Rattle.arrivals.proofs.nears.Reads as nears-reads
 use Rattle.arrivals.proofs.nexts.Reads as nexts-reads
-use Rattle.arrivals.proofs.serves.Reads as serves-reads
+use Rattle.arrivals.proofs.served.serves.Reads as serves-reads
 use Rattle.reach.proofs.reach.Reads as reach-reads
 use Rattle.sets.proofs.below.Reads as below-reads
 
@@ -58,11 +58,11 @@ reach-requires c κs = (
 -- src/lib.rt:285:13
 serves-requires : tie.Need-serves-requires
 serves-requires c κs = (
-  c .before .before .before .before .before .before .before .before .before .before .before .before .before .pre .0,
-  c .before .before .before .before .before .before .before .before .before .before .before .before .before .pre .1,
-  rw (c .before .before .before .before .before .before .before .before .before .before .before .nexts .ensures)
-      (nexts-inside _ _ (c .before .before .before .before .before .before .before .before .before .before .before
-      .before .before .pre .0 .0)),
+  c .before .before .before .before .before .before .before .before .before .before .before
+      .before .pre .0,
+  c .before .before .before .before .before .before .before .before .before .before .before .before
+      .pre .1,
+  c .before .before .before .before .before .before .before .before .before .before .before .before .pre .2,
 )
 
 -- src/lib.rt:286:16
@@ -71,19 +71,21 @@ lengths-of-requires c κs = search needs
 
 -- src/lib.rt:260:1
 returns : tie.Need-returns
-returns c = walks-sound _ _ _ _ _ _ _
-    (c .before .before .before .before .before .before .before .before .before .before .before
-    .before .before .before .before .before .before .before .pre .0 .1) (c .before .before .before .before .before
-    .before .before .before .before .before .before .before .before .before .before .before .before .before .pre .0 .2)
-    (c .before .before .before .before .before .before .before .before .before
-    .before .before .before .before .before .before .before .nexts .ensures) (c .before .before .before .before .before
-    .before .before .before .before .before .before .before .before .before .before .firsts .ensures) (c .before
-    .before .before .before .before .before .before .before .before .before .before .before .before .nears .ensures)
-    (c .before .before .before .before .before .before .before .before .before .before .before .before .below .ensures)
-    (c .before .before .before .before .before .before .before .before .before .before .before .far-of .ensures)
-    (c .before .before .before .before .before .before .before .reach .ensures .0)
-    (c .before .before .before .before .before .before .before .reach .ensures .1)
-    (c .before .before .before .before .before .before .before .reach .ensures .2)
+returns c =
+    walks-sound _ _ _ _ _ _ _ (c .before .before .before .before .before .before .before .before .before .before
+    .before .before .before .before .before .before .before .pre .0 .1)
+    (c .before .before .before .before .before .before .before .before .before .before .before .before .before .before
+    .before .before .before .pre .0 .2)
+    (c .before .before .before .before .before .before .before .before .before .before .before .before .before .before
+    .before .nexts .ensures)
+    (c .before .before .before .before .before .before .before .before .before .before .before .before .before .before
+    .firsts .ensures)
+    (c .before .before .before .before .before .before .before .before .before .before .before .before .nears .ensures)
+    (c .before .before .before .before .before .before .before .before .before .before .before .below .ensures)
+    (c .before .before .before .before .before .before .before .before .before .before .far-of .ensures)
+    (c .before .before .before .before .before .before .reach .ensures .0)
+    (c .before .before .before .before .before .before .reach .ensures .1)
+    (c .before .before .before .before .before .before .reach .ensures .2)
     (c .before .before .before .before .serves .ensures) (c .lengths-of .ensures)
 
 pub walks-spec : {M : Type 1} → statement M

@@ -49,14 +49,16 @@ single-requires c κs = search needs
 
 -- src/trails.rt:37:20
 add-up : tie.Need-add-up Inv-loop μ-loop
-add-up c = let w = leading-word (omega arith) (c .before .before .before .lowest .ensures .0) (c .before .before .before .before .before .loop .inv) in
+add-up c = let w = leading-word (omega arith) (c .before .before .before .lowest .ensures .0) (c .before .before
+    .before .before .before .loop .inv) in
     let a = c .before .before .before .before .before .before .pre .3 _ (w .0) in
     let b = single-fits _ (c .single .ensures) (omega arith) in
     record { fits = omega (arith, a, w .1, b) }
 
 -- src/trails.rt:37:20
 add-up-2 : tie.Need-add-up-2 Inv-loop μ-loop
-add-up-2 c = let w = leading-word (omega arith) (c .before .before .before .lowest .ensures .0) (c .before .before .before .before .before .loop .inv) in
+add-up-2 c = let w = leading-word (omega arith) (c .before .before .before .lowest .ensures .0) (c .before .before
+    .before .before .before .loop .inv) in
     let a = c .before .before .before .before .before .before .pre .3 _ (w .0) in
     let b = single-fits _ (c .single .ensures) (omega arith) in
     record { fits = omega (arith, a, w .1, b) }
@@ -83,7 +85,9 @@ loop-less c = omega arith
 
 -- src/trails.rt:34:5
 loop-again : tie.Need-loop-again Inv-loop μ-loop
-loop-again c = leading-more (omega arith) (omega arith) (c .before .before .before .lowest .ensures .0) (omega arith) (c .before .before .rest .ensures .0) (omega (arith, c .single .ensures)) (c .before .before .before .before .before .loop .inv)
+loop-again c = leading-more (omega arith) (omega arith) (c .before .before .before .lowest .ensures .0) (omega arith)
+    (c .before .before .rest .ensures .0) (omega (arith, c .single .ensures)) (c .before .before .before .before
+    .before .loop .inv)
 
 -- src/trails.rt:29:1
 returns : tie.Need-returns Inv-loop μ-loop

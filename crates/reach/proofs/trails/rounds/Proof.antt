@@ -26,12 +26,18 @@ loop-holds c = (omega arith, round-none _ _ _ _ (c .pre .3 .long), c .pre .3)
 
 -- src/trails.rt:165:13
 sweep-up-requires : tie.Need-sweep-up-requires Inv-loop μ-loop
-sweep-up-requires c κs = (c .before .before .before .before .pre .0, c .before .before .before .before .pre .1, room-of _ _ _ _ (c .before .before .before .loop .inv .2) (omega arith))
+sweep-up-requires c κs = (
+  c .before .before .before .before .pre .0,
+  c .before .before .before .before .pre .1,
+  room-of _ _ _ _ (c .before .before .before .loop .inv .2) (omega arith),
+)
 
 -- src/trails.rt:167:13
 returns : tie.Need-returns Inv-loop μ-loop
 returns c = (
-  end-closed _ _ _ _ _ _ _ (c .before .before .before .before .before .before .pre .0) (c .before .before .before .before .before .before .pre .2) (c .before .before .before .before .before .loop .inv .1) (c .before .sweep-up .ensures .0)
+  end-closed _ _ _ _ _ _ _ (c .before .before .before .before .before .before .pre .0) (c .before .before .before
+      .before .before .before .pre .2) (c .before .before .before .before .before .loop .inv .1) (c .before .sweep-up
+      .ensures .0)
       (c .before .sweep-up .ensures .1 (c .if1 .taken)),
   (_, c .before .sweep-up .ensures .2 _ _ (c .before .before .before .before .before .loop .inv .2)),
 )
@@ -41,7 +47,8 @@ sweep-down-requires : tie.Need-sweep-down-requires Inv-loop μ-loop
 sweep-down-requires c κs = (
   c .before .before .before .before .before .before .before .before .pre .0,
   c .before .before .before .before .before .before .before .before .pre .1,
-  room-of _ _ _ _ (c .before .before .before .sweep-up .ensures .2 _ _ (c .before .before .before .before .before .before .before .loop .inv .2)) (omega arith),
+  room-of _ _ _ _ (c .before .before .before .sweep-up .ensures .2 _ _ (c .before .before .before .before .before
+      .before .before .loop .inv .2)) (omega arith),
 )
 
 -- src/trails.rt:170:12
@@ -51,9 +58,18 @@ common-requires c κs = omega arith
 -- src/trails.rt:171:13
 returns-2 : tie.Need-returns-2 Inv-loop μ-loop
 returns-2 c = (
-  end-full _ _ _ _ _ _ _ (round-more _ _ _ _ _ _ (c .before .before .before .before .before .before .before .before .before .before .before .before .pre .0) (c .before .before .before .before .before .before .before .before .before .before .before .before .pre .2) (c .before .before .before .before .before .before .before .before .before .before .before .loop .inv .1)
-      (c .before .before .before .before .before .before .before .sweep-up .ensures .0) (c .before .before .before .sweep-down .ensures .0)) (sym (c .before .common .ensures) ∙ c .if2 .taken),
-  (_, c .before .before .before .sweep-down .ensures .1 _ _ (c .before .before .before .before .before .before .before .sweep-up .ensures .2 _ _ (c .before .before .before .before .before .before .before .before .before .before .before .loop .inv .2))),
+  end-full _ _ _ _ _ _ _ (round-more _ _ _ _ _ _ (c .before .before .before .before .before .before .before .before
+      .before .before .before .before .pre .0) (c .before .before .before .before .before .before .before .before
+      .before .before .before .before .pre .2) (c .before .before .before .before .before .before .before .before
+      .before .before .before .loop .inv .1)
+      (c .before .before .before .before .before .before .before .sweep-up .ensures .0) (c .before .before .before
+      .sweep-down .ensures .0)) (sym (c .before .common .ensures) ∙ c .if2 .taken),
+  (
+    _,
+    c .before .before .before .sweep-down .ensures .1 _ _ (c .before .before .before .before .before .before .before
+        .sweep-up .ensures .2 _ _ (c .before .before .before .before .before .before .before .before .before .before
+        .before .loop .inv .2)),
+  ),
 )
 
 -- src/trails.rt:164:9
@@ -68,10 +84,15 @@ loop-less c = omega arith
 loop-again : tie.Need-loop-again Inv-loop μ-loop
 loop-again c = (
   omega arith,
-  round-more _ _ _ _ _ _ (c .before .before .before .before .before .before .before .before .before .before .before .before .pre .0) (c .before .before .before .before .before .before .before .before .before .before .before .before .pre .2) (c .before .before .before .before .before .before .before .before .before .before .before .loop .inv .1) (c .before .before .before .before .before .before .before .sweep-up .ensures .0)
+  round-more _ _ _ _ _ _ (c .before .before .before .before .before .before .before .before .before .before .before
+      .before .pre .0) (c .before .before .before .before .before .before .before .before .before .before .before
+      .before .pre .2) (c .before .before .before .before .before .before .before .before .before .before .before
+      .loop .inv .1) (c .before .before .before .before .before .before .before .sweep-up .ensures .0)
       (c .before .before .before .sweep-down .ensures .0),
   trailed-more _ _ _ (omega arith)
-      (c .before .before .before .sweep-down .ensures .1 _ _ (c .before .before .before .before .before .before .before .sweep-up .ensures .2 _ _ (c .before .before .before .before .before .before .before .before .before .before .before .loop .inv .2))),
+      (c .before .before .before .sweep-down .ensures .1 _ _ (c .before .before .before .before .before .before
+      .before .sweep-up .ensures .2 _ _ (c .before .before .before .before .before .before .before .before .before
+      .before .before .loop .inv .2))),
 )
 
 -- src/trails.rt:151:1

@@ -40,14 +40,19 @@ both-requires c κs = search needs
 lead-requires : tie.Need-lead-requires
 lead-requires c κs = (
   c .before .before .before .before .before .pre .0,
-  rw (c .before .before .before .index .ensures) (c .before .before .before .before .before .pre .2 (4 * c .before .before .before .before .before .args .x + c .before .before .before .before .before .args .o) (omega arith)),
+  rw (c .before .before .before .index .ensures) (c .before .before .before .before .before .pre .2 (4 * c .before
+      .before .before .before .before .args .x + c .before .before .before .before .before .args .o) (omega arith)),
   c .before .before .before .before .before .pre .3 .3 .old .shape,
-  turn-small _ _ _ _ _ _ _ _ (c .before .before .before .index .ensures) (c .before .both .ensures ∙ rw (c .before .before .through .ensures)) (c .before .before .before .before .before .pre .3 .2) (c .before .before .before .before .before .pre .3 .3),
+  turn-small _ _ _ _ _ _ _ _ (c .before .before .before .index .ensures) (c .before .both .ensures ∙ rw (c .before
+      .before .through .ensures)) (c .before .before .before .before .before .pre .3 .2) (c .before .before .before
+      .before .before .pre .3 .3),
 )
 
 -- src/trails.rt:42:1
 returns : tie.Need-returns
-returns c = λ first b w. turn-next _ _ _ _ _ first b _ (c .before .before .before .before .before .before .pre .0) (c .before .before .before .before .before .before .pre .1) (c .before .before .before .before .index .ensures) (c .before .before .both .ensures ∙ rw (c .before .before .before .through .ensures)) (c .lead .ensures) w
+returns c = λ first b w. turn-next _ _ _ _ _ first b _ (c .before .before .before .before .before .before .pre .0) (c
+    .before .before .before .before .before .before .pre .1) (c .before .before .before .before .index .ensures) (c
+    .before .before .both .ensures ∙ rw (c .before .before .before .through .ensures)) (c .lead .ensures) w
 
 pub side-spec : {M : Type 1} → statement M
 side-spec =

@@ -46,7 +46,11 @@ loop-less c = omega arith
 
 -- src/trails.rt:145:5
 loop-again : tie.Need-loop-again Inv-loop μ-loop
-loop-again c = (omega arith, started-more _ (omega arith) (c .before .before .before .before .loop .inv .1) (c .lead .ensures))
+loop-again c = (
+  omega arith,
+  started-more _ (omega arith) (c .before .before .before .before .loop .inv .1) (c .lead
+      .ensures),
+)
 
 -- src/trails.rt:141:1
 returns : tie.Need-returns Inv-loop μ-loop

@@ -27,11 +27,18 @@ less-requires c κs = search needs
 
 -- src/trails.rt:93:9
 returns : tie.Need-returns
-returns c = stepped-none _ _ _ _ _ (c .before .before .before .pull .ensures) (c .before .less .ensures) (c .if1 .taken)
+returns c = stepped-none _ _ _ _ _ (c .before .before .before .pull .ensures) (c .before .less .ensures) (c .if1
+    .taken)
 
 -- src/trails.rt:95:5
 sides-requires : tie.Need-sides-requires
-sides-requires c κs = (c .before .before .before .before .before .before .before .pre .0, c .before .before .before .before .before .before .before .pre .1, turning-start _ _ _ _ _ _ (c .before .before .before .before .before .before .before .pre .2) (c .before .before .before .less .ensures))
+sides-requires c κs = (
+  c .before .before .before .before .before .before .before .pre .0,
+  c .before .before .before
+      .before .before .before .before .pre .1,
+  turning-start _ _ _ _ _ _ (c .before .before .before .before .before
+      .before .before .pre .2) (c .before .before .before .less .ensures),
+)
 
 -- src/trails.rt:96:5
 mul-t : tie.Need-mul-t
@@ -43,7 +50,9 @@ element-write-t c = search needs
 
 -- src/trails.rt:77:1
 returns-2 : tie.Need-returns-2
-returns-2 c = stepped-new _ _ _ _ _ _ (c .before .before .before .before .before .before .before .before .pre .0) (c .before .before .before .before .before .before .pull .ensures) (c .before .before .before .before .less .ensures) (c .sides .ensures)
+returns-2 c = stepped-new _ _ _ _ _ _ (c .before .before .before .before .before .before .before .before .pre .0) (c
+    .before .before .before .before .before .before .pull .ensures) (c .before .before .before .before .less .ensures)
+    (c .sides .ensures)
 
 pub step-spec : {M : Type 1} → statement M
 step-spec =

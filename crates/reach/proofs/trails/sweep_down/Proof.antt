@@ -33,7 +33,12 @@ sub-x-2 c = omega arith
 
 -- src/trails.rt:136:9
 step-requires : tie.Need-step-requires Inv-loop μ-loop
-step-requires c κs = (omega arith, c .before .before .before .before .pre .1, room-on _ _ _ _ 1 (omega arith) (c .before .before .before .before .pre .2) (c .before .before .before .loop .inv .2))
+step-requires c κs = (
+  omega arith,
+  c .before .before .before .before .pre .1,
+  room-on _ _ _ _ 1 (omega arith) (c
+      .before .before .before .before .pre .2) (c .before .before .before .loop .inv .2),
+)
 
 -- src/trails.rt:134:9
 add-i : tie.Need-add-i Inv-loop μ-loop
@@ -54,7 +59,11 @@ loop-again c = (
 -- src/trails.rt:122:1
 returns : tie.Need-returns Inv-loop μ-loop
 unfolding downOf
-returns c = (up-done _ _ (c .before .loop .inv .1) (omega arith), lengthens-done _ _ _ _ (omega arith) (c .before .loop .inv .2))
+returns c = (
+  up-done _ _ (c .before .loop .inv .1) (omega arith),
+  lengthens-done _ _ _ _ (omega arith) (c .before
+      .loop .inv .2),
+)
 
 pub sweep-down-spec : {M : Type 1} → statement M
 sweep-down-spec =

@@ -24,7 +24,12 @@ loop-holds c = (omega arith, swept-none _ _ _, lengthens-none _ _ _ _)
 
 -- src/trails.rt:116:27
 step-requires : tie.Need-step-requires Inv-loop μ-loop
-step-requires c κs = (omega arith, c .before .before .before .before .pre .1, room-on _ _ _ _ 1 (omega arith) (c .before .before .before .before .pre .2) (c .before .before .before .loop .inv .2))
+step-requires c κs = (
+  omega arith,
+  c .before .before .before .before .pre .1,
+  room-on _ _ _ _ 1 (omega arith) (c
+      .before .before .before .before .pre .2) (c .before .before .before .loop .inv .2),
+)
 
 -- src/trails.rt:116:9
 either-requires : tie.Need-either-requires Inv-loop μ-loop
@@ -42,13 +47,15 @@ loop-less c = omega arith
 loop-again : tie.Need-loop-again Inv-loop μ-loop
 loop-again c = (
   omega arith,
-  swept-more _ _ _ _ _ _ (c .before .before .before .before .before .loop .inv .1) (c .before .step .ensures .0) (c .before .step .ensures .1) (c .either .ensures),
+  swept-more _ _ _ _ _ _ (c .before .before .before .before .before .loop .inv .1) (c .before .step .ensures .0) (c
+      .before .step .ensures .1) (c .either .ensures),
   lengthens-on _ _ _ _ (c .before .before .before .before .before .loop .inv .2) (c .before .step .ensures .2),
 )
 
 -- src/trails.rt:101:1
 returns : tie.Need-returns Inv-loop μ-loop
-returns c = swept-done _ _ _ _ _ _ _ (c .before .loop .inv .1) (omega arith) (lengthens-done _ _ _ _ (omega arith) (c .before .loop .inv .2))
+returns c = swept-done _ _ _ _ _ _ _ (c .before .loop .inv .1) (omega arith) (lengthens-done _ _ _ _ (omega arith) (c
+    .before .loop .inv .2))
 
 pub sweep-up-spec : {M : Type 1} → statement M
 sweep-up-spec =

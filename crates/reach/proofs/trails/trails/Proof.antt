@@ -18,7 +18,8 @@ rounds-requires c κs = (
   c .before .before .before .before .before .pre .0,
   c .before .before .before .before .before .pre .1,
   c .before .before .before .before .before .pre .2,
-  started-trailed _ _ _ (c .before .before .before .before .before .pre .0) (c .before .before .before .before .before .pre .2) (c .before .before .before .before .before .pre .3) (c .before .before .starts .ensures),
+  started-trailed _ _ _ (c .before .before .before .before .before .pre .0) (c .before .before .before .before .before
+      .pre .2) (c .before .before .before .before .before .pre .3) (c .before .before .starts .ensures),
 )
 
 -- src/trails.rt:177:1

@@ -1,0 +1,4 @@
+pub mod Offsets
+pub mod Arrivals
+pub mod Flags
+pub mod Phase

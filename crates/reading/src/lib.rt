@@ -1,0 +1,110 @@
+// READ in place on a state's bytes: each wire's packet joins its queue, and each raised flag becomes a credit.
+use acts::output_count;
+use acts::output_row;
+use acts::queue_count;
+use acts::queue_row;
+use kinds::Credit;
+use moves::next;
+use packets::Phase;
+use packets::Wire;
+use packets::credit_up;
+use plan::Head;
+use rows::phase_code;
+use rows::push;
+use rows::put_wire;
+use rows::wire_at;
+ghost use Prim.Native.Nat.{_≤_, _<_};
+ghost use Rattle.basis.specs.Fold.{upTo};
+ghost use Rattle.packets.specs.declared.Phase.the-variants.{Read};
+ghost use Rattle.plan.specs.Head.{Counts};
+ghost use Rattle.plan.specs.Tables.{tablePlan};
+ghost use Rattle.machine.specs.Read.{doRead};
+ghost use Rattle.theory.specs.Invariant.{Core};
+ghost use Rattle.acts.specs.Acts.{Holds, Steps, In};
+ghost use Rattle.acts.specs.Counts.{queueCount, outputCount};
+ghost use Rattle.moves.specs.Wiring.{Wiring};
+ghost use Rattle.reading.specs.Reading.{delivery, Arriving, Flagged, Settles, Whole, SettlesTo};
+
+// The byte of the phase, and that of the flag in a queue's row, behind the credit's.
+const PHASE_BYTE: usize = 0;
+
+const FLAG_BYTE: usize = 1;
+
+// The wire of output m: a packet on it joins its next queue, and the wire empties.
+fn deliver(
+    h: Head,
+    routes: &[[u8; 32]; 16],
+    joints: &[u8; 64],
+    homes: &[u8; 32],
+    s: &mut [u8],
+    m: usize,
+)
+    requires { ⌜ Wiring h (now routes) (now joints) (now homes) × (m < outputCount h)
+        × Holds (tablePlan h (now routes) (now joints)) (Arriving (tablePlan h (now routes) (now joints)) m)
+        (now s) ⌝ }
+    ensures { λ _. ⌜ Steps (tablePlan h (now (routes .entry)) (now (joints .entry)))
+        (Arriving (tablePlan h (now (routes .entry)) (now (joints .entry))) m)
+        (delivery (tablePlan h (now (routes .entry)) (now (joints .entry))) m) (now (s .entry)) (now (s .exit)) ⌝ }
+{
+    let i = output_row(h, m);
+    let w = wire_at(s, i);
+    let Wire::Full(x) = w else {
+        return;
+    };
+    let n = next(h, routes, joints, homes, m, x);
+    put_wire(s, i, Wire::Empty);
+    push(s, queue_row(n), x);
+}
+
+// Every wire's packet joins its queue.
+fn deliver_all(h: Head, routes: &[[u8; 32]; 16], joints: &[u8; 64], homes: &[u8; 32], s: &mut [u8])
+    requires { ⌜ Wiring h (now routes) (now joints) (now homes)
+        × Holds (tablePlan h (now routes) (now joints)) (Core (tablePlan h (now routes) (now joints))) (now s) ⌝ }
+    ensures { λ _. ⌜ Steps (tablePlan h (now (routes .entry)) (now (joints .entry)))
+        (Core (tablePlan h (now (routes .entry)) (now (joints .entry))))
+        (upTo (delivery (tablePlan h (now (routes .entry)) (now (joints .entry)))) (outputCount h))
+        (now (s .entry)) (now (s .exit)) ⌝ }
+{
+    let count = output_count(h);
+    for m in 0..count {
+        deliver(h, routes, joints, homes, s, m);
+    }
+}
+
+// The flag of queue n: if it is raised, the queue has one credit more, and it is lowered.
+fn settle(s: &mut [u8], n: usize)
+    requires { ⌜ (n ≤ 65535) × Flagged n (now s) ⌝ }
+    ensures { λ _. ⌜ Settles n (now (s .entry)) (now (s .exit)) ⌝ }
+{
+    let i = queue_row(n);
+    if s[i + FLAG_BYTE] == 0 {
+        return;
+    }
+    let c = credit_up(Credit(s[i]));
+    s[i] = c.0;
+    s[i + FLAG_BYTE] = 0;
+}
+
+// Every raised flag becomes a credit.
+fn settle_all(h: Head, s: &mut [u8])
+    requires { ⌜ Counts h × Whole (queueCount h) (now s) ⌝ }
+    ensures { λ _. ⌜ SettlesTo (queueCount h) (now (s .entry)) (now (s .exit)) ⌝ }
+{
+    let count = queue_count(h);
+    for n in 0..count {
+        settle(s, n);
+    }
+}
+
+// READ.
+pub fn read(h: Head, routes: &[[u8; 32]; 16], joints: &[u8; 64], homes: &[u8; 32], s: &mut [u8])
+    requires { ⌜ Wiring h (now routes) (now joints) (now homes)
+        × Holds (tablePlan h (now routes) (now joints)) (In (tablePlan h (now routes) (now joints)) Read) (now s) ⌝ }
+    ensures { λ _. ⌜ Steps (tablePlan h (now (routes .entry)) (now (joints .entry)))
+        (In (tablePlan h (now (routes .entry)) (now (joints .entry))) Read)
+        (doRead (tablePlan h (now (routes .entry)) (now (joints .entry)))) (now (s .entry)) (now (s .exit)) ⌝ }
+{
+    deliver_all(h, routes, joints, homes, s);
+    settle_all(h, s);
+    s[PHASE_BYTE] = phase_code(Phase::Execute);
+}

@@ -1,0 +1,204 @@
+-- Zero bytes with the credits and the allowances stored are the bytes of Start's state.
+use mathlib.Core.Path.{_≡_, refl, sym, ap, ap₂, _∙_, subst}
+use mathlib.Core.List.{List, [], _∷_, _++_, append-assoc}
+use Prim.Native.Nat.{ℕ, suc, _+_, _*_, _≤_}
+use native.Mathlib.Nat.{one-mul, zero-add}
+use native.Mathlib.Omega.{arith}
+use lib.ListN.{length, getD, set, length-append}
+use Rattle.basis.specs.Fold.{upTo, up-same}
+use Rattle.plan.specs.declared.Head.{Head}
+use Rattle.plan.specs.Head.{InRange, Counts, destinations}
+use Rattle.plan.specs.Plan.{Plan, R, A}
+use Rattle.feeding.specs.Queue.{queues, queueAt}
+use Rattle.machine.specs.Outputs.{outputs}
+use Rattle.machine.specs.State.{blank, start, startAllowance}
+use Rattle.layout.specs.Rows.{rows, rows-same, rows-length, past}
+use Rattle.layout.specs.Offsets.{size, entries, allowancesAt}
+use Rattle.layout.specs.Places.{placeBytes}
+use Rattle.layout.specs.Encode.{queueBytes, outputBytes, encode}
+use Rattle.acts.specs.Counts.{queueCount, allowancesFrom, tableFrom, stateSize, queues-by, size-by, allowances-at}
+use Rattle.starting.specs.Starting.{Started, zeros, cleared, laid, credits, freeEntries, sixteen, routerCredits}
+use Rattle.starting.specs.Starting.{creditOf, credited, allowanceOf}
+use Rattle.starting.proofs.Zeros.{length-zeros, zeros-split, zeros-rows, laid-zero}
+use Rattle.starting.proofs.Fills.{filled}
+use Rattle.starting.proofs.Credits.{sixteen-at, free-at, credit-of, active-out-credit, passive-out-credit}
+use Rattle.starting.proofs.Credits.{router-part, active-in-credit, passive-in-credit, router-credits-at}
+use Rattle.starting.proofs.Credits.{credited-none, credited-more}
+
+module _ (pl : Plan) (rest : List ℕ) where
+  -- ---- the parts of a state's bytes: the header, the queues' rows, the outputs' rows, the allowances, the table
+  abbrev tail : List ℕ
+  tail = zeros (256 * R pl) ++ rest
+
+  abbrev wires : List ℕ
+  wires = rows 0 (outputs pl) (λ j. zeros 7)
+
+  abbrev parts : (ℕ → List ℕ) → (ℕ → List ℕ) → List ℕ
+  parts q a = zeros 2 ++ (rows 0 (queues pl) q ++ (wires ++ (rows 0 (A pl) a ++ tail)))
+
+  -- ---- all zero
+  cleared-parts : zeros (size pl) ++ rest ≡ parts (λ j. 0 ∷ zeros 38) (λ j. 0 ∷ [])
+  unfolding size zeros
+  cleared-parts =
+      let e : size pl ≡ 2 + (39 * queues pl + (7 * outputs pl + (1 * A pl + 256 * R pl))) = omega arith in
+      ap (λ (n : ℕ). zeros n ++ rest) e
+      ∙ zeros-split 2 (39 * queues pl + (7 * outputs pl + (1 * A pl + 256 * R pl))) rest
+      ∙ ap (λ (x : List ℕ). zeros 2 ++ x)
+      (zeros-split (39 * queues pl) (7 * outputs pl + (1 * A pl + 256 * R pl)) rest
+      ∙ ap (λ (x : List ℕ). zeros (39 * queues pl) ++ x)
+      (zeros-split (7 * outputs pl) (1 * A pl + 256 * R pl) rest
+      ∙ ap (λ (x : List ℕ). zeros (7 * outputs pl) ++ x)
+      (zeros-split (1 * A pl) (256 * R pl) rest ∙ sym (zeros-rows 1 0 (A pl) tail))
+      ∙ sym (zeros-rows 7 0 (outputs pl) (rows 0 (A pl) (λ j. zeros 1) ++ tail)))
+      ∙ sym (zeros-rows 39 0 (queues pl) (wires ++ (rows 0 (A pl) (λ j. zeros 1) ++ tail))))
+
+  -- ---- the credits
+  abbrev credit : ℕ → List ℕ
+  credit n = creditOf (pl .head) n ∷ zeros 38
+
+  credited-parts : credited (pl .head) (queues pl) (parts (λ j. 0 ∷ zeros 38) (λ j. 0 ∷ []))
+      ≡ parts credit (λ j. 0 ∷ [])
+  unfolding credited
+  credited-parts =
+      filled 39 (zeros 38) (ap suc (length-zeros 38)) (creditOf (pl .head)) 2 (zeros 2)
+      (sym (length-zeros 2)) (queues pl) (wires ++ (rows 0 (A pl) (λ j. 0 ∷ []) ++ tail))
+
+  -- ---- the allowances
+  abbrev allowance : ℕ → List ℕ
+  allowance n = startAllowance pl ∷ []
+
+  before : List ℕ
+  before = zeros 2 ++ (rows 0 (queues pl) credit ++ wires)
+
+  group : (x : List ℕ) → zeros 2 ++ (rows 0 (queues pl) credit ++ (wires ++ x)) ≡ before ++ x
+  unfolding before
+  group x =
+      ap (λ (y : List ℕ). zeros 2 ++ y) (sym (append-assoc (rows 0 (queues pl) credit) wires x))
+      ∙ sym (append-assoc (zeros 2) (rows 0 (queues pl) credit ++ wires) x)
+
+  before-long : allowancesAt pl ≡ length before
+  unfolding before
+  before-long =
+      rw (
+        length-append (zeros 2) (rows 0 (queues pl) credit ++ wires),
+        length-append (rows 0 (queues pl) credit) wires,
+        rows-length 39 0 (queues pl) credit (λ j. ap suc (length-zeros 38)),
+        rows-length 7 0 (outputs pl) (λ j. zeros 7) (λ j. length-zeros 7),
+        length-zeros 2,
+      )
+      (omega arith)
+
+  allowed-parts : A pl ≤ 16
+      → laid (allowancesAt pl) (sixteen (startAllowance pl)) (A pl) (parts credit (λ j. 0 ∷ []))
+      ≡ parts credit allowance
+  unfolding laid
+  allowed-parts few =
+      let n : ℕ = allowancesAt pl in
+      let v : ℕ = startAllowance pl in
+      up-same (λ i c. set c (n + i) (getD (sixteen v) i 0)) (λ i c. set c (n + 1 * i) v) (A pl)
+      (parts credit (λ j. 0 ∷ []))
+      (λ i c l. ap₂ (λ (k x : ℕ). set c (n + k) x) (sym (one-mul i)) (sixteen-at v i (omega arith)))
+      ∙ ap (upTo (λ i c. set c (n + 1 * i) v) (A pl)) (group (rows 0 (A pl) (λ j. 0 ∷ []) ++ tail))
+      ∙ filled 1 [] refl (λ i. v) n before before-long (A pl) tail
+      ∙ sym (group (rows 0 (A pl) allowance ++ tail))
+
+  -- ---- Start's state
+  start-parts : encode pl (start pl) rest ≡ parts credit allowance
+  unfolding encode queueBytes outputBytes placeBytes start blank zeros
+  start-parts =
+      ap₂ (λ (x y : List ℕ). zeros 2 ++ (x ++ (wires ++ (rows 0 (A pl) allowance ++ y))))
+      (rows-same 0 (queues pl) (λ n. queueBytes (start pl) (queueAt pl n)) credit
+      (λ j a b. ap (λ (x : ℕ). x ∷ zeros 38) (sym (credit-of pl j))))
+      (zeros-rows 2 0 (entries pl) rest
+      ∙ (let e : 2 * entries pl ≡ 256 * R pl = omega arith in ap (λ (n : ℕ). zeros n ++ rest) e))
+
+-- ---- the whole
+module _ (pl : Plan) (few : A pl ≤ 16) (b : List ℕ) where
+  begun : laid (allowancesFrom (pl .head)) (sixteen (allowanceOf (pl .head))) (A pl)
+      (credited (pl .head) (queueCount (pl .head)) (cleared (stateSize (pl .head)) b))
+      ≡ encode pl (start pl) (past (size pl) b)
+  unfolding cleared
+  begun =
+      let rest : List ℕ = past (size pl) b in
+      ap₂ (λ (n : ℕ) (x : List ℕ). laid n (sixteen (startAllowance pl)) (A pl) x) (sym (allowances-at pl))
+      (ap₂ (λ (n : ℕ) (x : List ℕ). credited (pl .head) n x) (sym (queues-by pl))
+      (ap (λ (n : ℕ). zeros n ++ past n b) (sym (size-by pl)) ∙ cleared-parts pl rest)
+      ∙ credited-parts pl rest)
+      ∙ allowed-parts pl rest few ∙ sym (start-parts pl rest)
+
+pub started : {h : Head} {b d : List ℕ} → InRange h
+    → d ≡ laid (allowancesFrom h) (sixteen (allowanceOf h)) (h .actives)
+    (credited h (queueCount h) (cleared (stateSize h) b))
+    → Started h b d
+started {h} {b} {d} range made =
+    record {
+      starts = λ pl e.
+          subst
+          (λ (x : Head). d ≡ laid (allowancesFrom x) (sixteen (allowanceOf x)) (x .actives)
+          (credited x (queueCount x) (cleared (stateSize x) b)))
+          (sym e) made
+          ∙ begun pl (let k = ap (λ (x : Head). x .actives) e in let m = range .actives .1 in omega arith) b;
+    }
+
+-- ---- the code's steps put together
+-- what is laid by values that the code computed
+pub laid-as : (n : ℕ) (b : List ℕ) {at from : ℕ} {t u d : List ℕ} → at ≡ from → t ≡ u → d ≡ laid at t n b
+    → d ≡ laid from u n b
+laid-as n b e f g = g ∙ ap₂ (λ (i : ℕ) (x : List ℕ). laid i x n b) e f
+
+-- two groups of queues, one after the other
+pub two-groups : (m k n l : ℕ) (b : List ℕ) {t u v w c d : List ℕ} → t ≡ v → c ≡ credits m t k b → u ≡ w
+    → d ≡ credits n u l c → d ≡ credits n w l (credits m v k b)
+two-groups m k n l b e f g i =
+    i ∙ ap₂ (λ (x y : List ℕ). credits n x l y) g (f ∙ ap (λ (x : List ℕ). credits m x k b) e)
+
+-- out-queues, routers' queues, in-queues
+pub all-groups : (h : Head) → Counts h → (b : List ℕ) {c d e t : List ℕ}
+    → c ≡ credits (h .actives) (sixteen (h .pout .0)) (h .passives)
+    (credits 0 (sixteen (h .aout .0)) (h .actives) b)
+    → t ≡ routerCredits h → d ≡ credits (destinations h) t (21 * h .routers) c
+    → e ≡ credits (destinations h + 21 * h .routers + h .actives) (sixteen (h .pin .0)) (h .passives)
+    (credits (destinations h + 21 * h .routers) (sixteen (h .ain .0)) (h .actives) d)
+    → e ≡ credited h (queueCount h) b
+all-groups h few b {c} p q r i =
+    let fa = few .1 in
+    let fp = few .2 in
+    let one = credited-more h b 0 (h .actives) (sixteen (h .aout .0))
+    (λ i l. sixteen-at (h .aout .0) i (omega arith) ∙ sym (active-out-credit h i l)) (credited-none h b) refl in
+    let two = credited-more h b (0 + h .actives) (h .passives) (sixteen (h .pout .0))
+    (λ i l. sixteen-at (h .pout .0) i (omega arith)
+    ∙ sym (passive-out-credit h i l) ∙ ap (λ (n : ℕ). creditOf h (n + i)) (sym (zero-add (h .actives)))) one
+    (p ∙ ap (λ (n : ℕ). credits n (sixteen (h .pout .0)) (h .passives)
+    (credits 0 (sixteen (h .aout .0)) (h .actives) b)) (sym (zero-add (h .actives)))) in
+    let known : c ≡ credited h (destinations h) b =
+    two ∙ ap (λ (n : ℕ). credited h (n + h .passives) b) (zero-add (h .actives)) in
+    let three = credited-more h b (destinations h) (21 * h .routers) (routerCredits h)
+    (λ j l. router-credits-at h few j l ∙ sym (router-part h j l)) known
+    (r ∙ ap (λ (x : List ℕ). credits (destinations h) x (21 * h .routers) c) q) in
+    let four = credited-more h b (destinations h + 21 * h .routers) (h .actives) (sixteen (h .ain .0))
+    (λ i l. sixteen-at (h .ain .0) i (omega arith) ∙ sym (active-in-credit h i l)) three refl in
+    let five = credited-more h b (destinations h + 21 * h .routers + h .actives) (h .passives) (sixteen (h .pin .0))
+    (λ i l. sixteen-at (h .pin .0) i (omega arith) ∙ sym (passive-in-credit h i l)) four i in
+    let count : destinations h + 21 * h .routers + h .actives + h .passives ≡ queueCount h = omega arith in
+    five ∙ ap (λ (n : ℕ). credited h n b) count
+
+-- all of Start
+pub start-made : {h : Head} → InRange h → {at : ℕ} {b c d e f : List ℕ} → stateSize h ≤ length b → at ≡ tableFrom h
+    → c ≡ cleared at b → d ≡ laid (tableFrom h) freeEntries (256 * h .routers) c → e ≡ credited h (queueCount h) d
+    → f ≡ laid (allowancesFrom h) (sixteen (allowanceOf h)) (h .actives) e → Started h b f
+start-made {h} range {at} {b} long i p q r s =
+    let few = range .routers .1 in
+    let zero-table : laid (tableFrom h) freeEntries (256 * h .routers) (cleared (tableFrom h) b)
+    ≡ cleared (stateSize h) b =
+    laid-zero (tableFrom h) freeEntries (256 * h .routers) b (λ i l. free-at i (omega arith)) long in
+    started range
+    (s ∙ ap (laid (allowancesFrom h) (sixteen (allowanceOf h)) (h .actives))
+    (r ∙ ap (credited h (queueCount h))
+    (q ∙ ap (laid (tableFrom h) freeEntries (256 * h .routers)) (p ∙ ap (λ (n : ℕ). cleared n b) i) ∙ zero-table)))
+
+-- what the steps ask: counts that are few, and a length that stays
+pub few-counts : {h : Head} → InRange h → Counts h
+few-counts range = (range .routers .1, range .actives .1, range .passives .1)
+
+pub long-still : {n : ℕ} {m k : ℕ} → n ≤ k → m ≡ k → n ≤ m
+long-still l e = omega arith

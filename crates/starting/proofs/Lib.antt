@@ -1,0 +1,4 @@
+pub mod Zeros
+pub mod Fills
+pub mod Credits
+pub mod Begins

@@ -1,0 +1,18 @@
+use native.Mathlib.Omega.{arith}
+use Rattle.starting.proofs.smaller.Statement.{statement}
+use Rattle.starting.proofs.smaller.Tie as tie
+use Rattle.starting.proofs.smaller.Reads as reads
+use Rattle.starting.proofs.smaller.Lts as lts
+
+returns : tie.Need-returns
+returns c = omega arith
+
+returns-2 : tie.Need-returns-2
+returns-2 c = omega arith
+
+pub smaller-spec : {M : Type 1} → statement M
+smaller-spec =
+    tie.close
+    (tie.spec
+    returns
+    returns-2)

@@ -1,0 +1,70 @@
+-- Start on bytes: zero bytes, then arrays of equal bytes for the table and for the credits, which are stored queue by
+-- queue, and the allowances.
+use mathlib.Core.Path.{_≡_}
+use mathlib.Core.List.{List, _++_}
+use Prim.Native.Nat.{ℕ, _+_, _*_, _-_, _%_, min}
+use lib.Dec.{eqb, ltb}
+use lib.ListN.{getD, set, replicate}
+use Rattle.basis.specs.Choice.{pick}
+use Rattle.basis.specs.Fold.{upTo, fill}
+use Rattle.plan.specs.declared.Head.{Head}
+use Rattle.plan.specs.Head.{destinations}
+use Rattle.plan.specs.Plan.{Plan}
+use Rattle.machine.specs.State.{start}
+use Rattle.layout.specs.Rows.{past}
+use Rattle.layout.specs.Offsets.{size}
+use Rattle.layout.specs.Encode.{encode}
+
+-- the bytes of Start's state, for every plan that has this head, and the bytes past the state as they were
+pub record Started (h : Head) (b d : List ℕ) : Type 0 where
+  pub starts : (pl : Plan) → pl .head ≡ h → d ≡ encode pl (start pl) (past (size pl) b)
+
+-- ---- zero bytes
+unfoldable pub zeros : ℕ → List ℕ
+zeros n = replicate n 0
+
+-- the first n bytes are zero, the others as they were
+unfoldable pub cleared : ℕ → List ℕ → List ℕ
+cleared n b = zeros n ++ past n b
+
+-- ---- bytes of an array, stored one after another from an offset on
+unfoldable pub laid : ℕ → List ℕ → ℕ → List ℕ → List ℕ
+laid at t n b = upTo (λ i c. set c (at + i) (getD t i 0)) n b
+
+-- and stored as the credits of the queues from a number on
+unfoldable pub credits : ℕ → List ℕ → ℕ → List ℕ → List ℕ
+credits from t n b = upTo (λ i c. set c (2 + 39 * (from + i)) (getD t i 0)) n b
+
+-- ---- the arrays
+-- 'table empty': two bytes for each of 32 slots on four sides of 16 routers
+unfoldable pub freeEntries : List ℕ
+freeEntries = replicate 4096 0
+
+-- one value for each of 16 interfaces
+unfoldable pub sixteen : ℕ → List ℕ
+sixteen v = replicate 16 v
+
+-- 'credit of each queue fed by a wire = its capacity': of a router's k-th queue
+abbrev pub routerCredit : Head → ℕ → ℕ
+routerCredit h k =
+    pick (ltb k 4) (h .u .0) (pick (eqb k 4) (h .q .0) (pick (eqb ((k - 5) % 4) 0) (h .f .0) (h .k .0)))
+
+-- of the queues of all routers, router by router
+unfoldable pub routerCredits : Head → List ℕ
+routerCredits h = upTo (fill (λ j. routerCredit h (j % 21))) (21 * h .routers) (replicate 336 (h .k .0))
+
+-- and of every queue by its number
+unfoldable pub creditOf : Head → ℕ → ℕ
+creditOf h n =
+    pick (ltb n (h .actives)) (h .aout .0)
+    (pick (ltb n (destinations h)) (h .pout .0)
+    (pick (ltb n (destinations h + 21 * h .routers)) (routerCredit h ((n - destinations h) % 21))
+    (pick (ltb n (destinations h + 21 * h .routers + h .actives)) (h .ain .0) (h .pin .0))))
+
+-- the credits of the queues below m are stored
+unfoldable pub credited : Head → ℕ → List ℕ → List ℕ
+credited h m b = upTo (λ n c. set c (2 + 39 * n) (creditOf h n)) m b
+
+-- 'each active's allowance = the smaller of its two capacities'
+abbrev pub allowanceOf : Head → ℕ
+allowanceOf h = min (h .aout .0) (h .ain .0)

@@ -1,0 +1,4 @@
+pub mod Senders
+pub mod Halves
+pub mod Turns
+pub mod Phase

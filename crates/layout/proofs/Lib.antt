@@ -3,3 +3,7 @@ pub mod Round
 pub mod Numbering
 pub mod Bytes
 pub mod StateBytes
+pub mod Changes
+pub mod Lines
+pub mod Updates
+pub mod Readings

@@ -7,3 +7,4 @@ pub mod Encode
 pub mod Decode
 pub mod Canonical
 pub mod Figures
+pub mod Updates

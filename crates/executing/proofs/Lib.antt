@@ -1,0 +1,5 @@
+pub mod Steps
+pub mod Bytes
+pub mod Turns
+pub mod Handled
+pub mod Units

@@ -1,0 +1,1 @@
+// EXECUTE in place on a state's bytes: each unit handles its head, each output picks a sender, each active tears down what was declined.

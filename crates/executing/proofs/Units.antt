@@ -134,3 +134,62 @@ module _ {pl : Plan} (wired : Wired pl) (range : InRange (pl .head)) (r : ℕ) (
             → mayBook (S pl) (s .table r side) slot ≡ true
             → handledAs r (booked (S pl) x) (g .rest) (withEntry r side slot (Booked v) s) ≡ unit pl r s
         after s g v z t = rw z (sym (unit-books pl r s x (g .rest) (g .line) (g .fresh) q t))
+
+    pub steps-booked : {at near o t slots v : ℕ} {b c : List ℕ} → at ≡ queueRow pl (Q r) → o ≡ exitAt pl r x
+        → near ≡ entryRow pl r o 0 → t ≡ x .slot .0 → slots ≡ S pl → x .kind ≡ Setup
+        → mayBook slots (λ u. entryAt (near + 2 * u) b) t ≡ true
+        → ((n i : ℕ) → i < 4 → Stands pl (x .active) (x .passive) (x .hub .0) n i → v ≡ i)
+        → c ≡ settled at x 1 slots (set b (near + 2 * t) (v + 1)) → Steps pl (Heads pl r x) (unit pl r) b c
+    steps-booked {v = v} ea eo en et el q m promise k =
+        books v q (rw (el, en, eo, et) at m) promise
+        (rw (ea, el, en, eo, et, ← entry-on pl r (exitAt pl r x) (x .slot .0), add-one) at k)
+
+    pub steps-declined : {at near o t slots : ℕ} {b c : List ℕ} → at ≡ queueRow pl (Q r) → o ≡ exitAt pl r x
+        → near ≡ entryRow pl r o 0 → t ≡ x .slot .0 → slots ≡ S pl → x .kind ≡ Setup
+        → mayBook slots (λ u. entryAt (near + 2 * u) b) t ≡ false → c ≡ settled at x 0 slots b
+        → Steps pl (Heads pl r x) (unit pl r) b c
+    steps-declined {b = b} ea eo en et el q m k =
+        record {
+          done = λ s rest g e.
+              let ho = exit-side wired range r hr x s g in
+              let ht = here wired range r hr x s g .ranges .slot in
+              let n : mayBook (S pl) (λ u. entryAt (entryRow pl r side 0 + 2 * u) b) slot ≡ false =
+              rw (el, en, eo, et) at m in
+              (rw (ea, el) at k)
+              ∙ settle-stays pl r hr x 0 (S pl) s rest b e (g .turn .down r (omega arith) hr) (g .rest) (g .line)
+              (declined x) (handled-declined (queueOf (queueRow pl (Q r)) x b) (S pl) q)
+              ∙ ap (λ (t : State). encode pl t rest) (sym (unit-declines pl r s x (g .rest) (g .line) (g .fresh) q
+              (sym (may-book-at pl r side slot s rest b e range hr ho ht) ∙ n)));
+        }
+
+    -- ---- a TDOWN
+    pub steps-torn : {at near o t slots : ℕ} {b c : List ℕ} → at ≡ queueRow pl (Q r) → o ≡ exitAt pl r x
+        → near ≡ entryRow pl r o t → t ≡ x .slot .0 → slots ≡ S pl → x .kind ≡ Tdown
+        → c ≡ settled at x 0 slots (set b near 0) → Steps pl (Heads pl r x) (unit pl r) b c
+    steps-torn {b = b} {c = c} ea eo en et el q k =
+        record {
+          done = λ s rest g e.
+              let ho = exit-side wired range r hr x s g in
+              let ht = here wired range r hr x s g .ranges .slot in
+              let few = range .slots .1 in
+              let ht′ : slot < 32 = omega arith in
+              let w : set b (entryRow pl r side slot) 0 ≡ encode pl (withEntry r side slot Free s) rest =
+              ap (λ (l : List ℕ). set l (entryRow pl r side slot) 0) e
+              ∙ put-entry pl s rest r side slot Free hr ho ht′ in
+              (rw (ea, el, en, eo, et) at k) ∙ by s rest g w (test (eqb (x .hub .0) 1));
+        }
+      where
+        by : (s : State) (rest : List ℕ) (g : Heads pl r x s)
+            → set b (entryRow pl r side slot) 0 ≡ encode pl (withEntry r side slot Free s) rest
+            → (eqb (x .hub .0) 1 ≡ true) ⊎ (eqb (x .hub .0) 1 ≡ false)
+            → settled (queueRow pl (Q r)) x 0 (S pl) (set b (entryRow pl r side slot) 0) ≡ encode pl (unit pl r s) rest
+        by s rest g w (inl t) =
+            settle-ends pl r hr x 0 (S pl) (withEntry r side slot Free s) rest (set b (entryRow pl r side slot) 0) w
+            (g .turn .down r (omega arith) hr) (g .rest) (g .line) (line-few pl s range (g .turn .core) (Q r) hr)
+            (handled-ends (queueOf (queueRow pl (Q r)) x (set b (entryRow pl r side slot) 0)) (S pl) q t)
+            ∙ ap (λ (t : State). encode pl t rest) (sym (unit-ends pl r s x (g .rest) (g .line) (g .fresh) q t))
+        by s rest g w (inr t) =
+            settle-stays pl r hr x 0 (S pl) (withEntry r side slot Free s) rest (set b (entryRow pl r side slot) 0) w
+            (g .turn .down r (omega arith) hr) (g .rest) (g .line) (freed (S pl) x)
+            (handled-freed (queueOf (queueRow pl (Q r)) x (set b (entryRow pl r side slot) 0)) (S pl) q t)
+            ∙ ap (λ (t : State). encode pl t rest) (sym (unit-frees pl r s x (g .rest) (g .line) (g .fresh) q t))

@@ -1,0 +1,21 @@
+use Rattle.rows.proofs.Codes.{phase-last}
+use borrow.Author.Needs.{needs}
+use Rattle.rows.proofs.phase_of.Statement.{statement}
+use Rattle.rows.proofs.phase_of.Tie as tie
+use Rattle.rows.proofs.phase_of.Reads as reads
+use Rattle.rows.proofs.phase_of.Lts as lts
+
+-- src/lib.rt:70:1
+returns : tie.Need-returns
+returns c = search needs
+
+-- src/lib.rt:70:1
+returns-2 : tie.Need-returns-2
+returns-2 c = search needs
+
+-- src/lib.rt:70:1
+returns-3 : tie.Need-returns-3
+returns-3 c = phase-last _ (c .match .rest .0 .1) (c .match .rest .1)
+
+pub phase-of-spec : {M : Type 1} → statement M
+phase-of-spec = tie.close (tie.spec returns returns-2 returns-3)

@@ -41,7 +41,7 @@ use Rattle.acts.specs.Acts.{Holds, Steps}
 use Rattle.units.specs.declared.Queue.{Queue}
 use Rattle.units.specs.Handled.{Ready, setUp, stays, ends, torn, handledBy, handledOf}
 use Rattle.executing.specs.Moments.{Turn, Heads}
-use Rattle.executing.specs.Lent.{queueOf, putBack, settled}
+use Rattle.executing.specs.Lent.{queueOf, putBack, settled, entriesAt}
 use Rattle.executing.proofs.Bytes.{flag-zero, entry-on, line-few}
 
 -- ---- the head
@@ -156,8 +156,8 @@ module _ (q : Queue) (slots : ℕ) where
 -- ---- the entries of a side, read from its bytes
 pub may-book-at : (pl : Plan) (r o t : ℕ) (s : State) (rest b : List ℕ) → b ≡ encode pl s rest → InRange (pl .head)
     → r < R pl → o < 4 → t < S pl
-    → mayBook (S pl) (λ u. entryAt (entryRow pl r o 0 + 2 * u) b) t ≡ mayBook (S pl) (s .table r o) t
-unfolding mayBook otherFree
+    → mayBook (S pl) (entriesAt (entryRow pl r o 0) b) t ≡ mayBook (S pl) (s .table r o) t
+unfolding mayBook otherFree entriesAt
 may-book-at pl r o t s rest b e range hr ho ht =
     ap₂ (λ (c d : Bool). c && d) (ap isFree (read t ht))
     (any-same (S pl) (λ u. not (eqb u t) && isFree (entryAt (entryRow pl r o 0 + 2 * u) b))

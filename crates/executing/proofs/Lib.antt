@@ -3,3 +3,5 @@ pub mod Bytes
 pub mod Turns
 pub mod Handled
 pub mod Units
+pub mod Booking
+pub mod Tables

@@ -22,13 +22,13 @@ use Rattle.machine.specs.Execute.{cameIn, declined, booked, freed, mayBook, han
 use Rattle.theory.proofs.Cases.{exitAt, unit-empty, unit-handled, unit-books, unit-declines, unit-ends, unit-frees}
 use Rattle.layout.specs.Offsets.{queueRow, entryRow}
 use Rattle.layout.specs.Places.{packetAt}
-use Rattle.layout.specs.Decode.{lengthAt, entryAt}
+use Rattle.layout.specs.Decode.{lengthAt}
 use Rattle.layout.specs.Encode.{encode}
 use Rattle.layout.proofs.Readings.{length-at, head-at}
 use Rattle.layout.proofs.Updates.{put-entry}
 use Rattle.acts.specs.Acts.{Holds, Steps}
 use Rattle.executing.specs.Moments.{Turn, Heads}
-use Rattle.executing.specs.Lent.{queueOf, settled, Settles}
+use Rattle.executing.specs.Lent.{queueOf, settled, Settles, entriesAt}
 use Rattle.executing.proofs.Steps.{steps-same}
 use Rattle.executing.proofs.Bytes.{line-some, entry-on, line-few, queue-room, no-packet, some-packet, marked, unmarked}
 use Rattle.executing.proofs.Handled.{here, exit-side, setup-hub, setup-came, tdown-hub, no-ack, no-nack}
@@ -108,7 +108,7 @@ module _ {pl : Plan} (wired : Wired pl) (range : InRange (pl .head)) (r : ℕ) (
 
     -- ---- a SETUP
     books : {b c : List ℕ} (v : ℕ) → x .kind ≡ Setup
-        → mayBook (S pl) (λ u. entryAt (entryRow pl r side 0 + 2 * u) b) slot ≡ true
+        → mayBook (S pl) (entriesAt (entryRow pl r side 0) b) slot ≡ true
         → ((n i : ℕ) → i < 4 → Stands pl (x .active) (x .passive) (x .hub .0) n i → v ≡ i)
         → c ≡ settled (queueRow pl (Q r)) x 1 (S pl) (set b (entryRow pl r side slot) (suc v))
         → Steps pl (Heads pl r x) (unit pl r) b c
@@ -137,7 +137,7 @@ module _ {pl : Plan} (wired : Wired pl) (range : InRange (pl .head)) (r : ℕ) (
 
     pub steps-booked : {at near o t slots v : ℕ} {b c : List ℕ} → at ≡ queueRow pl (Q r) → o ≡ exitAt pl r x
         → near ≡ entryRow pl r o 0 → t ≡ x .slot .0 → slots ≡ S pl → x .kind ≡ Setup
-        → mayBook slots (λ u. entryAt (near + 2 * u) b) t ≡ true
+        → mayBook slots (entriesAt near b) t ≡ true
         → ((n i : ℕ) → i < 4 → Stands pl (x .active) (x .passive) (x .hub .0) n i → v ≡ i)
         → c ≡ settled at x 1 slots (set b (near + 2 * t) (v + 1)) → Steps pl (Heads pl r x) (unit pl r) b c
     steps-booked {v = v} ea eo en et el q m promise k =
@@ -146,14 +146,14 @@ module _ {pl : Plan} (wired : Wired pl) (range : InRange (pl .head)) (r : ℕ) (
 
     pub steps-declined : {at near o t slots : ℕ} {b c : List ℕ} → at ≡ queueRow pl (Q r) → o ≡ exitAt pl r x
         → near ≡ entryRow pl r o 0 → t ≡ x .slot .0 → slots ≡ S pl → x .kind ≡ Setup
-        → mayBook slots (λ u. entryAt (near + 2 * u) b) t ≡ false → c ≡ settled at x 0 slots b
+        → mayBook slots (entriesAt near b) t ≡ false → c ≡ settled at x 0 slots b
         → Steps pl (Heads pl r x) (unit pl r) b c
     steps-declined {b = b} ea eo en et el q m k =
         record {
           done = λ s rest g e.
               let ho = exit-side wired range r hr x s g in
               let ht = here wired range r hr x s g .ranges .slot in
-              let n : mayBook (S pl) (λ u. entryAt (entryRow pl r side 0 + 2 * u) b) slot ≡ false =
+              let n : mayBook (S pl) (entriesAt (entryRow pl r side 0) b) slot ≡ false =
               rw (el, en, eo, et) at m in
               (rw (ea, el) at k)
               ∙ settle-stays pl r hr x 0 (S pl) s rest b e (g .turn .down r (omega arith) hr) (g .rest) (g .line)

@@ -1,16 +1,19 @@
 -- A unit's queue taken from its row, and put back into it.
+use mathlib.Core.Bool.{Bool, not, _&&_}
 use mathlib.Core.List.{List}
-use Prim.Native.Nat.{ℕ, _+_, _≤_}
+use Prim.Native.Nat.{ℕ, _+_, _*_, _≤_}
 use lib.Dec.{eqb}
 use lib.ListN.{length, getD, set}
 use lib.Seq.{sets}
 use Rattle.basis.specs.Choice.{pick}
 use Rattle.packets.specs.declared.Packet.{Packet}
+use Rattle.packets.specs.declared.Entry.{Entry}
+use Rattle.machine.specs.State.{isFree}
 use Rattle.units.specs.declared.Queue.{Queue}
 use Rattle.units.specs.Handled.{Ready, handledOf}
-use Rattle.layout.specs.Offsets.{flagByte, handledByte, lengthByte, firstPlace, places, queueWidth}
+use Rattle.layout.specs.Offsets.{flagByte, handledByte, lengthByte, firstPlace, places, queueWidth, entryWidth}
 use Rattle.layout.specs.Places.{packetBytes}
-use Rattle.layout.specs.Decode.{lengthAt}
+use Rattle.layout.specs.Decode.{lengthAt, entryAt}
 use Rattle.layout.specs.Updates.{popAt}
 
 -- flag, mark and length of the row at an offset, and x for its head
@@ -38,3 +41,11 @@ pub record Settles (at : ℕ) (x : Packet) (slots : ℕ) (b : List ℕ) : Type 0
   pub inside : at + queueWidth ≤ length b
   pub few : lengthAt at b ≤ places
   pub ready : Ready (queueOf at x b) slots
+
+-- ---- the entries of a side, which begin at an offset
+unfoldable pub entriesAt : ℕ → List ℕ → ℕ → Entry
+entriesAt at b u = entryAt (at + entryWidth * u) b
+
+-- slot u is another than t, and its entry is free
+unfoldable pub spares : (ℕ → Entry) → ℕ → ℕ → Bool
+spares entries t u = not (eqb u t) && isFree (entries u)

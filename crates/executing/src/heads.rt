@@ -18,11 +18,11 @@ ghost use Rattle.feeding.specs.Feeds.{Stands};
 ghost use Rattle.basis.specs.Fold.{upTo};
 ghost use Rattle.machine.specs.Execute.{mayBook, unit};
 ghost use Rattle.layout.specs.Offsets.{queueRow};
-ghost use Rattle.layout.specs.Decode.{lengthAt, entryAt};
+ghost use Rattle.layout.specs.Decode.{lengthAt};
 ghost use Rattle.acts.specs.Acts.{Holds, Steps};
 ghost use Rattle.moves.specs.Wiring.{Wiring};
 ghost use Rattle.executing.specs.Moments.{Turn, Heads};
-ghost use Rattle.executing.specs.Lent.{putBack, settled, Settles};
+ghost use Rattle.executing.specs.Lent.{putBack, settled, Settles, entriesAt, spares};
 
 // A queue's row: where flag, mark and length stand, and the first place.
 const FLAG_BYTE: usize = 1;
@@ -76,19 +76,28 @@ fn settle(s: &mut [u8], at: usize, x: Packet, may: u8, slots: u8)
     put_back(s, at, w);
 }
 
+// Whether slot u is another than t and its entry, of a side whose entries begin at an offset, is free.
+fn spare(s: &[u8], at: usize, t: usize, u: usize) -> bool
+    requires { ⌜ (at + 2 * u < length (now s)) × (u ≤ 32) ⌝ }
+    ensures { λ r. ⌜ r ≡ spares (entriesAt at (now (s .entry))) t u ⌝ }
+{
+    if u == t {
+        return false;
+    }
+    s[at + 2 * u] == 0
+}
+
 // Whether the entry of slot t, of a side whose entries begin at an offset, is free and not the only free one.
 fn may_book(s: &[u8], at: usize, t: usize, slots: usize) -> bool
     requires { ⌜ (at + 2 * slots ≤ length (now s)) × (t < slots) × (slots ≤ 32) ⌝ }
-    ensures { λ r. ⌜ r ≡ mayBook slots (λ u. entryAt (at + 2 * u) (now (s .entry))) t ⌝ }
+    ensures { λ r. ⌜ r ≡ mayBook slots (entriesAt at (now (s .entry))) t ⌝ }
 {
     if s[at + 2 * t] != 0 {
         return false;
     }
     for u in 0..slots {
-        if s[at + 2 * u] == 0 {
-            if u != t {
-                return true;
-            }
+        if spare(s, at, t, u) {
+            return true;
         }
     }
     false
@@ -103,10 +112,11 @@ fn came_in(h: Head, routes: &[[u8; 32]; 16], joints: &[u8; 64], homes: &[u8; 32]
     let from = index(homes[index(x.active)]);
     let d = h.actives + index(x.passive);
     let w = paths::stands(routes, joints, h, d, from, index(x.hub.0));
-    let Step::On(port) = w else {
-        return 0;
-    };
-    (port % 4) as u8
+    match w {
+        Step::On(port) => (port % 4) as u8,
+        Step::End => 0,
+        Step::Lost => 0,
+    }
 }
 
 // The side by which the walk of a packet's pair leaves router r.

@@ -5,3 +5,4 @@ pub mod Handled
 pub mod Units
 pub mod Booking
 pub mod Tables
+pub mod Needs

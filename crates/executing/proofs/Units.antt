@@ -135,26 +135,26 @@ module _ {pl : Plan} (wired : Wired pl) (range : InRange (pl .head)) (r : ℕ) (
             → handledAs r (booked (S pl) x) (g .rest) (withEntry r side slot (Booked v) s) ≡ unit pl r s
         after s g v z t = rw z (sym (unit-books pl r s x (g .rest) (g .line) (g .fresh) q t))
 
-    pub steps-booked : {at near o t slots v : ℕ} {b c : List ℕ} → at ≡ queueRow pl (Q r) → o ≡ exitAt pl r x
-        → near ≡ entryRow pl r o 0 → t ≡ x .slot .0 → slots ≡ S pl → x .kind ≡ Setup
-        → mayBook slots (entriesAt near b) t ≡ true
+    pub steps-booked : {at near o t n slots v : ℕ} {b c : List ℕ} → at ≡ queueRow pl (Q r) → o ≡ exitAt pl r x
+        → near ≡ entryRow pl r o 0 → t ≡ x .slot .0 → slots ≡ S pl → n ≡ slots → x .kind ≡ Setup
+        → mayBook n (entriesAt near b) t ≡ true
         → ((n i : ℕ) → i < 4 → Stands pl (x .active) (x .passive) (x .hub .0) n i → v ≡ i)
         → c ≡ settled at x 1 slots (set b (near + 2 * t) (v + 1)) → Steps pl (Heads pl r x) (unit pl r) b c
-    steps-booked {v = v} ea eo en et el q m promise k =
-        books v q (rw (el, en, eo, et) at m) promise
+    steps-booked {v = v} ea eo en et el es q m promise k =
+        books v q (rw (es, el, en, eo, et) at m) promise
         (rw (ea, el, en, eo, et, ← entry-on pl r (exitAt pl r x) (x .slot .0), add-one) at k)
 
-    pub steps-declined : {at near o t slots : ℕ} {b c : List ℕ} → at ≡ queueRow pl (Q r) → o ≡ exitAt pl r x
-        → near ≡ entryRow pl r o 0 → t ≡ x .slot .0 → slots ≡ S pl → x .kind ≡ Setup
-        → mayBook slots (entriesAt near b) t ≡ false → c ≡ settled at x 0 slots b
+    pub steps-declined : {at near o t n slots : ℕ} {b c : List ℕ} → at ≡ queueRow pl (Q r) → o ≡ exitAt pl r x
+        → near ≡ entryRow pl r o 0 → t ≡ x .slot .0 → slots ≡ S pl → n ≡ slots → x .kind ≡ Setup
+        → mayBook n (entriesAt near b) t ≡ false → c ≡ settled at x 0 slots b
         → Steps pl (Heads pl r x) (unit pl r) b c
-    steps-declined {b = b} ea eo en et el q m k =
+    steps-declined {b = b} ea eo en et el es q m k =
         record {
           done = λ s rest g e.
               let ho = exit-side wired range r hr x s g in
               let ht = here wired range r hr x s g .ranges .slot in
               let n : mayBook (S pl) (entriesAt (entryRow pl r side 0) b) slot ≡ false =
-              rw (el, en, eo, et) at m in
+              rw (es, el, en, eo, et) at m in
               (rw (ea, el) at k)
               ∙ settle-stays pl r hr x 0 (S pl) s rest b e (g .turn .down r (omega arith) hr) (g .rest) (g .line)
               (declined x) (handled-declined (queueOf (queueRow pl (Q r)) x b) (S pl) q)

@@ -6,3 +6,8 @@ pub mod Units
 pub mod Booking
 pub mod Tables
 pub mod Needs
+pub mod Senders
+pub mod Choosing
+pub mod Asked
+pub mod Undoing
+pub mod Loops

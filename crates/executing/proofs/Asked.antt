@@ -156,6 +156,14 @@ module _ {h : Head} {routes : List (List ℕ)} {joints homes : List ℕ} (w : Wi
       let p = w .range .passives .1 in
       (counts-of w, omega arith)
 
+  pub choice-small : {m n c at : ℕ} {unit : Bool} → Sends pl m n c unit → at ≡ outputsFrom h + 7 * m → at < 65536
+  choice-small ss ea =
+      let o = output-is (ss .drives) in
+      let r = w .range .routers .1 in
+      let a = w .range .actives .1 in
+      let p = w .range .passives .1 in
+      omega arith
+
   pub choice-row : {m at : ℕ} → m < outputs pl → at ≡ outputsFrom h + 7 * m → at ≡ outputRow pl (outputAt pl m)
   unfolding tablePlan
   choice-row {m} hm ea = ea ∙ ap (λ (i : ℕ). i + 7 * m) (sym (outputs-at pl)) ∙ sym (output-row-at pl m hm)
@@ -200,13 +208,26 @@ module _ {h : Head} {routes : List (List ℕ)} {joints homes : List ℕ} (w : Wi
     base-asks = let m = w .range .routers .1 in (counts-of w, omega arith)
 
     -- the rows of four of its queues
-    pub four-room : {I : State → Type 0} (n : ℕ) {at : ℕ} {b : List ℕ} → n + 4 ≤ destinations h + 21 * h .routers
+    four-room : {I : State → Type 0} (n : ℕ) {at : ℕ} {b : List ℕ} → n + 4 ≤ destinations h + 21 * h .routers
         → at ≡ 2 + 39 * n → Holds pl I b → (at + 156 ≤ length b) × (at < 65536)
     four-room {I} n {at} {b} l ea k =
         let q : n + 3 < queueCount h = omega arith in
         let e = row-room {n = n + 3} q refl k in
         let f = few in
         (omega arith, omega arith)
+
+    pub up-room : {I : State → Type 0} {n at : ℕ} {b : List ℕ} → n ≡ destinations h + 21 * r → at ≡ 2 + 39 * n
+        → Holds pl I b → (at + 156 ≤ length b) × (at < 65536)
+    up-room {n = n} en ea k = four-room n (omega arith) ea k
+
+    pub side-rows : {I : State → Type 0} {o n at : ℕ} {b : List ℕ} → o < 4 → n ≡ destinations h + 21 * r
+        → at ≡ 2 + 39 * (n + 5 + 4 * o) → Holds pl I b → (at + 156 ≤ length b) × (at < 65536)
+    side-rows {o = o} {n = n} ho en ea k = four-room (n + 5 + 4 * o) (omega arith) ea k
+
+    -- Q's row
+    pub q-room : {I : State → Type 0} {n at : ℕ} {b : List ℕ} → n ≡ destinations h + 21 * r → at ≡ 2 + 39 * (n + 4)
+        → Holds pl I b → at + 39 ≤ length b
+    q-room {n = n} en ea k = let l : n + 4 < queueCount h = omega arith in row-room l ea k
 
     side-is : (o : ℕ) → o < 4 → outputAt pl (first + o) ≡ ofSide r o
     unfolding tablePlan outputNumber
@@ -285,6 +306,10 @@ module _ {h : Head} {routes : List (List ℕ)} {joints homes : List ℕ} (w : Wi
   pub interface-sends : (m : ℕ) → m < destinations h → Sends pl m m 1 false
   unfolding tablePlan
   interface-sends m l = sends-interface pl m l
+
+  pub interface-room : {I : State → Type 0} {m at : ℕ} {b : List ℕ} → m < destinations h → at ≡ 2 + 39 * m
+      → Holds pl I b → at + 39 ≤ length b
+  interface-room {m = m} l ea k = let q : m < queueCount h = omega arith in row-room q ea k
 
   pub interface-open : {m : ℕ} {b : List ℕ} → m < destinations h → (s : State) (rest : List ℕ) → Picks pl m s
       → b ≡ encode pl s rest → Open pl m s

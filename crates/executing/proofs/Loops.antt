@@ -15,8 +15,9 @@ use Rattle.machine.specs.State.{State, withPhase}
 use Rattle.machine.specs.Outputs.{outputs}
 use Rattle.machine.specs.Execute.{unit, undo, doExecute}
 use Rattle.theory.specs.Invariant.{Core}
-use Rattle.layout.specs.Offsets.{phaseByte}
+use Rattle.layout.specs.Offsets.{size}
 use Rattle.layout.specs.Encode.{encode}
+use Rattle.layout.proofs.Readings.{length-bytes}
 use Rattle.layout.proofs.Updates.{put-phase}
 use Rattle.acts.specs.Acts.{Holds, Steps, In, steps-none, steps-then, steps-more, steps-less, holds-then, holds-less}
 use Rattle.acts.specs.Counts.{outputCount}
@@ -69,6 +70,20 @@ module _ {h : Head} {routes : List (List ℕ)} {joints homes : List ℕ} (w : Wi
         → Steps pl (Picks pl first) (choosesFrom pl first (k + 1)) b d
     unfolding choosesFrom
     from-more {k} l x y = steps-more pl (λ i. chooses pl (first + i)) k x (λ s p. on k s l p) y
+
+    -- of the sides
+    pub sides-hold : {k : ℕ} {b c : List ℕ} → k < 4 → Holds pl (Picks pl first) b
+        → Steps pl (Picks pl first) (choosesFrom pl first k) b c → Holds pl (Picks pl (first + k)) c
+    sides-hold l x y = from-hold (omega arith) x y
+
+    pub sides-more : {k : ℕ} {b c d : List ℕ} → k < 4 → Steps pl (Picks pl first) (choosesFrom pl first k) b c
+        → Steps pl (Picks pl (first + k)) (chooses pl (first + k)) c d
+        → Steps pl (Picks pl first) (choosesFrom pl first (k + 1)) b d
+    sides-more l x y = from-more (omega arith) x y
+
+    pub from-four : {b c : List ℕ} → Holds pl (Picks pl first) b
+        → Steps pl (Picks pl first) (choosesFrom pl first 4) b c → Holds pl (Picks pl (first + 4)) c
+    from-four x y = from-hold {k = 4} (omega arith) x y
 
     pub from-done : {k n : ℕ} {b c : List ℕ} → Steps pl (Picks pl first) (choosesFrom pl first k) b c → k ≡ n
         → Steps pl (Picks pl first) (choosesFrom pl first n) b c
@@ -158,6 +173,19 @@ module _ {h : Head} {routes : List (List ℕ)} {joints homes : List ℕ} (w : Wi
       → Steps pl (Turn pl 0) (upTo (unit pl) (h .routers)) b c
       → Steps pl (Picks pl 0) (upTo (chooses pl) (outputCount h)) c d → Holds pl (Core pl) d
   undo-hold k x y = holds-then pl (picks-hold k x) y after-picks
+
+  pub last-hold : {b c d e : List ℕ} → Holds pl (In pl Execute) b
+      → Steps pl (Turn pl 0) (upTo (unit pl) (h .routers)) b c
+      → Steps pl (Picks pl 0) (upTo (chooses pl) (outputCount h)) c d
+      → Steps pl (Core pl) (upTo (undo pl) (h .actives)) d e → Holds pl (Core pl) e
+  unfolding tablePlan
+  last-hold k x y z =
+      holds-then pl (undo-hold k x y) z (λ s c. undone (w .wired) (range-of w) (h .actives) s (omega arith) c)
+
+  -- the phase byte is there
+  pub phase-room : {I : State → Type 0} {b : List ℕ} → Holds pl I b → 0 < length b
+  unfolding size
+  phase-room {b = b} k = let n = ap length (k .same) ∙ length-bytes pl (k .state) (k .rest) in omega arith
 
   pub execute-all : {b c d e : List ℕ} → Steps pl (Turn pl 0) (upTo (unit pl) (h .routers)) b c
       → Steps pl (Picks pl 0) (upTo (chooses pl) (outputCount h)) c d

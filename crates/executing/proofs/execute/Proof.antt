@@ -1,3 +1,5 @@
+use mathlib.Core.Path.{_∙_}
+use Rattle.executing.proofs.Tables.{set-length}
 use Rattle.executing.proofs.Loops.{heads-hold, picks-hold, undo-hold, last-hold, phase-room, execute-all}
 use borrow.Author.Needs.{needs}
 use Rattle.executing.proofs.execute.Statement.{statement}
@@ -21,7 +23,8 @@ slice-write-s : tie.Need-slice-write-s
 slice-write-s c = let p = c .before .before .before .before .before .before .before .before .before .before .before .before .before .pre in phase-room (p .0) (last-hold (p .0) (p .1) (c .before .before .before .before .before .before .before .before .before .before .heads .ensures) (c .before .before .before .before .before .before .picks .ensures) (c .before .before .undoes .ensures))
 
 same-length : tie.Need-same-length
-same-length c = search needs
+same-length c =
+    set-length (c .before .before .undoes .last .1 .1 .1 .1 .0) 0 2 ∙ c .before .before .undoes .kept .1 .1 .1 .1 .0 ∙ c .before .before .before .before .before .before .picks .kept .1 .1 .1 .1 .0 ∙ c .before .before .before .before .before .before .before .before .before .before .heads .kept .1 .1 .1 .1 .0
 
 returns : tie.Need-returns
 returns c = let p = c .before .before .before .before .before .before .before .before .before .before .before .before .before .pre in execute-all (p .0) (c .before .before .before .before .before .before .before .before .before .before .heads .ensures) (c .before .before .before .before .before .before .picks .ensures) (c .before .before .undoes .ensures)

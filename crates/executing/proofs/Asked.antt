@@ -2,7 +2,7 @@
 use mathlib.Core.Path.{_≡_, refl, sym, ap, _∙_}
 use mathlib.Core.Logic.{_⊎_, inl, inr}
 use mathlib.Core.Bool.{Bool, true, false}
-use mathlib.Core.List.{List, []}
+use mathlib.Core.List.{List}
 use mathlib.Core.Option.{some}
 use Prim.Native.Nat.{ℕ, zero, suc, _+_, _*_, _≤_, _<_}
 use native.Mathlib.Omega.{arith}
@@ -11,31 +11,28 @@ use lib.ListN.{length, getD}
 use borrow.Author.Tests.{eqb-true, eq-eqb, ne-eqb, lt-ltb, le-ltb}
 use Rattle.basis.specs.Bounded.{lt-or-ge}
 use Rattle.packets.specs.declared.Packet.{Packet}
-use Rattle.packets.specs.declared.Entry.{Entry}
 use Rattle.plan.specs.declared.Head.{Head}
 use Rattle.plan.specs.Head.{Counts, destinations}
-use Rattle.plan.specs.Plan.{Plan, R, A, P, S}
+use Rattle.plan.specs.Plan.{Plan}
 use Rattle.plan.specs.Tables.{tablePlan}
-use Rattle.feeding.specs.Queue.{Queue, number, queues, queueAt}
-use Rattle.feeding.specs.Feeds.{Output, outputOf, ofSide, toUnit, fromUnit, ofActive, ofPassive}
+use Rattle.feeding.specs.Queue.{number, queues, queueAt}
+use Rattle.feeding.specs.Feeds.{outputOf, ofSide, toUnit, fromUnit}
 use Rattle.journeys.proofs.Numbers.{number-below}
 use Rattle.machine.specs.State.{State, isFree}
 use Rattle.machine.specs.Outputs.{outputs, outputAt, outputNumber, nextBy}
 use Rattle.machine.specs.Execute.{isOpen}
 use Rattle.machine.proofs.Numbers.{exists-at}
 use Rattle.machine.proofs.OutNumbers.{drives-at, output-at}
-use Rattle.theory.specs.Invariant.{Core}
-use Rattle.layout.specs.Offsets.{queueRow, outputRow, outputsAt, entryRow}
+use Rattle.layout.specs.Offsets.{queueRow, outputRow}
 use Rattle.layout.specs.Places.{packetAt}
 use Rattle.layout.specs.Decode.{lengthAt, entryAt}
-use Rattle.layout.specs.Codes.{entryFrom}
 use Rattle.layout.specs.Encode.{encode}
 use Rattle.layout.proofs.Readings.{slot-at, entry-at}
 use Rattle.acts.specs.Acts.{Holds, Steps}
 use Rattle.acts.specs.Counts.{queueCount, outputCount, outputsFrom, outputs-at, tableFrom}
 use Rattle.moves.specs.Wiring.{Wiring}
 use Rattle.moves.specs.Next.{numberOr}
-use Rattle.executing.specs.Moments.{Tells, Picks, Open, Leaves, chooses}
+use Rattle.executing.specs.Moments.{Picks, Open, Leaves, chooses}
 use Rattle.executing.specs.Senders.{Sends}
 use Rattle.executing.proofs.Steps.{steps-by, holds-by}
 use Rattle.executing.proofs.Bytes.{row-at, output-at as output-row-at, queue-room, output-room, entry-room}
@@ -84,10 +81,6 @@ module _ {h : Head} {routes : List (List ℕ)} {joints homes : List ℕ} (w : Wi
   queue-is : {n : ℕ} → n < queues pl → n < queueCount h
   unfolding tablePlan queues
   queue-is l = omega arith
-
-  pub is-output : {m : ℕ} → m < outputCount h → m < outputs pl
-  unfolding tablePlan
-  is-output l = omega arith
 
   pub output-is : {m : ℕ} → m < outputs pl → m < outputCount h
   unfolding tablePlan

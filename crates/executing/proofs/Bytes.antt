@@ -1,7 +1,7 @@
 -- Where rows stand by the plan's numbers, that they lie inside the bytes, and what their bytes tell of the state.
 use mathlib.Core.Path.{_≡_, refl, sym, ap, _∙_}
 use mathlib.Core.Logic.{_≢_, _⊎_, inl, inr}
-use mathlib.Core.Bool.{Bool, true, false}
+use mathlib.Core.Bool.{true, false}
 use mathlib.Core.List.{List, [], _∷_}
 use Prim.Native.Nat.{ℕ, zero, suc, _+_, _*_, _≤_, _<_}
 use native.Mathlib.Omega.{arith}
@@ -10,15 +10,15 @@ use Rattle.basis.specs.Choice.{test}
 use Rattle.packets.specs.declared.Packet.{Packet}
 use Rattle.plan.specs.Head.{InRange}
 use Rattle.plan.specs.Plan.{Plan, R, A, P}
-use Rattle.feeding.specs.Queue.{Queue, activeOut, activeIn, Q, Exists, number, queues, queueAt}
+use Rattle.feeding.specs.Queue.{Queue, Q, Exists, number, queues, queueAt}
 use Rattle.feeding.specs.Feeds.{Output}
 use Rattle.machine.specs.State.{State}
-use Rattle.machine.specs.Outputs.{outputs, outputAt, outputNumber}
+use Rattle.machine.specs.Outputs.{outputs, outputAt}
 use Rattle.machine.specs.Valid.{Drives, fed}
 use Rattle.machine.proofs.Numbers.{at-number}
 use Rattle.machine.proofs.OutNumbers.{at-output}
 use Rattle.theory.specs.Invariant.{Core, account}
-use Rattle.layout.specs.Offsets.{size, queuesAt, outputsAt, tableAt, queueRow, outputRow, entryRow}
+use Rattle.layout.specs.Offsets.{size, outputsAt, tableAt, queueRow, outputRow, entryRow}
 use Rattle.layout.specs.Codes.{flagOf}
 use Rattle.layout.specs.Decode.{lengthAt, capacity-most}
 use Rattle.layout.specs.Encode.{encode}
@@ -67,7 +67,7 @@ module _ (pl : Plan) where
   pub line-few : (s : State) → InRange (pl .head) → Core pl s → (q : Queue) → Exists pl q
       → length (s .lines .queue q) ≤ 7
   unfolding account
-  line-few s range c q h = let m = capacity-most (pl .head) q range in by (test (fed pl q))
+  line-few s range c q h = by (test (fed pl q))
     where
       by : (fed pl q ≡ true) ⊎ (fed pl q ≡ false) → length (s .lines .queue q) ≤ 7
       by (inl f) = let m = capacity-most (pl .head) q range in omega (arith, c .credits q h f)

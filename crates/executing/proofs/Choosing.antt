@@ -1,22 +1,23 @@
 -- An output's pick on bytes: which sender is a candidate, and that the byte stored is the rule's choice.
-use mathlib.Core.Path.{_≡_, refl, sym, ap, subst, _∙_}
-use mathlib.Core.Logic.{_≢_, _⊎_, inl, inr}
+use mathlib.Core.Path.{_≡_, refl, sym, ap, _∙_}
+use mathlib.Core.Logic.{_⊎_, inl, inr}
 use mathlib.Core.Bool.{Bool, true, false, not}
 use mathlib.Core.List.{List, [], _∷_}
-use mathlib.Core.Option.{Option, none, some}
-use Prim.Native.Nat.{ℕ, zero, suc, _+_, _*_, _≤_, _<_}
+use mathlib.Core.Option.{some}
+use Prim.Native.Nat.{ℕ, zero, suc, _+_, _*_, _<_}
 use native.Mathlib.Nat.{add-zero}
 use native.Mathlib.Omega.{arith}
 use lib.Dec.{eqb, ltb}
-use lib.ListN.{length, getD, set}
+use lib.ListN.{getD, set}
 use borrow.Author.Tests.{lt-ltb, ne-eqb}
 use Rattle.basis.specs.Choice.{pick, pick-same, test, not-both}
 use Rattle.basis.specs.Bounded.{below-suc}
 use Rattle.kinds.specs.declared.Credit.{Credit}
 use Rattle.packets.specs.declared.Packet.{Packet}
 use Rattle.plan.specs.Head.{InRange}
-use Rattle.plan.specs.Plan.{Plan, R, A, P}
-use Rattle.feeding.specs.Queue.{Queue, activeOut, activeIn, passiveIn, passiveOut, U, Q, F, K, Exists, number, queues, queueAt}
+use Rattle.plan.specs.Plan.{Plan, A}
+use Rattle.feeding.specs.Queue.{Queue, activeOut, activeIn, passiveIn, passiveOut, U, Q, F, K, Exists, number, queues}
+use Rattle.feeding.specs.Queue.{queueAt}
 use Rattle.feeding.specs.Role.{isUnit}
 use Rattle.feeding.specs.Feeds.{Output, headingOf, outputOf, next, leavesFrom}
 use Rattle.wiring.specs.Wired.{Wired}
@@ -25,11 +26,11 @@ use Rattle.journeys.proofs.Places.{some-not-none}
 use Rattle.machine.specs.Store.{put, sameOutput, same-output}
 use Rattle.machine.specs.State.{State, Choice, nobody, sender, withChoice, withLinks}
 use Rattle.machine.specs.Outputs.{outputs, outputAt, nextBy, senders}
-use Rattle.machine.specs.Execute.{hasCredit, mayLeave, headReady, candidate, isOpen, firstOf, picked, choose}
+use Rattle.machine.specs.Execute.{headReady, candidate, isOpen, firstOf, picked, choose}
 use Rattle.machine.specs.Progress.{isInQueue}
 use Rattle.machine.specs.Valid.{Belongs, PacketOk}
 use Rattle.machine.specs.Write.{ofRank}
-use Rattle.machine.proofs.Numbers.{exists-at, at-number}
+use Rattle.machine.proofs.Numbers.{exists-at}
 use Rattle.machine.proofs.OutNumbers.{drives-at}
 use Rattle.theory.specs.Invariant.{Core}
 use Rattle.theory.proofs.Places.Feeders.{sender-leaves}
@@ -46,12 +47,12 @@ use Rattle.layout.specs.Encode.{encode}
 use Rattle.layout.specs.Named.{exists-test}
 use Rattle.layout.proofs.Readings.{credit-at, head-at}
 use Rattle.layout.proofs.Updates.{put-choice}
-use Rattle.acts.specs.Acts.{Holds, Steps}
+use Rattle.acts.specs.Acts.{Steps}
 use Rattle.moves.specs.Next.{numberOr}
 use Rattle.executing.specs.Moments.{Tells, Picks, Open, Leaves, chooses, firstCode, isCandidate, Passed}
 use Rattle.executing.specs.Senders.{named, Sends}
 use Rattle.executing.proofs.Steps.{steps-same}
-use Rattle.executing.proofs.Bytes.{line-some, row-at, queue-room, no-packet, some-packet, marked, unmarked}
+use Rattle.executing.proofs.Bytes.{line-some, row-at, no-packet, some-packet, marked, unmarked}
 use Rattle.executing.proofs.Senders.{first-nobody, first-sender}
 
 -- ---- a choice of nobody where there is none changes nothing

@@ -1,8 +1,8 @@
 -- A unit's turn on bytes: what its head's numbers are, and that the queue lent, handled and put back is the rule's.
 use mathlib.Core.Path.{_≡_, refl, sym, ap, ap₂, _∙_}
 use mathlib.Core.Bool.{Bool, true, false, not, _&&_}
-use mathlib.Core.List.{List, [], _∷_}
-use Prim.Native.Nat.{ℕ, suc, _+_, _*_, _≤_, _<_}
+use mathlib.Core.List.{List, _∷_}
+use Prim.Native.Nat.{ℕ, _+_, _*_, _≤_, _<_}
 use native.Mathlib.Omega.{arith}
 use lib.Dec.{eqb}
 use lib.ListN.{length, getD, set}
@@ -13,36 +13,32 @@ use Rattle.packets.specs.declared.Kind.{Kind}
 use Rattle.packets.specs.declared.Kind.the-variants.{Setup, Tdown, Ack, Nack}
 use Rattle.packets.specs.declared.Packet.{Packet}
 use Rattle.packets.specs.declared.Entry.{Entry}
-use Rattle.packets.specs.declared.Entry.the-variants.{Free, Booked}
 use Rattle.plan.specs.Head.{InRange}
-use Rattle.plan.specs.Plan.{Plan, passive, R, S}
+use Rattle.plan.specs.Plan.{Plan, R, S}
 use Rattle.feeding.specs.Queue.{Q}
 use Rattle.feeding.specs.Feeds.{inQueue, Stands, Fits}
 use Rattle.wiring.specs.Wired.{Wired}
-use Rattle.machine.specs.State.{State, withQueue, withFlag, withHandled, withEntry, isFree}
-use Rattle.machine.specs.Execute.{cameIn, declined, booked, freed, otherFree, mayBook, handledAs, unit}
-use Rattle.machine.specs.Valid.{Belongs, PacketOk}
+use Rattle.machine.specs.State.{State, withQueue, withFlag, isFree}
+use Rattle.machine.specs.Execute.{cameIn, declined, booked, freed, otherFree, mayBook, handledAs}
+use Rattle.machine.specs.Valid.{Belongs}
 use Rattle.theory.proofs.Places.Closure.{stands-below, span-short, unit-setup, unit-no-answer}
 use Rattle.theory.proofs.Places.CameIn.{stands-inside, came-in}
 use Rattle.theory.proofs.Places.Makes.{side-out}
 use Rattle.theory.proofs.Kept.Parts.{kept-of}
 use Rattle.theory.proofs.Kept.Lines.{head-belongs}
-use Rattle.theory.proofs.Cases.{exitAt, mayBookAt, unit-empty, unit-handled, unit-books, unit-declines, unit-ends}
-use Rattle.theory.proofs.Cases.{unit-frees}
+use Rattle.theory.proofs.Cases.{exitAt}
 use Rattle.layout.specs.Offsets.{queueRow, entryRow}
-use Rattle.layout.specs.Codes.{flagCode, flag-code}
 use Rattle.layout.specs.Places.{packetBytes}
 use Rattle.layout.specs.Decode.{entryAt}
 use Rattle.layout.specs.Encode.{encode}
 use Rattle.layout.specs.Updates.{popAt}
-use Rattle.layout.proofs.Readings.{flag-at, length-at, head-at, entry-at}
-use Rattle.layout.proofs.Updates.{put-flag, put-handled, pop-queue, put-head, put-entry}
-use Rattle.acts.specs.Acts.{Holds, Steps}
+use Rattle.layout.proofs.Readings.{flag-at, entry-at}
+use Rattle.layout.proofs.Updates.{put-flag, put-handled, pop-queue, put-head}
 use Rattle.units.specs.declared.Queue.{Queue}
-use Rattle.units.specs.Handled.{Ready, setUp, stays, ends, torn, handledBy, handledOf}
-use Rattle.executing.specs.Moments.{Turn, Heads}
+use Rattle.units.specs.Handled.{setUp, stays, ends, torn, handledBy, handledOf}
+use Rattle.executing.specs.Moments.{Heads}
 use Rattle.executing.specs.Lent.{queueOf, putBack, settled, entriesAt}
-use Rattle.executing.proofs.Bytes.{flag-zero, entry-on, line-few}
+use Rattle.executing.proofs.Bytes.{flag-zero, entry-on}
 
 -- ---- the head
 module _ {pl : Plan} (wired : Wired pl) (range : InRange (pl .head)) (r : ℕ) (hr : r < R pl) (x : Packet) (s : State)
@@ -83,7 +79,8 @@ module _ {pl : Plan} (wired : Wired pl) (range : InRange (pl .head)) (r : ℕ) (
       ∙ sym (came-in wired (x .active) (x .passive) a p (here .serves) (x .hub .0) r (f .0) (f .1))
 
   pub tdown-hub : x .kind ≡ Tdown → 1 ≤ x .hub .0
-  tdown-hub q = let f : Fits pl Tdown (x .active) (x .passive) (x .hub .0) (inQueue (Q r)) = rw q at (here .fits) in f .2
+  tdown-hub q = let f : Fits pl Tdown (x .active) (x .passive) (x .hub .0) (inQueue (Q r)) = rw q at (here .fits) in f
+      .2
 
   -- no answer waits to be handled
   pub no-ack : x .kind ≡ Ack → ⊥

@@ -1,18 +1,17 @@
 -- The loops over the outputs, and the whole phase.
-use mathlib.Core.Path.{_≡_, refl, sym, ap, _∙_}
+use mathlib.Core.Path.{_≡_, sym, ap, _∙_}
 use mathlib.Core.List.{List}
 use Prim.Native.Nat.{ℕ, zero, suc, _+_, _*_, _≤_, _<_}
-use native.Mathlib.Nat.{add-zero, mul-zero}
+use native.Mathlib.Nat.{add-zero}
 use native.Mathlib.Omega.{arith}
 use lib.ListN.{length, set}
-use Rattle.basis.specs.Fold.{upTo, up-keeps-at, up-same}
+use Rattle.basis.specs.Fold.{upTo, up-keeps-at}
 use Rattle.packets.specs.declared.Phase.the-variants.{Execute, Write}
 use Rattle.plan.specs.declared.Head.{Head}
 use Rattle.plan.specs.Head.{destinations}
-use Rattle.plan.specs.Plan.{Plan, R, A}
+use Rattle.plan.specs.Plan.{Plan}
 use Rattle.plan.specs.Tables.{tablePlan}
-use Rattle.machine.specs.State.{State, withPhase}
-use Rattle.machine.specs.Outputs.{outputs}
+use Rattle.machine.specs.State.{State}
 use Rattle.machine.specs.Execute.{unit, undo, doExecute}
 use Rattle.theory.specs.Invariant.{Core}
 use Rattle.layout.specs.Offsets.{size}

@@ -1,7 +1,7 @@
 -- What the code of a unit's turn needs of its bytes: numbers in range, rows inside, a head that can be handled.
 use mathlib.Core.Path.{_≡_, refl, sym, ap, _∙_}
 use mathlib.Core.List.{List, []}
-use Prim.Native.Nat.{ℕ, suc, _+_, _*_, _-_, _≤_, _<_}
+use Prim.Native.Nat.{ℕ, _+_, _*_, _-_, _≤_, _<_}
 use native.Mathlib.Numerals.{add-one}
 use native.Mathlib.Omega.{arith}
 use lib.ListN.{length, getD, set}
@@ -9,8 +9,8 @@ use Rattle.packets.specs.declared.Packet.{Packet}
 use Rattle.packets.specs.declared.Entry.{Entry}
 use Rattle.packets.specs.declared.Entry.the-variants.{Free, Booked}
 use Rattle.plan.specs.declared.Head.{Head}
-use Rattle.plan.specs.Head.{InRange, Counts, destinations}
-use Rattle.plan.specs.Plan.{Plan, R, S, noSide}
+use Rattle.plan.specs.Head.{Counts}
+use Rattle.plan.specs.Plan.{Plan, R, noSide}
 use Rattle.plan.specs.Tables.{tablePlan}
 use Rattle.feeding.specs.Queue.{Q}
 use Rattle.basis.specs.Fold.{upTo}

@@ -2,21 +2,20 @@
 use mathlib.Core.Path.{_≡_, refl, sym, ap, _∙_}
 use mathlib.Core.Logic.{_⊎_, inl, inr}
 use mathlib.Core.Bool.{Bool, true, false}
-use mathlib.Core.List.{List, [], _∷_}
-use Prim.Native.Nat.{ℕ, zero, suc, _+_, _*_, _-_, _≤_, _<_}
+use Prim.Native.Nat.{ℕ, zero, suc, _+_, _*_, _≤_, _<_}
 use native.Mathlib.Nat.{add-zero}
 use native.Mathlib.Omega.{arith}
 use lib.Dec.{ltb}
 use borrow.Author.Tests.{lt-ltb, le-ltb}
-use Rattle.basis.specs.Choice.{pick, pick-same, test}
+use Rattle.basis.specs.Choice.{pick}
 use Rattle.basis.specs.Bounded.{lt-or-ge}
 use Rattle.plan.specs.Plan.{Plan, R, A, P}
-use Rattle.feeding.specs.Queue.{Queue, activeOut, passiveOut, U, Q, F, K, Exists, number, queues, queueAt, senderAt, rank}
+use Rattle.feeding.specs.Queue.{Queue, U, Q, K, Exists, number, queues, queueAt, senderAt}
 use Rattle.feeding.specs.Role.{isUnit}
-use Rattle.feeding.specs.Feeds.{Output, ofActive, ofPassive, ofSide, toUnit, fromUnit}
+use Rattle.feeding.specs.Feeds.{ofSide, toUnit, fromUnit}
 use Rattle.journeys.proofs.Numbers.{queue-at}
-use Rattle.machine.specs.Outputs.{outputs, outputAt, outputNumber, senders}
-use Rattle.machine.specs.State.{Choice, nobody, sender}
+use Rattle.machine.specs.Outputs.{outputAt, outputNumber}
+use Rattle.machine.specs.State.{nobody, sender}
 use Rattle.machine.specs.Execute.{firstOf}
 use Rattle.machine.proofs.OutNumbers.{output-at}
 use Rattle.executing.specs.Senders.{named, Sends}
@@ -95,10 +94,13 @@ module _ (pl : Plan) where
       record {
         drives = omega arith;
         few = omega arith;
-        are = rw (output-at pl (ofSide r o) (hr, ho), four 0 (base r + 5 + 4 * o) (omega arith) (omega arith),
+        are = rw (
+          output-at pl (ofSide r o) (hr, ho),
+          four 0 (base r + 5 + 4 * o) (omega arith) (omega arith),
           four 1 (suc (base r + 5 + 4 * o)) (omega arith) (omega arith),
           four 2 (suc (suc (base r + 5 + 4 * o))) (omega arith) (omega arith),
-          four 3 (suc (suc (suc (base r + 5 + 4 * o)))) (omega arith) (omega arith));
+          four 3 (suc (suc (suc (base r + 5 + 4 * o)))) (omega arith) (omega arith),
+        );
         units = λ k l. ap isUnit (four k (base r + 5 + 4 * o + k) l refl) ∙ passing-at r o k;
       }
     where
@@ -111,9 +113,13 @@ module _ (pl : Plan) where
       record {
         drives = omega arith;
         few = omega arith;
-        are = rw (output-at pl (toUnit r) hr, four 0 (base r) (omega arith) (omega arith),
-          four 1 (suc (base r)) (omega arith) (omega arith), four 2 (suc (suc (base r))) (omega arith) (omega arith),
-          four 3 (suc (suc (suc (base r)))) (omega arith) (omega arith));
+        are = rw (
+          output-at pl (toUnit r) hr,
+          four 0 (base r) (omega arith) (omega arith),
+          four 1 (suc (base r)) (omega arith) (omega arith),
+          four 2 (suc (suc (base r))) (omega arith) (omega arith),
+          four 3 (suc (suc (suc (base r)))) (omega arith) (omega arith),
+        );
         units = λ k l. ap isUnit (four k (base r + k) l refl);
       }
     where

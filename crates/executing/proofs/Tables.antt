@@ -1,26 +1,24 @@
 -- The plan of the lent tables: its counts, and what its walks and offsets are in the code's numbers.
-use mathlib.Core.Path.{_≡_, refl, sym, ap, ap₂, _∙_}
+use mathlib.Core.Path.{_≡_, refl, sym, ap, _∙_}
 use mathlib.Core.List.{List, []}
 use Prim.Native.Nat.{ℕ, _+_, _*_, _-_, _%_, _≤_, _<_}
 use native.Mathlib.Omega.{arith}
 use lib.ListN.{length, getD, set, length-set}
 use borrow.Author.Tests.{lt-ltb, le-ltb}
-use Rattle.basis.specs.Walk.{Spot, on}
 use Rattle.packets.specs.declared.Packet.{Packet}
 use Rattle.plan.specs.declared.Head.{Head}
 use Rattle.plan.specs.Head.{InRange, Counts, destinations}
-use Rattle.plan.specs.Plan.{Plan, Port, Interface, active, passive, R, A, P, S, noSide}
+use Rattle.plan.specs.Plan.{Plan, Interface, active, passive, A, S, noSide}
 use Rattle.plan.specs.Rules.{portOf, portOr0, portsOf, home}
 use Rattle.plan.specs.Tables.{tablePlan, interfaceAt}
 use Rattle.paths.specs.declared.Step.{Step}
 use Rattle.paths.specs.declared.Step.the-variants.{On, End, Lost}
 use Rattle.paths.specs.Walk.{walked}
 use Rattle.paths.specs.Steps.{stepOf}
-use Rattle.feeding.specs.Queue.{Q, queues}
+use Rattle.feeding.specs.Queue.{Q}
 use Rattle.feeding.specs.Feeds.{Stands}
-use Rattle.wiring.specs.Wired.{Wired}
 use Rattle.theory.proofs.Cases.{exitAt}
-use Rattle.layout.specs.Offsets.{queueRow, entryRow, tableAt}
+use Rattle.layout.specs.Offsets.{queueRow, entryRow}
 use Rattle.acts.specs.Counts.{tableFrom, table-at}
 use Rattle.moves.specs.Wiring.{Wiring}
 use Rattle.moves.proofs.Numbered.{port-few}
@@ -33,21 +31,9 @@ module _ (h : Head) (routes : List (List ℕ)) (joints : List ℕ) where
   abbrev pl : Plan
   pl = tablePlan h routes joints
 
-  pub head-is : pl .head ≡ h
-  unfolding tablePlan
-  head-is = refl
-
   pub slots-are : h .slots ≡ S pl
   unfolding tablePlan
   slots-are = refl
-
-  pub routers-are : h .routers ≡ R pl
-  unfolding tablePlan
-  routers-are = refl
-
-  pub actives-are : h .actives ≡ A pl
-  unfolding tablePlan
-  actives-are = refl
 
   -- the side by which the walk of a packet leaves router r
   pub exit-is : (r : ℕ) (x : Packet) → getD (getD routes r []) (h .actives + x .passive) noSide ≡ exitAt pl r x

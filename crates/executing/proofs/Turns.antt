@@ -1,7 +1,7 @@
 -- What each moment of EXECUTE leaves to the next: turns of units, picks of outputs.
-use mathlib.Core.Path.{_≡_, refl, sym, ap, _∙_}
+use mathlib.Core.Path.{_≡_, refl, ap, _∙_}
 use mathlib.Core.Logic.{_≢_}
-use mathlib.Core.Bool.{Bool, true, false}
+use mathlib.Core.Bool.{true}
 use Prim.Native.Nat.{ℕ, suc, _+_, _≤_, _<_}
 use native.Mathlib.Omega.{arith}
 use Rattle.basis.specs.Fold.{upTo, up-keeps, up-keeps-at}
@@ -11,8 +11,8 @@ use Rattle.plan.specs.Plan.{Plan, R, A}
 use Rattle.feeding.specs.Queue.{Q}
 use Rattle.wiring.specs.Wired.{Wired}
 use Rattle.machine.specs.Outputs.{outputs, outputAt}
-use Rattle.machine.specs.State.{State, Links, withQueue, withFlag, withEntry}
-use Rattle.machine.specs.Execute.{unit, choose, picked, undo, handledAs}
+use Rattle.machine.specs.State.{State, Links}
+use Rattle.machine.specs.Execute.{unit, choose, picked, undo}
 use Rattle.machine.proofs.Apart.{unit-same}
 use Rattle.machine.proofs.OutNumbers.{at-apart, drives-at}
 use Rattle.theory.specs.Invariant.{Core}

@@ -4,18 +4,18 @@ use mathlib.Core.Bool.{Bool, true, false, _&&_}
 use mathlib.Core.List.{List, [], _∷_}
 use Prim.Native.Nat.{ℕ, _+_, _*_, _≤_, _<_}
 use native.Mathlib.Omega.{arith}
-use lib.ListN.{length, getD}
+use lib.ListN.{length}
 use lib.Seq.{sets}
 use borrow.Author.Tests.{lt-ltb, le-ltb}
 use Rattle.basis.specs.Fold.{upTo}
 use Rattle.packets.specs.declared.Packet.{Packet}
 use Rattle.plan.specs.declared.Head.{Head}
-use Rattle.plan.specs.Head.{InRange, Counts, destinations}
-use Rattle.plan.specs.Plan.{Plan, R, A, P, S}
+use Rattle.plan.specs.Head.{Counts, destinations}
+use Rattle.plan.specs.Plan.{Plan, A, S}
 use Rattle.plan.specs.Tables.{tablePlan}
 use Rattle.feeding.specs.Queue.{activeOut, activeIn, number}
 use Rattle.feeding.specs.Feeds.{inQueue}
-use Rattle.machine.specs.State.{State, withQueue, join}
+use Rattle.machine.specs.State.{State, withQueue}
 use Rattle.machine.specs.Execute.{unmarked, marked, tdownOf, hasRoom, answer, atActive, undo}
 use Rattle.machine.specs.Valid.{Belongs}
 use Rattle.theory.specs.Invariant.{Core}
@@ -158,8 +158,7 @@ module _ {h : Head} {routes : List (List ℕ)} {joints homes : List ℕ} (w : Wi
         rw (out-row et) (length-at pl (withQueue (activeIn a) (marked x ∷ g .rest) (k .state)) (k .rest) c e
         (activeOut a) is-active) in
         let n = ap length (stays (k .state) (marked x ∷ g .rest)) in
-        let q = w .range .aout .1 in
-        (
+        let q = w .range .aout .1 in (
           rw (out-row et) (queue-room pl (withQueue (activeIn a) (marked x ∷ g .rest) (k .state)) (k .rest) c e
               (activeOut a) is-active),
           omega arith,

@@ -1,9 +1,9 @@
 -- Each way out of a unit's turn, told of the bytes.
 use mathlib.Core.Path.{_≡_, refl, sym, ap, _∙_}
 use mathlib.Core.Logic.{_⊎_, inl, inr}
-use mathlib.Core.Bool.{Bool, true, false}
+use mathlib.Core.Bool.{true, false}
 use mathlib.Core.List.{List, [], _∷_}
-use Prim.Native.Nat.{ℕ, suc, _+_, _*_, _≤_, _<_}
+use Prim.Native.Nat.{ℕ, suc, _+_, _*_, _<_}
 use native.Mathlib.Numerals.{add-one}
 use native.Mathlib.Omega.{arith}
 use lib.Dec.{eqb}
@@ -26,11 +26,12 @@ use Rattle.layout.specs.Decode.{lengthAt}
 use Rattle.layout.specs.Encode.{encode}
 use Rattle.layout.proofs.Readings.{length-at, head-at}
 use Rattle.layout.proofs.Updates.{put-entry}
-use Rattle.acts.specs.Acts.{Holds, Steps}
+use Rattle.acts.specs.Acts.{Steps}
 use Rattle.executing.specs.Moments.{Turn, Heads}
 use Rattle.executing.specs.Lent.{queueOf, settled, Settles, entriesAt}
 use Rattle.executing.proofs.Steps.{steps-same}
-use Rattle.executing.proofs.Bytes.{line-some, entry-on, line-few, queue-room, no-packet, some-packet, marked, unmarked}
+use Rattle.executing.proofs.Bytes.{line-some, entry-on, line-few, queue-room, no-packet, some-packet, marked}
+use Rattle.executing.proofs.Bytes.{unmarked}
 use Rattle.executing.proofs.Handled.{here, exit-side, setup-hub, setup-came, tdown-hub, no-ack, no-nack}
 use Rattle.executing.proofs.Handled.{settle-stays, settle-ends, handled-booked, handled-declined, handled-ends}
 use Rattle.executing.proofs.Handled.{handled-freed, may-book-at}

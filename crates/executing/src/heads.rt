@@ -5,13 +5,12 @@ use paths::Step;
 use plan::Head;
 use units::Queue;
 ghost use mathlib.Core.Path.{_≡_};
-ghost use mathlib.Core.Bool.{Bool};
-ghost use mathlib.Core.List.{List, []};
+ghost use mathlib.Core.List.{[]};
 ghost use Prim.Native.Nat.{ℕ, _+_, _*_, _≤_, _<_};
 ghost use lib.ListN.{getD, length};
 ghost use Rattle.packets.specs.declared.Kind.the-variants.{Setup, Tdown};
 ghost use Rattle.plan.specs.Head.{Counts};
-ghost use Rattle.plan.specs.Plan.{passive, noSide, R, S};
+ghost use Rattle.plan.specs.Plan.{noSide};
 ghost use Rattle.plan.specs.Tables.{tablePlan};
 ghost use Rattle.feeding.specs.Queue.{Q};
 ghost use Rattle.feeding.specs.Feeds.{Stands};
@@ -103,11 +102,14 @@ fn may_book(s: &[u8], at: usize, t: usize, slots: usize) -> bool
     false
 }
 
-// The side by which the walk of a packet's pair came in to the router where the packet is: its hub is that router's index.
+// The side by which the walk of a packet's pair came in to the router where the packet is: its hub is that router's
+// index.
 fn came_in(h: Head, routes: &[[u8; 32]; 16], joints: &[u8; 64], homes: &[u8; 32], x: Packet) -> u8
-    requires { ⌜ Wiring h (now routes) (now joints) (now homes) × (x .active < h .actives) × (x .passive < h .passives) ⌝ }
+    requires { ⌜ Wiring h (now routes) (now joints) (now homes) × (x .active < h .actives)
+        × (x .passive < h .passives) ⌝ }
     ensures { λ v. ⌜ (v < 4) × ((n i : ℕ) → i < 4
-        → Stands (tablePlan h (now (routes .entry)) (now (joints .entry))) (x .active) (x .passive) (x .hub .0) n i → v ≡ i) ⌝ }
+        → Stands (tablePlan h (now (routes .entry)) (now (joints .entry))) (x .active) (x .passive) (x .hub .0) n i
+        → v ≡ i) ⌝ }
 {
     let from = index(homes[index(x.active)]);
     let d = h.actives + index(x.passive);
@@ -182,7 +184,14 @@ fn tear_down(
 }
 
 // Router r's unit handles its head, if it has one that is not handled.
-fn unit_at(h: Head, routes: &[[u8; 32]; 16], joints: &[u8; 64], homes: &[u8; 32], r: usize, s: &mut [u8])
+fn unit_at(
+    h: Head,
+    routes: &[[u8; 32]; 16],
+    joints: &[u8; 64],
+    homes: &[u8; 32],
+    r: usize,
+    s: &mut [u8],
+)
     requires { ⌜ Wiring h (now routes) (now joints) (now homes) × (r < h .routers)
         × Holds (tablePlan h (now routes) (now joints)) (Turn (tablePlan h (now routes) (now joints)) r) (now s) ⌝ }
     ensures { λ _. ⌜ Steps (tablePlan h (now (routes .entry)) (now (joints .entry)))
@@ -212,7 +221,8 @@ pub fn heads(h: Head, routes: &[[u8; 32]; 16], joints: &[u8; 64], homes: &[u8; 3
         × Holds (tablePlan h (now routes) (now joints)) (Turn (tablePlan h (now routes) (now joints)) 0) (now s) ⌝ }
     ensures { λ _. ⌜ Steps (tablePlan h (now (routes .entry)) (now (joints .entry)))
         (Turn (tablePlan h (now (routes .entry)) (now (joints .entry))) 0)
-        (upTo (unit (tablePlan h (now (routes .entry)) (now (joints .entry)))) (h .routers)) (now (s .entry)) (now (s .exit)) ⌝ }
+        (upTo (unit (tablePlan h (now (routes .entry)) (now (joints .entry)))) (h .routers))
+        (now (s .entry)) (now (s .exit)) ⌝ }
 {
     for r in 0..h.routers {
         unit_at(h, routes, joints, homes, r, s);

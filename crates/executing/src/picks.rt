@@ -1,8 +1,7 @@
 // EXECUTE 2: each output picks the first of its senders that is a candidate.
 use plan::Head;
 ghost use mathlib.Core.Path.{_≡_};
-ghost use mathlib.Core.Bool.{Bool, true, false};
-ghost use mathlib.Core.List.{List};
+ghost use mathlib.Core.Bool.{true, false};
 ghost use mathlib.Core.Option.{some};
 ghost use Prim.Native.Nat.{ℕ, _+_, _*_, _≤_, _<_};
 ghost use lib.ListN.{length};
@@ -40,7 +39,15 @@ fn index(x: u8) -> usize
 }
 
 // Whether the next queue of the head of queue n, which may leave by output m, has credit.
-fn may_go(h: Head, routes: &[[u8; 32]; 16], joints: &[u8; 64], homes: &[u8; 32], m: usize, n: usize, s: &[u8]) -> bool
+fn may_go(
+    h: Head,
+    routes: &[[u8; 32]; 16],
+    joints: &[u8; 64],
+    homes: &[u8; 32],
+    m: usize,
+    n: usize,
+    s: &[u8],
+) -> bool
     requires { ⌜ Wiring h (now routes) (now joints) (now homes) × (m < outputCount h) × (n < queueCount h)
         × (outputOf (queueAt (tablePlan h (now routes) (now joints)) n)
         ≡ some (outputAt (tablePlan h (now routes) (now joints)) m))
@@ -55,7 +62,8 @@ fn may_go(h: Head, routes: &[[u8; 32]; 16], joints: &[u8; 64], homes: &[u8; 32],
     s[acts::queue_row(y)] != 0
 }
 
-// Whether queue n, a sender of output m, is a candidate: it has a head (at a unit a handled one) whose next queue has credit.
+// Whether queue n, a sender of output m, is a candidate: it has a head (at a unit a handled one) whose next queue has
+// credit.
 fn ready(
     h: Head,
     routes: &[[u8; 32]; 16],
@@ -165,7 +173,15 @@ fn idle(s: &[u8], at: usize) -> bool
 }
 
 // Side o of router r picks, unless its entry for the current slot is booked.
-fn side(h: Head, routes: &[[u8; 32]; 16], joints: &[u8; 64], homes: &[u8; 32], r: usize, o: usize, s: &mut [u8])
+fn side(
+    h: Head,
+    routes: &[[u8; 32]; 16],
+    joints: &[u8; 64],
+    homes: &[u8; 32],
+    r: usize,
+    o: usize,
+    s: &mut [u8],
+)
     requires { ⌜ Wiring h (now routes) (now joints) (now homes) × (r < h .routers) × (o < 4)
         × Holds (tablePlan h (now routes) (now joints))
         (Picks (tablePlan h (now routes) (now joints)) (destinations h + 6 * r + o)) (now s) ⌝ }
@@ -205,7 +221,14 @@ fn up(h: Head, routes: &[[u8; 32]; 16], joints: &[u8; 64], homes: &[u8; 32], r: 
 }
 
 // The way back from its unit picks.
-fn down(h: Head, routes: &[[u8; 32]; 16], joints: &[u8; 64], homes: &[u8; 32], r: usize, s: &mut [u8])
+fn down(
+    h: Head,
+    routes: &[[u8; 32]; 16],
+    joints: &[u8; 64],
+    homes: &[u8; 32],
+    r: usize,
+    s: &mut [u8],
+)
     requires { ⌜ Wiring h (now routes) (now joints) (now homes) × (r < h .routers)
         × Holds (tablePlan h (now routes) (now joints))
         (Picks (tablePlan h (now routes) (now joints)) (destinations h + 6 * r + 5)) (now s) ⌝ }
@@ -224,7 +247,14 @@ fn down(h: Head, routes: &[[u8; 32]; 16], joints: &[u8; 64], homes: &[u8; 32], r
 }
 
 // The output of an interface picks: its one sender has the output's number.
-fn interface(h: Head, routes: &[[u8; 32]; 16], joints: &[u8; 64], homes: &[u8; 32], m: usize, s: &mut [u8])
+fn interface(
+    h: Head,
+    routes: &[[u8; 32]; 16],
+    joints: &[u8; 64],
+    homes: &[u8; 32],
+    m: usize,
+    s: &mut [u8],
+)
     requires { ⌜ Wiring h (now routes) (now joints) (now homes) × (m < destinations h)
         × Holds (tablePlan h (now routes) (now joints)) (Picks (tablePlan h (now routes) (now joints)) m) (now s) ⌝ }
     ensures { λ _. ⌜ Steps (tablePlan h (now (routes .entry)) (now (joints .entry)))
@@ -239,7 +269,14 @@ fn interface(h: Head, routes: &[[u8; 32]; 16], joints: &[u8; 64], homes: &[u8; 3
 }
 
 // The four sides of router r.
-fn sides(h: Head, routes: &[[u8; 32]; 16], joints: &[u8; 64], homes: &[u8; 32], r: usize, s: &mut [u8])
+fn sides(
+    h: Head,
+    routes: &[[u8; 32]; 16],
+    joints: &[u8; 64],
+    homes: &[u8; 32],
+    r: usize,
+    s: &mut [u8],
+)
     requires { ⌜ Wiring h (now routes) (now joints) (now homes) × (r < h .routers)
         × Holds (tablePlan h (now routes) (now joints))
         (Picks (tablePlan h (now routes) (now joints)) (destinations h + 6 * r)) (now s) ⌝ }
@@ -254,7 +291,14 @@ fn sides(h: Head, routes: &[[u8; 32]; 16], joints: &[u8; 64], homes: &[u8; 32], 
 }
 
 // The six outputs of router r.
-fn router(h: Head, routes: &[[u8; 32]; 16], joints: &[u8; 64], homes: &[u8; 32], r: usize, s: &mut [u8])
+fn router(
+    h: Head,
+    routes: &[[u8; 32]; 16],
+    joints: &[u8; 64],
+    homes: &[u8; 32],
+    r: usize,
+    s: &mut [u8],
+)
     requires { ⌜ Wiring h (now routes) (now joints) (now homes) × (r < h .routers)
         × Holds (tablePlan h (now routes) (now joints))
         (Picks (tablePlan h (now routes) (now joints)) (destinations h + 6 * r)) (now s) ⌝ }

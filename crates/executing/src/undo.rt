@@ -4,14 +4,11 @@ use packets::Kind;
 use packets::Packet;
 use plan::Head;
 ghost use mathlib.Core.Path.{_≡_};
-ghost use mathlib.Core.Bool.{Bool};
-ghost use mathlib.Core.List.{List};
-ghost use Prim.Native.Nat.{ℕ, _+_, _*_, _≤_, _<_};
-ghost use lib.ListN.{length};
+ghost use Prim.Native.Nat.{_+_, _≤_, _<_};
 ghost use Rattle.basis.specs.Fold.{upTo};
 ghost use Rattle.plan.specs.Tables.{tablePlan};
-ghost use Rattle.machine.specs.Execute.{unmarked, unmarkedKind, marked, tdownOf, undo};
-ghost use Rattle.feeding.specs.Queue.{activeIn, activeOut};
+ghost use Rattle.machine.specs.Execute.{unmarked, marked, tdownOf, undo};
+ghost use Rattle.feeding.specs.Queue.{activeIn};
 ghost use Rattle.layout.specs.Offsets.{queueRow};
 ghost use Rattle.theory.specs.Invariant.{Core};
 ghost use Rattle.acts.specs.Acts.{Holds, Steps};
@@ -67,11 +64,22 @@ fn tdown_of(x: Packet, slots: u8) -> Packet
     }
 }
 
-// Active a's in-queue, whose row is at an offset, starts with x: an unmarked NACK is torn down where the out-queue has room.
-fn tear(h: Head, routes: &[[u8; 32]; 16], joints: &[u8; 64], homes: &[u8; 32], a: usize, at: usize, x: Packet, s: &mut [u8])
+// Active a's in-queue, whose row is at an offset, starts with x: an unmarked NACK is torn down where the out-queue has
+// room.
+fn tear(
+    h: Head,
+    routes: &[[u8; 32]; 16],
+    joints: &[u8; 64],
+    homes: &[u8; 32],
+    a: usize,
+    at: usize,
+    x: Packet,
+    s: &mut [u8],
+)
     requires { ⌜ Wiring h (now routes) (now joints) (now homes) × (a < h .actives)
         × (at ≡ queueRow (tablePlan h (now routes) (now joints)) (activeIn a))
-        × Holds (tablePlan h (now routes) (now joints)) (Starts (tablePlan h (now routes) (now joints)) a x) (now s) ⌝ }
+        × Holds (tablePlan h (now routes) (now joints)) (Starts (tablePlan h (now routes) (now joints)) a x)
+        (now s) ⌝ }
     ensures { λ _. ⌜ Steps (tablePlan h (now (routes .entry)) (now (joints .entry)))
         (Starts (tablePlan h (now (routes .entry)) (now (joints .entry))) a x)
         (undo (tablePlan h (now (routes .entry)) (now (joints .entry))) a) (now (s .entry)) (now (s .exit)) ⌝ }
@@ -88,7 +96,14 @@ fn tear(h: Head, routes: &[[u8; 32]; 16], joints: &[u8; 64], homes: &[u8; 32], a
 }
 
 // Active a tears down what was declined.
-fn undo_at(h: Head, routes: &[[u8; 32]; 16], joints: &[u8; 64], homes: &[u8; 32], a: usize, s: &mut [u8])
+fn undo_at(
+    h: Head,
+    routes: &[[u8; 32]; 16],
+    joints: &[u8; 64],
+    homes: &[u8; 32],
+    a: usize,
+    s: &mut [u8],
+)
     requires { ⌜ Wiring h (now routes) (now joints) (now homes) × (a < h .actives)
         × Holds (tablePlan h (now routes) (now joints)) (Core (tablePlan h (now routes) (now joints))) (now s) ⌝ }
     ensures { λ _. ⌜ Steps (tablePlan h (now (routes .entry)) (now (joints .entry)))
@@ -109,7 +124,8 @@ pub fn undoes(h: Head, routes: &[[u8; 32]; 16], joints: &[u8; 64], homes: &[u8; 
         × Holds (tablePlan h (now routes) (now joints)) (Core (tablePlan h (now routes) (now joints))) (now s) ⌝ }
     ensures { λ _. ⌜ Steps (tablePlan h (now (routes .entry)) (now (joints .entry)))
         (Core (tablePlan h (now (routes .entry)) (now (joints .entry))))
-        (upTo (undo (tablePlan h (now (routes .entry)) (now (joints .entry)))) (h .actives)) (now (s .entry)) (now (s .exit)) ⌝ }
+        (upTo (undo (tablePlan h (now (routes .entry)) (now (joints .entry)))) (h .actives))
+        (now (s .entry)) (now (s .exit)) ⌝ }
 {
     for a in 0..h.actives {
         undo_at(h, routes, joints, homes, a, s);

@@ -1,4 +1,5 @@
-// A unit's queue, lent to its unit: the head is handled once. A SETUP books or becomes a NACK, a TDOWN goes on or ends.
+// A unit's queue, lent to its unit: the head is handled once. A SETUP books or becomes a NACK, a TDOWN goes on or
+// ends.
 use packets::Kind;
 use packets::Packet;
 ghost use mathlib.Core.Path.{_≡_};

@@ -26,7 +26,8 @@ enum-told-2 c = search needs
 
 -- src/lib.rt:119:24
 tear-down-requires : tie.Need-tear-down-requires
-tear-down-requires c κs = let p = c .before .before .before .pre in (p .slot, p .few, p .some, p .tdown (c .enum-told2 .given .1))
+tear-down-requires c κs =
+    let p = c .before .before .before .pre in (p .slot, p .few, p .some, p .tdown (c .enum-told2 .given .1))
 
 -- src/lib.rt:120:22
 enum-told-3 : tie.Need-enum-told-3

@@ -1,5 +1,4 @@
 use borrow.Author.Tests.{eq-eqb, ne-eqb}
-use mathlib.Core.Path.{ap, _∙_}
 use borrow.Author.Needs.{needs}
 use Rattle.units.proofs.tear_down.Statement.{statement}
 use Rattle.units.proofs.tear_down.Tie as tie

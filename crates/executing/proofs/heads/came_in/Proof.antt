@@ -1,4 +1,3 @@
-use mathlib.Core.Path.{_∙_, sym, ap}
 use native.Mathlib.Omega.{arith}
 use Rattle.executing.proofs.Tables.{stands-asks, stands-on, side-on, side-end, side-lost}
 use borrow.Author.Needs.{needs}
@@ -35,7 +34,10 @@ index-requires-4 c κs = search needs
 
 -- src/heads.rt:114:9
 stands-requires : tie.Need-stands-requires
-stands-requires c κs = stands-asks (c .before .before .before .before .before .before .pre .0) (c .before .before .before .before .before .before .pre .1) (c .before .before .before .before .before .before .pre .2) (c .before .before .index3 .ensures .0) (c .before .before .before .before .before .index .ensures .0) (c .before .before .before .index2 .ensures .0)
+stands-requires c κs =
+    stands-asks (c .before .before .before .before .before .before .pre .0) (c .before .before .before .before .before
+    .before .pre .1) (c .before .before .before .before .before .before .pre .2) (c .before .before .index3 .ensures
+    .0) (c .before .before .before .before .before .index .ensures .0) (c .before .before .before .index2 .ensures .0)
 
 -- src/heads.rt:116:18
 enum-known-w : tie.Need-enum-known-w
@@ -55,15 +57,45 @@ enum-told-2 c = search needs
 
 -- src/heads.rt:107:1
 returns : tie.Need-returns
-returns c = (omega arith, λ n i l s. side-on n l (c .before .w .given .1) (stands-on (c .before .before .before .before .before .before .before .before .before .before .pre .0) (c .before .before .before .before .before .before .before .before .before .before .pre .1) (c .before .before .before .before .before .before .before .before .before .before .pre .2) (c .before .before .before .before .before .before .index3 .ensures .0) (c .before .before .before .before .before .before .before .before .before .index .ensures .0) (c .before .before .before .before .index4 .ensures .0) (c .before .before .before .before .before .before .before .index2 .ensures .0) (c .before .before .before .stands .ensures) s))
+returns c = (
+  omega arith,
+  λ n i l s. side-on n l (c .before .w .given .1) (stands-on (c .before .before .before .before .before
+      .before .before .before .before .before .pre .0) (c .before .before .before .before .before .before .before
+          .before
+      .before .before .pre .1) (c .before .before .before .before .before .before .before .before .before .before .pre
+      .2) (c .before .before .before .before .before .before .index3 .ensures .0) (c .before .before .before .before
+      .before .before .before .before .before .index .ensures .0) (c .before .before .before .before .index4 .ensures
+          .0)
+      (c .before .before .before .before .before .before .before .index2 .ensures .0) (c .before .before .before
+          .stands
+      .ensures) s),
+)
 
 -- src/heads.rt:107:1
 returns-2 : tie.Need-returns-2
-returns-2 c = (omega arith, λ n i l s. side-end (c .enum-told .given .1) (stands-on (c .before .before .before .before .before .before .before .before .before .pre .0) (c .before .before .before .before .before .before .before .before .before .pre .1) (c .before .before .before .before .before .before .before .before .before .pre .2) (c .before .before .before .before .before .index3 .ensures .0) (c .before .before .before .before .before .before .before .before .index .ensures .0) (c .before .before .before .index4 .ensures .0) (c .before .before .before .before .before .before .index2 .ensures .0) (c .before .before .stands .ensures) s))
+returns-2 c = (
+  omega arith,
+  λ n i l s. side-end (c .enum-told .given .1) (stands-on (c .before .before .before .before .before
+      .before .before .before .before .pre .0) (c .before .before .before .before .before .before .before .before
+          .before
+      .pre .1) (c .before .before .before .before .before .before .before .before .before .pre .2) (c .before .before
+      .before .before .before .index3 .ensures .0) (c .before .before .before .before .before .before .before .before
+      .index .ensures .0) (c .before .before .before .index4 .ensures .0) (c .before .before .before .before .before
+      .before .index2 .ensures .0) (c .before .before .stands .ensures) s),
+)
 
 -- src/heads.rt:107:1
 returns-3 : tie.Need-returns-3
-returns-3 c = (omega arith, λ n i l s. side-lost (c .enum-told2 .given .1) (stands-on (c .before .before .before .before .before .before .before .before .before .pre .0) (c .before .before .before .before .before .before .before .before .before .pre .1) (c .before .before .before .before .before .before .before .before .before .pre .2) (c .before .before .before .before .before .index3 .ensures .0) (c .before .before .before .before .before .before .before .before .index .ensures .0) (c .before .before .before .index4 .ensures .0) (c .before .before .before .before .before .before .index2 .ensures .0) (c .before .before .stands .ensures) s))
+returns-3 c = (
+  omega arith,
+  λ n i l s. side-lost (c .enum-told2 .given .1) (stands-on (c .before .before .before .before .before
+      .before .before .before .before .pre .0) (c .before .before .before .before .before .before .before .before
+          .before
+      .pre .1) (c .before .before .before .before .before .before .before .before .before .pre .2) (c .before .before
+      .before .before .before .index3 .ensures .0) (c .before .before .before .before .before .before .before .before
+      .index .ensures .0) (c .before .before .before .index4 .ensures .0) (c .before .before .before .before .before
+      .before .index2 .ensures .0) (c .before .before .stands .ensures) s),
+)
 
 pub came-in-spec : {M : Type 1} → statement M
 came-in-spec =

@@ -17,7 +17,8 @@ use Rattle.executing.proofs.heads.unit_at.Reads as unit-at-reads
 abbrev Inv-loop : tie.InvT-loop
 Inv-loop h routes joints homes s₀ r₀ r-end s r =
     (r ≤ r-end) × (r-end ≡ h .routers)
-    × Steps (tablePlan h routes joints) (Turn (tablePlan h routes joints) 0) (upTo (unit (tablePlan h routes joints)) r) s₀ s
+    × Steps (tablePlan h routes joints) (Turn (tablePlan h routes joints) 0) (upTo (unit (tablePlan h routes joints))
+    r) s₀ s
     × (length s ≡ length s₀)
 
 abbrev μ-loop : tie.MeasureT-loop
@@ -29,7 +30,12 @@ loop-holds c = (omega arith, refl, steps-none _ _ _ _, refl)
 
 -- src/heads.rt:218:9
 unit-at-requires : tie.Need-unit-at-requires Inv-loop μ-loop
-unit-at-requires c κs = let p = c .before .before .before .before .pre in let v = c .before .before .loop .inv in let l = v .1 in (p .0, omega arith, units-hold (p .0) (omega arith) (p .1) (v .2))
+unit-at-requires c κs =
+    let p = c .before .before .before .before .pre in let v = c .before .before .loop .inv in let l = v .1 in (
+      p .0,
+      omega arith,
+      units-hold (p .0) (omega arith) (p .1) (v .2),
+    )
 
 -- src/heads.rt:217:9
 add-r : tie.Need-add-r Inv-loop μ-loop
@@ -41,7 +47,15 @@ loop-less c = omega arith
 
 -- src/heads.rt:217:5
 loop-again : tie.Need-loop-again Inv-loop μ-loop
-loop-again c = let p = c .before .before .before .before .before .before .before .pre in let v = c .before .before .before .before .before .loop .inv in let l = v .1 in (omega arith, v .1, units-more (p .0) (omega arith) (v .2) (c .before .before .unit-at .ensures), c .before .before .unit-at .kept .1 .1 .1 .1 .1 .0 ∙ v .3)
+loop-again c =
+    let p = c .before .before .before .before .before .before .before .pre in let v = c .before .before .before .before
+    .before .loop .inv in let l = v .1 in (
+      omega arith,
+      v .1,
+      units-more (p .0) (omega arith) (v .2) (c .before .before
+          .unit-at .ensures),
+      c .before .before .unit-at .kept .1 .1 .1 .1 .1 .0 ∙ v .3,
+    )
 
 -- src/heads.rt:210:1
 same-length : tie.Need-same-length Inv-loop μ-loop

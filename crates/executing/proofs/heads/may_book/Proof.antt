@@ -3,9 +3,9 @@ use Rattle.basis.specs.Bounded.{anyBelow}
 use mathlib.Core.Bool.{false}
 use mathlib.Core.Path.{_≡_}
 use Prim.Native.Nat.{_-_, _≤_}
-use Rattle.executing.proofs.Booking.{not-free, spare-none, spare-more, spare-found, spare-done, slot-free, slot-booked}
+use Rattle.executing.proofs.Booking.{not-free, spare-none, spare-more, spare-found, spare-done, slot-free}
+use Rattle.executing.proofs.Booking.{slot-booked}
 use native.Mathlib.Omega.{arith}
-use lib.ListN.{length-set}
 use Rattle.executing.proofs.heads.may_book.Statement.{statement}
 use Rattle.executing.proofs.heads.may_book.Tie as tie
 use Rattle.executing.proofs.heads.may_book.Reads as reads
@@ -44,7 +44,9 @@ spare-requires c κs = (omega arith, omega arith)
 
 -- src/heads.rt:100:13
 returns-2 : tie.Need-returns-2 Inv-loop μ-loop
-returns-2 c = spare-found _ _ _ _ (slot-free _ _ _ (c .before .before .before .before .if1 .left)) (c .before .before .loop-test .taken) (c .before .spare .ensures) (c .if2 .taken)
+returns-2 c =
+    spare-found _ _ _ _ (slot-free _ _ _ (c .before .before .before .before .if1 .left)) (c .before .before .loop-test
+    .taken) (c .before .spare .ensures) (c .if2 .taken)
 
 -- src/heads.rt:98:9
 add-u : tie.Need-add-u Inv-loop μ-loop
@@ -56,7 +58,11 @@ loop-less c = omega arith
 
 -- src/heads.rt:98:5
 loop-again : tie.Need-loop-again Inv-loop μ-loop
-loop-again c = (omega arith, spare-more _ _ _ (c .before .before .before .loop .inv .1) (c .before .spare .ensures) (c .if2 .left))
+loop-again c = (
+  omega arith,
+  spare-more _ _ _ (c .before .before .before .loop .inv .1) (c .before .spare .ensures) (c .if2
+      .left),
+)
 
 -- src/heads.rt:91:1
 returns-3 : tie.Need-returns-3 Inv-loop μ-loop

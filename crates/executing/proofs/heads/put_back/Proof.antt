@@ -42,7 +42,8 @@ same-length c = search needs
 -- src/heads.rt:47:1
 returns : tie.Need-returns
 unfolding Rattle.executing.specs.Lent.putBack
-returns c = rw (eq-eqb _ _ (c .before .before .before .before .before .if1 .taken), c .before .before .put-packet .ensures)
+returns c =
+    rw (eq-eqb _ _ (c .before .before .before .before .before .if1 .taken), c .before .before .put-packet .ensures)
 
 -- src/heads.rt:47:1
 same-length-2 : tie.Need-same-length-2

@@ -2,10 +2,10 @@ use Rattle.executing.proofs.Needs.{near-small}
 use mathlib.Core.Path.{sym, _∙_}
 use Rattle.executing.proofs.Tables.{set-length, slots-are, entry-is, range-of}
 use Rattle.executing.proofs.Units.{steps-booked, steps-declined}
-use Rattle.executing.proofs.Needs.{is-router, has-active, has-passive, side-asks, side-is, first-asks, book-asks, write-inside, settles-booked, settles-now}
+use Rattle.executing.proofs.Needs.{is-router, has-active, has-passive, side-asks, side-is, first-asks}
+use Rattle.executing.proofs.Needs.{book-asks, write-inside, settles-booked, settles-now}
 use Prim.Native.Nat.{_+_, _*_}
 use native.Mathlib.Omega.{arith}
-use lib.ListN.{length-set}
 use borrow.Author.Needs.{needs}
 use Rattle.executing.proofs.heads.set_up.Statement.{statement}
 use Rattle.executing.proofs.heads.set_up.Tie as tie
@@ -36,11 +36,20 @@ index-requires-2 c κs = search needs
 
 -- src/heads.rt:151:8
 may-book-requires : tie.Need-may-book-requires
-may-book-requires c κs = let p = c .before .before .before .before .before .before .pre in book-asks (p .0) (p .1) (p .4) (c .before .before .before .before .side-of .ensures) (c .before .before .before .entry-row .ensures) (c .before .before .index .ensures .0) (c .index2 .ensures .0)
+may-book-requires c κs =
+    let p = c .before .before .before .before .before .before .pre in book-asks (p .0) (p .1) (p .4) (c .before .before
+    .before .before .side-of .ensures) (c .before .before .before .entry-row .ensures) (c .before .before .index
+    .ensures .0) (c .index2 .ensures .0)
 
 -- src/heads.rt:152:13
 came-in-requires : tie.Need-came-in-requires
-came-in-requires c κs = let p = c .before .before .before .before .before .before .before .before .pre in (p .0, has-active (p .0) (p .1) (p .4), has-passive (p .0) (p .1) (p .4))
+came-in-requires c κs =
+    let p = c .before .before .before .before .before .before .before .before .pre in (
+      p .0,
+      has-active (p .0) (p .1)
+          (p .4),
+      has-passive (p .0) (p .1) (p .4),
+    )
 
 -- src/heads.rt:153:27
 add-s : tie.Need-add-s
@@ -52,27 +61,54 @@ mul-s c = search needs
 
 -- src/heads.rt:153:11
 add-s-2 : tie.Need-add-s-2
-add-s-2 c = let p = c .before .before .before .before .before .before .before .before .before .pre in let n = near-small (p .0) (p .1) (p .4) (c .before .before .before .before .before .before .before .side-of .ensures) (c .before .before .before .before .before .before .entry-row .ensures) (c .before .before .before .before .before .index .ensures .0) in omega arith
+add-s-2 c =
+    let p = c .before .before .before .before .before .before .before .before .before .pre in let n = near-small (p .0)
+    (p .1) (p .4) (c .before .before .before .before .before .before .before .side-of .ensures) (c .before .before
+    .before .before .before .before .entry-row .ensures) (c .before .before .before .before .before .index .ensures .0)
+    in omega arith
 
 -- src/heads.rt:153:9
 slice-write-s : tie.Need-slice-write-s
-slice-write-s c = let p = c .before .before .before .before .before .before .before .before .before .pre in write-inside (p .0) (p .1) (p .4) (c .before .before .before .before .before .before .before .side-of .ensures) _ _ _ (book-asks (p .0) (p .1) (p .4) (c .before .before .before .before .before .before .before .side-of .ensures) (c .before .before .before .before .before .before .entry-row .ensures) (c .before .before .before .before .before .index .ensures .0) (c .before .before .before .index2 .ensures .0))
+slice-write-s c =
+    let p = c .before .before .before .before .before .before .before .before .before .pre in write-inside (p .0) (p
+    .1) (p .4) (c .before .before .before .before .before .before .before .side-of .ensures) _ _ _ (book-asks (p .0) (p
+    .1) (p .4) (c .before .before .before .before .before .before .before .side-of .ensures) (c .before .before .before
+    .before .before .before .entry-row .ensures) (c .before .before .before .before .before .index .ensures .0) (c
+    .before .before .before .index2 .ensures .0))
 
 -- src/heads.rt:154:9
 settle-requires : tie.Need-settle-requires
-settle-requires c κs = let p = c .before .before .before .before .before .before .before .before .before .before .pre in settles-booked (p .0) (p .1) (p .4) (c .before .before .before .before .before .before .before .before .side-of .ensures) _ (p .3) (c .before .before .before .before .before .before .before .entry-row .ensures) (c .before .before .before .before .before .before .index .ensures .0)
+settle-requires c κs =
+    let p = c .before .before .before .before .before .before .before .before .before .before .pre in settles-booked (p
+    .0) (p .1) (p .4) (c .before .before .before .before .before .before .before .before .side-of .ensures) _ (p .3) (c
+    .before .before .before .before .before .before .before .entry-row .ensures) (c .before .before .before .before
+    .before .before .index .ensures .0)
 
 -- src/heads.rt:156:9
 settle-requires-2 : tie.Need-settle-requires-2
-settle-requires-2 c κs = let p = c .before .before .before .before .before .before .before .before .before .pre in settles-now (p .0) (p .1) (p .4) (p .3)
+settle-requires-2 c κs =
+    let p = c .before .before .before .before .before .before .before .before .before .pre in settles-now (p .0) (p .1)
+    (p .4) (p .3)
 
 -- src/heads.rt:131:1
 same-length : tie.Need-same-length
-same-length c = c .before .before .settle .kept .0 ∙ set-length (c .before .before .before .before .before .before .before .before .before .before .before .before .before .args .s .now) (c .before .before .before .before .before .before .before .before .before .before .entry-row .result + 2 * c .before .before .before .before .before .before .before .before .before .index .result) (c .before .before .before .before .came-in .result + 1)
+same-length c =
+    c .before .before .settle .kept .0 ∙ set-length (c .before .before .before .before .before .before .before .before
+    .before .before .before .before .before .args .s .now) (c .before .before .before .before .before .before .before
+    .before .before .before .entry-row .result + 2 * c .before .before .before .before .before .before .before .before
+    .before .index .result) (c .before .before .before .before .came-in .result + 1)
 
 -- src/heads.rt:131:1
 returns : tie.Need-returns
-returns c = let p = c .before .before .before .before .before .before .before .before .before .before .before .before .before .pre in steps-booked (p .0 .wired) (range-of (p .0)) _ (is-router (p .0) (p .1)) _ (p .3) (side-is (p .0) (p .1) (p .4) (c .before .before .before .before .before .before .before .before .before .before .before .side-of .ensures)) (entry-is _ _ _ _ _ _ (c .before .before .before .before .before .before .before .before .before .before .entry-row .ensures)) (c .before .before .before .before .before .before .before .before .before .index .ensures .0) (slots-are _ _ _) (c .before .before .before .before .before .before .before .index2 .ensures .0) (p .2) (sym (c .before .before .before .before .before .before .may-book .ensures) ∙ c .before .before .before .before .before .if1 .taken) (c .before .before .before .before .came-in .ensures .1) (c .before .before .settle .ensures)
+returns c =
+    let p = c .before .before .before .before .before .before .before .before .before .before .before .before .before
+    .pre in steps-booked (p .0 .wired) (range-of (p .0)) _ (is-router (p .0) (p .1)) _ (p .3) (side-is (p .0) (p .1) (p
+    .4) (c .before .before .before .before .before .before .before .before .before .before .before .side-of .ensures))
+    (entry-is _ _ _ _ _ _ (c .before .before .before .before .before .before .before .before .before .before .entry-row
+    .ensures)) (c .before .before .before .before .before .before .before .before .before .index .ensures .0)
+    (slots-are _ _ _) (c .before .before .before .before .before .before .before .index2 .ensures .0) (p .2) (sym (c
+    .before .before .before .before .before .before .may-book .ensures) ∙ c .before .before .before .before .before
+    .if1 .taken) (c .before .before .before .before .came-in .ensures .1) (c .before .before .settle .ensures)
 
 -- src/heads.rt:131:1
 same-length-2 : tie.Need-same-length-2
@@ -80,7 +116,14 @@ same-length-2 c = c .before .before .settle2 .kept .0
 
 -- src/heads.rt:131:1
 returns-2 : tie.Need-returns-2
-returns-2 c = let p = c .before .before .before .before .before .before .before .before .before .before .before .before .pre in steps-declined (p .0 .wired) (range-of (p .0)) _ (is-router (p .0) (p .1)) _ (p .3) (side-is (p .0) (p .1) (p .4) (c .before .before .before .before .before .before .before .before .before .before .side-of .ensures)) (entry-is _ _ _ _ _ _ (c .before .before .before .before .before .before .before .before .before .entry-row .ensures)) (c .before .before .before .before .before .before .before .before .index .ensures .0) (slots-are _ _ _) (c .before .before .before .before .before .before .index2 .ensures .0) (p .2) (sym (c .before .before .before .before .before .may-book .ensures) ∙ c .before .before .before .before .if1 .left) (c .before .before .settle2 .ensures)
+returns-2 c =
+    let p = c .before .before .before .before .before .before .before .before .before .before .before .before .pre in
+    steps-declined (p .0 .wired) (range-of (p .0)) _ (is-router (p .0) (p .1)) _ (p .3) (side-is (p .0) (p .1) (p .4)
+    (c .before .before .before .before .before .before .before .before .before .before .side-of .ensures)) (entry-is _
+    _ _ _ _ _ (c .before .before .before .before .before .before .before .before .before .entry-row .ensures)) (c
+    .before .before .before .before .before .before .before .before .index .ensures .0) (slots-are _ _ _) (c .before
+    .before .before .before .before .before .index2 .ensures .0) (p .2) (sym (c .before .before .before .before .before
+    .may-book .ensures) ∙ c .before .before .before .before .if1 .left) (c .before .before .settle2 .ensures)
 
 pub set-up-spec : {M : Type 1} → statement M
 set-up-spec =

@@ -1,5 +1,3 @@
-use Rattle.executing.specs.Lent.{putBack}
-use mathlib.Core.Path.{ap, _∙_}
 use borrow.Author.Needs.{needs}
 use Rattle.executing.proofs.heads.settle.Statement.{statement}
 use Rattle.executing.proofs.heads.settle.Tie as tie

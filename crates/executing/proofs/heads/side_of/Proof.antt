@@ -1,4 +1,3 @@
-use mathlib.Core.Path.{ap, _∙_}
 use borrow.Author.Needs.{needs}
 use Rattle.executing.proofs.heads.side_of.Statement.{statement}
 use Rattle.executing.proofs.heads.side_of.Tie as tie

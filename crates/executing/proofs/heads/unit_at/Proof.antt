@@ -3,7 +3,6 @@ use Rattle.executing.proofs.Steps.{steps-by, holds-by}
 use Rattle.executing.proofs.Units.{steps-empty, steps-marked, heads-by, steps-ack, steps-nack}
 use Rattle.executing.proofs.Needs.{is-router, base-asks, unit-room}
 use native.Mathlib.Omega.{arith}
-use lib.ListN.{length-set}
 use borrow.Author.Needs.{needs}
 use Rattle.executing.proofs.heads.unit_at.Statement.{statement}
 use Rattle.executing.proofs.heads.unit_at.Tie as tie
@@ -33,11 +32,16 @@ add-if1 c = search needs
 
 -- src/heads.rt:193:8
 slice-read-if1 : tie.Need-slice-read-if1
-slice-read-if1 c = let p = c .before .before .before .before .pre in let q = unit-room (p .0) (p .1) (unit-at _ _ _ _ (c .before .before .base-of .ensures .0) (c .before .queue-row .ensures)) (p .2) in omega arith
+slice-read-if1 c =
+    let p = c .before .before .before .before .pre in let q = unit-room (p .0) (p .1) (unit-at _ _ _ _ (c .before
+    .before .base-of .ensures .0) (c .before .queue-row .ensures)) (p .2) in omega arith
 
 -- src/heads.rt:194:9
 returns : tie.Need-returns
-returns c = let p = c .before .before .before .before .before .pre in steps-empty (p .0 .wired) (range-of (p .0)) _ (is-router (p .0) (p .1)) (unit-at _ _ _ _ (c .before .before .before .base-of .ensures .0) (c .before .before .queue-row .ensures)) (c .if1 .taken)
+returns c =
+    let p = c .before .before .before .before .before .pre in steps-empty (p .0 .wired) (range-of (p .0)) _ (is-router
+    (p .0) (p .1)) (unit-at _ _ _ _ (c .before .before .before .base-of .ensures .0) (c .before .before .queue-row
+    .ensures)) (c .if1 .taken)
 
 -- src/heads.rt:196:10
 add-if2 : tie.Need-add-if2
@@ -45,11 +49,17 @@ add-if2 c = search needs
 
 -- src/heads.rt:196:8
 slice-read-if2 : tie.Need-slice-read-if2
-slice-read-if2 c = let p = c .before .before .before .before .before .before .pre in let q = unit-room (p .0) (p .1) (unit-at _ _ _ _ (c .before .before .before .before .base-of .ensures .0) (c .before .before .before .queue-row .ensures)) (p .2) in omega arith
+slice-read-if2 c =
+    let p = c .before .before .before .before .before .before .pre in let q = unit-room (p .0) (p .1) (unit-at _ _ _ _
+    (c .before .before .before .before .base-of .ensures .0) (c .before .before .before .queue-row .ensures)) (p .2) in
+    omega arith
 
 -- src/heads.rt:197:9
 returns-2 : tie.Need-returns-2
-returns-2 c = let p = c .before .before .before .before .before .before .before .pre in steps-marked (p .0 .wired) (range-of (p .0)) _ (is-router (p .0) (p .1)) (unit-at _ _ _ _ (c .before .before .before .before .before .base-of .ensures .0) (c .before .before .before .before .queue-row .ensures)) (c .if2 .taken)
+returns-2 c =
+    let p = c .before .before .before .before .before .before .before .pre in steps-marked (p .0 .wired) (range-of (p
+    .0)) _ (is-router (p .0) (p .1)) (unit-at _ _ _ _ (c .before .before .before .before .before .base-of .ensures .0)
+    (c .before .before .before .before .queue-row .ensures)) (c .if2 .taken)
 
 -- src/heads.rt:199:32
 add-packet-at : tie.Need-add-packet-at
@@ -57,7 +67,10 @@ add-packet-at c = search needs
 
 -- src/heads.rt:199:9
 packet-at-requires : tie.Need-packet-at-requires
-packet-at-requires c κs = let p = c .before .before .before .before .before .before .before .before .pre in let q = unit-room (p .0) (p .1) (unit-at _ _ _ _ (c .before .before .before .before .before .before .base-of .ensures .0) (c .before .before .before .before .before .queue-row .ensures)) (p .2) in omega arith
+packet-at-requires c κs =
+    let p = c .before .before .before .before .before .before .before .before .pre in let q = unit-room (p .0) (p .1)
+    (unit-at _ _ _ _ (c .before .before .before .before .before .before .base-of .ensures .0) (c .before .before
+    .before .before .before .queue-row .ensures)) (p .2) in omega arith
 
 -- src/heads.rt:202:67
 enum-told : tie.Need-enum-told
@@ -65,7 +78,24 @@ enum-told c = search needs
 
 -- src/heads.rt:202:24
 set-up-requires : tie.Need-set-up-requires
-set-up-requires c κs = let p = c .before .before .before .before .before .before .before .before .before .before .before .before .pre in (p .0, p .1, c .before .enum-told .given .1, (unit-at _ _ _ _ (c .before .before .before .before .before .before .before .before .before .before .base-of .ensures .0) (c .before .before .before .before .before .before .before .before .before .queue-row .ensures)), holds-by _ (heads-by (p .0 .wired) (range-of (p .0)) _ (is-router (p .0) (p .1)) (unit-at _ _ _ _ (c .before .before .before .before .before .before .before .before .before .before .base-of .ensures .0) (c .before .before .before .before .before .before .before .before .before .queue-row .ensures)) (c .before .before .before .before .before .before .before .if1 .left) (c .before .before .before .before .before .if2 .left) (c .before .before .before .packet-at .ensures)) (p .2))
+set-up-requires c κs =
+    let p = c .before .before .before .before .before .before .before .before .before .before .before .before .pre in (
+      p .0,
+      p .1,
+      c .before .enum-told .given .1,
+      (unit-at _ _ _ _ (c .before .before .before .before .before .before
+          .before .before .before .before .base-of .ensures .0) (c .before .before .before .before .before .before
+              .before
+          .before .before .queue-row .ensures)),
+      holds-by _ (heads-by (p .0 .wired) (range-of (p .0)) _ (is-router (p .0) (p
+          .1)) (unit-at _ _ _ _ (c .before .before .before .before .before .before .before .before .before .before
+              .base-of
+          .ensures .0) (c .before .before .before .before .before .before .before .before .before .queue-row .ensures))
+              (c
+          .before .before .before .before .before .before .before .if1 .left) (c .before .before .before .before
+              .before .if2
+          .left) (c .before .before .before .packet-at .ensures)) (p .2),
+    )
 
 -- src/heads.rt:203:70
 enum-told-2 : tie.Need-enum-told-2
@@ -73,7 +103,24 @@ enum-told-2 c = search needs
 
 -- src/heads.rt:203:24
 tear-down-requires : tie.Need-tear-down-requires
-tear-down-requires c κs = let p = c .before .before .before .before .before .before .before .before .before .before .before .before .pre in (p .0, p .1, c .before .enum-told2 .given .1, (unit-at _ _ _ _ (c .before .before .before .before .before .before .before .before .before .before .base-of .ensures .0) (c .before .before .before .before .before .before .before .before .before .queue-row .ensures)), holds-by _ (heads-by (p .0 .wired) (range-of (p .0)) _ (is-router (p .0) (p .1)) (unit-at _ _ _ _ (c .before .before .before .before .before .before .before .before .before .before .base-of .ensures .0) (c .before .before .before .before .before .before .before .before .before .queue-row .ensures)) (c .before .before .before .before .before .before .before .if1 .left) (c .before .before .before .before .before .if2 .left) (c .before .before .before .packet-at .ensures)) (p .2))
+tear-down-requires c κs =
+    let p = c .before .before .before .before .before .before .before .before .before .before .before .before .pre in (
+      p .0,
+      p .1,
+      c .before .enum-told2 .given .1,
+      (unit-at _ _ _ _ (c .before .before .before .before .before .before
+          .before .before .before .before .base-of .ensures .0) (c .before .before .before .before .before .before
+              .before
+          .before .before .queue-row .ensures)),
+      holds-by _ (heads-by (p .0 .wired) (range-of (p .0)) _ (is-router (p .0) (p
+          .1)) (unit-at _ _ _ _ (c .before .before .before .before .before .before .before .before .before .before
+              .base-of
+          .ensures .0) (c .before .before .before .before .before .before .before .before .before .queue-row .ensures))
+              (c
+          .before .before .before .before .before .before .before .if1 .left) (c .before .before .before .before
+              .before .if2
+          .left) (c .before .before .before .packet-at .ensures)) (p .2),
+    )
 
 enum-told-3 : tie.Need-enum-told-3
 enum-told-3 c = search needs
@@ -87,7 +134,14 @@ same-length c = search needs
 
 -- src/heads.rt:185:1
 returns-3 : tie.Need-returns-3
-returns-3 c = let p = c .before .before .before .before .before .before .before .before .before .before .before .before .before .before .before .pre in steps-by _ (heads-by (p .0 .wired) (range-of (p .0)) _ (is-router (p .0) (p .1)) (unit-at _ _ _ _ (c .before .before .before .before .before .before .before .before .before .before .before .before .before .base-of .ensures .0) (c .before .before .before .before .before .before .before .before .before .before .before .before .queue-row .ensures)) (c .before .before .before .before .before .before .before .before .before .before .if1 .left) (c .before .before .before .before .before .before .before .before .if2 .left) (c .before .before .before .before .before .before .packet-at .ensures)) (c .before .before .set-up .ensures)
+returns-3 c =
+    let p = c .before .before .before .before .before .before .before .before .before .before .before .before .before
+    .before .before .pre in steps-by _ (heads-by (p .0 .wired) (range-of (p .0)) _ (is-router (p .0) (p .1)) (unit-at _
+    _ _ _ (c .before .before .before .before .before .before .before .before .before .before .before .before .before
+    .base-of .ensures .0) (c .before .before .before .before .before .before .before .before .before .before .before
+    .before .queue-row .ensures)) (c .before .before .before .before .before .before .before .before .before .before
+    .if1 .left) (c .before .before .before .before .before .before .before .before .if2 .left) (c .before .before
+    .before .before .before .before .packet-at .ensures)) (c .before .before .set-up .ensures)
 
 -- src/heads.rt:185:1
 same-length-2 : tie.Need-same-length-2
@@ -95,7 +149,14 @@ same-length-2 c = search needs
 
 -- src/heads.rt:185:1
 returns-4 : tie.Need-returns-4
-returns-4 c = let p = c .before .before .before .before .before .before .before .before .before .before .before .before .before .before .before .pre in steps-by _ (heads-by (p .0 .wired) (range-of (p .0)) _ (is-router (p .0) (p .1)) (unit-at _ _ _ _ (c .before .before .before .before .before .before .before .before .before .before .before .before .before .base-of .ensures .0) (c .before .before .before .before .before .before .before .before .before .before .before .before .queue-row .ensures)) (c .before .before .before .before .before .before .before .before .before .before .if1 .left) (c .before .before .before .before .before .before .before .before .if2 .left) (c .before .before .before .before .before .before .packet-at .ensures)) (c .before .before .tear-down .ensures)
+returns-4 c =
+    let p = c .before .before .before .before .before .before .before .before .before .before .before .before .before
+    .before .before .pre in steps-by _ (heads-by (p .0 .wired) (range-of (p .0)) _ (is-router (p .0) (p .1)) (unit-at _
+    _ _ _ (c .before .before .before .before .before .before .before .before .before .before .before .before .before
+    .base-of .ensures .0) (c .before .before .before .before .before .before .before .before .before .before .before
+    .before .queue-row .ensures)) (c .before .before .before .before .before .before .before .before .before .before
+    .if1 .left) (c .before .before .before .before .before .before .before .before .if2 .left) (c .before .before
+    .before .before .before .before .packet-at .ensures)) (c .before .before .tear-down .ensures)
 
 -- src/heads.rt:185:1
 same-length-3 : tie.Need-same-length-3
@@ -103,7 +164,13 @@ same-length-3 c = search needs
 
 -- src/heads.rt:185:1
 returns-5 : tie.Need-returns-5
-returns-5 c = let p = c .before .before .before .before .before .before .before .before .before .before .before .pre in steps-by _ (heads-by (p .0 .wired) (range-of (p .0)) _ (is-router (p .0) (p .1)) (unit-at _ _ _ _ (c .before .before .before .before .before .before .before .before .before .base-of .ensures .0) (c .before .before .before .before .before .before .before .before .queue-row .ensures)) (c .before .before .before .before .before .before .if1 .left) (c .before .before .before .before .if2 .left) (c .before .before .packet-at .ensures)) (steps-ack (p .0 .wired) (range-of (p .0)) _ (is-router (p .0) (p .1)) _ (c .enum-told3 .given .1))
+returns-5 c =
+    let p = c .before .before .before .before .before .before .before .before .before .before .before .pre in steps-by
+    _ (heads-by (p .0 .wired) (range-of (p .0)) _ (is-router (p .0) (p .1)) (unit-at _ _ _ _ (c .before .before .before
+    .before .before .before .before .before .before .base-of .ensures .0) (c .before .before .before .before .before
+    .before .before .before .queue-row .ensures)) (c .before .before .before .before .before .before .if1 .left) (c
+    .before .before .before .before .if2 .left) (c .before .before .packet-at .ensures)) (steps-ack (p .0 .wired)
+    (range-of (p .0)) _ (is-router (p .0) (p .1)) _ (c .enum-told3 .given .1))
 
 -- src/heads.rt:185:1
 same-length-4 : tie.Need-same-length-4
@@ -111,7 +178,13 @@ same-length-4 c = search needs
 
 -- src/heads.rt:185:1
 returns-6 : tie.Need-returns-6
-returns-6 c = let p = c .before .before .before .before .before .before .before .before .before .before .before .pre in steps-by _ (heads-by (p .0 .wired) (range-of (p .0)) _ (is-router (p .0) (p .1)) (unit-at _ _ _ _ (c .before .before .before .before .before .before .before .before .before .base-of .ensures .0) (c .before .before .before .before .before .before .before .before .queue-row .ensures)) (c .before .before .before .before .before .before .if1 .left) (c .before .before .before .before .if2 .left) (c .before .before .packet-at .ensures)) (steps-nack (p .0 .wired) (range-of (p .0)) _ (is-router (p .0) (p .1)) _ (c .enum-told4 .given .1))
+returns-6 c =
+    let p = c .before .before .before .before .before .before .before .before .before .before .before .pre in steps-by
+    _ (heads-by (p .0 .wired) (range-of (p .0)) _ (is-router (p .0) (p .1)) (unit-at _ _ _ _ (c .before .before .before
+    .before .before .before .before .before .before .base-of .ensures .0) (c .before .before .before .before .before
+    .before .before .before .queue-row .ensures)) (c .before .before .before .before .before .before .if1 .left) (c
+    .before .before .before .before .if2 .left) (c .before .before .packet-at .ensures)) (steps-nack (p .0 .wired)
+    (range-of (p .0)) _ (is-router (p .0) (p .1)) _ (c .enum-told4 .given .1))
 
 pub unit-at-spec : {M : Type 1} → statement M
 unit-at-spec =

@@ -23,11 +23,22 @@ loop-holds c = let p = c .before .pre in (omega arith, passed-none (p .0 .wired)
 
 -- src/picks.rt:110:47
 add-ready : tie.Need-add-ready Inv-loop μ-loop
-add-ready c = let p = c .before .before .before .pre in let q = sends-asks (p .0) (p .2) (c .loop-test .taken) .2 in omega arith
+add-ready c =
+    let p = c .before .before .before .pre in let q = sends-asks (p .0) (p .2) (c .loop-test .taken) .2 in omega arith
 
 -- src/picks.rt:110:12
 ready-requires : tie.Need-ready-requires Inv-loop μ-loop
-ready-requires c κs = let p = c .before .before .before .pre in let q = sends-asks (p .0) (p .2) (c .loop-test .taken) in (p .0, q .0, q .1, sends-by (p .0 .wired) (range-of (p .0)) (p .2) _ (c .loop-test .taken), p .2 .units _ (c .loop-test .taken), p .3)
+ready-requires c κs =
+    let p = c .before .before .before .pre in let q = sends-asks (p .0) (p .2) (c .loop-test .taken) in (
+      p .0,
+      q .0,
+      q
+          .1,
+      sends-by (p .0 .wired) (range-of (p .0)) (p .2) _ (c .loop-test .taken),
+      p .2 .units _ (c .loop-test .taken),
+      p
+          .3,
+    )
 
 -- src/picks.rt:111:21
 add-result : tie.Need-add-result Inv-loop μ-loop
@@ -39,7 +50,10 @@ cast-result c = let p = c .before .before .before .before .before .pre in let q 
 
 -- src/picks.rt:111:13
 returns : tie.Need-returns Inv-loop μ-loop
-returns c = let p = c .before .before .before .before .before .pre in first-found (p .0 .wired) (range-of (p .0)) _ _ _ _ (p .2) (c .before .before .loop-test .taken) (c .before .before .before .loop .inv .1) (c .before .ready .ensures) (c .if1 .taken)
+returns c =
+    let p = c .before .before .before .before .before .pre in first-found (p .0 .wired) (range-of (p .0)) _ _ _ _ (p
+    .2) (c .before .before .loop-test .taken) (c .before .before .before .loop .inv .1) (c .before .ready .ensures) (c
+    .if1 .taken)
 
 -- src/picks.rt:109:9
 add-k : tie.Need-add-k Inv-loop μ-loop
@@ -51,11 +65,18 @@ loop-less c = omega arith
 
 -- src/picks.rt:109:5
 loop-again : tie.Need-loop-again Inv-loop μ-loop
-loop-again c = let p = c .before .before .before .before .before .pre in (omega arith, passed-more (p .0 .wired) (range-of (p .0)) _ _ _ (c .before .before .before .loop .inv .1) (c .before .ready .ensures) (c .if1 .left))
+loop-again c =
+    let p = c .before .before .before .before .before .pre in (
+      omega arith,
+      passed-more (p .0 .wired) (range-of (p .0))
+          _ _ _ (c .before .before .before .loop .inv .1) (c .before .ready .ensures) (c .if1 .left),
+    )
 
 -- src/picks.rt:91:1
 returns-2 : tie.Need-returns-2 Inv-loop μ-loop
-returns-2 c = let p = c .before .before .before .pre in first-none (p .0 .wired) (range-of (p .0)) _ _ _ (p .2) (c .before .loop .inv .1) (omega arith)
+returns-2 c =
+    let p = c .before .before .before .pre in first-none (p .0 .wired) (range-of (p .0)) _ _ _ (p .2) (c .before .loop
+    .inv .1) (omega arith)
 
 pub first-spec : {M : Type 1} → statement M
 first-spec =

@@ -53,7 +53,10 @@ shared-slice-read-result c = omega arith
 
 -- src/picks.rt:142:1
 returns-4 : tie.Need-returns-4
-returns-4 c = λ e k l. idle-four (c .before .before .before .before .before .before .before .args .at) (c .before .before .before .before .before .before .before .args .s .now) (c .before .before .before .before .before .if1 .left) (c .before .before .before .if2 .left) (c .before .if3 .left) e k l
+returns-4 c =
+    λ e k l. idle-four (c .before .before .before .before .before .before .before .args .at) (c .before .before .before
+    .before .before .before .before .args .s .now) (c .before .before .before .before .before .if1 .left) (c .before
+    .before .before .if2 .left) (c .before .if3 .left) e k l
 
 pub idle-spec : {M : Type 1} → statement M
 idle-spec =

@@ -17,7 +17,8 @@ use Rattle.executing.proofs.picks.interface.Reads as interface-reads
 abbrev Inv-loop : tie.InvT-loop
 Inv-loop h routes joints homes s₀ n m₀ s m =
     (m ≤ n) × (n ≡ destinations h)
-    × Steps (tablePlan h routes joints) (Picks (tablePlan h routes joints) 0) (upTo (chooses (tablePlan h routes joints)) m)
+    × Steps (tablePlan h routes joints) (Picks (tablePlan h routes joints) 0) (upTo (chooses (tablePlan h routes
+    joints)) m)
     s₀ s
     × (length s ≡ length s₀)
 
@@ -26,7 +27,9 @@ abbrev μ-loop : tie.MeasureT-loop
 
 -- src/picks.rt:295:13
 add-n : tie.Need-add-n Inv-loop μ-loop
-add-n c = let p = c .before .before .pre in let a = p .0 .range .actives .1 in let b = p .0 .range .passives .1 in omega arith
+add-n c =
+    let p = c .before .before .pre in let a = p .0 .range .actives .1 in let b = p .0 .range .passives .1 in omega
+    arith
 
 -- src/picks.rt:296:5
 loop-holds : tie.Need-loop-holds Inv-loop μ-loop
@@ -34,7 +37,9 @@ loop-holds c = (omega arith, refl, steps-none _ _ _ _, refl)
 
 -- src/picks.rt:297:9
 interface-requires : tie.Need-interface-requires Inv-loop μ-loop
-interface-requires c κs = let p = c .before .before .before .before .before .pre in let v = c .before .before .loop .inv in let l = v .1 in (p .0, omega arith, interfaces-hold (p .0) (omega arith) (p .1) (v .2))
+interface-requires c κs =
+    let p = c .before .before .before .before .before .pre in let v = c .before .before .loop .inv in let l = v .1 in
+    (p .0, omega arith, interfaces-hold (p .0) (omega arith) (p .1) (v .2))
 
 -- src/picks.rt:296:9
 add-m : tie.Need-add-m Inv-loop μ-loop
@@ -46,7 +51,15 @@ loop-less c = omega arith
 
 -- src/picks.rt:296:5
 loop-again : tie.Need-loop-again Inv-loop μ-loop
-loop-again c = let p = c .before .before .before .before .before .before .before .before .pre in let v = c .before .before .before .before .before .loop .inv in let l = v .1 in (omega arith, v .1, interfaces-more (p .0) (omega arith) (v .2) (c .before .before .interface .ensures), c .before .before .interface .kept .1 .1 .1 .1 .1 .0 ∙ v .3)
+loop-again c =
+    let p = c .before .before .before .before .before .before .before .before .pre in let v = c .before .before .before
+    .before .before .loop .inv in let l = v .1 in (
+      omega arith,
+      v .1,
+      interfaces-more (p .0) (omega arith) (v .2) (c
+          .before .before .interface .ensures),
+      c .before .before .interface .kept .1 .1 .1 .1 .1 .0 ∙ v .3,
+    )
 
 -- src/picks.rt:287:1
 same-length : tie.Need-same-length Inv-loop μ-loop

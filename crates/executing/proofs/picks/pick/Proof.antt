@@ -3,7 +3,6 @@ use Rattle.executing.proofs.Tables.{range-of}
 use Rattle.executing.proofs.Choosing.{steps-picked}
 use Rattle.executing.proofs.Asked.{output-asks, choice-small, choice-row, choice-room}
 use native.Mathlib.Omega.{arith}
-use lib.ListN.{length-set}
 use borrow.Author.Needs.{needs}
 use Rattle.executing.proofs.picks.pick.Statement.{statement}
 use Rattle.executing.proofs.picks.pick.Tie as tie
@@ -22,11 +21,14 @@ output-row-requires c κs = let p = c .before .before .before .pre in output-ask
 
 -- src/picks.rt:138:7
 add-s : tie.Need-add-s
-add-s c = let p = c .before .before .before .before .pre in let q = choice-small (p .0) (p .2) (c .output-row .ensures) in omega arith
+add-s c =
+    let p = c .before .before .before .before .pre in let q = choice-small (p .0) (p .2) (c .output-row .ensures) in
+    omega arith
 
 -- src/picks.rt:138:5
 slice-write-s : tie.Need-slice-write-s
-slice-write-s c = let p = c .before .before .before .before .pre in choice-room (p .0) (p .2 .drives) (c .output-row .ensures) (p .3)
+slice-write-s c =
+    let p = c .before .before .before .before .pre in choice-room (p .0) (p .2 .drives) (c .output-row .ensures) (p .3)
 
 -- src/picks.rt:118:1
 same-length : tie.Need-same-length
@@ -34,7 +36,9 @@ same-length c = search needs
 
 -- src/picks.rt:118:1
 returns : tie.Need-returns
-returns c = let p = c .before .before .before .before .pre in steps-picked (p .0 .wired) (range-of (p .0)) _ (p .2 .drives) (choice-row (p .0) (p .2 .drives) (c .output-row .ensures)) (c .before .first .ensures)
+returns c =
+    let p = c .before .before .before .before .pre in steps-picked (p .0 .wired) (range-of (p .0)) _ (p .2 .drives)
+    (choice-row (p .0) (p .2 .drives) (c .output-row .ensures)) (c .before .first .ensures)
 
 pub pick-spec : {M : Type 1} → statement M
 pick-spec =

@@ -12,13 +12,20 @@ interfaces-requires : tie.Need-interfaces-requires
 interfaces-requires c κs = c .before .before .pre
 
 routers-requires : tie.Need-routers-requires
-routers-requires c κs = let p = c .before .before .before .before .before .before .pre in (p .0, interfaces-hold (p .0) (omega arith) (p .1) (c .before .before .before .interfaces .ensures))
+routers-requires c κs =
+    let p = c .before .before .before .before .before .before .pre in (
+      p .0,
+      interfaces-hold (p .0) (omega arith) (p
+          .1) (c .before .before .before .interfaces .ensures),
+    )
 
 same-length : tie.Need-same-length
 same-length c = search needs
 
 returns : tie.Need-returns
-returns c = let p = c .before .before .before .before .before .before .before .before .before .pre in picks-all (p .0) (c .before .before .before .before .before .before .interfaces .ensures) (c .before .before .routers .ensures)
+returns c =
+    let p = c .before .before .before .before .before .before .before .before .before .pre in picks-all (p .0) (c
+    .before .before .before .before .before .before .interfaces .ensures) (c .before .before .routers .ensures)
 
 pub picks-spec : {M : Type 1} → statement M
 picks-spec = tie.close (tie.spec interfaces-requires routers-requires same-length returns)

@@ -29,7 +29,14 @@ loop-holds c = let p = c .before .pre in (omega arith, from-none (p .0) (p .1) _
 
 -- src/picks.rt:252:9
 side-requires : tie.Need-side-requires Inv-loop μ-loop
-side-requires c κs = let p = c .before .before .before .before .pre in (p .0, p .1, c .before .loop-test .taken, sides-hold (p .0) (p .1) (c .before .loop-test .taken) (p .2) (c .before .before .loop .inv .1))
+side-requires c κs =
+    let p = c .before .before .before .before .pre in (
+      p .0,
+      p .1,
+      c .before .loop-test .taken,
+      sides-hold (p .0) (p
+          .1) (c .before .loop-test .taken) (p .2) (c .before .before .loop .inv .1),
+    )
 
 -- src/picks.rt:251:9
 add-o : tie.Need-add-o Inv-loop μ-loop
@@ -41,7 +48,16 @@ loop-less c = omega arith
 
 -- src/picks.rt:251:5
 loop-again : tie.Need-loop-again Inv-loop μ-loop
-loop-again c = let p = c .before .before .before .before .before .before .before .pre in (omega arith, sides-more (p .0) (p .1) (c .before .before .before .before .loop-test .taken) (c .before .before .before .before .before .loop .inv .1) (c .before .before .side .ensures), c .before .before .side .kept .1 .1 .1 .1 .1 .1 .0 ∙ c .before .before .before .before .before .loop .inv .2)
+loop-again c =
+    let p = c .before .before .before .before .before .before .before .pre in (
+      omega arith,
+      sides-more (p .0) (p .1) (c
+          .before .before .before .before .loop-test .taken) (c .before .before .before .before .before .loop .inv .1)
+              (c
+          .before .before .side .ensures),
+      c .before .before .side .kept .1 .1 .1 .1 .1 .1 .0 ∙ c .before .before .before
+          .before .before .loop .inv .2,
+    )
 
 -- src/picks.rt:242:1
 same-length : tie.Need-same-length Inv-loop μ-loop

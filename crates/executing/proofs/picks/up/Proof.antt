@@ -25,7 +25,9 @@ queue-row-requires c κs = search needs
 
 -- src/picks.rt:199:8
 idle-requires : tie.Need-idle-requires
-idle-requires c κs = let p = c .before .before .before .before .pre in up-room (p .0) (p .1) (c .before .before .base-of .ensures .0) (c .queue-row .ensures) (p .2)
+idle-requires c κs =
+    let p = c .before .before .before .before .pre in up-room (p .0) (p .1) (c .before .before .base-of .ensures .0) (c
+    .queue-row .ensures) (p .2)
 
 -- src/picks.rt:200:9
 same-length : tie.Need-same-length
@@ -33,7 +35,11 @@ same-length c = search needs
 
 -- src/picks.rt:200:9
 returns : tie.Need-returns
-returns c = let p = c .before .before .before .before .before .before .pre in steps-idle (p .0 .wired) (range-of (p .0)) _ _ _ (up-sends (p .0) (p .1) (c .before .before .before .before .base-of .ensures .0) refl) (idle-rows (c .before .before .before .before .before .before .args .s .now) _ (c .before .before .queue-row .ensures) (c .before .idle .ensures (c .if1 .taken)))
+returns c =
+    let p = c .before .before .before .before .before .before .pre in steps-idle (p .0 .wired) (range-of (p .0)) _ _ _
+    (up-sends (p .0) (p .1) (c .before .before .before .before .base-of .ensures .0) refl) (idle-rows (c .before
+    .before .before .before .before .before .args .s .now) _ (c .before .before .queue-row .ensures) (c .before .idle
+    .ensures (c .if1 .taken)))
 
 -- src/picks.rt:202:13
 first-of-requires : tie.Need-first-of-requires
@@ -45,7 +51,16 @@ add-m c = search needs
 
 -- src/picks.rt:203:5
 pick-requires : tie.Need-pick-requires
-pick-requires c κs = let p = c .before .before .before .before .before .before .before .before .pre in (p .0, omega arith, up-sends (p .0) (p .1) (c .before .before .before .before .before .before .base-of .ensures .0) (c .before .first-of .ensures .0), holds-open (p .0) (ap (λ (k : ℕ). k + 4) (c .before .first-of .ensures .0)) (up-open (p .0) (p .1)) (p .2))
+pick-requires c κs =
+    let p = c .before .before .before .before .before .before .before .before .pre in (
+      p .0,
+      omega arith,
+      up-sends (p
+          .0) (p .1) (c .before .before .before .before .before .before .base-of .ensures .0) (c .before .first-of
+              .ensures
+          .0),
+      holds-open (p .0) (ap (λ (k : ℕ). k + 4) (c .before .first-of .ensures .0)) (up-open (p .0) (p .1)) (p .2),
+    )
 
 -- src/picks.rt:189:1
 same-length-2 : tie.Need-same-length-2
@@ -53,7 +68,10 @@ same-length-2 c = search needs
 
 -- src/picks.rt:189:1
 returns-2 : tie.Need-returns-2
-returns-2 c = let p = c .before .before .before .before .before .before .before .before .before .before .before .pre in steps-open (p .0) (ap (λ (k : ℕ). k + 4) (c .before .before .before .before .first-of .ensures .0)) (up-open (p .0) (p .1)) (c .before .before .pick .ensures)
+returns-2 c =
+    let p = c .before .before .before .before .before .before .before .before .before .before .before .pre in
+    steps-open (p .0) (ap (λ (k : ℕ). k + 4) (c .before .before .before .before .first-of .ensures .0)) (up-open (p .0)
+    (p .1)) (c .before .before .pick .ensures)
 
 pub up-spec : {M : Type 1} → statement M
 up-spec =

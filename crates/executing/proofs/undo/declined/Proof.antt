@@ -37,7 +37,9 @@ returns-3 c = search needs
 
 -- src/undo.rt:27:1
 returns-4 : tie.Need-returns-4
-returns-4 c = ap (λ (k : Kind). unmarkedKind k (c .before .before .before .args .x .hub .0)) (sym (c .before .enum-told4 .given .1))
+returns-4 c =
+    ap (λ (k : Kind). unmarkedKind k (c .before .before .before .args .x .hub .0)) (sym (c .before .enum-told4 .given
+    .1))
 
 pub declined-spec : {M : Type 1} → statement M
 declined-spec =

@@ -1,7 +1,6 @@
 use Rattle.executing.proofs.Steps.{steps-by, holds-by}
 use Rattle.executing.proofs.Undoing.{in-row, in-room, steps-none, starts-by, base-asks}
 use native.Mathlib.Omega.{arith}
-use lib.ListN.{length-set}
 use borrow.Author.Needs.{needs}
 use Rattle.executing.proofs.undo.undo_at.Statement.{statement}
 use Rattle.executing.proofs.undo.undo_at.Tie as tie
@@ -30,11 +29,15 @@ add-if1 c = search needs
 
 -- src/undo.rt:99:8
 slice-read-if1 : tie.Need-slice-read-if1
-slice-read-if1 c = let p = c .before .before .before .before .pre in let q = in-room (p .0) (p .1) (in-row (p .0) (p .1) (c .before .before .base-of .ensures .0) (c .before .queue-row .ensures)) (p .2) in omega arith
+slice-read-if1 c =
+    let p = c .before .before .before .before .pre in let q = in-room (p .0) (p .1) (in-row (p .0) (p .1) (c .before
+    .before .base-of .ensures .0) (c .before .queue-row .ensures)) (p .2) in omega arith
 
 -- src/undo.rt:100:9
 returns : tie.Need-returns
-returns c = let p = c .before .before .before .before .before .pre in steps-none (p .0) (p .1) (in-row (p .0) (p .1) (c .before .before .before .base-of .ensures .0) (c .before .before .queue-row .ensures)) (c .if1 .taken)
+returns c =
+    let p = c .before .before .before .before .before .pre in steps-none (p .0) (p .1) (in-row (p .0) (p .1) (c .before
+    .before .before .base-of .ensures .0) (c .before .before .queue-row .ensures)) (c .if1 .taken)
 
 -- src/undo.rt:102:32
 add-packet-at : tie.Need-add-packet-at
@@ -42,11 +45,23 @@ add-packet-at c = search needs
 
 -- src/undo.rt:102:9
 packet-at-requires : tie.Need-packet-at-requires
-packet-at-requires c κs = let p = c .before .before .before .before .before .before .pre in let q = in-room (p .0) (p .1) (in-row (p .0) (p .1) (c .before .before .before .before .base-of .ensures .0) (c .before .before .before .queue-row .ensures)) (p .2) in omega arith
+packet-at-requires c κs =
+    let p = c .before .before .before .before .before .before .pre in let q = in-room (p .0) (p .1) (in-row (p .0) (p
+    .1) (c .before .before .before .before .base-of .ensures .0) (c .before .before .before .queue-row .ensures)) (p
+    .2) in omega arith
 
 -- src/undo.rt:103:5
 tear-requires : tie.Need-tear-requires
-tear-requires c κs = let p = c .before .before .before .before .before .before .before .before .pre in let e = in-row (p .0) (p .1) (c .before .before .before .before .before .before .base-of .ensures .0) (c .before .before .before .before .before .queue-row .ensures) in (p .0, p .1, e, holds-by _ (starts-by (p .0) (p .1) e (c .before .before .before .if1 .left) (c .before .packet-at .ensures)) (p .2))
+tear-requires c κs =
+    let p = c .before .before .before .before .before .before .before .before .pre in let e = in-row (p .0) (p .1) (c
+    .before .before .before .before .before .before .base-of .ensures .0) (c .before .before .before .before .before
+    .queue-row .ensures) in (
+      p .0,
+      p .1,
+      e,
+      holds-by _ (starts-by (p .0) (p .1) e (c .before .before .before .if1
+          .left) (c .before .packet-at .ensures)) (p .2),
+    )
 
 -- src/undo.rt:91:1
 same-length : tie.Need-same-length
@@ -54,7 +69,12 @@ same-length c = search needs
 
 -- src/undo.rt:91:1
 returns-2 : tie.Need-returns-2
-returns-2 c = let p = c .before .before .before .before .before .before .before .before .before .before .before .pre in steps-by _ (starts-by (p .0) (p .1) (in-row (p .0) (p .1) (c .before .before .before .before .before .before .before .before .before .base-of .ensures .0) (c .before .before .before .before .before .before .before .before .queue-row .ensures)) (c .before .before .before .before .before .before .if1 .left) (c .before .before .before .before .packet-at .ensures)) (c .before .before .tear .ensures)
+returns-2 c =
+    let p = c .before .before .before .before .before .before .before .before .before .before .before .pre in steps-by
+    _ (starts-by (p .0) (p .1) (in-row (p .0) (p .1) (c .before .before .before .before .before .before .before .before
+    .before .base-of .ensures .0) (c .before .before .before .before .before .before .before .before .queue-row
+    .ensures)) (c .before .before .before .before .before .before .if1 .left) (c .before .before .before .before
+    .packet-at .ensures)) (c .before .before .tear .ensures)
 
 pub undo-at-spec : {M : Type 1} → statement M
 undo-at-spec =

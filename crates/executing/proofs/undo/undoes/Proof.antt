@@ -17,7 +17,8 @@ use Rattle.executing.proofs.undo.undo_at.Reads as undo-at-reads
 abbrev Inv-loop : tie.InvT-loop
 Inv-loop h routes joints homes s₀ a₀ a-end s a =
     (a ≤ a-end) × (a-end ≡ h .actives)
-    × Steps (tablePlan h routes joints) (Core (tablePlan h routes joints)) (upTo (undo (tablePlan h routes joints)) a) s₀ s
+    × Steps (tablePlan h routes joints) (Core (tablePlan h routes joints)) (upTo (undo (tablePlan h routes joints)) a)
+    s₀ s
     × (length s ≡ length s₀)
 
 abbrev μ-loop : tie.MeasureT-loop
@@ -29,7 +30,12 @@ loop-holds c = (omega arith, refl, steps-none _ _ _ _, refl)
 
 -- src/undo.rt:115:9
 undo-at-requires : tie.Need-undo-at-requires Inv-loop μ-loop
-undo-at-requires c κs = let p = c .before .before .before .before .pre in let v = c .before .before .loop .inv in let l = v .1 in (p .0, omega arith, undo-hold (p .0) (omega arith) (p .1) (v .2))
+undo-at-requires c κs =
+    let p = c .before .before .before .before .pre in let v = c .before .before .loop .inv in let l = v .1 in (
+      p .0,
+      omega arith,
+      undo-hold (p .0) (omega arith) (p .1) (v .2),
+    )
 
 -- src/undo.rt:114:9
 add-a : tie.Need-add-a Inv-loop μ-loop
@@ -41,7 +47,15 @@ loop-less c = omega arith
 
 -- src/undo.rt:114:5
 loop-again : tie.Need-loop-again Inv-loop μ-loop
-loop-again c = let p = c .before .before .before .before .before .before .before .pre in let v = c .before .before .before .before .before .loop .inv in let l = v .1 in (omega arith, v .1, undo-more (p .0) (omega arith) (v .2) (c .before .before .undo-at .ensures), c .before .before .undo-at .kept .1 .1 .1 .1 .1 .0 ∙ v .3)
+loop-again c =
+    let p = c .before .before .before .before .before .before .before .pre in let v = c .before .before .before .before
+    .before .loop .inv in let l = v .1 in (
+      omega arith,
+      v .1,
+      undo-more (p .0) (omega arith) (v .2) (c .before .before
+          .undo-at .ensures),
+      c .before .before .undo-at .kept .1 .1 .1 .1 .1 .0 ∙ v .3,
+    )
 
 -- src/undo.rt:107:1
 same-length : tie.Need-same-length Inv-loop μ-loop

@@ -69,7 +69,7 @@ goes-joined pl e x (inl (z, q)) n = router-some (sym (onward-on pl e x z q) ∙ 
 goes-joined pl e x (inr q) n = interface-some e (sym (onward-end pl e x q) ∙ n)
 
 module _ {pl : Plan} (wired : Wired pl) (a p : ℕ) (ha : a < A pl) (hp : p < P pl) (s : Served pl a p) where
-  next-some : (h : Heading) (q : Queue) → Visits pl h a p q → isInQueue q ≡ false
+  pub next-some : (h : Heading) (q : Queue) → Visits pl h a p q → isInQueue q ≡ false
       → (y : Queue) × (next pl h a p q ≡ some y)
   unfolding next Visits
   next-some h (activeOut x) v e = (enters pl h a p (home pl (active x)), refl)

@@ -1,0 +1,13 @@
+pub mod Steps
+pub mod Bytes
+pub mod Turns
+pub mod Handled
+pub mod Units
+pub mod Booking
+pub mod Tables
+pub mod Needs
+pub mod Senders
+pub mod Choosing
+pub mod Asked
+pub mod Undoing
+pub mod Loops

@@ -1,0 +1,90 @@
+-- What each moment of EXECUTE leaves to the next: turns of units, picks of outputs.
+use mathlib.Core.Path.{_≡_, refl, ap, _∙_}
+use mathlib.Core.Logic.{_≢_}
+use mathlib.Core.Bool.{true}
+use Prim.Native.Nat.{ℕ, suc, _+_, _≤_, _<_}
+use native.Mathlib.Omega.{arith}
+use Rattle.basis.specs.Fold.{upTo, up-keeps, up-keeps-at}
+use Rattle.packets.specs.declared.Phase.the-variants.{Execute}
+use Rattle.plan.specs.Head.{InRange}
+use Rattle.plan.specs.Plan.{Plan, R, A}
+use Rattle.feeding.specs.Queue.{Q}
+use Rattle.wiring.specs.Wired.{Wired}
+use Rattle.machine.specs.Outputs.{outputs, outputAt}
+use Rattle.machine.specs.State.{State, Links}
+use Rattle.machine.specs.Execute.{unit, choose, picked, undo}
+use Rattle.machine.proofs.Apart.{unit-same}
+use Rattle.machine.proofs.OutNumbers.{at-apart, drives-at}
+use Rattle.theory.specs.Invariant.{Core}
+use Rattle.theory.proofs.Ground.Cells.{queue-away, output-away}
+use Rattle.theory.proofs.Account.Units.{unit-by}
+use Rattle.theory.proofs.Shape.Calls.{execute-has}
+use Rattle.theory.proofs.Keeps.{inv-of, unit-core, choose-core, undo-core}
+use Rattle.acts.specs.Acts.{In}
+use Rattle.executing.specs.Moments.{Turn, chooses, Picks}
+
+-- before the first unit's turn
+pub turn-first : (pl : Plan) (s : State) → In pl Execute s → Turn pl 0 s
+turn-first pl s i =
+    let v = inv-of pl s (i .good) in
+    let h = execute-has s (i .phase) (v .shape) in
+    record { core = v .core; down = λ r l k. h .2 (Q r) k; choices = h .0 }
+
+-- after the last one
+pub picks-first : (pl : Plan) (n : ℕ) (s : State) → Turn pl n s → Picks pl 0 s
+picks-first pl n s t =
+    record { core = t .core; choices = λ m l k. t .choices (outputAt pl m) (drives-at pl m k) }
+
+module _ (pl : Plan) (r : ℕ) (s : State) where
+  -- a unit changes no other unit's flag
+  flag-away : (n : ℕ) → n ≢ r → unit pl r s .flow .flag (Q n) ≡ s .flow .flag (Q n)
+  flag-away n ne =
+      unit-by pl s (λ (t : State). t .flow .flag (Q n) ≡ s .flow .flag (Q n)) r refl (λ x y rest e m. refl)
+      (λ x y rest o t b e m. refl)
+      (λ x rest o t b e m. queue-away (s .flow .flag) (Q r) true (Q n) (λ z. ne (unit-same z)))
+
+  -- and neither wires nor choices
+  links-stay : unit pl r s .links ≡ s .links
+  links-stay =
+      unit-by pl s (λ (t : State). t .links ≡ s .links) r refl (λ x y rest e m. refl) (λ x y rest o t b e m. refl)
+      (λ x rest o t b e m. refl)
+
+module _ {pl : Plan} (wired : Wired pl) (range : InRange (pl .head)) where
+  turn-next : (r : ℕ) (s : State) → r < R pl → Turn pl r s → Turn pl (suc r) (unit pl r s)
+  turn-next r s h t =
+      record {
+        core = unit-core wired range r s h (t .down r (omega arith) h) (t .core);
+        down = λ n l k. flag-away pl r s n (λ z. omega arith) ∙ t .down n (omega arith) k;
+        choices = λ o d. ap (λ (l : Links). l .choice o) (links-stay pl r s) ∙ t .choices o d;
+      }
+
+  -- the first n units' turns
+  pub turns : (n : ℕ) (s : State) → n ≤ R pl → Turn pl 0 s → Turn pl n (upTo (unit pl) n s)
+  turns n s l t = up-keeps-at (Turn pl) (unit pl) n s (λ i u h g. turn-next i u (omega arith) g) t
+
+  pub pick-next : (n : ℕ) (s : State) → n < outputs pl → Picks pl n s → Picks pl (suc n) (chooses pl n s)
+  unfolding choose
+  pick-next n s h p =
+      record {
+        core = choose-core wired range (outputAt pl n) s (p .core);
+        choices = λ m l k.
+            output-away (s .links .choice) (outputAt pl n) (picked pl s (outputAt pl n)) (outputAt pl m)
+            (at-apart pl m n k h (λ z. omega arith)) ∙ p .choices m (omega arith) k;
+      }
+
+  -- the picks of n outputs, from output m on
+  pub picks-on : (m n : ℕ) (s : State) → m + n ≤ outputs pl → Picks pl m s
+      → Picks pl (m + n) (upTo (λ i. chooses pl (m + i)) n s)
+  picks-on m n s l p =
+      up-keeps-at (λ (i : ℕ) (u : State). Picks pl (m + i) u) (λ i. chooses pl (m + i)) n s
+      (λ i u h g. next i (pick-next (m + i) u (omega arith) g)) (first p)
+    where
+      next : (i : ℕ) {u : State} → Picks pl (suc (m + i)) u → Picks pl (m + suc i) u
+      next i g = let e : suc (m + i) ≡ m + suc i = omega arith in rw (← e) g
+
+      first : {u : State} → Picks pl m u → Picks pl (m + 0) u
+      first g = let e : m ≡ m + 0 = omega arith in rw (← e) g
+
+  -- the tear-downs of n actives
+  pub undone : (n : ℕ) (s : State) → n ≤ A pl → Core pl s → Core pl (upTo (undo pl) n s)
+  undone n s l c = up-keeps (Core pl) (undo pl) n s (λ i t h p. undo-core wired range i t (omega arith) p) c

@@ -1,0 +1,58 @@
+-- What the check of the outputs' rows gives: whether each passes, how many packets each queue is to get, and what the
+-- packets on wires have spent; and whom each output picked.
+use mathlib.Core.Path.{_≡_}
+use mathlib.Core.Bool.{Bool, true}
+use mathlib.Core.List.{List}
+use mathlib.Core.Option.{Option, none, some}
+use Prim.Native.Nat.{ℕ, zero, suc, _+_, _*_, _-_, _/_, _%_, _≤_, _<_}
+use lib.Dec.{eqb, ltb}
+use lib.ListN.{getD, length}
+use Rattle.basis.specs.Choice.{pick, also}
+use Rattle.basis.specs.Bounded.{allBelow}
+use Rattle.plan.specs.declared.Head.{Head}
+use Rattle.plan.specs.Head.{destinations}
+use Rattle.plan.specs.Plan.{Plan}
+use Rattle.feeding.specs.Queue.{Queue, queueAt, queues}
+use Rattle.machine.specs.Outputs.{outputAt, outputs}
+use Rattle.machine.specs.Valid.{sum, brings, inWire, spends}
+use Rattle.layout.specs.Decode.{decode}
+use Rattle.states.specs.Check.{outputRowTest, outputsPart}
+use Rattle.states.specs.Parts.{pickTest}
+use Rattle.lines.specs.Tally.{Tallied}
+use Rattle.moves.specs.Next.{noQueue, baseOf}
+
+-- how many packets output m's wire brings to queue n
+abbrev pub bringsTo : Plan → List ℕ → ℕ → ℕ → ℕ
+bringsTo pl b n m = brings pl (queueAt pl n) (outputAt pl m) (decode pl b .links .wire (outputAt pl m))
+
+-- what the packet on output m's wire has spent of active a's allowance
+abbrev pub spentOn : Plan → List ℕ → ℕ → ℕ → ℕ
+spentOn pl b a m = inWire (spends a) (decode pl b .links .wire (outputAt pl m))
+
+-- the table t of packets to come grew by w, queue by queue
+pub record Brought (pl : Plan) (w : ℕ → ℕ) (t u : List ℕ) : Type 0 where
+  pub long : length t ≡ 400 → length u ≡ 400
+  pub grown : length t ≡ 400 → (n : ℕ) → n < queues pl → getD u n 0 ≡ getD t n 0 + w n
+
+-- output m; c and d the packets to come, t and u what has been spent, before and after
+pub record OutputChecked (pl : Plan) (b : List ℕ) (m : ℕ) (r : Bool) (c d t u : List ℕ) : Type 0 where
+  pub test : r ≡ outputRowTest pl b (outputAt pl m)
+  pub come : r ≡ true → Brought pl (λ n. bringsTo pl b n m) c d
+  pub count : r ≡ true → Tallied (λ a. spentOn pl b a m) t u
+
+-- all outputs
+pub record OutputsChecked (pl : Plan) (b : List ℕ) (r : Bool) (c d t u : List ℕ) : Type 0 where
+  pub test : r ≡ outputsPart pl b
+  pub come : r ≡ true → Brought pl (λ n. sum (outputs pl) (bringsTo pl b n)) c d
+  pub count : r ≡ true → Tallied (λ a. sum (outputs pl) (spentOn pl b a)) t u
+
+-- ---- the sender of rank k at output m, as a queue's number
+unfoldable pub senderIn : Head → ℕ → ℕ → ℕ → ℕ
+senderIn h r o k =
+    pick (ltb o 4) (pick (ltb k 4) (baseOf h r + 5 + 4 * o + k) noQueue)
+    (pick (eqb o 4) (pick (ltb k 4) (baseOf h r + k) noQueue) (pick (eqb k 0) (baseOf h r + 4) noQueue))
+
+unfoldable pub senderOf : Head → ℕ → ℕ → ℕ
+senderOf h m k =
+    pick (ltb m (destinations h)) (pick (eqb k 0) m noQueue)
+    (senderIn h ((m - destinations h) / 6) ((m - destinations h) % 6) k)

@@ -1,3 +1,4 @@
+pub mod Ready
 pub mod Tally
 pub mod Frame
 pub mod Lines

@@ -45,14 +45,3 @@ pub record OutputsChecked (pl : Plan) (b : List ℕ) (r : Bool) (c d t u : List 
   pub test : r ≡ outputsPart pl b
   pub come : r ≡ true → Brought pl (λ n. sum (outputs pl) (bringsTo pl b n)) c d
   pub count : r ≡ true → Tallied (λ a. sum (outputs pl) (spentOn pl b a)) t u
-
--- ---- the sender of rank k at output m, as a queue's number
-unfoldable pub senderIn : Head → ℕ → ℕ → ℕ → ℕ
-senderIn h r o k =
-    pick (ltb o 4) (pick (ltb k 4) (baseOf h r + 5 + 4 * o + k) noQueue)
-    (pick (eqb o 4) (pick (ltb k 4) (baseOf h r + k) noQueue) (pick (eqb k 0) (baseOf h r + 4) noQueue))
-
-unfoldable pub senderOf : Head → ℕ → ℕ → ℕ
-senderOf h m k =
-    pick (ltb m (destinations h)) (pick (eqb k 0) m noQueue)
-    (senderIn h ((m - destinations h) / 6) ((m - destinations h) % 6) k)

@@ -25,7 +25,7 @@ suc-not : {n : ℕ} → zero ≡ suc n → ⊥
 suc-not e = omega arith
 
 -- on router r, entered by side i
-stands-at : (r i : ℕ) (t : Spot Port) → Decides (standsAt r i t) (t ≡ on (record { router = r; side = i }))
+pub stands-at : (r i : ℕ) (t : Spot Port) → Decides (standsAt r i t) (t ≡ on (record { router = r; side = i }))
 stands-at r i (on x) =
     like (both (same (x .router) r) (λ e. same (x .side) i)) (λ e j. on (record { router = e .0 j; side = e .1 j }))
     (λ q. let s = on-same q in (ap (λ (y : Port). y .router) s, ap (λ (y : Port). y .side) s))
@@ -33,7 +33,7 @@ stands-at r i end = never (λ e. on-end (sym e))
 stands-at r i lost = never (λ e. on-lost (sym e))
 
 -- on router r
-stands-on : (r : ℕ) (t : Spot Port) → Decides (standsOn r t) ((i : ℕ) × (t ≡ on (record { router = r; side = i })))
+pub stands-on : (r : ℕ) (t : Spot Port) → Decides (standsOn r t) ((i : ℕ) × (t ≡ on (record { router = r; side = i })))
 stands-on r (on x) =
     like (same (x .router) r) (λ e. (x .side, λ j. on (record { router = e j; side = x .side })))
     (λ q. ap (λ (y : Port). y .router) (on-same (q .1)))
@@ -41,7 +41,7 @@ stands-on r end = never (λ e. on-end (sym (e .1)))
 stands-on r lost = never (λ e. on-lost (sym (e .1)))
 
 -- a walk that arrives comes in by y within as many steps as there are routers
-meets : {pl : Plan} → Wired pl → (e : Interface) (from : Port) → from .router < R pl → Walk pl e from → (y : Port)
+pub meets : {pl : Plan} → Wired pl → (e : Interface) (from : Port) → from .router < R pl → Walk pl e from → (y : Port)
     → Decides (meetsTest pl e from y) (Meets pl e from y)
 unfolding meetsTest
 meets {pl} wired e from h w y =

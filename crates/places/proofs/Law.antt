@@ -1,0 +1,342 @@
+-- What the code looks up is the place test, for a served pair of the plan that the tables are.
+use mathlib.Core.Path.{_≡_, refl, sym, ap, _∙_}
+use mathlib.Core.Logic.{_⊎_, inl, inr}
+use mathlib.Core.Bool.{Bool, true, false}
+use mathlib.Core.List.{List, []}
+use Prim.Native.Nat.{ℕ, zero, suc, _+_, _*_, _-_, _/_, _%_, _≤_, _<_}
+use native.Mathlib.Omega.{arith}
+use lib.Dec.{eqb, ltb}
+use lib.ListN.{getD}
+use borrow.Author.Tests.{lt-ltb, le-ltb, eq-eqb, ne-eqb, ltb-true, ltb-false, eqb-true, eqb-false}
+use Rattle.basis.specs.Choice.{pick, also, test, same-test}
+use Rattle.basis.specs.Bounded.{lt-or-ge}
+use Rattle.sets.specs.Sets.{has}
+use Rattle.packets.specs.declared.Kind.{Kind}
+use Rattle.packets.specs.declared.Packet.{Packet}
+use Rattle.plan.specs.declared.Head.{Head}
+use Rattle.plan.specs.Head.{Counts}
+use Rattle.plan.specs.Plan.{Plan, Port, active, passive, R, A, P}
+use Rattle.plan.specs.Rules.{home}
+use Rattle.plan.specs.Tables.{tablePlan}
+use Rattle.paths.specs.Served.{Served, served}
+use Rattle.paths.proofs.Through.{same-default}
+use Rattle.feeding.specs.Queue.{Queue, activeOut, activeIn, passiveIn, passiveOut, U, Q, F, K, outs, inBase}
+use Rattle.feeding.specs.Queue.{senderAt, inRouter, queues, queueAt}
+use Rattle.feeding.specs.Feeds.{Place, inQueue, Stands, span, Fits, headPlace}
+use Rattle.wiring.proofs.Wires.{home-inside}
+use Rattle.journeys.proofs.Walks.{served-of}
+use Rattle.arrivals.specs.Pairs.{pairWalk}
+use Rattle.arrivals.specs.Charted.{Charting}
+use Rattle.arrivals.specs.Tracks.{Tracks}
+use Rattle.load.specs.Lent.{length-at}
+use Rattle.machine.specs.Valid.{PacketOk}
+use Rattle.theory.proofs.Places.Closure.{span-short}
+use Rattle.valid.specs.Test.{fitsTest}
+use Rattle.valid.proofs.Decides.{Decides}
+use Rattle.valid.proofs.Fitting.{fits-decides}
+use Rattle.moves.specs.Lent.{Lent}
+use Rattle.places.specs.declared.Trip.{Trip}
+use Rattle.places.specs.Look.{trackAt, trackOf, tripOf, nthOf, unitBy, sideBy, outBy, crossBy, Marked, Led}
+use Rattle.places.specs.Look.{activeOutAs, passiveOutAs, activeInAs, passiveInAs, sentBy, receivedBy, senderBy}
+use Rattle.places.specs.Look.{routerBy, fitsBy}
+use Rattle.places.proofs.OnTrack.{active-at, passive-at, Trips, on-track, rest-is}
+use Rattle.places.proofs.Fitting.{active-out, passive-out, active-in, passive-in, unit-decides, side-decides}
+use Rattle.places.proofs.Fitting.{out-decides}
+use Rattle.places.proofs.Crossing.{home-at, nth-inside, cross-decides}
+
+-- two tests of one claim
+decided-same : {s t : Bool} {X : Type 0} → Decides s X → Decides t X → s ≡ t
+decided-same {s} {t} d e = same-test s t (λ q. e .passes (d .holds q)) (λ q. d .passes (e .holds q))
+
+-- ---- what a packet of a served pair brings
+pub record Asked (h : Head) (routes : List (List ℕ)) (joints homes : List ℕ) (lengths by up : List (List ℕ)) (x :
+    Packet)
+    : Type 0 where
+  pub lent : Lent h routes joints homes lengths by
+  pub tracks : Tracks (tablePlan h routes joints) up
+  pub packet : PacketOk (tablePlan h routes joints) x
+  pub serves : served (tablePlan h routes joints) (x .active) (x .passive) ≡ true
+
+pub ask : {h : Head} {routes : List (List ℕ)} {joints homes : List ℕ} {lengths by up : List (List ℕ)} {x : Packet}
+    → Lent h routes joints homes lengths by → Tracks (tablePlan h routes joints) up
+    → PacketOk (tablePlan h routes joints) x
+    → served (tablePlan h routes joints) (x .active) (x .passive) ≡ true → Asked h routes joints homes lengths by up x
+ask l u k v = record { lent = l; tracks = u; packet = k; serves = v }
+
+module _ {h : Head} {routes : List (List ℕ)} {joints homes : List ℕ} {lengths by up : List (List ℕ)} {x : Packet}
+    (asked : Asked h routes joints homes lengths by up x) where
+  chart : Charting (tablePlan h routes joints) by joints homes
+  chart = asked .lent .tables .chart
+
+  pair : Served (tablePlan h routes joints) (x .active) (x .passive)
+  pair = served-of (chart .wired) (x .active) (x .passive) (asked .packet .active) (asked .serves)
+
+  routed : (r d : ℕ) → r < 16 → d < 32 → tablePlan h routes joints .route r d ≡ getD (getD routes r []) d 0
+  unfolding tablePlan
+  routed r d l m = same-default (getD routes r []) d 7 0 (rw (asked .lent .tables .rows r l) m)
+
+  pub trips : {t : Trip} → t ≡ tripOf h homes lengths x → Trips (tablePlan h routes joints) (x .active) (x .passive) t
+  unfolding tripOf tablePlan pairWalk
+  trips {t} e =
+      rw e (record {
+        from =
+            home-at chart (active (x .active)) (x .active) (omega (arith, asked .packet .active))
+            (active-at (tablePlan h routes joints) (x .active) (asked .packet .active));
+        column = refl;
+        size =
+            ap (λ (z : List (List ℕ)). getD (getD z (x .active) []) (x .passive) 0) (asked .lent .sizes)
+            ∙ length-at (tablePlan h routes joints) (x .active) (x .passive) (asked .lent .range .actives .1)
+            (asked .lent .range .passives .1) (asked .packet .active) (asked .packet .passive)
+            ∙ rw (asked .serves);
+      })
+
+  -- ---- every index is inside the tables
+  pub in-range : (h .actives ≤ 16) × (x .active < 16) × (x .passive < 16)
+  unfolding tablePlan
+  in-range =
+      let a = asked .lent .range .actives .1 in
+      let p = asked .lent .range .passives .1 in
+      (a, omega (arith, asked .packet .active), omega (arith, asked .packet .passive))
+
+  module _ {t : Trip} (e : t ≡ tripOf h homes lengths x) where
+    trip : Trips (tablePlan h routes joints) (x .active) (x .passive) t
+    trip = trips e
+
+    inside : (A (tablePlan h routes joints) ≡ h .actives) × (P (tablePlan h routes joints) ≡ h .passives)
+        × (R (tablePlan h routes joints) ≡ h .routers)
+    unfolding tablePlan
+    inside = (refl, refl, refl)
+
+    marked : Marked up t
+    unfolding tripOf
+    marked =
+        let ports = asked .lent .ports in
+        let few = chart .few in
+        let column = trip .column in
+        record {
+          home = rw e (asked .lent .ports (x .active) (omega (arith, asked .packet .active, inside .0)));
+          column = omega (arith, asked .packet .passive);
+          long =
+              let short = span-short (chart .wired) (x .active) (x .passive) (asked .packet .active)
+              (asked .packet .passive) pair in
+              let size = trip .size in
+              omega (arith, chart .routers);
+          most = most′;
+        }
+      where
+        most′ : (r : ℕ) → r < 16 → has (trackOf up t) r ≡ true → trackAt up r (t .column) / 65536 ≤ t .length
+        most′ r l q =
+            let m = on-track (chart .wired) up (asked .tracks) (x .active) (x .passive) (asked .packet .active)
+            (asked .packet .passive) pair t trip r l .holds q in
+            let f = rest-is (chart .wired) up (asked .tracks) (x .active) (x .passive) (asked .packet .active)
+            (asked .packet .passive) pair t trip (m .1 .steps) (record { router = r; side = m .0 }) (m .1 .here) .0 in
+            let long = trip .size in
+            omega arith
+
+    far-inside : getD homes (t .column) 0 < 64
+    far-inside =
+        let column = trip .column in
+        asked .lent .ports (t .column) (omega (arith, asked .packet .passive, inside .0, inside .1))
+
+    led : Led routes joints t
+    led n l =
+        let long = trip .size in
+        nth-inside chart (x .active) (x .passive) (asked .packet .active) (asked .packet .passive) pair t trip routes
+        routed n (omega arith) .1
+
+    pub ready : Counts h × Marked up t × Led routes joints t × (getD homes (t .column) 0 < 64) × (x .active < 16)
+    ready =
+        let range = asked .lent .range in
+        ((range .routers .1, range .actives .1, range .passives .1), marked, led, far-inside, in-range .1)
+
+    -- ---- every queue
+    -- a place whose test decides Fits
+    as-tested : (at : Place) {b : Bool}
+        → Decides b (Fits (tablePlan h routes joints) (x .kind) (x .active) (x .passive) (x .hub .0) at)
+        → b ≡ fitsTest (tablePlan h routes joints) (x .kind) (x .active) (x .passive) (x .hub .0) at
+    as-tested at d =
+        decided-same d (fits-decides (chart .wired) (x .active) (x .passive) (asked .packet .active)
+        (asked .packet .passive) pair (x .kind) (x .hub .0) at)
+
+    abbrev Tested : Place → Bool → Type 0
+    Tested at b = b ≡ fitsTest (tablePlan h routes joints) (x .kind) (x .active) (x .passive) (x .hub .0) at
+
+    out-is : (r o : ℕ) → r < 16
+        → Tested (inQueue (F r o)) (outBy routes up t r o (x .active) (x .kind) (x .hub .0))
+    out-is r o l =
+        as-tested (inQueue (F r o)) (out-decides chart up (asked .tracks) (x .active) (x .passive) (asked .packet
+        .active)
+        (asked .packet .passive) pair t trip r l (x .kind) (x .hub .0) routes o (λ d m. routed r d l m))
+
+    cross-is : (r i o : ℕ) → r < 16 → i < 4
+        → Tested (inQueue (K r i o)) (crossBy routes joints homes by up t (x .active) (4 * r + i) o (x .kind) (x .hub
+        .0))
+    cross-is r i o l m =
+        as-tested (inQueue (K r i o)) (cross-decides chart (x .active) (x .passive) (asked .packet .active)
+        (asked .packet .passive) pair t trip routes routed up (asked .tracks) (record { router = r; side = i }) l m
+        (x .hub .0) o (x .kind))
+
+    sender-is : (done : Bool) (r o j : ℕ) → r < 16 → o < 4 → j < 4
+        → Tested (headPlace done (senderAt r o j)) (senderBy routes joints homes by up t x r o j)
+    unfolding senderBy
+    sender-is done r o zero l m n = out-is r o l
+    sender-is done r o (suc j) l m n = by′ (test (ltb j o))
+      where
+        back : suc j - 1 ≡ j
+        back = omega arith
+
+        by′ : (ltb j o ≡ true) ⊎ (ltb j o ≡ false)
+            → Tested (headPlace done (senderAt r o (suc j))) (senderBy routes joints homes by up t x r o (suc j))
+        by′ (inl q) = rw (ne-eqb (suc j) 0 (λ z. omega arith), back, q) (cross-is r j o l (omega arith))
+        by′ (inr q) = rw (ne-eqb (suc j) 0 (λ z. omega arith), back, q) (cross-is r (suc j) o l n)
+
+    router-is : (done : Bool) (r k : ℕ) → r < 16 → k < 21
+        → Tested (headPlace done (inRouter r k)) (routerBy routes joints homes by up t x r k done)
+    unfolding routerBy
+    router-is done r k l m = by′ (test (ltb k 4)) (test (eqb k 4))
+      where
+        by′ : (ltb k 4 ≡ true) ⊎ (ltb k 4 ≡ false) → (eqb k 4 ≡ true) ⊎ (eqb k 4 ≡ false)
+            → Tested (headPlace done (inRouter r k)) (routerBy routes joints homes by up t x r k done)
+        by′ (inl q) z =
+            rw q (as-tested (inQueue (U r k)) (side-decides chart up (asked .tracks) (x .active) (x .passive)
+            (asked .packet .active) (asked .packet .passive) pair t trip r l (x .kind) (x .hub .0) k (ltb-true k 4 q)))
+        by′ (inr q) (inl z) =
+            rw (q, z) (as-tested (headPlace done (Q r)) (unit-decides chart up (asked .tracks) (x .active) (x .passive)
+            (asked .packet .active) (asked .packet .passive) pair t trip r l (x .kind) (x .hub .0) done))
+        by′ (inr q) (inr z) =
+            let low = ltb-false k 4 q in
+            let off = eqb-false k 4 z in
+            rw (q, z) (sender-is done r ((k - 5) / 4) ((k - 5) % 4) l (omega arith) (omega arith))
+
+    sent-is : (n : ℕ) → n < h .actives + h .passives
+        → Tested (inQueue (pick (ltb n (h .actives)) (activeOut n) (passiveOut (n - h .actives))))
+        (sentBy (h .actives) (t .length) n x)
+    unfolding sentBy
+    sent-is n l = by′ (test (ltb n (h .actives)))
+      where
+        by′ : (ltb n (h .actives) ≡ true) ⊎ (ltb n (h .actives) ≡ false)
+            → Tested (inQueue (pick (ltb n (h .actives)) (activeOut n) (passiveOut (n - h .actives))))
+            (sentBy (h .actives) (t .length) n x)
+        by′ (inl q) =
+            rw q (as-tested (inQueue (activeOut n)) (active-out (chart .wired) (x .active) (x .passive)
+            (asked .packet .active) (asked .packet .passive) pair (t .length) (trip .size) n (x .hub .0) (x .kind)))
+        by′ (inr q) =
+            rw q (as-tested (inQueue (passiveOut (n - h .actives))) (passive-out (chart .wired) (x .active) (x
+            .passive)
+            (asked .packet .active) (asked .packet .passive) pair (t .length) (trip .size) (n - h .actives) (x .hub .0)
+            (x .kind)))
+
+    received-is : (n : ℕ)
+        → Tested (inQueue (pick (ltb n (h .actives)) (activeIn n) (passiveIn (n - h .actives))))
+        (receivedBy (h .actives) (t .length) n x)
+    unfolding receivedBy
+    received-is n = by′ (test (ltb n (h .actives)))
+      where
+        by′ : (ltb n (h .actives) ≡ true) ⊎ (ltb n (h .actives) ≡ false)
+            → Tested (inQueue (pick (ltb n (h .actives)) (activeIn n) (passiveIn (n - h .actives))))
+            (receivedBy (h .actives) (t .length) n x)
+        by′ (inl q) =
+            rw q (as-tested (inQueue (activeIn n)) (active-in (chart .wired) (x .active) (x .passive)
+            (asked .packet .active) (asked .packet .passive) pair (t .length) (trip .size) n (x .hub .0) (x .kind)))
+        by′ (inr q) =
+            rw q (as-tested (inQueue (passiveIn (n - h .actives))) (passive-in (chart .wired) (x .active) (x .passive)
+            (asked .packet .active) (asked .packet .passive) pair (t .length) (trip .size) (n - h .actives) (x .hub .0)
+            (x .kind)))
+
+    -- ---- the queue of a number: out-queues, routers' queues, in-queues
+    queue-out : (n : ℕ) → n < h .actives + h .passives
+        → queueAt (tablePlan h routes joints) n ≡ pick (ltb n (h .actives)) (activeOut n) (passiveOut (n - h .actives))
+    unfolding queueAt tablePlan
+    queue-out n l = rw (lt-ltb n (h .actives + h .passives) l)
+
+    queue-router : (n : ℕ) → h .actives + h .passives ≤ n → n - (h .actives + h .passives) < 21 * h .routers
+        → queueAt (tablePlan h routes joints) n
+        ≡ inRouter ((n - (h .actives + h .passives)) / 21) ((n - (h .actives + h .passives)) % 21)
+    unfolding queueAt tablePlan
+    queue-router n l m =
+        rw (
+          le-ltb n (h .actives) (omega arith),
+          le-ltb n (h .actives + h .passives) l,
+          lt-ltb n (h .actives + h .passives + 21 * h .routers) (omega arith),
+        )
+
+    queue-in : (n : ℕ) → h .actives + h .passives ≤ n → 21 * h .routers ≤ n - (h .actives + h .passives)
+        → queueAt (tablePlan h routes joints) n
+        ≡ pick (ltb (n - (h .actives + h .passives) - 21 * h .routers) (h .actives))
+        (activeIn (n - (h .actives + h .passives) - 21 * h .routers))
+        (passiveIn (n - (h .actives + h .passives) - 21 * h .routers - h .actives))
+    unfolding queueAt tablePlan
+    queue-in n l m = by′ (lt-or-ge (n - (h .actives + h .passives) - 21 * h .routers) (h .actives))
+      where
+        base : n - (h .actives + h .passives + 21 * h .routers) ≡ n - (h .actives + h .passives) - 21 * h .routers
+        base = omega arith
+
+        by′ : (n - (h .actives + h .passives) - 21 * h .routers < h .actives)
+            ⊎ (h .actives ≤ n - (h .actives + h .passives) - 21 * h .routers)
+            → queueAt (tablePlan h routes joints) n
+            ≡ pick (ltb (n - (h .actives + h .passives) - 21 * h .routers) (h .actives))
+            (activeIn (n - (h .actives + h .passives) - 21 * h .routers))
+            (passiveIn (n - (h .actives + h .passives) - 21 * h .routers - h .actives))
+        by′ (inl z) =
+            rw (
+              le-ltb n (h .actives) (omega arith),
+              le-ltb n (h .actives + h .passives) l,
+              le-ltb n (h .actives + h .passives + 21 * h .routers) (omega arith),
+              lt-ltb n (h .actives + h .passives + 21 * h .routers + h .actives) (omega arith),
+              lt-ltb (n - (h .actives + h .passives) - 21 * h .routers) (h .actives) z,
+              base,
+            )
+        by′ (inr z) =
+            rw (
+              le-ltb n (h .actives) (omega arith),
+              le-ltb n (h .actives + h .passives) l,
+              le-ltb n (h .actives + h .passives + 21 * h .routers) (omega arith),
+              le-ltb n (h .actives + h .passives + 21 * h .routers + h .actives) (omega arith),
+              le-ltb (n - (h .actives + h .passives) - 21 * h .routers) (h .actives) z,
+              base,
+            )
+
+    -- what is looked up is what is meant
+    looked-is : (n : ℕ) (done : Bool)
+        → fitsBy routes joints homes by up t x h n done
+        ≡ fitsTest (tablePlan h routes joints) (x .kind) (x .active) (x .passive) (x .hub .0)
+        (headPlace done (queueAt (tablePlan h routes joints) n))
+    unfolding fitsBy
+    looked-is n done =
+        by′ (lt-or-ge n (h .actives + h .passives)) (lt-or-ge (n - (h .actives + h .passives)) (21 * h .routers))
+      where
+        plain : (b : Bool) (q u : Queue) → headPlace done q ≡ inQueue q → headPlace done u ≡ inQueue u
+            → headPlace done (pick b q u) ≡ inQueue (pick b q u)
+        plain true q u e f = e
+        plain false q u e f = f
+
+        by′ : (n < h .actives + h .passives) ⊎ (h .actives + h .passives ≤ n)
+            → (n - (h .actives + h .passives) < 21 * h .routers) ⊎ (21 * h .routers ≤ n - (h .actives + h .passives))
+            → Tested (headPlace done (queueAt (tablePlan h routes joints) n)) (fitsBy routes joints homes by up t x h n
+            done)
+        by′ (inl l) m =
+            rw (lt-ltb n (h .actives + h .passives) l, queue-out n l)
+            (rw (plain (ltb n (h .actives)) (activeOut n) (passiveOut (n - h .actives)) refl refl) (sent-is n l))
+        by′ (inr l) (inl m) =
+            rw (
+              le-ltb n (h .actives + h .passives) l,
+              lt-ltb (n - (h .actives + h .passives)) (21 * h .routers) m,
+              queue-router n l m,
+            )
+            (router-is done ((n - (h .actives + h .passives)) / 21) ((n - (h .actives + h .passives)) % 21)
+            (omega (arith, asked .lent .range .routers .1)) (omega arith))
+        by′ (inr l) (inr m) =
+            rw (
+              le-ltb n (h .actives + h .passives) l,
+              le-ltb (n - (h .actives + h .passives)) (21 * h .routers) m,
+              queue-in n l m,
+            )
+            (rw (plain (ltb (n - (h .actives + h .passives) - 21 * h .routers) (h .actives))
+            (activeIn (n - (h .actives + h .passives) - 21 * h .routers))
+            (passiveIn (n - (h .actives + h .passives) - 21 * h .routers - h .actives)) refl refl)
+            (received-is (n - (h .actives + h .passives) - 21 * h .routers)))
+
+    pub fits-is : (n : ℕ) (done : Bool) {b : Bool} → b ≡ fitsBy routes joints homes by up t x h n done
+        → b ≡ fitsTest (tablePlan h routes joints) (x .kind) (x .active) (x .passive) (x .hub .0)
+        (headPlace done (queueAt (tablePlan h routes joints) n))
+    fits-is n done e = e ∙ looked-is n done

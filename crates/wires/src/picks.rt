@@ -18,6 +18,13 @@ ghost use Rattle.states.specs.Check.{queuesPart, picksPart};
 ghost use Rattle.states.specs.Parts.{pickTest};
 ghost use Rattle.wires.specs.Picks.{senderIn, senderOf, mayLeaveAt, maySend};
 
+// A byte as an index.
+fn index(x: u8) -> usize
+    ensures { λ v. ⌜ (v ≡ x) × (v < 256) ⌝ }
+{
+    x as usize
+}
+
 // The sender of rank k at the o-th output of router r.
 fn sender_in(h: Head, r: usize, o: usize, k: usize) -> usize
     requires { ⌜ Counts h × (r < 16) × (o < 6) ⌝ }
@@ -98,11 +105,11 @@ fn pick_ok(h: Head, routes: &[[u8; 32]; 16], joints: &[u8; 64], homes: &[u8; 32]
         (decode (tablePlan h (now (routes .entry)) (now (joints .entry))) (now (s .entry)))
         (outputAt (tablePlan h (now (routes .entry)) (now (joints .entry))) m) ⌝ }
 {
-    let c = s[acts::output_row(h, m) + 6];
+    let c = index(s[acts::output_row(h, m) + 6]);
     if c == 0 {
         return true;
     }
-    let n = sender_of(h, m, (c - 1) as usize);
+    let n = sender_of(h, m, c - 1);
     if n == moves::NO_QUEUE {
         return false;
     }

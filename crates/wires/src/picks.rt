@@ -12,7 +12,7 @@ ghost use Rattle.feeding.specs.Queue.{queueAt};
 ghost use Rattle.feeding.specs.Feeds.{outputOf};
 ghost use Rattle.machine.specs.Outputs.{outputAt};
 ghost use Rattle.layout.specs.Decode.{decode};
-ghost use Rattle.acts.specs.Counts.{stateSize, queueCount, outputCount};
+ghost use Rattle.acts.specs.Counts.{stateSize, queueCount, outputCount, outputsFrom};
 ghost use Rattle.moves.specs.Wiring.{Wiring};
 ghost use Rattle.states.specs.Check.{queuesPart, picksPart};
 ghost use Rattle.states.specs.Parts.{pickTest};
@@ -97,15 +97,24 @@ fn may_send(
     s[acts::queue_row(q)] != 0
 }
 
-// Whether output m picked nobody, or one that it may.
-fn pick_ok(h: Head, routes: &[[u8; 32]; 16], joints: &[u8; 64], homes: &[u8; 32], s: &[u8], m: usize) -> bool
+// Whether output m, whose row is at i, picked nobody, or one that it may.
+fn pick_ok(
+    h: Head,
+    routes: &[[u8; 32]; 16],
+    joints: &[u8; 64],
+    homes: &[u8; 32],
+    s: &[u8],
+    m: usize,
+    i: usize,
+) -> bool
     requires { ⌜ Wiring h (now routes) (now joints) (now homes) × (stateSize h ≤ length (now s))
-        × (queuesPart (tablePlan h (now routes) (now joints)) (now s) ≡ true) × (m < outputCount h) ⌝ }
+        × (queuesPart (tablePlan h (now routes) (now joints)) (now s) ≡ true) × (m < outputCount h)
+        × (i ≡ outputsFrom h + 7 * m) ⌝ }
     ensures { λ r. ⌜ r ≡ pickTest (tablePlan h (now (routes .entry)) (now (joints .entry)))
         (decode (tablePlan h (now (routes .entry)) (now (joints .entry))) (now (s .entry)))
         (outputAt (tablePlan h (now (routes .entry)) (now (joints .entry))) m) ⌝ }
 {
-    let c = index(s[acts::output_row(h, m) + 6]);
+    let c = index(s[i + 6]);
     if c == 0 {
         return true;
     }
@@ -123,8 +132,9 @@ pub fn picks_ok(h: Head, routes: &[[u8; 32]; 16], joints: &[u8; 64], homes: &[u8
     ensures { λ r. ⌜ r ≡ picksPart (tablePlan h (now (routes .entry)) (now (joints .entry))) (now (s .entry)) ⌝ }
 {
     let n = acts::output_count(h);
+    let at = acts::output_row(h, 0);
     for m in 0..n {
-        if !pick_ok(h, routes, joints, homes, s, m) {
+        if !pick_ok(h, routes, joints, homes, s, m, at + 7 * m) {
             return false;
         }
     }

@@ -1,10 +1,10 @@
 -- Packets to come, counted one after the other.
 use mathlib.Core.Path.{_≡_, refl, sym, ap, _∙_}
-use mathlib.Core.Logic.{_⊎_, inl, inr, _≢_}
+use mathlib.Core.Logic.{_⊎_, inl, inr}
 use mathlib.Core.Bool.{Bool, true, false}
 use mathlib.Core.List.{List}
 use mathlib.Core.Option.{Option, none, some}
-use Prim.Native.Nat.{ℕ, zero, suc, _+_, _*_, _≤_, _<_}
+use Prim.Native.Nat.{ℕ, zero, suc, _+_, _≤_, _<_}
 use native.Mathlib.Numerals.{add-one}
 use native.Mathlib.Omega.{arith}
 use lib.Dec.{eqb}
@@ -17,17 +17,16 @@ use Rattle.packets.specs.declared.Wire.{Wire}
 use Rattle.packets.specs.declared.Wire.the-variants.{Empty, Full}
 use Rattle.plan.specs.Head.{Counts}
 use Rattle.plan.specs.Plan.{Plan}
-use Rattle.feeding.specs.Queue.{Queue, Exists, number, queues, queueAt}
+use Rattle.feeding.specs.Queue.{Queue, number, queues, queueAt}
 use Rattle.feeding.specs.Feeds.{Output}
 use Rattle.machine.specs.Store.{sameQueue, same-queue, queue-same}
-use Rattle.machine.specs.Outputs.{nextBy, outputs, outputAt}
+use Rattle.machine.specs.Outputs.{nextBy, outputAt}
 use Rattle.machine.specs.Valid.{bit, sum, goesTo, brings, onWires}
 use Rattle.machine.proofs.Numbers.{at-number}
 use Rattle.layout.specs.Decode.{decode}
-use Rattle.acts.specs.Counts.{queueCount, queues-by}
+use Rattle.acts.specs.Counts.{queues-by}
 use Rattle.lines.specs.Lines.{Coming}
 use Rattle.wires.specs.Outputs.{bringsTo, Brought, UpTo, OutputsChecked}
-use Rattle.wires.proofs.Named.{Names}
 
 -- ---- sums
 pub sum-none : (n : ℕ) (f : ℕ → ℕ) → ((k : ℕ) → k < n → f k ≡ 0) → sum n f ≡ 0

@@ -1,34 +1,35 @@
 -- A packet on a wire: what the code looks up of it is the test that it belongs where it goes.
 use mathlib.Core.Path.{_≡_, refl, sym, ap, _∙_}
-use mathlib.Core.Logic.{_⊎_, inl, inr, _≢_}
-use mathlib.Core.Bool.{Bool, true, false, true≢false, false≢true}
+use mathlib.Core.Logic.{_≢_}
+use mathlib.Core.Bool.{Bool, true, false, false≢true}
 use mathlib.Core.List.{List}
 use mathlib.Core.Option.{Option, none, some}
-use Prim.Native.Nat.{ℕ, _+_, _*_, _≤_, _<_}
+use Prim.Native.Nat.{ℕ, _+_, _<_}
 use native.Mathlib.Omega.{arith}
 use lib.ListN.{getD, set}
 use borrow.Author.Tests.{ltb-true, leb-true}
-use Rattle.basis.specs.Choice.{also, also-true, also-of, refuted}
+use Rattle.basis.specs.Choice.{also, also-true, refuted}
 use Rattle.packets.specs.declared.Packet.{Packet}
 use Rattle.plan.specs.declared.Head.{Head}
 use Rattle.plan.specs.Head.{Counts}
 use Rattle.plan.specs.Plan.{Plan, A, P, S}
 use Rattle.plan.specs.Tables.{tablePlan}
 use Rattle.paths.specs.Served.{served}
-use Rattle.feeding.specs.Queue.{Queue, Exists, queues, queueAt}
+use Rattle.feeding.specs.Queue.{Queue, queues, queueAt}
 use Rattle.feeding.specs.Feeds.{Output, inQueue, headPlace}
 use Rattle.machine.specs.Outputs.{nextBy, outputAt}
-use Rattle.machine.specs.Valid.{PacketOk, spends, goesTo}
+use Rattle.machine.specs.Valid.{PacketOk}
 use Rattle.theory.proofs.Places.Lines.{belongs-exists, head-unhandled}
 use Rattle.valid.specs.Test.{packetTest, fitsTest, belongsTest, boundTest}
 use Rattle.valid.proofs.Packets.{belongs-decides}
-use Rattle.acts.specs.Counts.{queueCount, outputCount, queues-by}
+use Rattle.acts.specs.Counts.{queues-by}
 use Rattle.lines.specs.Ready.{Ready}
-use Rattle.lines.specs.Tally.{tallied, Tallied}
+use Rattle.lines.specs.Tally.{tallied}
 use Rattle.lines.proofs.Tallies.{tallied-one}
 use Rattle.moves.specs.Wiring.{Wiring}
 use Rattle.moves.specs.Next.{noQueue, numberOr}
-use Rattle.wires.specs.Outputs.{Brought, UpTo, Carried}
+use Rattle.wires.specs.Outputs.{Carried}
+use Rattle.wires.proofs.Bytes.{head-is}
 use Rattle.wires.proofs.Named.{Names, named, not-unnamed}
 use Rattle.wires.proofs.Bringing.{brought-one}
 
@@ -49,8 +50,7 @@ module _ {h : Head} {routes : List (List ℕ)} {joints homes : List ℕ} {length
   net = tablePlan h routes joints
 
   pub table-head : net .head ≡ h
-  unfolding tablePlan
-  table-head = refl
+  table-head = head-is h routes joints
 
   pub ready-wiring : Wiring h routes joints homes
   unfolding tablePlan

@@ -1,17 +1,17 @@
 -- A number that the code computes for a queue: it names that queue of the plan, or is that of no queue.
-use mathlib.Core.Path.{_≡_, refl, sym, ap, _∙_}
+use mathlib.Core.Path.{_≡_, refl, ap, _∙_}
 use mathlib.Core.Logic.{_⊎_, inl, inr, _≢_}
-use mathlib.Core.Bool.{Bool, true, false}
+use mathlib.Core.Bool.{true, false}
 use mathlib.Core.Option.{Option, none, some}
-use Prim.Native.Nat.{ℕ, _+_, _*_, _≤_, _<_}
+use Prim.Native.Nat.{ℕ, _<_}
 use native.Mathlib.Omega.{arith}
-use Rattle.basis.specs.Choice.{pick, test}
+use Rattle.basis.specs.Choice.{test}
 use Rattle.plan.specs.Head.{Counts}
 use Rattle.plan.specs.Plan.{Plan}
 use Rattle.feeding.specs.Queue.{Queue, Exists, number, queues, queueAt}
 use Rattle.journeys.proofs.Numbers.{queue-at, number-below}
 use Rattle.layout.specs.Named.{existsTest, test-exists, exists-test}
-use Rattle.acts.specs.Counts.{queueCount, queues-by}
+use Rattle.acts.specs.Counts.{queues-by}
 use Rattle.moves.specs.Next.{noQueue, numberOr}
 
 -- v is the number of a queue of the plan

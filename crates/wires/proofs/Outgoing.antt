@@ -1,90 +1,62 @@
 -- The outputs' rows in each phase: what the code tests of their bytes is the outputs' test.
-use mathlib.Core.Path.{_≡_, refl, sym, ap, ap₂, _∙_}
+use mathlib.Core.Path.{_≡_, refl, sym, ap, _∙_}
 use mathlib.Core.Logic.{_⊎_, inl, inr, _≢_}
 use mathlib.Core.Bool.{Bool, true, false, not, _||_, true≢false, false≢true}
 use mathlib.Core.List.{List}
-use Prim.Native.Nat.{ℕ, zero, suc, _+_, _*_, _-_, _/_, _%_, _≤_, _<_}
+use Prim.Native.Nat.{ℕ, zero, suc, _+_, _*_, _-_, _≤_, _<_}
 use native.Mathlib.Nat.{add-zero}
 use native.Mathlib.Omega.{arith}
-use lib.Dec.{eqb, leb}
-use lib.ListN.{getD, length}
-use borrow.Author.Tests.{eq-eqb, ne-eqb, le-leb, lt-leb, leb-true}
-use Rattle.basis.specs.Choice.{pick, also, also-true, also-of, same-test, refuted}
-use Rattle.basis.specs.Bounded.{allBelow, all-at, all-of, lt-or-ge, or-right}
+use lib.Dec.{leb}
+use lib.ListN.{getD}
+use borrow.Author.Tests.{ne-eqb, le-leb, lt-leb, leb-true}
+use Rattle.basis.specs.Choice.{also, also-true, also-of, same-test, refuted}
+use Rattle.basis.specs.Bounded.{lt-or-ge, or-right}
 use Rattle.packets.specs.declared.Packet.{Packet}
-use Rattle.packets.specs.declared.Wire.{Wire}
 use Rattle.packets.specs.declared.Wire.the-variants.{Empty, Full}
 use Rattle.packets.specs.declared.Phase.{Phase}
-use Rattle.packets.specs.declared.Phase.the-variants.{Read, Execute, Write}
+use Rattle.packets.specs.declared.Phase.the-variants.{Read, Write}
 use Rattle.plan.specs.declared.Head.{Head}
 use Rattle.plan.specs.Plan.{Plan}
 use Rattle.feeding.specs.Queue.{queueAt}
 use Rattle.feeding.specs.Feeds.{Output}
 use Rattle.machine.specs.Outputs.{nextBy, outputs, outputAt}
-use Rattle.machine.specs.State.{Choice, nobody, sender, isFull}
+use Rattle.machine.specs.State.{isFull}
 use Rattle.machine.specs.Calls.{isPhase}
-use Rattle.machine.specs.Valid.{Drives, sum, goesTo, brings, inWire, spends}
-use Rattle.machine.proofs.OutNumbers.{drives-at, at-output}
+use Rattle.machine.specs.Valid.{Drives, brings, inWire, spends}
+use Rattle.machine.proofs.OutNumbers.{drives-at}
 use Rattle.valid.specs.Test.{boundTest, wireTest}
-use Rattle.layout.specs.Offsets.{phaseByte, packetKind, packetWidth, wireByte, wirePacket, choiceByte, outputWidth}
+use Rattle.layout.specs.Offsets.{packetKind, packetWidth, wireByte, wirePacket, choiceByte}
 use Rattle.layout.specs.Offsets.{outputRow}
-use Rattle.layout.specs.Codes.{phaseOf, flagOf, choiceOf}
+use Rattle.layout.specs.Codes.{phaseOf}
 use Rattle.layout.specs.Places.{packetAt}
 use Rattle.layout.specs.Named.{drives-test}
-use Rattle.layout.specs.Decode.{decode, wireFrom, wireAt, choiceAt}
-use Rattle.acts.specs.Counts.{outputCount, outputsFrom, outputs-by, outputs-at}
+use Rattle.layout.specs.Decode.{decode, wireAt, choiceAt}
+use Rattle.acts.specs.Counts.{outputCount, outputsFrom}
 use Rattle.states.specs.Forms.{zeros, outputForm}
 use Rattle.states.specs.Parts.{isNobody, outputTest}
-use Rattle.states.specs.Check.{outputRowTest, outputsPart}
+use Rattle.states.specs.Check.{outputRowTest}
 use Rattle.states.proofs.Bytes.{zeros-get, zeros-byte}
 use Rattle.states.proofs.Quiet.{zeros-part, zeros-output}
-use Rattle.lines.specs.Tally.{Tallied}
 use Rattle.lines.proofs.Tallies.{tallied-none, tallied-like}
-use Rattle.wires.specs.Outputs.{bringsTo, spentOn, Brought, Carried, OutputChecked, OutputsChecked}
+use Rattle.wires.specs.Outputs.{Carried, OutputChecked}
+use Rattle.wires.proofs.Bytes.{also-right, not-read, not-write, empty-byte, nobody-byte, decode-phase}
+use Rattle.wires.proofs.Bytes.{outputs-are, output-row}
 use Rattle.wires.proofs.Stretches.{zeros-of}
-use Rattle.wires.proofs.Bringing.{sum-none, brought-none, brought-like}
-
--- ---- phases and flags by their bytes
-not-read : (n : ℕ) → n ≢ 0 → isPhase (phaseOf n) Read ≡ false
-not-read zero ne = absurd (ne refl)
-not-read (suc zero) ne = refl
-not-read (suc (suc n)) ne = refl
-
-not-write : (n : ℕ) → n < 2 → isPhase (phaseOf n) Write ≡ false
-not-write zero l = refl
-not-write (suc zero) l = refl
-not-write (suc (suc n)) l = absurd (omega arith)
-
-empty-byte : (n : ℕ) (x : Packet) → not (isFull (wireFrom (flagOf n) x)) ≡ true → n ≡ 0
-empty-byte zero x e = refl
-empty-byte (suc n) x e = absurd (false≢true e)
-
-nobody-byte : (n : ℕ) → isNobody (choiceOf n) ≡ true → n ≡ 0
-nobody-byte zero e = refl
-nobody-byte (suc n) e = absurd (false≢true e)
+use Rattle.wires.proofs.Bringing.{brought-none, brought-like}
 
 module _ (pl : Plan) (h : Head) (eh : pl .head ≡ h) (b : List ℕ) where
-  phase-is : decode pl b .clock .phase ≡ phaseOf (getD b 0 0)
-  unfolding decode
-  phase-is = refl
-
-  outputs-are : outputs pl ≡ outputCount h
-  outputs-are = outputs-by pl ∙ ap outputCount eh
-
   module _ (m : ℕ) (hm : m < outputCount h) (i : ℕ) (ei : i ≡ outputsFrom h + 7 * m) where
     abbrev o : Output
     o = outputAt pl m
 
     below : m < outputs pl
-    below = rw outputs-are hm
+    below = rw (outputs-are pl h eh) hm
 
     drives : Drives pl o
     drives = drives-at pl m below
 
     row-is : outputRow pl o ≡ i
-    unfolding outputRow
-    row-is =
-        rw (at-output pl m below) (ap (λ (k : ℕ). k + 7 * m) (outputs-at pl ∙ ap outputsFrom eh) ∙ sym ei)
+    row-is = output-row pl h eh m below i ei
 
     wire-is : decode pl b .links .wire o ≡ wireAt i b
     unfolding decode
@@ -106,7 +78,7 @@ module _ (pl : Plan) (h : Head) (eh : pl .head ≡ h) (b : List ℕ) where
 
     by-bytes : outputRowTest pl b o ≡ byBytes
     unfolding outputRowTest outputTest
-    by-bytes = rw (row-is, wire-is, choice-is, phase-is)
+    by-bytes = rw (row-is, wire-is, choice-is, decode-phase pl b)
 
     -- ---- a row that passes
     module _ (e : outputRowTest pl b o ≡ true) where
@@ -213,10 +185,6 @@ module _ (pl : Plan) (h : Head) (eh : pl .head ≡ h) (b : List ℕ) where
               let s : i + wirePacket + packetKind ≡ i + 1 = omega arith in
               by-bytes ∙ rw (first, p, q, s, le-leb (getD b (i + 1) 0) 3 k, ex)
               (also-right (boundTest pl (packetAt (i + 1) b) (nextBy pl o (packetAt (i + 1) b))))
-            where
-              also-right : (a : Bool) → also a true ≡ a
-              also-right true = refl
-              also-right false = refl
 
           pub wire-checked : {r : Bool} → Carried pl m x r c d t u → OutputChecked pl b m r c d t u
           wire-checked y =

@@ -3,7 +3,7 @@ use mathlib.Core.Path.{_≡_, refl, sym, ap, _∙_}
 use mathlib.Core.Logic.{_≢_}
 use mathlib.Core.Bool.{Bool, true, false, false≢true}
 use mathlib.Core.List.{List}
-use Prim.Native.Nat.{ℕ, zero, suc, _+_, _*_, _-_, _/_, _%_, _≤_, _<_}
+use Prim.Native.Nat.{ℕ, _+_, _*_, _-_, _/_, _<_}
 use native.Mathlib.Omega.{arith}
 use lib.ListN.{getD}
 use Rattle.basis.specs.Choice.{same-test}
@@ -15,7 +15,7 @@ use Rattle.feeding.specs.Queue.{queueAt}
 use Rattle.machine.specs.Outputs.{outputs, outputAt}
 use Rattle.machine.specs.Valid.{sum, brings, inWire, spends}
 use Rattle.layout.specs.Decode.{decode}
-use Rattle.acts.specs.Counts.{outputCount, outputsFrom, outputs-by}
+use Rattle.acts.specs.Counts.{outputCount, outputsFrom}
 use Rattle.states.specs.Forms.{zeros}
 use Rattle.states.specs.Check.{outputRowTest, outputsPart}
 use Rattle.states.proofs.Bytes.{zeros-byte}
@@ -24,6 +24,7 @@ use Rattle.lines.specs.Tally.{Tallied}
 use Rattle.lines.proofs.Tallies.{tallied-none, tallied-then, tallied-like}
 use Rattle.wires.specs.Outputs.{bringsTo, spentOn, Brought, OutputChecked, OutputsChecked}
 use Rattle.wires.proofs.Bringing.{sum-none, sum-start, sum-more, brought-none, brought-then, brought-like}
+use Rattle.wires.proofs.Bytes.{outputs-are}
 use Rattle.wires.proofs.Stretches.{zeros-of}
 use Rattle.wires.proofs.Outgoing.{write-row, wire-empty, zero-passes, execute-row}
 
@@ -53,15 +54,12 @@ module _ (pl : Plan) (b : List ℕ) where
       }
 
   module _ (h : Head) (eh : pl .head ≡ h) where
-    outputs-are : outputs pl ≡ outputCount h
-    outputs-are = outputs-by pl ∙ ap outputCount eh
-
     pub far-fails : (m : ℕ) → m < outputCount h → {r : Bool} {d e u v : List ℕ} → OutputChecked pl b m r d e u v
         → r ≡ false → (c x t y : List ℕ) → OutputsChecked pl b false c x t y
     unfolding outputsPart
     far-fails m l g k c x t y =
         record {
-          test = sym (all-fail (λ j. outputRowTest pl b (outputAt pl j)) (outputs pl) m (rw outputs-are l) (g .test) k);
+          test = sym (all-fail (λ j. outputRowTest pl b (outputAt pl j)) (outputs pl) m (rw (outputs-are pl h eh) l) (g .test) k);
           come = λ z. absurd (false≢true z);
           count = λ z. absurd (false≢true z);
         }
@@ -70,7 +68,7 @@ module _ (pl : Plan) (b : List ℕ) where
         → OutputsChecked pl b true c d t u
     unfolding outputsPart
     far-done m {c} {d} {t} {u} f e =
-        let k : m ≡ outputs pl = e ∙ sym outputs-are in
+        let k : m ≡ outputs pl = e ∙ sym (outputs-are pl h eh) in
         record {
           test = sym (all-done (λ j. outputRowTest pl b (outputAt pl j)) (f .pass) k);
           come = λ z. brought-like pl (λ n l. ap (λ (j : ℕ). sum j (bringsTo pl b n)) k) (f .come);
@@ -84,7 +82,7 @@ module _ (pl : Plan) (b : List ℕ) where
 
     pub part-is : outputsPart pl b ≡ allBelow (outputCount h) (λ k. outputRowTest pl b (outputAt pl k))
     unfolding outputsPart
-    part-is = ap (λ (j : ℕ). allBelow j (λ k. outputRowTest pl b (outputAt pl k))) outputs-are
+    part-is = ap (λ (j : ℕ). allBelow j (λ k. outputRowTest pl b (outputAt pl k))) (outputs-are pl h eh)
 
     -- ---- EXECUTE
     pub execute-all : getD b 0 0 ≡ 1 → (i n : ℕ) → i ≡ outputsFrom h + 7 * 0 → n ≡ outputCount h
@@ -122,7 +120,7 @@ module _ (pl : Plan) (b : List ℕ) where
       where
         empty : r ≡ true → (m : ℕ) → m < outputs pl → decode pl b .links .wire (outputAt pl m) ≡ Empty
         empty z m k =
-            let l : m < outputCount h = rw outputs-are at k in
+            let l : m < outputCount h = rw (outputs-are pl h eh) at k in
             wire-empty pl h eh b m l (outputsFrom h + 7 * m) refl ne
             (all-at (outputCount h) (λ k. outputRowTest pl b (outputAt pl k)) (sym part-is ∙ sym e ∙ z) m l)
 

@@ -1,27 +1,26 @@
 -- Whom an output picked: what the code tests of its bytes is the test of its choice.
 use mathlib.Core.Path.{_≡_, refl, sym, ap, ap₂, _∙_}
-use mathlib.Core.Logic.{_⊎_, inl, inr, _≢_}
+use mathlib.Core.Logic.{_≢_}
 use mathlib.Core.Bool.{Bool, true, false, not, _||_, false≢true}
 use mathlib.Core.List.{List, [], _∷_}
 use mathlib.Core.Option.{Option, none, some}
-use Prim.Native.Nat.{ℕ, zero, suc, _+_, _*_, _-_, _≤_, _<_}
-use native.Mathlib.Nat.{add-zero}
+use Prim.Native.Nat.{ℕ, zero, suc, _+_, _*_, _-_, _<_}
 use native.Mathlib.Omega.{arith}
-use lib.Dec.{eqb, ltb}
+use lib.Dec.{eqb}
 use lib.ListN.{getD, length}
-use borrow.Author.Tests.{lt-ltb, le-ltb, eq-eqb, ne-eqb}
-use Rattle.basis.specs.Choice.{pick, also, also-true, also-of, test}
-use Rattle.basis.specs.Bounded.{allBelow, all-at, all-of, or-cases}
+use borrow.Author.Tests.{ne-eqb}
+use Rattle.basis.specs.Choice.{pick, also, also-true}
+use Rattle.basis.specs.Bounded.{allBelow, all-at, all-of}
 use Rattle.packets.specs.declared.Packet.{Packet}
 use Rattle.packets.specs.declared.Phase.{Phase}
-use Rattle.packets.specs.declared.Phase.the-variants.{Read, Execute, Write}
+use Rattle.packets.specs.declared.Phase.the-variants.{Read, Write}
 use Rattle.plan.specs.declared.Head.{Head}
 use Rattle.plan.specs.Head.{Counts}
 use Rattle.plan.specs.Plan.{Plan}
 use Rattle.plan.specs.Tables.{tablePlan}
 use Rattle.feeding.specs.Queue.{Queue, Exists, number, queues, queueAt}
-use Rattle.feeding.specs.Role.{Role, sending, receiving, handling, passing, role, isUnitAs, isUnit}
-use Rattle.feeding.specs.Feeds.{Output, inQueue, headPlace, leavesFrom, outputOf}
+use Rattle.feeding.specs.Role.{Role, sending, receiving, handling, passing, role, isUnitAs}
+use Rattle.feeding.specs.Feeds.{Output, headPlace, outputOf}
 use Rattle.machine.specs.Outputs.{nextBy, senders, outputs, outputAt}
 use Rattle.machine.specs.State.{State, Choice, nobody, sender, isFull}
 use Rattle.machine.specs.Execute.{hasCredit, mayLeaveAs, mayLeave, headReady, candidate}
@@ -29,41 +28,29 @@ use Rattle.machine.specs.Write.{ofRank}
 use Rattle.machine.specs.Calls.{isPhase}
 use Rattle.machine.specs.Valid.{Belongs, Lined}
 use Rattle.machine.proofs.Numbers.{exists-at, at-number, sender-exists}
-use Rattle.machine.proofs.OutNumbers.{drives-at, at-output}
+use Rattle.machine.proofs.OutNumbers.{drives-at}
 use Rattle.theory.proofs.Places.Lines.{head-leaves, belongs-exists}
 use Rattle.theory.proofs.Places.Makes.{next-belongs}
 use Rattle.valid.specs.Test.{linedTest, wireTest, mayTest, downTest}
 use Rattle.valid.proofs.Packets.{lined-decides}
 use Rattle.layout.specs.Offsets.{phaseByte, places, creditByte, flagByte, handledByte, lengthByte, firstPlace}
 use Rattle.layout.specs.Offsets.{packetWidth, queueRow, outputRow, choiceByte}
-use Rattle.layout.specs.Codes.{phaseOf, flagOf, choiceOf}
+use Rattle.layout.specs.Codes.{flagOf, choiceOf}
 use Rattle.layout.specs.Places.{packetAt, packetsAt}
 use Rattle.layout.specs.Named.{exists-test, drives-test}
 use Rattle.layout.specs.Decode.{decode}
-use Rattle.acts.specs.Counts.{queueCount, outputCount, outputsFrom, queues-by, outputs-by, outputs-at}
+use Rattle.acts.specs.Counts.{queueCount, outputCount, outputsFrom, queues-by}
 use Rattle.states.specs.Forms.{queueForm, outputForm}
 use Rattle.states.specs.Parts.{frameTest, queueTest, isNobody, outputTest, pickTestOf, pickTest}
 use Rattle.states.specs.Check.{queueRowTest, outputRowTest, queuesPart, outputsPart, picksPart}
-use Rattle.lines.specs.Frame.{unitOf}
 use Rattle.lines.proofs.Frames.{unit-law}
 use Rattle.moves.specs.Wiring.{Wiring}
 use Rattle.moves.specs.Next.{noQueue, numberOr}
 use Rattle.wires.specs.Picks.{senderOf, mayLeaveAt, maySend}
-use Rattle.wires.proofs.Named.{Names, named, not-unnamed}
+use Rattle.wires.proofs.Bytes.{also-false, also-right, flag-test, some-test, not-write, head-is, decode-phase}
+use Rattle.wires.proofs.Bytes.{outputs-are, output-row}
+use Rattle.wires.proofs.Named.{named, not-unnamed}
 use Rattle.wires.proofs.Senders.{sender-leaves, sender-number}
-
--- ---- bytes as tests
-flag-test : (n : ℕ) → flagOf n ≡ not (eqb n 0)
-flag-test zero = refl
-flag-test (suc n) = rw (ne-eqb (suc n) 0 (λ z. omega arith))
-
-some-test : (n : ℕ) → ltb 0 n ≡ not (eqb n 0)
-some-test zero = refl
-some-test (suc n) = rw (ne-eqb (suc n) 0 (λ z. omega arith), lt-ltb 0 (suc n) (omega arith))
-
-also-false : (a : Bool) → also a false ≡ false
-also-false true = refl
-also-false false = refl
 
 leaves-as : (k : Role) (done : Bool) → mayLeaveAs k done ≡ pick (isUnitAs k) done true
 leaves-as sending done = refl
@@ -75,33 +62,20 @@ not-ready : (pl : Plan) (s : State) (o : Output) (l : List Packet) → headReady
 not-ready pl s o [] = refl
 not-ready pl s o (x ∷ rest) = refl
 
--- an output's row
-pub row-of-output : (h : Head) (routes : List (List ℕ)) (joints : List ℕ) (m : ℕ) → m < outputs (tablePlan h routes joints)
-    → (i : ℕ) → i ≡ outputsFrom h + 7 * m
-    → outputRow (tablePlan h routes joints) (outputAt (tablePlan h routes joints) m) ≡ i
-unfolding outputRow tablePlan
-row-of-output h routes joints m l i e =
-    rw (at-output (tablePlan h routes joints) m l, outputs-at (tablePlan h routes joints)) (sym e)
-
 module _ (h : Head) (routes : List (List ℕ)) (joints homes : List ℕ) (w : Wiring h routes joints homes)
     (b : List ℕ) where
   abbrev net : Plan
   net = tablePlan h routes joints
 
-  head-is : net .head ≡ h
-  unfolding tablePlan
-  head-is = refl
-
   counts : Counts (net .head)
-  counts = rw head-is (w .range .routers .1, w .range .actives .1, w .range .passives .1)
+  counts = rw (head-is h routes joints) (w .range .routers .1, w .range .actives .1, w .range .passives .1)
 
   queues-are : queues net ≡ queueCount h
   unfolding tablePlan
   queues-are = queues-by net
 
-  outputs-are : outputs net ≡ outputCount h
-  unfolding tablePlan
-  outputs-are = outputs-by net
+  outputs-here : outputs net ≡ outputCount h
+  outputs-here = outputs-are net h (head-is h routes joints)
 
   module _ (part : queuesPart net b ≡ true) (m n : ℕ) (hm : m < outputCount h) (hn : n < queueCount h)
       (leaves : outputOf (queueAt net n) ≡ some (outputAt net m)) (i : ℕ) (ei : i ≡ 2 + 39 * n) where
@@ -215,10 +189,6 @@ module _ (h : Head) (routes : List (List ℕ)) (joints homes : List ℕ) (w : Wi
       send-is =
           rw (headed ne .1, leave-so, flag-is, down)
           (also-right (hasCredit s (nextBy net o first)))
-        where
-          also-right : (a : Bool) → also a true ≡ a
-          also-right true = refl
-          also-right false = refl
 
       pub send-none : v ≡ noQueue → false ≡ maySend net b m n
       send-none z = sym (send-is ∙ by (nextBy net o first) refl)
@@ -252,11 +222,8 @@ module _ (h : Head) (routes : List (List ℕ)) (joints homes : List ℕ) (w : Wi
     choice-is : now .links .choice out ≡ choiceOf c
     unfolding decode
     choice-is =
-        let l : m < outputs net = rw outputs-are hm in
-        rw (drives-test net out (drives-at net m l), output-row l, ec)
-      where
-        output-row : m < outputs net → outputRow net out ≡ i
-        output-row l = row-of-output h routes joints m l i ei
+        let l : m < outputs net = rw outputs-here hm in
+        rw (drives-test net out (drives-at net m l), output-row net h (head-is h routes joints) m l i ei, ec)
 
     pub pick-nobody : c ≡ 0 → true ≡ pickTest net now out
     unfolding pickTest
@@ -283,7 +250,7 @@ module _ (h : Head) (routes : List (List ℕ)) (joints homes : List ℕ) (w : Wi
           by none k = refl
           by (some q) k =
               absurd (not-unnamed net q n counts
-              (sender-exists net out (c - 1) q (drives-at net m (rw outputs-are hm)) k)
+              (sender-exists net out (c - 1) q (drives-at net m (rw outputs-here hm)) k)
               (is-number ∙ ap (numberOr net) k) z)
 
       pub pick-queue : n ≢ noQueue → (n < queueCount h) × (outputOf (queueAt net n) ≡ some out)
@@ -301,18 +268,9 @@ module _ (h : Head) (routes : List (List ℕ)) (joints homes : List ℕ) (w : Wi
   pub picks-all : picksPart net b
       ≡ allBelow (outputCount h) (λ k. pickTest net (decode net b) (outputAt net k))
   unfolding picksPart
-  picks-all = ap (λ (k : ℕ). allBelow k (λ j. pickTest net (decode net b) (outputAt net j))) outputs-are
+  picks-all = ap (λ (k : ℕ). allBelow k (λ j. pickTest net (decode net b) (outputAt net j))) outputs-here
 
 -- ---- outside WRITE outputs that pass have picked nobody
-not-write : (n : ℕ) → n < 2 → isPhase (phaseOf n) Write ≡ false
-not-write zero l = refl
-not-write (suc zero) l = refl
-not-write (suc (suc n)) l = absurd (omega arith)
-
-decode-phase : (pl : Plan) (b : List ℕ) → decode pl b .clock .phase ≡ phaseOf (getD b phaseByte 0)
-unfolding decode
-decode-phase pl b = refl
-
 -- one output
 nobody-passes : (pl : Plan) (b : List ℕ) (o : Output) → isPhase (decode pl b .clock .phase) Write ≡ false
     → outputRowTest pl b o ≡ true → pickTest pl (decode pl b) o ≡ true

@@ -1,26 +1,24 @@
 -- The sender of a rank at an output, as the code numbers it.
-use mathlib.Core.Path.{_≡_, refl, sym, ap, _∙_}
+use mathlib.Core.Path.{_≡_, refl}
 use mathlib.Core.Logic.{_⊎_, inl, inr}
-use mathlib.Core.Bool.{Bool, true, false}
+use mathlib.Core.Bool.{true, false}
 use mathlib.Core.List.{List}
-use mathlib.Core.Option.{Option, none, some}
+use mathlib.Core.Option.{none, some}
 use Prim.Native.Nat.{ℕ, zero, suc, _+_, _*_, _-_, _/_, _%_, _≤_, _<_}
 use native.Mathlib.Omega.{arith}
 use lib.Dec.{eqb, ltb}
-use borrow.Author.Tests.{ltb-true, ltb-false, lt-ltb, le-ltb, eqb-true, eqb-false, eq-eqb, ne-eqb}
-use Rattle.basis.specs.Choice.{pick, also, test}
+use borrow.Author.Tests.{ltb-true, ltb-false, lt-ltb, le-ltb, ne-eqb}
+use Rattle.basis.specs.Choice.{pick, test}
 use Rattle.basis.specs.Bounded.{lt-or-ge}
 use Rattle.plan.specs.declared.Head.{Head}
 use Rattle.plan.specs.Head.{destinations}
 use Rattle.plan.specs.Plan.{Plan}
 use Rattle.plan.specs.Tables.{tablePlan}
-use Rattle.feeding.specs.Queue.{Queue, activeOut, passiveOut, U, Q, F, K, Exists, number, sender, senderAt}
+use Rattle.feeding.specs.Queue.{Queue, U, K, number, senderAt}
 use Rattle.feeding.specs.Feeds.{Output, ofActive, ofPassive, ofSide, toUnit, fromUnit, outputOf}
 use Rattle.journeys.proofs.Places.{some-same, some-not-none}
 use Rattle.machine.specs.Outputs.{outputAt, routerOutput, senders}
 use Rattle.machine.specs.Write.{ofRank}
-use Rattle.machine.proofs.Numbers.{sender-exists}
-use Rattle.layout.specs.Named.{existsTest, exists-test}
 use Rattle.acts.specs.Counts.{outputCount}
 use Rattle.moves.specs.Next.{noQueue, baseOf, numberOr}
 use Rattle.wires.specs.Picks.{senderIn, senderOf}

@@ -1,6 +1,5 @@
 use borrow.Author.Needs.{needs}
 use Rattle.wires.proofs.Stretches.{blank-not, blank-is}
-use borrow.Author.Tests.{lt-ltb, le-ltb, eq-eqb, ne-eqb, not-true, not-false}
 use Rattle.wires.proofs.blank.Statement.{statement}
 use Rattle.wires.proofs.blank.Tie as tie
 

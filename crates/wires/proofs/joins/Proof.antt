@@ -1,6 +1,6 @@
 use Rattle.wires.proofs.Carrying.{not-carried, ready-wiring, unfit, ranges, serves, numbers, active-few, nowhere, in-queues, in-table, misfit, carried}
 use native.Mathlib.Omega.{arith}
-use borrow.Author.Tests.{lt-ltb, le-ltb, eq-eqb, ne-eqb, not-true, not-false}
+use borrow.Author.Tests.{not-true, not-false}
 use Rattle.wires.proofs.joins.Statement.{statement}
 use Rattle.wires.proofs.joins.Tie as tie
 

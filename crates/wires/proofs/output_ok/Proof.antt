@@ -2,8 +2,6 @@ use borrow.Author.Needs.{needs}
 use Rattle.wires.proofs.Outgoing.{zero-checked}
 use mathlib.Core.Path.{sym, _∙_}
 use Rattle.wires.proofs.Carrying.{table-head}
-use native.Mathlib.Omega.{arith}
-use borrow.Author.Tests.{lt-ltb, le-ltb, eq-eqb, ne-eqb, not-true, not-false}
 use Rattle.wires.proofs.output_ok.Statement.{statement}
 use Rattle.wires.proofs.output_ok.Tie as tie
 

@@ -3,7 +3,6 @@ use Rattle.wires.proofs.Phased.{execute-all, outside-read}
 use Rattle.wires.proofs.Carrying.{table-head, ready-counts}
 use mathlib.Core.Path.{_∙_}
 use native.Mathlib.Omega.{arith}
-use borrow.Author.Tests.{lt-ltb, le-ltb, eq-eqb, ne-eqb, not-true, not-false}
 use Rattle.wires.proofs.outputs_ok.Statement.{statement}
 use Rattle.wires.proofs.outputs_ok.Tie as tie
 

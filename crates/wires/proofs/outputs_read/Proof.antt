@@ -5,7 +5,7 @@ use Rattle.wires.proofs.Carrying.{table-head, ready-counts}
 use Rattle.plan.specs.Tables.{tablePlan}
 use Prim.Native.Nat.{_≤_, _-_}
 use native.Mathlib.Omega.{arith}
-use borrow.Author.Tests.{lt-ltb, le-ltb, eq-eqb, ne-eqb, not-true, not-false}
+use borrow.Author.Tests.{not-true, not-false}
 use Rattle.wires.proofs.outputs_read.Statement.{statement}
 use Rattle.wires.proofs.outputs_read.Tie as tie
 

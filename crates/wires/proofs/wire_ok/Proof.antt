@@ -1,8 +1,6 @@
 use borrow.Author.Needs.{needs}
 use Rattle.wires.proofs.Outgoing.{choice-up, wire-odd, kind-odd, wire-checked}
 use Rattle.wires.proofs.Carrying.{table-head}
-use native.Mathlib.Omega.{arith}
-use borrow.Author.Tests.{lt-ltb, le-ltb, eq-eqb, ne-eqb, not-true, not-false}
 use Rattle.wires.proofs.wire_ok.Statement.{statement}
 use Rattle.wires.proofs.wire_ok.Tie as tie
 

@@ -1,10 +1,6 @@
-use borrow.Author.Tests.{lt-ltb, le-ltb, eq-eqb, ne-eqb, not-true, not-false}
 use borrow.Author.Needs.{needs}
 use Rattle.wires.proofs.picks.may_leave.Statement.{statement}
 use Rattle.wires.proofs.picks.may_leave.Tie as tie
-use Rattle.wires.proofs.picks.may_leave.Reads as reads
-use Rattle.wires.proofs.picks.may_leave.Lts as lts
-use Rattle.lines.proofs.frame.unit_at.Reads as unit-at-reads
 
 -- src/picks.rt:53:8
 unit-at-requires : tie.Need-unit-at-requires

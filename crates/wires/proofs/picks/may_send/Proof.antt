@@ -1,17 +1,9 @@
 use Rattle.wires.proofs.Picking.{head-ranges, send-empty, send-flag, send-mark, send-none, send-below, send-credit}
-use mathlib.Core.Path.{_∙_}
-use borrow.Author.Tests.{lt-ltb, le-ltb, eq-eqb, ne-eqb, not-true, not-false}
+use borrow.Author.Tests.{not-true, not-false}
 use native.Mathlib.Omega.{arith}
-use lib.ListN.{length-set}
 use borrow.Author.Needs.{needs}
 use Rattle.wires.proofs.picks.may_send.Statement.{statement}
 use Rattle.wires.proofs.picks.may_send.Tie as tie
-use Rattle.wires.proofs.picks.may_send.Reads as reads
-use Rattle.wires.proofs.picks.may_send.Lts as lts
-use Rattle.acts.proofs.queue_row.Reads as queue-row-reads
-use Rattle.moves.proofs.next.Reads as next-reads
-use Rattle.rows.proofs.packet_at.Reads as packet-at-reads
-use Rattle.wires.proofs.picks.may_leave.Reads as may-leave-reads
 
 -- src/picks.rt:75:9
 queue-row-requires : tie.Need-queue-row-requires

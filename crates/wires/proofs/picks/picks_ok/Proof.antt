@@ -9,7 +9,7 @@ use Prim.Native.Nat.{_≤_, _-_}
 use mathlib.Core.Bool.{true}
 use mathlib.Core.Path.{_≡_, sym, _∙_}
 use native.Mathlib.Omega.{arith}
-use borrow.Author.Tests.{lt-ltb, le-ltb, eq-eqb, ne-eqb, not-true, not-false}
+use borrow.Author.Tests.{not-true, not-false}
 use Rattle.wires.proofs.picks.picks_ok.Statement.{statement}
 use Rattle.wires.proofs.picks.picks_ok.Tie as tie
 

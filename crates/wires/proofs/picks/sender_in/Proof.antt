@@ -1,10 +1,7 @@
-use borrow.Author.Tests.{lt-ltb, le-ltb, eq-eqb, ne-eqb, not-true, not-false}
+use borrow.Author.Tests.{lt-ltb, le-ltb, eq-eqb, ne-eqb}
 use borrow.Author.Needs.{needs}
 use Rattle.wires.proofs.picks.sender_in.Statement.{statement}
 use Rattle.wires.proofs.picks.sender_in.Tie as tie
-use Rattle.wires.proofs.picks.sender_in.Reads as reads
-use Rattle.wires.proofs.picks.sender_in.Lts as lts
-use Rattle.moves.proofs.base_of.Reads as base-of-reads
 
 -- src/picks.rt:26:9
 base-of-requires : tie.Need-base-of-requires

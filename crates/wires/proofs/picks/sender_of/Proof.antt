@@ -1,10 +1,7 @@
-use borrow.Author.Tests.{lt-ltb, le-ltb, eq-eqb, ne-eqb, not-true, not-false}
+use borrow.Author.Tests.{lt-ltb, le-ltb, eq-eqb, ne-eqb}
 use borrow.Author.Needs.{needs}
 use Rattle.wires.proofs.picks.sender_of.Statement.{statement}
 use Rattle.wires.proofs.picks.sender_of.Tie as tie
-use Rattle.wires.proofs.picks.sender_of.Reads as reads
-use Rattle.wires.proofs.picks.sender_of.Lts as lts
-use Rattle.wires.proofs.picks.sender_in.Reads as sender-in-reads
 
 -- src/picks.rt:41:13
 add-d : tie.Need-add-d

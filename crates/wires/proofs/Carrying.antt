@@ -122,7 +122,8 @@ module _ {h : Head} {routes : List (List ℕ)} {joints homes : List ℕ} {length
             at none k = refl
             at (some q) k =
                 sym (refuted (belongsTest net (inQueue q) x) (λ b. not-unnamed net q v counts
-                (belongs-exists (ready-wiring .wired) q x (belongs-decides (ready-wiring .wired) (inQueue q) x .holds b))
+                (belongs-exists (ready-wiring .wired) q x
+                (belongs-decides (ready-wiring .wired) (inQueue q) x .holds b))
                 (g ∙ ap (numberOr net) k) z))
 
         module _ (ne : v ≢ noQueue) where
@@ -139,7 +140,8 @@ module _ {h : Head} {routes : List (List ℕ)} {joints homes : List ℕ} {length
               omega arith
 
           module _ {y : Bool}
-              (fit : y ≡ fitsTest net (x .kind) (x .active) (x .passive) (x .hub .0) (headPlace false (queueAt net v))) where
+              (fit : y ≡ fitsTest net (x .kind) (x .active) (x .passive) (x .hub .0)
+              (headPlace false (queueAt net v))) where
             bound-is : bound ≡ y
             unfolding belongsTest
             bound-is =

@@ -93,7 +93,8 @@ module _ (pl : Plan) (h : Head) (eh : pl .head ≡ h) (b : List ℕ) where
           (x .0, y .0, z .0, z .1)
 
       -- a wire without a packet is zero bytes
-      form-blank : getD b (i + wireByte) 0 ≢ 1 → (getD b (i + wireByte) 0 ≡ 0) × (zeros (i + wirePacket) packetWidth b ≡ true)
+      form-blank : getD b (i + wireByte) 0 ≢ 1
+          → (getD b (i + wireByte) 0 ≡ 0) × (zeros (i + wirePacket) packetWidth b ≡ true)
       unfolding outputForm
       form-blank ne =
           let x = also-true {a = leb (getD b (i + wireByte) 0) 1} {b = _} (parts .0) in

@@ -59,7 +59,8 @@ module _ (pl : Plan) (b : List ℕ) where
     unfolding outputsPart
     far-fails m l g k c x t y =
         record {
-          test = sym (all-fail (λ j. outputRowTest pl b (outputAt pl j)) (outputs pl) m (rw (outputs-are pl h eh) l) (g .test) k);
+          test = sym (all-fail (λ j. outputRowTest pl b (outputAt pl j)) (outputs pl) m (rw (outputs-are pl h eh) l)
+              (g .test) k);
           come = λ z. absurd (false≢true z);
           count = λ z. absurd (false≢true z);
         }
@@ -108,7 +109,8 @@ module _ (pl : Plan) (b : List ℕ) where
             (omega arith))
 
     -- ---- outside READ nothing comes and nothing is spent
-    pub outside-read : getD b 0 0 ≢ 0 → (c t : List ℕ) {r : Bool} → r ≡ outputsPart pl b → OutputsChecked pl b r c c t t
+    pub outside-read : getD b 0 0 ≢ 0 → (c t : List ℕ) {r : Bool} → r ≡ outputsPart pl b
+        → OutputsChecked pl b r c c t t
     outside-read ne c t {r} e =
         record {
           test = e;

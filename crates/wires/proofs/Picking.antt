@@ -117,7 +117,8 @@ module _ (h : Head) (routes : List (List ℕ)) (joints homes : List ℕ) (w : Wi
     line =
         let e = all-at (queues net) (λ k. queueRowTest net b (queueAt net k)) part n (rw queues-are hn) in
         lined-decides (w .wired) q (s .lines .handled q) (s .lines .queue q) .holds
-        (also-true {a = frameTest net (s .clock .phase) q (s .flow .credit q .0) (s .flow .flag q) (s .lines .handled q)
+        (also-true
+        {a = frameTest net (s .clock .phase) q (s .flow .credit q .0) (s .flow .flag q) (s .lines .handled q)
         (length (s .lines .queue q)) _} {b = linedTest net q (s .lines .handled q) (s .lines .queue q)}
         (also-true {a = queueForm (queueRow net q) b} {b = queueTest net s q} e .1) .1)
 
@@ -128,9 +129,10 @@ module _ (h : Head) (routes : List (List ℕ)) (joints homes : List ℕ) (w : Wi
       where
         by : (k : ℕ) → getD b (i + lengthByte) 0 ≡ k → (rest : List Packet) × (s .lines .queue q ≡ first ∷ rest)
         by zero e = absurd (ne e)
-        by (suc k) e =
-            (packetsAt 6 k (i + firstPlace + packetWidth) b,
-            queue-is ∙ ap (λ (j : ℕ). packetsAt places j (i + firstPlace) b) e)
+        by (suc k) e = (
+          packetsAt 6 k (i + firstPlace + packetWidth) b,
+          queue-is ∙ ap (λ (j : ℕ). packetsAt places j (i + firstPlace) b) e,
+        )
 
     belongs : getD b (i + lengthByte) 0 ≢ 0 → Belongs net (headPlace (s .lines .handled q) q) first
     belongs ne = let y = headed ne in (rw (y .1) at line) .0
@@ -246,7 +248,8 @@ module _ (h : Head) (routes : List (List ℕ)) (joints homes : List ℕ) (w : Wi
       pub pick-none : n ≡ noQueue → false ≡ pickTest net now out
       pick-none z = sym (pick-sender ne ∙ by (ofRank (senders out) (c - 1)) refl)
         where
-          by : (t : Option Queue) → ofRank (senders out) (c - 1) ≡ t → also (mayTest net now out t) (downTest now t) ≡ false
+          by : (t : Option Queue) → ofRank (senders out) (c - 1) ≡ t
+              → also (mayTest net now out t) (downTest now t) ≡ false
           by none k = refl
           by (some q) k =
               absurd (not-unnamed net q n counts

@@ -134,7 +134,8 @@ module _ (h : Head) (routes : List (List ℕ)) (joints : List ℕ) where
       by (inr x) (inr y) z = rw (x, y) (queue-number r k hr)
 
   -- what the code computes is the number of the sender of that rank
-  pub sender-number : (m k : ℕ) → m < outputCount h → senderOf h m k ≡ numberOr net (ofRank (senders (outputAt net m)) k)
+  pub sender-number : (m k : ℕ) → m < outputCount h
+      → senderOf h m k ≡ numberOr net (ofRank (senders (outputAt net m)) k)
   unfolding senderOf outputAt tablePlan number
   sender-number m k l = by k (lt-or-ge m (h .actives)) (lt-or-ge m (destinations h))
     where
@@ -148,7 +149,8 @@ module _ (h : Head) (routes : List (List ℕ)) (joints : List ℕ) where
           rw (lt-ltb m (destinations h) i, lt-ltb m (h .actives) a, ne-eqb (suc k) 0 (λ z. omega arith))
       by zero (inr a) (inl d) =
           let i : m - h .actives < h .passives = omega arith in
-          rw (lt-ltb m (destinations h) d, le-ltb m (h .actives) a, lt-ltb (m - h .actives) (h .passives) i) (omega arith)
+          rw (lt-ltb m (destinations h) d, le-ltb m (h .actives) a, lt-ltb (m - h .actives) (h .passives) i)
+          (omega arith)
       by (suc k) (inr a) (inl d) =
           rw (lt-ltb m (destinations h) d, le-ltb m (h .actives) a, ne-eqb (suc k) 0 (λ z. omega arith))
       by k (inr a) (inr d) =

@@ -1,5 +1,5 @@
-// The outputs' rows of a state: whether each wire's packet belongs where it goes, how many packets are on the way to each
-// queue, and what the packets on wires have spent; and whether each output picked one that it may pick.
+// The outputs' rows of a state: whether each wire's packet belongs where it goes, how many packets are on the way to
+// each queue, and what the packets on wires have spent; and whether each output picked one that it may pick.
 use packets::Packet;
 use plan::Head;
 ghost use mathlib.Core.Path.{_≡_};
@@ -77,8 +77,8 @@ fn joins(
     true
 }
 
-// Whether output m, whose row at i is not all zero, has a wire with a packet that belongs where it goes, and no choice; READ.
-// The packet is counted.
+// Whether output m, whose row at i is not all zero, has a packet on its wire that belongs where it goes, and picked
+// nobody; READ. The packet is counted.
 fn wire_ok(
     h: Head,
     routes: &[[u8; 32]; 16],
@@ -109,7 +109,19 @@ fn wire_ok(
         return false;
     }
     let x = rows::packet_at(s, i + 1);
-    joins(h, routes, joints, homes, lengths, by, up, m, x, coming, spent)
+    joins(
+        h,
+        routes,
+        joints,
+        homes,
+        lengths,
+        by,
+        up,
+        m,
+        x,
+        coming,
+        spent,
+    )
 }
 
 // The same of any row of READ; a row of zero bytes is an empty wire.
@@ -136,7 +148,20 @@ fn output_ok(
     if blank(s, i, 3) {
         return true;
     }
-    wire_ok(h, routes, joints, homes, lengths, by, up, s, m, i, coming, spent)
+    wire_ok(
+        h,
+        routes,
+        joints,
+        homes,
+        lengths,
+        by,
+        up,
+        s,
+        m,
+        i,
+        coming,
+        spent,
+    )
 }
 
 // The outputs in READ.
@@ -160,7 +185,20 @@ fn outputs_read(
     let n = acts::output_count(h);
     let at = acts::output_row(h, 0);
     for m in 0..n {
-        if !output_ok(h, routes, joints, homes, lengths, by, up, s, m, at + 7 * m, coming, spent) {
+        if !output_ok(
+            h,
+            routes,
+            joints,
+            homes,
+            lengths,
+            by,
+            up,
+            s,
+            m,
+            at + 7 * m,
+            coming,
+            spent,
+        ) {
             return false;
         }
     }

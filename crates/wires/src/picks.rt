@@ -1,5 +1,5 @@
-// Whom an output picked: one of its senders that has a head which may leave, whose next queue has credit and whose flag is
-// down.
+// Whom an output picked: one of its senders that has a head which may leave, whose next queue has credit and whose
+// flag is down.
 use plan::Head;
 ghost use mathlib.Core.Path.{_≡_};
 ghost use mathlib.Core.Bool.{true};
@@ -32,7 +32,11 @@ fn sender_in(h: Head, r: usize, o: usize, k: usize) -> usize
 {
     let base = moves::base_of(h, r);
     if o < 4 {
-        return if k < 4 { base + 5 + 4 * o + k } else { moves::NO_QUEUE };
+        return if k < 4 {
+            base + 5 + 4 * o + k
+        } else {
+            moves::NO_QUEUE
+        };
     }
     if o == 4 {
         return if k < 4 { base + k } else { moves::NO_QUEUE };
@@ -74,7 +78,8 @@ fn may_send(
     n: usize,
 ) -> bool
     requires { ⌜ Wiring h (now routes) (now joints) (now homes) × (stateSize h ≤ length (now s))
-        × (queuesPart (tablePlan h (now routes) (now joints)) (now s) ≡ true) × (m < outputCount h) × (n < queueCount h)
+        × (queuesPart (tablePlan h (now routes) (now joints)) (now s) ≡ true) × (m < outputCount h)
+        × (n < queueCount h)
         × (outputOf (queueAt (tablePlan h (now routes) (now joints)) n)
         ≡ some (outputAt (tablePlan h (now routes) (now joints)) m)) ⌝ }
     ensures { λ r. ⌜ r ≡ maySend (tablePlan h (now (routes .entry)) (now (joints .entry))) (now (s .entry)) m n ⌝ }
@@ -126,7 +131,13 @@ fn pick_ok(
 }
 
 // All outputs.
-pub fn picks_ok(h: Head, routes: &[[u8; 32]; 16], joints: &[u8; 64], homes: &[u8; 32], s: &[u8]) -> bool
+pub fn picks_ok(
+    h: Head,
+    routes: &[[u8; 32]; 16],
+    joints: &[u8; 64],
+    homes: &[u8; 32],
+    s: &[u8],
+) -> bool
     requires { ⌜ Wiring h (now routes) (now joints) (now homes) × (stateSize h ≤ length (now s))
         × (queuesPart (tablePlan h (now routes) (now joints)) (now s) ≡ true) ⌝ }
     ensures { λ r. ⌜ r ≡ picksPart (tablePlan h (now (routes .entry)) (now (joints .entry))) (now (s .entry)) ⌝ }

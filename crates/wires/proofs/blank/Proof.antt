@@ -16,7 +16,9 @@ four-requires-2 : tie.Need-four-requires-2
 four-requires-2 c κs = search needs
 
 returns-2 : tie.Need-returns-2
-returns-2 c = blank-is _ _ _ (c .before .before .before .before .pre .1) _ _ (c .before .before .four .ensures) (c .before .if1 .left) (c .four2 .ensures)
+returns-2 c =
+    blank-is _ _ _ (c .before .before .before .before .pre .1) _ _ (c .before .before .four .ensures)
+    (c .before .if1 .left) (c .four2 .ensures)
 
 pub blank-spec : {M : Type 1} → statement M
 blank-spec =

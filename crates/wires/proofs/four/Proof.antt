@@ -55,7 +55,13 @@ add-result-3 c = search needs
 
 returns : tie.Need-returns
 unfolding Rattle.wires.specs.Outputs.fourAt
-returns c = simp (c .before .before .before .before .before .before .wide .ensures .0, c .before .before .before .before .wide2 .ensures .0, c .before .before .wide3 .ensures .0, c .wide4 .ensures .0)
+returns c =
+    simp (
+      c .before .before .before .before .before .before .wide .ensures .0,
+      c .before .before .before .before .wide2 .ensures .0,
+      c .before .before .wide3 .ensures .0,
+      c .wide4 .ensures .0,
+    )
 
 pub four-spec : {M : Type 1} → statement M
 four-spec =

@@ -10,7 +10,8 @@ use Rattle.wires.proofs.outputs_read.Statement.{statement}
 use Rattle.wires.proofs.outputs_read.Tie as tie
 
 abbrev Inv-loop : tie.InvT-loop
-Inv-loop h routes joints homes lengths by up s coming₀ spent₀ n at m₀ coming spent m = (m ≤ n) × SoFar (tablePlan h routes joints) s m coming₀ coming spent₀ spent
+Inv-loop h routes joints homes lengths by up s coming₀ spent₀ n at m₀ coming spent m =
+    (m ≤ n) × SoFar (tablePlan h routes joints) s m coming₀ coming spent₀ spent
 
 abbrev μ-loop : tie.MeasureT-loop
 μ-loop h routes joints homes lengths by up s coming₀ spent₀ n at m₀ coming spent m = n - m
@@ -31,10 +32,24 @@ add-output-ok : tie.Need-add-output-ok Inv-loop μ-loop
 add-output-ok c = search needs
 
 output-ok-requires : tie.Need-output-ok-requires Inv-loop μ-loop
-output-ok-requires c κs = let p = c .before .before .before .before .before .before .before .pre in let e = c .before .before .before .before .before .output-count .ensures .0 in let f = c .before .before .before .before .output-row .ensures in (p .0, omega arith, brought-few _ _ _ _ _ (p .3) (c .before .before .before .loop .inv .1 .come), p .1, p .2, omega arith)
+output-ok-requires c κs =
+    let p = c .before .before .before .before .before .before .before .pre in
+    let e = c .before .before .before .before .before .output-count .ensures .0 in
+    let f = c .before .before .before .before .output-row .ensures in (
+      p .0,
+      omega arith,
+      brought-few _ _ _ _ _ (p .3) (c .before .before .before .loop .inv .1 .come),
+      p .1,
+      p .2,
+      omega arith,
+    )
 
 returns : tie.Need-returns Inv-loop μ-loop
-returns c = let p = c .before .before .before .before .before .before .before .before .before .pre in let e = c .before .before .before .before .before .before .before .output-count .ensures .0 in far-fails _ _ _ (table-head (p .0)) (c .before .before .before .before .before .loop .m) (omega arith) (c .before .output-ok .ensures) (not-true _ (c .if1 .taken)) _ _ _ _
+returns c =
+    let p = c .before .before .before .before .before .before .before .before .before .pre in
+    let e = c .before .before .before .before .before .before .before .output-count .ensures .0 in
+    far-fails _ _ _ (table-head (p .0)) (c .before .before .before .before .before .loop .m) (omega arith)
+    (c .before .output-ok .ensures) (not-true _ (c .if1 .taken)) _ _ _ _
 
 add-m : tie.Need-add-m Inv-loop μ-loop
 add-m c = search needs
@@ -43,10 +58,17 @@ loop-less : tie.Need-loop-less Inv-loop μ-loop
 loop-less c = search needs
 
 loop-again : tie.Need-loop-again Inv-loop μ-loop
-loop-again c = (omega arith, far-more _ _ _ (c .before .before .before .before .before .loop .inv .1) (c .before .output-ok .ensures) (not-false _ (c .if1 .left)))
+loop-again c = (
+  omega arith,
+  far-more _ _ _ (c .before .before .before .before .before .loop .inv .1)
+      (c .before .output-ok .ensures) (not-false _ (c .if1 .left)),
+)
 
 returns-2 : tie.Need-returns-2 Inv-loop μ-loop
-returns-2 c = let p = c .before .before .before .before .before .pre in let e = c .before .before .before .output-count .ensures .0 in far-done _ _ _ (table-head (p .0)) (c .before .loop .m) (c .before .loop .inv .1) (omega arith)
+returns-2 c =
+    let p = c .before .before .before .before .before .pre in
+    let e = c .before .before .before .output-count .ensures .0 in
+    far-done _ _ _ (table-head (p .0)) (c .before .loop .m) (c .before .loop .inv .1) (omega arith)
 
 pub outputs-read-spec : {M : Type 1} → statement M
 outputs-read-spec =

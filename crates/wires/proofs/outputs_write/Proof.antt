@@ -32,10 +32,19 @@ add-blank : tie.Need-add-blank Inv-loop μ-loop
 add-blank c = search needs
 
 blank-requires : tie.Need-blank-requires Inv-loop μ-loop
-blank-requires c κs = let p = c .before .before .before .before .before .pre in let e = c .before .before .before .output-count .ensures .0 in let f = c .before .before .output-row .ensures in let z = p .1 in (omega arith, omega arith)
+blank-requires c κs =
+    let p = c .before .before .before .before .before .pre in
+    let e = c .before .before .before .output-count .ensures .0 in
+    let f = c .before .before .output-row .ensures in
+    let z = p .1 in
+    (omega arith, omega arith)
 
 returns : tie.Need-returns Inv-loop μ-loop
-returns c = let p = c .before .before .before .before .before .before .before .pre in λ pl eh. write-fails pl _ _ eh (p .2) _ _ (c .before .before .before .before .output-row .ensures) (c .before .before .before .before .before .output-count .ensures .0) (c .before .before .before .loop .m) (omega arith) (c .before .blank .ensures) (not-true _ (c .if1 .taken))
+returns c =
+    let p = c .before .before .before .before .before .before .before .pre in
+    λ pl eh. write-fails pl _ _ eh (p .2) _ _ (c .before .before .before .before .output-row .ensures)
+    (c .before .before .before .before .before .output-count .ensures .0) (c .before .before .before .loop .m)
+    (omega arith) (c .before .blank .ensures) (not-true _ (c .if1 .taken))
 
 add-m : tie.Need-add-m Inv-loop μ-loop
 add-m c = search needs
@@ -44,10 +53,17 @@ loop-less : tie.Need-loop-less Inv-loop μ-loop
 loop-less c = search needs
 
 loop-again : tie.Need-loop-again Inv-loop μ-loop
-loop-again c = (omega arith, all-more _ _ (c .before .before .before .loop .inv .1) (c .before .blank .ensures) (not-false _ (c .if1 .left)))
+loop-again c = (
+  omega arith,
+  all-more _ _ (c .before .before .before .loop .inv .1) (c .before .blank .ensures) (not-false _
+      (c .if1 .left)),
+)
 
 returns-2 : tie.Need-returns-2 Inv-loop μ-loop
-returns-2 c = let p = c .before .before .before .before .before .pre in λ pl eh. write-done pl _ _ eh (p .2) _ _ (c .before .before .output-row .ensures) (c .before .before .before .output-count .ensures .0) (c .before .loop .m) (c .before .loop .inv .1) (omega arith)
+returns-2 c =
+    let p = c .before .before .before .before .before .pre in
+    λ pl eh. write-done pl _ _ eh (p .2) _ _ (c .before .before .output-row .ensures)
+    (c .before .before .before .output-count .ensures .0) (c .before .loop .m) (c .before .loop .inv .1) (omega arith)
 
 pub outputs-write-spec : {M : Type 1} → statement M
 outputs-write-spec =

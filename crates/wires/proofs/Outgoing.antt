@@ -6,10 +6,10 @@ use mathlib.Core.List.{List}
 use Prim.Native.Nat.{ℕ, zero, suc, _+_, _*_, _-_, _≤_, _<_}
 use native.Mathlib.Nat.{add-zero}
 use native.Mathlib.Omega.{arith}
-use lib.Dec.{leb}
+use lib.Dec.{eqb, leb}
 use lib.ListN.{getD}
-use borrow.Author.Tests.{ne-eqb, le-leb, lt-leb, leb-true}
-use Rattle.basis.specs.Choice.{also, also-true, also-of, same-test, refuted}
+use borrow.Author.Tests.{eqb-true, eqb-false, ne-eqb, le-leb, lt-leb, leb-true, leb-false}
+use Rattle.basis.specs.Choice.{also, also-true, also-of, same-test, refuted, test}
 use Rattle.basis.specs.Bounded.{lt-or-ge, or-right}
 use Rattle.packets.specs.declared.Packet.{Packet}
 use Rattle.packets.specs.declared.Wire.the-variants.{Empty, Full}
@@ -38,7 +38,7 @@ use Rattle.states.specs.Check.{outputRowTest}
 use Rattle.states.proofs.Bytes.{zeros-get, zeros-byte}
 use Rattle.states.proofs.Quiet.{zeros-part, zeros-output}
 use Rattle.lines.proofs.Tallies.{tallied-none, tallied-like}
-use Rattle.wires.specs.Outputs.{Carried, OutputChecked}
+use Rattle.wires.specs.Outputs.{fullAt, Carried, OutputChecked}
 use Rattle.wires.proofs.Bytes.{also-right, not-read, not-write, empty-byte, nobody-byte, decode-phase}
 use Rattle.wires.proofs.Bytes.{outputs-are, output-row}
 use Rattle.wires.proofs.Stretches.{zeros-of}
@@ -148,11 +148,11 @@ module _ (pl : Plan) (h : Head) (eh : pl .head ≡ h) (b : List ℕ) where
       refused : false ≡ outputRowTest pl b o → OutputChecked pl b m false c d t u
       refused e = record { test = e; come = λ f. absurd (false≢true f); count = λ f. absurd (false≢true f) }
 
-      pub choice-up : getD b 0 0 ≡ 0 → getD b (i + 6) 0 ≢ 0 → OutputChecked pl b m false c d t u
+      choice-up : getD b 0 0 ≡ 0 → getD b (i + 6) 0 ≢ 0 → OutputChecked pl b m false c d t u
       choice-up p ne =
           refused (sym (refuted (outputRowTest pl b o) (λ e. ne (nobody-picked e (omega arith)))))
 
-      pub wire-odd : zeros i 7 b ≡ false → getD b (i + 6) 0 ≡ 0 → getD b i 0 ≢ 1 → OutputChecked pl b m false c d t u
+      wire-odd : zeros i 7 b ≡ false → getD b (i + 6) 0 ≡ 0 → getD b i 0 ≢ 1 → OutputChecked pl b m false c d t u
       wire-odd z q ne =
           refused (sym (refuted (outputRowTest pl b o) (λ e. true≢false
           (let x = form-blank e (rw (add-zero i) ne) in sym (seven (x .0) (x .1) q) ∙ z))))
@@ -165,7 +165,7 @@ module _ (pl : Plan) (h : Head) (eh : pl .head ≡ h) (b : List ℕ) where
         unfolding outputForm
         form-kind f = rw first at f
 
-        pub kind-odd : 3 < getD b (i + 1) 0 → OutputChecked pl b m false c d t u
+        kind-odd : 3 < getD b (i + 1) 0 → OutputChecked pl b m false c d t u
         kind-odd k =
             refused (sym (refuted (outputRowTest pl b o) (λ e. true≢false (sym (form-kind (parts e .0)) ∙ odd))))
           where
@@ -187,13 +187,41 @@ module _ (pl : Plan) (h : Head) (eh : pl .head ≡ h) (b : List ℕ) where
               by-bytes ∙ rw (first, p, q, s, le-leb (getD b (i + 1) 0) 3 k, ex)
               (also-right (boundTest pl (packetAt (i + 1) b) (nextBy pl o (packetAt (i + 1) b))))
 
-          pub wire-checked : {r : Bool} → Carried pl m x r c d t u → OutputChecked pl b m r c d t u
-          wire-checked y =
+          full-checked : {r : Bool} → Carried pl m x r c d t u → OutputChecked pl b m r c d t u
+          full-checked y =
               record {
                 test = y .test ∙ sym row-full;
                 come = λ e. brought-like pl (λ n l. ap (brings pl (queueAt pl n) o) (sym full)) (y .come e);
                 count = λ e. tallied-like (λ a l. ap (inWire (spends a)) (sym full)) (y .count e);
               }
+
+      module _ {f : Bool} (e : f ≡ fullAt i b) (p : getD b 0 0 ≡ 0) where
+        -- a row that is no full wire
+        pub wire-refused : zeros i 7 b ≡ false → f ≡ false → OutputChecked pl b m false c d t u
+        unfolding fullAt
+        wire-refused z g =
+            by (test (eqb (getD b (i + 6) 0) 0)) (test (eqb (getD b i 0) 1)) (test (leb (getD b (i + 1) 0) 3))
+          where
+            by : (eqb (getD b (i + 6) 0) 0 ≡ true) ⊎ (eqb (getD b (i + 6) 0) 0 ≡ false)
+                → (eqb (getD b i 0) 1 ≡ true) ⊎ (eqb (getD b i 0) 1 ≡ false)
+                → (leb (getD b (i + 1) 0) 3 ≡ true) ⊎ (leb (getD b (i + 1) 0) 3 ≡ false)
+                → OutputChecked pl b m false c d t u
+            by (inr x) y k = choice-up p (eqb-false (getD b (i + 6) 0) 0 x)
+            by (inl x) (inr y) k =
+                wire-odd z (eqb-true (getD b (i + 6) 0) 0 x) (eqb-false (getD b i 0) 1 y)
+            by (inl x) (inl y) (inr k) =
+                kind-odd (eqb-true (getD b i 0) 1 y) (leb-false (getD b (i + 1) 0) 3 k)
+            by (inl x) (inl y) (inl k) = absurd (false≢true (sym g ∙ e ∙ rw (x, y, k)))
+
+        -- one that is
+        pub wire-checked : f ≡ true → (x : Packet) → x ≡ packetAt (i + 1) b → {r : Bool} → Carried pl m x r c d t u
+            → OutputChecked pl b m r c d t u
+        unfolding fullAt
+        wire-checked g x ex =
+            let q = also-true {a = eqb (getD b (i + 6) 0) 0} {b = _} (sym e ∙ g) in
+            let w = also-true {a = eqb (getD b i 0) 1} {b = leb (getD b (i + 1) 0) 3} (q .1) in
+            full-checked (eqb-true (getD b i 0) 1 (w .0)) p (eqb-true (getD b (i + 6) 0) 0 (q .0))
+            (leb-true (getD b (i + 1) 0) 3 (w .1)) x ex
 
     -- a row of zero bytes
     pub zero-checked : (c t : List ℕ) {r : Bool} → r ≡ zeros i 7 b → r ≡ true → OutputChecked pl b m true c c t t

@@ -6,14 +6,14 @@ use mathlib.Core.List.{List}
 use Prim.Native.Nat.{ℕ, zero, suc, _+_, _-_, _≤_, _<_}
 use native.Mathlib.Nat.{add-zero}
 use native.Mathlib.Omega.{arith}
-use lib.Dec.{eqb}
+use lib.Dec.{eqb, leb}
 use lib.ListN.{getD}
 use borrow.Author.Tests.{eq-eqb, ne-eqb}
 use Rattle.basis.specs.Choice.{refuted}
 use Rattle.basis.specs.Bounded.{all-of, lt-or-ge}
 use Rattle.states.specs.Forms.{zeros}
 use Rattle.states.proofs.Bytes.{zeros-byte}
-use Rattle.wires.specs.Outputs.{fourAt}
+use Rattle.wires.specs.Outputs.{fourAt, fullAt}
 
 -- bytes that are zero
 pub zeros-of : (i n : ℕ) (b : List ℕ) → ((k : ℕ) → k < n → getD b (i + k) 0 ≡ 0) → zeros i n b ≡ true
@@ -66,3 +66,17 @@ module _ (b : List ℕ) where
             rw (ne-eqb u 0 q)
             (sym (refuted (zeros i (k + 4) b)
             (λ t. q (f ∙ four-none i (k + 4) (i + k) t (omega arith) (omega arith)))))
+
+-- ---- a full wire: the code's ways out
+module _ (b : List ℕ) (i : ℕ) where
+  pub full-choice : getD b (i + 6) 0 ≢ 0 → false ≡ fullAt i b
+  unfolding fullAt
+  full-choice ne = rw (ne-eqb (getD b (i + 6) 0) 0 ne)
+
+  pub full-wire : getD b (i + 6) 0 ≡ 0 → getD b i 0 ≢ 1 → false ≡ fullAt i b
+  unfolding fullAt
+  full-wire e ne = rw (eq-eqb (getD b (i + 6) 0) 0 e, ne-eqb (getD b i 0) 1 ne)
+
+  pub full-kind : getD b (i + 6) 0 ≡ 0 → getD b i 0 ≡ 1 → leb (getD b (i + 1) 0) 3 ≡ fullAt i b
+  unfolding fullAt
+  full-kind e f = rw (eq-eqb (getD b (i + 6) 0) 0 e, eq-eqb (getD b i 0) 1 f)

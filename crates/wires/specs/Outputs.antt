@@ -4,7 +4,9 @@ use mathlib.Core.Path.{_≡_}
 use mathlib.Core.Bool.{Bool, true}
 use mathlib.Core.List.{List}
 use Prim.Native.Nat.{ℕ, _+_, _*_, _≤_, _<_}
+use lib.Dec.{eqb, leb}
 use lib.ListN.{getD, length}
+use Rattle.basis.specs.Choice.{also}
 use Rattle.packets.specs.declared.Packet.{Packet}
 use Rattle.plan.specs.Plan.{Plan}
 use Rattle.feeding.specs.Queue.{queueAt, queues}
@@ -18,6 +20,10 @@ use Rattle.lines.specs.Tally.{Tallied}
 -- four bytes from i on as one number
 unfoldable pub fourAt : ℕ → List ℕ → ℕ
 fourAt i b = getD b i 0 + 256 * getD b (i + 1) 0 + 65536 * getD b (i + 2) 0 + 16777216 * getD b (i + 3) 0
+
+-- the row at i has a full wire, with a packet of one of four kinds, and nobody is picked
+unfoldable pub fullAt : ℕ → List ℕ → Bool
+fullAt i b = also (eqb (getD b (i + 6) 0) 0) (also (eqb (getD b i 0) 1) (leb (getD b (i + 1) 0) 3))
 
 -- how many packets output m's wire brings to queue n
 abbrev pub bringsTo : Plan → List ℕ → ℕ → ℕ → ℕ

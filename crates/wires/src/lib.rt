@@ -13,7 +13,7 @@ ghost use Rattle.acts.specs.Counts.{stateSize, outputCount, outputsFrom};
 ghost use Rattle.states.specs.Forms.{zeros};
 ghost use Rattle.states.specs.Check.{outputsPart};
 ghost use Rattle.lines.specs.Ready.{Ready};
-ghost use Rattle.wires.specs.Outputs.{fourAt, UpTo, Carried, OutputChecked, OutputsChecked};
+ghost use Rattle.wires.specs.Outputs.{fourAt, fullAt, UpTo, Carried, OutputChecked, OutputsChecked};
 
 pub mod picks;
 
@@ -41,6 +41,20 @@ fn blank(s: &[u8], i: usize, k: usize) -> bool
         return false;
     }
     four(s, i + k) == 0
+}
+
+// Whether the row at i has a full wire, with a packet of one of four kinds, and nobody is picked.
+fn full(s: &[u8], i: usize) -> bool
+    requires { ⌜ i + 7 ≤ length (now s) ⌝ }
+    ensures { λ r. ⌜ r ≡ fullAt i (now (s .entry)) ⌝ }
+{
+    if s[i + 6] != 0 {
+        return false;
+    }
+    if s[i] != 1 {
+        return false;
+    }
+    s[i + 1] <= 3
 }
 
 // Whether a packet on output m's wire belongs where it goes; READ. It is counted, for its queue and for its active.
@@ -99,13 +113,7 @@ fn wire_ok(
     ensures { λ r. ⌜ OutputChecked (tablePlan h (now (routes .entry)) (now (joints .entry))) (now (s .entry)) m r
         (now (coming .entry)) (now (coming .exit)) (now (spent .entry)) (now (spent .exit)) ⌝ }
 {
-    if s[i + 6] != 0 {
-        return false;
-    }
-    if s[i] != 1 {
-        return false;
-    }
-    if 3 < s[i + 1] {
+    if !full(s, i) {
         return false;
     }
     let x = rows::packet_at(s, i + 1);

@@ -12,7 +12,15 @@ pub extern "C" fn pandabrass_load(plan: &[u8]) -> u32
     let mut joints = [0u8; 64];
     let mut homes = [0u8; 32];
     let mut lengths = [[0u8; 16]; 16];
-    let l = load::load(plan, &mut routes, &mut joints, &mut homes, &mut lengths);
+    let mut by = [[0u32; 4]; 16];
+    let l = load::load(
+        plan,
+        &mut routes,
+        &mut joints,
+        &mut homes,
+        &mut lengths,
+        &mut by,
+    );
     load::load_number(l) as u32
 }
 

@@ -32,6 +32,8 @@ use Rattle.wiring.proofs.Tables.{tables-ok, table-plan, named-alike, interfaces
 use Rattle.load.specs.declared.Loaded.{Loaded}
 use Rattle.load.specs.declared.Loaded.the-variants.{Accepted, Refused}
 use Rattle.load.specs.Load.{lengthOk, jointsOk, loadOf, loadRoutes, loadJoints, loadHomes, loadLengths}
+use Rattle.load.specs.Load.{LentSides}
+use Rattle.paths.specs.Drawn.{Sides}
 use Rattle.arrivals.specs.Tables.{PortsIn}
 use Rattle.arrivals.specs.Pairs.{pairWalk, lengthsOf, Tables, Walks}
 use Rattle.circles.specs.Told.{Told}
@@ -172,16 +174,29 @@ ring-told h rt jt ht by few homed told walked search =
     search (tablePlan h rt jt) (tables-told h rt jt few (told .chart .wired) homed (told .chart .sides) (w .0) (w .1))
 
 -- ---- Load's returns
+refused-not : {h : Head} {w : Refusal} → Refused w ≡ Accepted h → ⊥
+refused-not e = let z : _≡_ {A = ℕ} 0 1 = cc in omega arith
+
+same-head : {h k : Head} → Accepted h ≡ Accepted k → h ≡ k
+same-head e = cc
+
 module _ (b : List ℕ) (t : List (List ℕ)) (j o : List ℕ) (u : List (List ℕ)) where
-  abbrev Leaves : Loaded → List (List ℕ) → List ℕ → List ℕ → List (List ℕ) → Type 0
-  Leaves l routes joints homes lengths =
+  abbrev Leaves : Loaded → List (List ℕ) → List ℕ → List ℕ → List (List ℕ) → List (List ℕ) → Type 0
+  Leaves l routes joints homes lengths sides =
       (l ≡ loadOf b) × (routes ≡ loadRoutes b t (loadOf b)) × (joints ≡ loadJoints b j (loadOf b))
-      × (homes ≡ loadHomes b o (loadOf b)) × (lengths ≡ loadLengths b u (loadOf b))
+      × (homes ≡ loadHomes b o (loadOf b)) × (lengths ≡ loadLengths b u (loadOf b)) × LentSides b l sides
 
-  refused : {w : Refusal} → Refused w ≡ loadOf b → Leaves (Refused w) t j o u
-  refused e = (e, ap (loadRoutes b t) e, ap (loadJoints b j) e, ap (loadHomes b o) e, ap (loadLengths b u) e)
+  refused : {w : Refusal} {sides : List (List ℕ)} → Refused w ≡ loadOf b → Leaves (Refused w) t j o u sides
+  refused e = (
+    e,
+    ap (loadRoutes b t) e,
+    ap (loadJoints b j) e,
+    ap (loadHomes b o) e,
+    ap (loadLengths b u) e,
+    record { sides = λ h q. absurd (refused-not q); past = λ h q. absurd (refused-not q) },
+  )
 
-  pub too-short : length b < 6 → Leaves (Refused TooShort) t j o u
+  pub too-short : {sides : List (List ℕ)} → length b < 6 → Leaves (Refused TooShort) t j o u sides
   unfolding loadOf
   too-short l = refused (rw (lt-ltb (length b) 6 l))
 
@@ -189,12 +204,12 @@ module _ (b : List ℕ) (t : List (List ℕ)) (j o : List ℕ) (u : List (List �
     ranged : headOk (headOf b) ≡ ranges
     ranged = ap headOk (sym read) ∙ sym range
 
-    pub out-of-range : ranges ≡ false → Leaves (Refused OutOfRange) t j o u
+    pub out-of-range : {sides : List (List ℕ)} → ranges ≡ false → Leaves (Refused OutOfRange) t j o u sides
     unfolding loadOf
     out-of-range q = refused (rw (le-ltb (length b) 6 six, ranged, q))
 
     module _ (two : ranges ≡ true) {size : Bool} (sized : size ≡ lengthOk b) where
-      pub wrong-length : size ≡ false → Leaves (Refused WrongLength) t j o u
+      pub wrong-length : {sides : List (List ℕ)} → size ≡ false → Leaves (Refused WrongLength) t j o u sides
       unfolding loadOf
       wrong-length q = refused (rw (le-ltb (length b) 6 six, ranged, two, ← sized, q))
 
@@ -207,7 +222,7 @@ module _ (b : List ℕ) (t : List (List ℕ)) (j o : List ℕ) (u : List (List �
         fitted : fieldsOk b ≡ fields
         fitted = sym (fields-tested b read inside joined routed fielded)
 
-        pub bad-field : fields ≡ false → Leaves (Refused BadField) t j o u
+        pub bad-field : {sides : List (List ℕ)} → fields ≡ false → Leaves (Refused BadField) t j o u sides
         unfolding loadOf
         bad-field q = refused (rw (le-ltb (length b) 6 six, ranged, two, ← sized, three, fitted, q))
 
@@ -227,7 +242,7 @@ module _ (b : List ℕ) (t : List (List ℕ)) (j o : List ℕ) (u : List (List �
               (wired b (fields-ok b (fitted ∙ four)) (passed .0) (passed .1)) routed
               (homed ∙ homes-alike h [] rt jt) (read-in .sides)
 
-          pub bad-joint : named ≡ false → Leaves (Refused BadJoint) t j o u
+          pub bad-joint : {sides : List (List ℕ)} → named ≡ false → Leaves (Refused BadJoint) t j o u sides
           unfolding loadOf
           bad-joint q = refused (rw (le-ltb (length b) 6 six, ranged, two, ← sized, three, fitted, four, matched, q))
 
@@ -248,12 +263,12 @@ module _ (b : List ℕ) (t : List (List ℕ)) (j o : List ℕ) (u : List (List �
                 (ring-tested b read inside joined routed
                 (ring-told h rt jt ht by (range-counts h inside) home-ports told walked search))
 
-            pub has-ring : ring ≡ true → Leaves (Refused HasRing) t j o u
+            pub has-ring : {sides : List (List ℕ)} → ring ≡ true → Leaves (Refused HasRing) t j o u sides
             unfolding loadOf
             has-ring q = refused
                 (rw (le-ltb (length b) 6 six, ranged, two, ← sized, three, fitted, four, matched, five, circled, q))
 
-            pub accepted : ring ≡ false → Leaves (Accepted h) rt jt ht ways
+            pub accepted : ring ≡ false → Leaves (Accepted h) rt jt ht ways by
             unfolding loadOf
             accepted q =
                 let e : Accepted h ≡ loadOf b = rw (
@@ -276,7 +291,41 @@ module _ (b : List ℕ) (t : List (List ℕ)) (j o : List ℕ) (u : List (List �
                   joined ∙ ap (loadJoints b j) e,
                   same ∙ ap (loadHomes b o) e,
                   walked told .2 ∙ ap lengthsOf (plan-same b read inside joined routed) ∙ ap (loadLengths b u) e,
+                  record {
+                    sides = λ k q. subst (λ (pl : Plan). Sides pl by) (plan-same b read inside joined routed)
+                        (told .chart .sides);
+                    past = λ k q r d n m. sweeps-ready h rt jt ht by (range-counts h inside) told .2 r d n
+                        (rw (same-head q) m);
+                  },
                 )
+
+-- what was filled is lent where the plan is accepted, else nothing
+pub lent-accepted : (b : List ℕ) (t : List (List ℕ)) (j o : List ℕ) (u : List (List ℕ)) {h : Head} {l : Loaded}
+    {routes : List (List ℕ)} {joints homes : List ℕ} {lengths sides : List (List ℕ)} → l ≡ Accepted h
+    → Leaves b routes joints homes lengths l routes joints homes lengths sides
+    → Leaves b t j o u l routes joints homes lengths sides
+lent-accepted b t j o u {h} a f =
+    let e : loadOf b ≡ Accepted h = sym (f .0) ∙ a in (
+      f .0,
+      f .1 ∙ rw e,
+      f .2 ∙ rw e,
+      f .3 ∙ rw e,
+      f .4 ∙ rw e,
+      f .5,
+    )
+
+pub lent-refused : (b : List ℕ) (t : List (List ℕ)) (j o : List ℕ) (u : List (List ℕ)) {w : Refusal} {l : Loaded}
+    {sides : List (List ℕ)} → l ≡ Refused w → l ≡ loadOf b → LentSides b l sides → Leaves b t j o u l t j o u sides
+lent-refused b t j o u {w} a f s =
+    let e : loadOf b ≡ Refused w = sym f ∙ a in (
+      f,
+      sym (ap (loadRoutes b t) e),
+      sym (ap (loadJoints b j) e),
+      sym (ap (loadHomes b o) e),
+      sym (ap (loadLengths b
+          u) e),
+      s,
+    )
 
 -- ---- Walk's returns
 module _ (b : List ℕ) (a p : ℕ) {l : Loaded} (known : l ≡ loadOf b) where

@@ -2,11 +2,12 @@
 -- '1 fewer than six bytes; 2 R, A, P, S or a capacity outside its range; 3 wrong length or a fill bit set;
 -- 4 a later field outside its range; 5 a router joint not named back, a joint to the same router, or an interface
 -- without exactly one joint; 6 a ring.'
-use mathlib.Core.Bool.{Bool, not, _&&_}
-use mathlib.Core.List.{List}
-use Prim.Native.Nat.{ℕ}
+use mathlib.Core.Path.{_≡_}
+use mathlib.Core.Bool.{Bool, false, not, _&&_}
+use mathlib.Core.List.{List, []}
+use Prim.Native.Nat.{ℕ, _≤_, _<_}
 use lib.Dec.{eqb, ltb}
-use lib.ListN.{length}
+use lib.ListN.{getD, length}
 use Rattle.basis.specs.Choice.{pick}
 use Rattle.kinds.specs.declared.Refusal.{Refusal}
 use Rattle.kinds.specs.declared.Refusal.the-variants.{TooShort, OutOfRange, WrongLength, BadField, BadJoint, HasRing}
@@ -16,6 +17,8 @@ use Rattle.plan.specs.Head.{headOf, headOk, bitCount, byteCount}
 use Rattle.plan.specs.Plan.{planOf}
 use Rattle.plan.specs.Rules.{fillOk, fieldsOk, namedOk, interfacesOk}
 use Rattle.plan.specs.Tables.{routesOf, jointsOf, homesOf}
+use Rattle.sets.specs.Sets.{has}
+use Rattle.paths.specs.Drawn.{Sides}
 use Rattle.circles.specs.RingTest.{hasRing}
 use Rattle.arrivals.specs.Pairs.{lengthsOf}
 use Rattle.load.specs.declared.Loaded.{Loaded}
@@ -61,3 +64,9 @@ loadHomes b t (Refused w) = t
 abbrev pub loadLengths : List ℕ → List (List ℕ) → Loaded → List (List ℕ)
 loadLengths b t (Accepted h) = lengthsOf (planOf b)
 loadLengths b t (Refused w) = t
+
+-- the sets of destinations by router and side: an accepted plan's, and none at the routers that it has not
+pub record LentSides (b : List ℕ) (l : Loaded) (by : List (List ℕ)) : Type 0 where
+  pub sides : (h : Head) → l ≡ Accepted h → Sides (planOf b) by
+  pub past : (h : Head) → l ≡ Accepted h → (r o d : ℕ) → h .routers ≤ r → o < 4
+      → has (getD (getD by r []) o 0) d ≡ false

@@ -6,10 +6,11 @@ use plan::routes::NO_SIDE;
 ghost use mathlib.Core.Path.{_≡_};
 ghost use mathlib.Core.List.{[]};
 ghost use Prim.Native.Nat.{_<_};
-ghost use lib.ListN.{getD};
+ghost use lib.ListN.{getD, replicate};
 ghost use Rattle.kinds.specs.Refusals.{refusalNumber};
 ghost use Rattle.plan.specs.Head.{headOf, InRange};
-ghost use Rattle.load.specs.Load.{lengthOk, loadOf, loadNumber, loadRoutes, loadJoints, loadHomes, loadLengths};
+ghost use Rattle.load.specs.Load.{lengthOk, loadOf, loadNumber, loadRoutes, loadJoints, loadHomes, loadLengths, LentSides};
+ghost use Rattle.plan.specs.Marks.{NoRoutes};
 ghost use Rattle.load.specs.Walk.{walkOf};
 
 // The fewest bytes in which counts and capacities fit.
@@ -33,20 +34,23 @@ fn length_ok(plan: &[u8], h: Head) -> bool
     plan::counts::fill_ok(plan, bits)
 }
 
-// Load: the first refusal that applies, in document 01's order, or the plan's head. An accepted plan's routes, joints, homes
-// and lengths of walks are then in the lent tables; a refusal leaves these as they were.
-pub fn load(
+// The first refusal that applies, in document 01's order, or the plan's head. The tables are filled as the plan is read: an
+// accepted plan's routes, joints, homes, lengths of walks and sets of destinations are in them.
+fn fill(
     plan: &[u8],
     routes: &mut [[u8; 32]; 16],
     joints: &mut [u8; 64],
     homes: &mut [u8; 32],
     lengths: &mut [[u8; 16]; 16],
+    by: &mut [[u32; 4]; 16],
 ) -> Loaded
+    requires { ⌜ NoRoutes (now routes) (now by) × (now joints ≡ replicate 64 0) × (now homes ≡ replicate 32 0) ⌝ }
     ensures { λ l. ⌜ (l ≡ loadOf (now (plan .entry)))
-        × (now (routes .exit) ≡ loadRoutes (now (plan .entry)) (now (routes .entry)) (loadOf (now (plan .entry))))
-        × (now (joints .exit) ≡ loadJoints (now (plan .entry)) (now (joints .entry)) (loadOf (now (plan .entry))))
-        × (now (homes .exit) ≡ loadHomes (now (plan .entry)) (now (homes .entry)) (loadOf (now (plan .entry))))
-        × (now (lengths .exit) ≡ loadLengths (now (plan .entry)) (now (lengths .entry)) (loadOf (now (plan .entry)))) ⌝ }
+        × (now (routes .exit) ≡ loadRoutes (now (plan .entry)) (now (routes .exit)) (loadOf (now (plan .entry))))
+        × (now (joints .exit) ≡ loadJoints (now (plan .entry)) (now (joints .exit)) (loadOf (now (plan .entry))))
+        × (now (homes .exit) ≡ loadHomes (now (plan .entry)) (now (homes .exit)) (loadOf (now (plan .entry))))
+        × (now (lengths .exit) ≡ loadLengths (now (plan .entry)) (now (lengths .exit)) (loadOf (now (plan .entry))))
+        × LentSides (now (plan .entry)) l (now (by .exit)) ⌝ }
 {
     if plan.len() < HEAD_BYTES {
         return Loaded::Refused(Refusal::TooShort);
@@ -58,29 +62,54 @@ pub fn load(
     if !length_ok(plan, h) {
         return Loaded::Refused(Refusal::WrongLength);
     }
-    let mut j = [0u8; 64];
-    let joined = plan::joints::joints(plan, h, &mut j);
-    let mut t = [[NO_SIDE; 32]; 16];
-    let mut by = [[0u32; 4]; 16];
-    let fit = plan::routes::routes(plan, h, &mut t, &mut by);
+    let joined = plan::joints::joints(plan, h, joints);
+    let fit = plan::routes::routes(plan, h, routes, by);
     if !(joined & fit) {
         return Loaded::Refused(Refusal::BadField);
     }
-    let mut o = [0u8; 32];
-    if !plan::interfaces::homes(h, &j, &mut o) {
+    if !plan::interfaces::homes(h, joints, homes) {
         return Loaded::Refused(Refusal::BadJoint);
     }
     let mut arrive = [0u32; 32];
-    let mut ways = [[0u8; 16]; 16];
-    let served = arrivals::walks(h, &t, &j, &o, &by, &mut arrive, &mut ways);
-    if circles::ring_found(&by, &j, &o, &arrive, &served, h) {
+    let served = arrivals::walks(h, routes, joints, homes, by, &mut arrive, lengths);
+    if circles::ring_found(by, joints, homes, &arrive, &served, h) {
         return Loaded::Refused(Refusal::HasRing);
     }
+    Loaded::Accepted(h)
+}
+
+// Load: the first refusal that applies, in document 01's order, or the plan's head. An accepted plan's routes, joints, homes
+// and lengths of walks are then in the lent tables, and its destinations by router and side; a refusal leaves the tables as
+// they were, but for the last.
+pub fn load(
+    plan: &[u8],
+    routes: &mut [[u8; 32]; 16],
+    joints: &mut [u8; 64],
+    homes: &mut [u8; 32],
+    lengths: &mut [[u8; 16]; 16],
+    by: &mut [[u32; 4]; 16],
+) -> Loaded
+    ensures { λ l. ⌜ (l ≡ loadOf (now (plan .entry)))
+        × (now (routes .exit) ≡ loadRoutes (now (plan .entry)) (now (routes .entry)) (loadOf (now (plan .entry))))
+        × (now (joints .exit) ≡ loadJoints (now (plan .entry)) (now (joints .entry)) (loadOf (now (plan .entry))))
+        × (now (homes .exit) ≡ loadHomes (now (plan .entry)) (now (homes .entry)) (loadOf (now (plan .entry))))
+        × (now (lengths .exit) ≡ loadLengths (now (plan .entry)) (now (lengths .entry)) (loadOf (now (plan .entry))))
+        × LentSides (now (plan .entry)) l (now (by .exit)) ⌝ }
+{
+    let mut t = [[NO_SIDE; 32]; 16];
+    let mut j = [0u8; 64];
+    let mut o = [0u8; 32];
+    let mut ways = [[0u8; 16]; 16];
+    *by = [[0u32; 4]; 16];
+    let l = fill(plan, &mut t, &mut j, &mut o, &mut ways, by);
+    let Loaded::Accepted(_) = l else {
+        return l;
+    };
     *routes = t;
     *joints = j;
     *homes = o;
     *lengths = ways;
-    Loaded::Accepted(h)
+    l
 }
 
 // Document 01's number of a refusal.
@@ -133,7 +162,15 @@ pub fn walk(plan: &[u8], active: usize, passive: usize) -> Hub
     let mut joints = [0u8; 64];
     let mut homes = [0u8; 32];
     let mut lengths = [[0u8; 16]; 16];
-    let l = load(plan, &mut routes, &mut joints, &mut homes, &mut lengths);
+    let mut by = [[0u32; 4]; 16];
+    let l = load(
+        plan,
+        &mut routes,
+        &mut joints,
+        &mut homes,
+        &mut lengths,
+        &mut by,
+    );
     let Loaded::Accepted(h) = l else {
         return Hub(0);
     };

@@ -55,9 +55,17 @@ fn run(name: &[u8], plan: &[u8]) {
     let mut joints = [0u8; 64];
     let mut homes = [0u8; 32];
     let mut lengths = [[0u8; 16]; 16];
+    let mut by = [[0u32; 4]; 16];
     say(name);
     say(b" ");
-    let l = load::load(plan, &mut routes, &mut joints, &mut homes, &mut lengths);
+    let l = load::load(
+        plan,
+        &mut routes,
+        &mut joints,
+        &mut homes,
+        &mut lengths,
+        &mut by,
+    );
     number(load::load_number(l) as usize);
     let Loaded::Accepted(h) = l else {
         say(b"\n");

@@ -214,7 +214,15 @@ fn show(plan: &[u8]) {
     let mut joints = [0u8; 64];
     let mut homes = [0u8; 32];
     let mut lengths = [[0u8; 16]; 16];
-    let l = load::load(plan, &mut routes, &mut joints, &mut homes, &mut lengths);
+    let mut by = [[0u32; 4]; 16];
+    let l = load::load(
+        plan,
+        &mut routes,
+        &mut joints,
+        &mut homes,
+        &mut lengths,
+        &mut by,
+    );
     let Loaded::Accepted(h) = l else {
         show_refusal(load::load_number(l));
         return;

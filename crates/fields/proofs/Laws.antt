@@ -27,43 +27,63 @@ low-bit a b k h =
     ∙ ap (λ (n : ℕ). n % 2) (mul-add-div-right (pow-pos k) (a * 2 ^ suc (7 - k)) b)
     ∙ block-odd a (7 - k) (b / 2 ^ k)
 
-module _ (s : List ℕ) (p : ℕ) (low : getD s (p / 8 + 1) 0 < 256) where
+-- the two bytes from j on hold the field
+module _ (s : List ℕ) (j p : ℕ) (low : getD s (j + 1) 0 < 256) (from : 8 * j ≤ p) where
   abbrev both : ℕ
-  both = getD s (p / 8) 0 * 256 + getD s (p / 8 + 1) 0
+  both = getD s j 0 * 256 + getD s (j + 1) 0
 
   -- the bit w places on, of the two bytes
-  bit-is : (w : ℕ) → w < 6 → both / 2 ^ (16 - p % 8 - suc w) % 2 ≡ bitAt s (p + w)
+  bit-is : (w : ℕ) → p + w < 8 * j + 16 → both / 2 ^ (16 - (p - 8 * j) - suc w) % 2 ≡ bitAt s (p + w)
   unfolding bitAt
-  bit-is w h = ⊎-elim first second (lt-or-ge (p % 8 + w) 8)
+  bit-is w h = ⊎-elim first second (lt-or-ge (p + w) (8 * j + 8))
     where
-      first : p % 8 + w < 8 → both / 2 ^ (16 - p % 8 - suc w) % 2 ≡ getD s ((p + w) / 8) 0 / 2 ^ (7 - (p + w) % 8) % 2
+      first : p + w < 8 * j + 8
+          → both / 2 ^ (16 - (p - 8 * j) - suc w) % 2 ≡ getD s ((p + w) / 8) 0 / 2 ^ (7 - (p + w) % 8) % 2
       first g =
-          let i : (p + w) / 8 ≡ p / 8 = omega arith in
-          let k : 16 - p % 8 - suc w ≡ 8 + (7 - (p + w) % 8) = omega arith in
+          let i : (p + w) / 8 ≡ j = omega arith in
+          let k : 16 - (p - 8 * j) - suc w ≡ 8 + (7 - (p + w) % 8) = omega arith in
           ap (λ (n : ℕ). both / 2 ^ n % 2) k
-          ∙ ap (λ (n : ℕ). n % 2) (high-bit (getD s (p / 8) 0) (getD s (p / 8 + 1) 0) (7 - (p + w) % 8) low)
+          ∙ ap (λ (n : ℕ). n % 2) (high-bit (getD s j 0) (getD s (j + 1) 0) (7 - (p + w) % 8) low)
           ∙ ap (λ (n : ℕ). getD s n 0 / 2 ^ (7 - (p + w) % 8) % 2) (sym i)
 
-      second : 8 ≤ p % 8 + w → both / 2 ^ (16 - p % 8 - suc w) % 2 ≡ getD s ((p + w) / 8) 0 / 2 ^ (7 - (p + w) % 8) % 2
+      second : 8 * j + 8 ≤ p + w
+          → both / 2 ^ (16 - (p - 8 * j) - suc w) % 2 ≡ getD s ((p + w) / 8) 0 / 2 ^ (7 - (p + w) % 8) % 2
       second g =
-          let i : (p + w) / 8 ≡ p / 8 + 1 = omega arith in
-          let k : 16 - p % 8 - suc w ≡ 7 - (p + w) % 8 = omega arith in
+          let i : (p + w) / 8 ≡ j + 1 = omega arith in
+          let k : 16 - (p - 8 * j) - suc w ≡ 7 - (p + w) % 8 = omega arith in
           ap (λ (n : ℕ). both / 2 ^ n % 2) k
-          ∙ low-bit (getD s (p / 8) 0) (getD s (p / 8 + 1) 0) (7 - (p + w) % 8) (omega arith)
+          ∙ low-bit (getD s j 0) (getD s (j + 1) 0) (7 - (p + w) % 8) (omega arith)
           ∙ ap (λ (n : ℕ). getD s n 0 / 2 ^ (7 - (p + w) % 8) % 2) (sym i)
 
-  pub field-is : (w : ℕ) → w ≤ 6 → both / 2 ^ (16 - p % 8 - w) % 2 ^ w ≡ fieldOf s p w
+  pub field-in : (w : ℕ) → p + w ≤ 8 * j + 16 → both / 2 ^ (16 - (p - 8 * j) - w) % 2 ^ w ≡ fieldOf s p w
   unfolding fieldOf
-  field-is zero h = mod-one (both / 2 ^ (16 - p % 8 - 0))
-  field-is (suc w) h =
-      let x : ℕ = both / 2 ^ (16 - p % 8 - suc w) in
-      let k : 16 - p % 8 - suc w + 1 ≡ 16 - p % 8 - w = omega arith in
+  field-in zero h = mod-one (both / 2 ^ (16 - (p - 8 * j) - 0))
+  field-in (suc w) h =
+      let x : ℕ = both / 2 ^ (16 - (p - 8 * j) - suc w) in
+      let k : 16 - (p - 8 * j) - suc w + 1 ≡ 16 - (p - 8 * j) - w = omega arith in
       ap (λ (n : ℕ). x % 2 ^ n) (sym (add-one w))
       ∙ mod-pow-add x w 1
       ∙ ap₂ (λ (y b : ℕ). y * 2 + b)
-      (ap (λ (n : ℕ). n % 2 ^ w) (shr-shr both (16 - p % 8 - suc w) 1 ∙ ap (λ (n : ℕ). both / 2 ^ n) k)
-      ∙ field-is w (omega arith))
-      (bit-is w h)
+      (ap (λ (n : ℕ). n % 2 ^ w) (shr-shr both (16 - (p - 8 * j) - suc w) 1 ∙ ap (λ (n : ℕ). both / 2 ^ n) k)
+      ∙ field-in w (omega arith))
+      (bit-is w (omega arith))
+
+-- the byte in which the field begins and the next one hold it
+pub field-is : (s : List ℕ) (p : ℕ) → getD s (p / 8 + 1) 0 < 256 → (w : ℕ) → w ≤ 6
+    → (getD s (p / 8) 0 * 256 + getD s (p / 8 + 1) 0) / 2 ^ (16 - p % 8 - w) % 2 ^ w ≡ fieldOf s p w
+field-is s p low w h =
+    let o : p % 8 ≡ p - 8 * (p / 8) = omega arith in
+    rw o (field-in s (p / 8) p low (omega arith) w (omega arith))
+
+-- the byte in which the field ends and the one before hold it
+pub field-ends : (s : List ℕ) (p w : ℕ) → getD s ((p + w - 1) / 8) 0 < 256 → 1 ≤ w → w ≤ 6 → 8 ≤ p + w - 1
+    → (getD s ((p + w - 1) / 8 - 1) 0 * 256 + getD s ((p + w - 1) / 8) 0) / 2 ^ (7 - (p + w - 1) % 8) % 2 ^ w
+    ≡ fieldOf s p w
+field-ends s p w low one six room =
+    let next : (p + w - 1) / 8 ≡ (p + w - 1) / 8 - 1 + 1 = omega arith in
+    let o : 7 - (p + w - 1) % 8 ≡ 16 - (p - 8 * ((p + w - 1) / 8 - 1)) - w = omega arith in
+    ap₂ (λ (y k : ℕ). (getD s ((p + w - 1) / 8 - 1) 0 * 256 + getD s y 0) / 2 ^ k % 2 ^ w) next o
+    ∙ field-in s ((p + w - 1) / 8 - 1) p (rw (← next) low) (omega arith) w (omega arith)
 
 -- what the code computes with its shifts
 pub mask-is : (w : ℕ) → w ≤ 6 → 1 * 2 ^ w % 65536 ≡ 2 ^ w

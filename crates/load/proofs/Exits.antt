@@ -67,6 +67,13 @@ module _ (b : List ℕ) {h : Head} (read : h ≡ headOf b) where
       let long : length b ≡ byteCount h = eqb-true _ _ (and-both (sym e ∙ q) .0) ∙ ap byteCount (sym read) in
       omega (arith, long)
 
+  -- and all routes
+  pub holds-all : {size : Bool} → size ≡ lengthOk b → size ≡ true → bitCount h ≤ 8 * length b
+  unfolding lengthOk
+  holds-all e q =
+      let long : length b ≡ byteCount h = eqb-true _ _ (and-both (sym e ∙ q) .0) ∙ ap byteCount (sym read) in
+      omega (arith, long)
+
   -- ---- refusals 4 to 6, over the tables
   module _ (range : InRange h) where
     pub fields-tested : {j : List ℕ} {t : List (List ℕ)} {r : Bool} → j ≡ jointsOf b h → t ≡ routesOf b h
@@ -91,6 +98,12 @@ module _ (b : List ℕ) {h : Head} (read : h ≡ headOf b) where
     pub homes-kept : {j o : List ℕ} {t : List (List ℕ)} → j ≡ jointsOf b h → t ≡ routesOf b h
         → o ≡ homesOf (tablePlan h t j) → o ≡ homesOf (planOf b)
     homes-kept ej et e = e ∙ ap homesOf (plan-same ej et)
+
+-- the joints passed their test
+pub joints-fit : (h : Head) (j : List ℕ) (fit : Bool) {joined : Bool} → joined ≡ jointBytesOk h j → (joined && fit) ≡
+    true
+    → jointBytesOk h j ≡ true
+joints-fit h j fit e q = sym e ∙ and-both q .0
 
 -- the homes do not depend on the routes
 pub homes-alike : (h : Head) (routes other : List (List ℕ)) (joints : List ℕ)

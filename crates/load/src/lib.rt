@@ -34,8 +34,8 @@ fn length_ok(plan: &[u8], h: Head) -> bool
     plan::counts::fill_ok(plan, bits)
 }
 
-// The first refusal that applies, in document 01's order, or the plan's head. The tables are filled as the plan is read: an
-// accepted plan's routes, joints, homes, lengths of walks and sets of destinations are in them.
+// The first refusal that applies, in document 01's order, or the plan's head. The tables are filled as the plan is
+// read: an accepted plan's routes, joints, homes, lengths of walks and sets of destinations are in them.
 fn fill(
     plan: &[u8],
     routes: &mut [[u8; 32]; 16],
@@ -78,9 +78,9 @@ fn fill(
     Loaded::Accepted(h)
 }
 
-// Load: the first refusal that applies, in document 01's order, or the plan's head. An accepted plan's routes, joints, homes
-// and lengths of walks are then in the lent tables, and its destinations by router and side; a refusal leaves the tables as
-// they were, but for the last.
+// Load: the first refusal that applies, in document 01's order, or the plan's head. An accepted plan's routes, joints,
+// homes and lengths of walks are then in the lent tables, and its destinations by router and side; a refusal leaves
+// the tables as they were, but for the last.
 pub fn load(
     plan: &[u8],
     routes: &mut [[u8; 32]; 16],
@@ -163,7 +163,7 @@ pub fn walk(plan: &[u8], active: usize, passive: usize) -> Hub
     let mut homes = [0u8; 32];
     let mut lengths = [[0u8; 16]; 16];
     let mut by = [[0u32; 4]; 16];
-    let l = load(
+    let l = fill(
         plan,
         &mut routes,
         &mut joints,

@@ -7,7 +7,7 @@ use native.Mathlib.Numerals.{add-one}
 use native.Mathlib.Omega.{arith}
 use lib.ListN.{getD, replicate, length-replicate}
 use Rattle.basis.specs.Choice.{pick}
-use Rattle.basis.specs.Bounded.{allBelow, all-same}
+use Rattle.basis.specs.Bounded.{allBelow, all-same, all-at}
 use Rattle.basis.specs.Fold.{fill-at}
 use Rattle.fields.specs.Bits.{bitAt, fieldOf}
 use Rattle.fields.specs.Laws.{bit-of}
@@ -104,3 +104,9 @@ joints-tested b h few =
     all-same (4 * h .routers) (λ i. jointByteOk h (jointByte b i)) _
     (λ i l. ap (jointByteOk h)
     (sym (fill-at (jointByte b) (4 * h .routers) (replicate 64 0) i 0 l (rw length-replicate (omega arith)))))
+
+-- each joint of a table that passed the test passes it
+pub byte-fits : (h : Head) (js : List ℕ) → jointBytesOk h js ≡ true → (i : ℕ) → i < 4 * h .routers
+    → jointByteOk h (getD js i 0) ≡ true
+unfolding jointBytesOk
+byte-fits h js e i l = all-at (4 * h .routers) (λ i. jointByteOk h (getD js i 0)) e i l

@@ -1,21 +1,22 @@
 -- What a joint's byte says, by its kind; that comparing bytes is what the tests of joints do. Assumes nothing.
-use mathlib.Core.Path.{_≡_, sym, _∙_}
+use mathlib.Core.Path.{_≡_, refl, sym, _∙_}
 use mathlib.Core.Logic.{_⊎_, inl, inr}
-use mathlib.Core.Bool.{true, false, not, _&&_}
+use mathlib.Core.Bool.{Bool, true, false, not, _&&_, _||_}
 use mathlib.Core.List.{List, []}
-use Prim.Native.Nat.{ℕ, _+_, _*_, _-_, _/_, _%_, _≤_, _<_}
+use Prim.Native.Nat.{ℕ, zero, suc, _+_, _*_, _-_, _/_, _%_, _≤_, _<_}
 use native.Mathlib.Omega.{arith}
-use lib.Dec.{eqb}
-use lib.ListN.{getD}
-use borrow.Author.Tests.{eqb-true, eqb-false, eq-eqb, ne-eqb, lt-ltb, le-ltb}
+use lib.Dec.{eqb, ltb}
+use lib.ListN.{getD, set}
+use borrow.Author.Tests.{eqb-true, eqb-false, eq-eqb, ne-eqb, lt-ltb, le-ltb, ltb-true}
 use Rattle.basis.specs.Choice.{test, same-test}
 use Rattle.basis.specs.Bounded.{lt-or-ge}
 use Rattle.plan.specs.declared.Head.{Head}
 use Rattle.plan.specs.declared.Joint.the-variants.{Nothing, Router, Active, Passive}
 use Rattle.plan.specs.Plan.{active, passive}
 use Rattle.plan.specs.Rules.{jointOfPort, isRouterAt, backOk, leadsTo}
-use Rattle.plan.specs.Tables.{jointOfByte, tablePlan, interfaceAt}
-use Rattle.plan.specs.Found.{wantedOf, columnOf}
+use Rattle.plan.specs.Rules.{jointOk}
+use Rattle.plan.specs.Tables.{jointOfByte, jointByteOk, tablePlan, interfaceAt}
+use Rattle.plan.specs.Found.{wantedOf, columnOf, foundStep, markOf, numbersOf}
 
 -- ---- the four kinds
 data Kind (v : ℕ) : Type 0 where
@@ -163,16 +164,84 @@ module _ (a p v : ℕ) where
   unfolding columnOf
   column-none e f = rw (ne-eqb (v / 64) 2 e, ne-eqb (v / 64) 3 f)
 
-  pub column-le : a ≤ 16 → columnOf a p v ≤ 32
-  column-le h = by (kind-of v) (lt-or-ge (v / 4 % 16) a) (lt-or-ge (v / 4 % 16) p)
+-- ---- a joint's byte whose fields are in range
+and-true : (b : Bool) → (b && true) ≡ b
+and-true true = refl
+and-true false = refl
+
+and-first : (a b : Bool) → (a && b) ≡ true → a ≡ true
+and-first true b e = refl
+and-first false b e = e
+
+below-one : (n : ℕ) → ltb n 1 ≡ eqb n 0
+below-one zero = refl
+below-one (suc n) = le-ltb (suc n) 1 (omega arith) ∙ sym (ne-eqb (suc n) 0 (λ e. omega arith))
+
+module _ (h : Head) (v : ℕ) where
+  abbrev most : ℕ
+  most = numbersOf (h .routers) (h .actives) (h .passives) (v / 64)
+
+  -- the test by the kind's numbers
+  pub byte-tested : v < 256 → (ltb (v / 4 % 16) most && (eqb (v / 64) 1 || eqb (v % 4) 0)) ≡ jointByteOk h v
+  unfolding jointByteOk jointOk numbersOf
+  byte-tested small = by (kind-of v)
     where
-      by : Kind v → (v / 4 % 16 < a) ⊎ (a ≤ v / 4 % 16) → (v / 4 % 16 < p) ⊎ (p ≤ v / 4 % 16) → columnOf a p v ≤ 32
-      by (toRouter e) x y = omega (arith, column-none (λ f. omega arith) (λ f. omega arith))
-      by (toActive e) (inl l) y = omega (arith, column-active e l)
-      by (toActive e) (inr l) y = omega (arith, column-no-active e l)
-      by (toPassive e) x (inl l) = omega (arith, column-passive e l)
-      by (toPassive e) x (inr l) = omega (arith, column-no-passive e l)
-      by (toNone e f g) x y = omega (arith, column-none f g)
+      by : Kind v → (ltb (v / 4 % 16) most && (eqb (v / 64) 1 || eqb (v % 4) 0)) ≡ jointByteOk h v
+      by (toRouter e) = rw (eq-eqb (v / 64) 1 e, ne-eqb (v / 64) 0 (λ q. omega arith)) (and-true _)
+      by (toActive e) =
+          rw (eq-eqb (v / 64) 2 e, ne-eqb (v / 64) 0 (λ q. omega arith), ne-eqb (v / 64) 1 (λ q. omega arith))
+      by (toPassive e) =
+          rw (
+            eq-eqb (v / 64) 3 e,
+            ne-eqb (v / 64) 0 (λ q. omega arith),
+            ne-eqb (v / 64) 1 (λ q. omega arith),
+            ne-eqb (v / 64) 2 (λ q. omega arith),
+          )
+      by (toNone e f g) =
+          rw (
+            eq-eqb (v / 64) 0 (none e f g),
+            ne-eqb (v / 64) 1 e,
+            ne-eqb (v / 64) 2 f,
+            ne-eqb (v / 64) 3 g,
+            below-one (v / 4 % 16),
+          )
+        where
+          none : (v / 64 ≡ 1 → ⊥) → (v / 64 ≡ 2 → ⊥) → (v / 64 ≡ 3 → ⊥) → v / 64 ≡ 0
+          none e f g = omega arith
+
+  module _ (fits : jointByteOk h v ≡ true) where
+    active-fits : v / 64 ≡ 2 → v / 4 % 16 < h .actives
+    unfolding jointByteOk jointOk
+    active-fits e =
+        ltb-true (v / 4 % 16) (h .actives) (and-first _ _
+        (rw (ne-eqb (v / 64) 0 (λ q. omega arith), ne-eqb (v / 64) 1 (λ q. omega arith), eq-eqb (v / 64) 2 e) at fits))
+
+    passive-fits : v / 64 ≡ 3 → v / 4 % 16 < h .passives
+    unfolding jointByteOk jointOk
+    passive-fits e =
+        ltb-true (v / 4 % 16) (h .passives) (and-first _ _
+        (rw (
+          ne-eqb (v / 64) 0 (λ q. omega arith),
+          ne-eqb (v / 64) 1 (λ q. omega arith),
+          ne-eqb (v / 64) 2 (λ q. omega arith),
+        ) at fits))
+
+    pub named-active : v / 64 ≡ 2 → v / 4 % 16 ≡ columnOf (h .actives) (h .passives) v
+    named-active e = sym (column-active (h .actives) (h .passives) v e (active-fits e))
+
+    pub named-passive : v / 64 ≡ 3 → h .actives + v / 4 % 16 ≡ columnOf (h .actives) (h .passives) v
+    named-passive e = sym (column-passive (h .actives) (h .passives) v e (passive-fits e))
+
+-- ---- one more port
+module _ (a p : ℕ) (js : List ℕ) (i : ℕ) (t : List ℕ) where
+  pub step-none : getD js i 0 < 128 → t ≡ foundStep a p js i t
+  unfolding foundStep
+  step-none l = rw (column-none a p (getD js i 0) (λ e. omega arith) (λ e. omega arith))
+
+  pub step-some : {d x : ℕ} → d ≡ columnOf a p (getD js i 0) → d < 32 → x ≡ markOf (getD t d 0) i
+      → set t d x ≡ foundStep a p js i t
+  unfolding foundStep
+  step-some {d} e l f = rw (← e, lt-ltb d 32 l, f)
 
 module _ (h : Head) (act : h .actives ≤ 16) (pas : h .passives ≤ 16) (d : ℕ) (inside : d < h .actives + h .passives)
     (v : ℕ) where

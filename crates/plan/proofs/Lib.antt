@@ -3,3 +3,4 @@ pub mod Marks
 pub mod Routing
 pub mod JointLaws
 pub mod PortLaws
+pub mod Fill

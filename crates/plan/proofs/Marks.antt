@@ -4,12 +4,12 @@ use mathlib.Core.Path.{_≡_, refl, sym, ap, _∙_}
 use mathlib.Core.Logic.{_⊎_, inl, inr}
 use mathlib.Core.Bool.{Bool, true, false, _&&_, _||_, true≢false, false≢true}
 use mathlib.Core.List.{List}
-use Prim.Native.Nat.{ℕ, zero, suc, _+_, _*_, _^_, _≤_, _<_}
+use Prim.Native.Nat.{ℕ, zero, suc, _+_, _*_, _%_, _^_, _≤_, _<_}
 use native.Mathlib.Omega.{arith}
 use lib.Dec.{eqb, ltb}
 use lib.ListN.{getD, set, length, replicate, length-set}
 use lib.Seq.{getD-set-same, getD-set-other}
-use lib.Pow.{pow-pos, add-lt-pow}
+use lib.Pow.{pow-pos, pow-lt, pow-add, add-lt-pow, shl-exact}
 use borrow.Author.Tests.{eqb-true, eq-eqb, ne-eqb, lt-ltb, le-ltb, ltb-true}
 use Rattle.basis.specs.Choice.{test, same-test, refuted}
 use Rattle.basis.specs.Bounded.{allBelow, all-at, all-of, lt-or-ge}
@@ -52,6 +52,16 @@ pub side-of : (b : List ℕ) (at d : ℕ) {v : ℕ} → v ≡ fieldOf b (at + 3 
 unfolding sideAt
 side-of b at d e = e
 
+-- ---- the set of a column
+pub first-column : 1 ≡ single 0
+unfolding single
+first-column = refl
+
+pub next-column : (d : ℕ) {c : ℕ} → c ≡ single d → d + 1 < 32 → (c * 2 ^ 1) % 2 ^ 32 ≡ single (d + 1)
+unfolding single
+next-column d e l =
+    rw e (shl-exact (d + 1) 1 32 (pow-lt (omega arith)) (omega arith) ∙ sym (pow-add 2 d 1))
+
 -- ---- a set that holds nothing is 0
 small-pow : (n : ℕ) → n < 2 ^ n
 small-pow zero = pow-pos 0
@@ -61,7 +71,7 @@ small-pow (suc (suc n)) =
     let one : 1 < 2 ^ suc n = omega (arith, h) in
     omega (arith, add-lt-pow {a = suc n} {b = 1} (suc n) h one)
 
-nothing : (s : ℕ) → ((i : ℕ) → has s i ≡ false) → s ≡ 0
+pub nothing : (s : ℕ) → ((i : ℕ) → has s i ≡ false) → s ≡ 0
 nothing s f = no-member s s (small-pow s) (λ i l. f i)
 
 module _ (g : ℕ → ℕ) (small : (i : ℕ) → g i < 8) (first : List ℕ) where
@@ -99,9 +109,10 @@ module _ (g : ℕ → ℕ) (small : (i : ℕ) → g i < 8) (first : List ℕ) wh
           rw (le-ltb k i l, lt-ltb k (i + 1) (omega arith), other)
       by (inr l) (inr q) = rw (le-ltb k i l, le-ltb k (i + 1) (omega arith))
 
-  pub sorted-more : (i : ℕ) {row row′ s s′ : List ℕ} {v : ℕ} → Sorted g i first row s → v ≡ g i
-      → (row′ ≡ set row i v) × (s′ ≡ set s v (either (getD s v 0) (single i))) → Sorted g (i + 1) first row′ s′
-  sorted-more i {row} {row′} {s} {s′} {v} w e (er, es) = rw es (record {
+  pub sorted-more : (i : ℕ) {row row′ s s′ : List ℕ} {v column : ℕ} → Sorted g i first row s → v ≡ g i
+      → column ≡ single i → (row′ ≡ set row i v) × (s′ ≡ set s v (either (getD s v 0) column))
+      → Sorted g (i + 1) first row′ s′
+  sorted-more i {row} {row′} {s} {s′} {v} w e f (er, es) = rw (es, f) (record {
     long = length-set s v (either (getD s v 0) (single i)) ∙ w .long;
     filled = up-more (fill g) first i (w .filled) (er ∙ ap (set row i) e);
     sets = λ o l. at o l (same-or-not v o);

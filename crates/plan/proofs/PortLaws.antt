@@ -9,7 +9,7 @@ use lib.Dec.{eqb, ltb}
 use lib.ListN.{length, getD, set, replicate, length-set, getD-replicate}
 use lib.Seq.{getD-set-same, getD-set-other}
 use borrow.Author.Tests.{eqb-true, eqb-false, eq-eqb, ne-eqb, lt-ltb, le-ltb}
-use Rattle.basis.specs.Choice.{test, same-test}
+use Rattle.basis.specs.Choice.{pick, test, same-test}
 use Rattle.basis.specs.Bounded.{allBelow, all-at, all-of, all-same, lt-or-ge}
 use Rattle.basis.specs.Fold.{upTo, fill, up-suc, up-none, up-keeps-at, up-same}
 use Rattle.plan.specs.declared.Head.{Head}
@@ -19,7 +19,7 @@ use Rattle.plan.specs.Plan.{Plan, Interface, active, passive}
 use Rattle.plan.specs.Rules.{jointOfPort, leadsTo, meet, portsOf, isOne, portOr0, interfacesOk}
 use Rattle.plan.specs.Tables.{jointOfByte, tablePlan, interfaceAt, homesOf}
 use Rattle.plan.specs.Found.{wantedOf, toldOf, columnOf, markOf, cellOf, portOfCell, foundStep, foundOf}
-use Rattle.plan.proofs.JointLaws.{port-joint, leads, leads-column, column-le}
+use Rattle.plan.proofs.JointLaws.{port-joint, leads, leads-column}
 
 -- ---- counting
 meet-miss : (i : ℕ) (t : Ports) → meet false i t ≡ t
@@ -109,13 +109,13 @@ module _ (h : Head) (js : List ℕ) where
     mark-cell i Several l = refl
 
     abbrev Cells : ℕ → List ℕ → Type 0
-    Cells i t = (length t ≡ 33) × ((d : ℕ) → d < h .actives + h .passives → getD t d 0
+    Cells i t = (length t ≡ 32) × ((d : ℕ) → d < h .actives + h .passives → getD t d 0
         ≡ cellOf (upTo (portStep pl (interfaceAt h d)) i Missing))
 
     cells-step : (i : ℕ) (t : List ℕ) → i < 4 * h .routers → Cells i t
         → Cells (suc i) (foundStep (h .actives) (h .passives) js i t)
     unfolding foundStep
-    cells-step i t l (len, cells) = (length-set t c x ∙ len, λ d m. at d m (test (eqb d c)))
+    cells-step i t l (len, cells) = by (lt-or-ge c 32)
       where
         c : ℕ
         c = columnOf (h .actives) (h .passives) (getD js i 0)
@@ -132,19 +132,26 @@ module _ (h : Head) (js : List ℕ) where
             ∙ ap (λ (b : Bool). meet b i (upTo (portStep pl (interfaceAt h d)) i Missing))
             (leads-column h act pas d m (getD js i 0) ∙ e)
 
-        at : (d : ℕ) (m : d < h .actives + h .passives) → (eqb d c ≡ true) ⊎ (eqb d c ≡ false)
+        miss-cell : (d : ℕ) (m : d < h .actives + h .passives) → eqb d c ≡ false
+            → getD t d 0 ≡ cellOf (upTo (portStep pl (interfaceAt h d)) (suc i) Missing)
+        miss-cell d m e =
+            rw (next d m false e)
+            (cells d m ∙ ap cellOf (sym (meet-miss i (upTo (portStep pl (interfaceAt h d)) i Missing))))
+
+        at : c < 32 → (d : ℕ) (m : d < h .actives + h .passives) → (eqb d c ≡ true) ⊎ (eqb d c ≡ false)
             → getD (set t c x) d 0 ≡ cellOf (upTo (portStep pl (interfaceAt h d)) (suc i) Missing)
-        at d m (inl e) =
+        at k d m (inl e) =
             let q : d ≡ c = eqb-true d c e in
             ap (λ (k : ℕ). getD (set t c x) k 0) q
-            ∙ getD-set-same t c x 0 (omega (arith, column-le (h .actives) (h .passives) (getD js i 0) act))
+            ∙ getD-set-same t c x 0 (rw len k)
             ∙ ap (λ (k : ℕ). markOf k i) (ap (λ (k : ℕ). getD t k 0) (sym q) ∙ cells d m)
             ∙ mark-cell i (upTo (portStep pl (interfaceAt h d)) i Missing) (omega (arith, small (interfaceAt h d) i))
             ∙ ap cellOf (sym (next d m true e))
-        at d m (inr e) =
-            rw (next d m false e)
-            (getD-set-other t c d x 0 (eqb-false d c e) ∙ cells d m
-            ∙ ap cellOf (sym (meet-miss i (upTo (portStep pl (interfaceAt h d)) i Missing))))
+        at k d m (inr e) = getD-set-other t c d x 0 (eqb-false d c e) ∙ miss-cell d m e
+
+        by : (c < 32) ⊎ (32 ≤ c) → Cells (suc i) (pick (ltb c 32) (set t c x) t)
+        by (inl k) = rw (lt-ltb c 32 k) (length-set t c x ∙ len, λ d m. at k d m (test (eqb d c)))
+        by (inr k) = rw (le-ltb c 32 k) (len, λ d m. miss-cell d m (ne-eqb d c (λ q. omega arith)))
 
     pub found-at : (d : ℕ) → d < h .actives + h .passives
         → getD (foundOf h js) d 0 ≡ cellOf (portsOf pl (interfaceAt h d))
@@ -152,12 +159,12 @@ module _ (h : Head) (js : List ℕ) where
     found-at d l = rw (ports-up (interfaceAt h d)) (all .1 d l)
       where
         all : Cells (4 * h .routers)
-            (upTo (foundStep (h .actives) (h .passives) js) (4 * h .routers) (replicate 33 64))
+            (upTo (foundStep (h .actives) (h .passives) js) (4 * h .routers) (replicate 32 64))
         all =
-            up-keeps-at Cells (foundStep (h .actives) (h .passives) js) (4 * h .routers) (replicate 33 64)
+            up-keeps-at Cells (foundStep (h .actives) (h .passives) js) (4 * h .routers) (replicate 32 64)
             (λ i t k p. cells-step i t k p) (
               refl,
-              λ d m. getD-replicate 33 d 64 0 (omega arith)
+              λ d m. getD-replicate 32 d 64 0 (omega arith)
                   ∙ ap cellOf (up-none (portStep pl (interfaceAt h d)) Missing),
             )
 

@@ -4,6 +4,7 @@ use mathlib.Core.Logic.{_⊎_, inl, inr}
 use mathlib.Core.Bool.{Bool, true, false, _&&_}
 use mathlib.Core.List.{List, []}
 use Prim.Native.Nat.{ℕ, zero, suc, _+_, _*_, _≤_, _<_}
+use native.Mathlib.Nat.{mul-comm, mul-suc, mul-le-mul-left}
 use native.Mathlib.Numerals.{add-one}
 use native.Mathlib.Omega.{arith}
 use lib.Dec.{eqb, ltb}
@@ -47,6 +48,12 @@ all-next n f = rw (add-one n) (by (allBelow n f))
     by : (x : Bool) → pick x (f n) false ≡ (x && f n)
     by true = refl
     by false = refl
+
+-- the bits of a router's routes are among those of all routers'
+pub row-inside : (n r k : ℕ) → r < k → n * r + n ≤ k * n
+row-inside n r k l =
+    let more : suc r ≤ k = omega arith in
+    omega (arith, mul-suc n r, mul-le-mul-left n more, mul-comm n k)
 
 module _ (b : List ℕ) (n start : ℕ) where
   -- the position of a router's routes

@@ -36,11 +36,19 @@ cellOf Several = 65
 unfoldable pub portOfCell : ℕ → ℕ
 portOfCell cell = pick (ltb cell 64) cell 0
 
+-- a table of cells after one more port, whose joint's byte names a column or none
 unfoldable pub foundStep : ℕ → ℕ → List ℕ → ℕ → List ℕ → List ℕ
 foundStep actives passives joints i t =
-    set t (columnOf actives passives (getD joints i 0))
-    (markOf (getD t (columnOf actives passives (getD joints i 0)) 0) i)
+    pick (ltb (columnOf actives passives (getD joints i 0)) 32)
+    (set t (columnOf actives passives (getD joints i 0))
+    (markOf (getD t (columnOf actives passives (getD joints i 0)) 0) i))
+    t
 
--- the cell of every column, and one more for joints that name no interface
+-- the cell of every column
 unfoldable pub foundOf : Head → List ℕ → List ℕ
-foundOf h joints = upTo (foundStep (h .actives) (h .passives) joints) (4 * h .routers) (replicate 33 64)
+foundOf h joints = upTo (foundStep (h .actives) (h .passives) joints) (4 * h .routers) (replicate 32 64)
+
+-- how many numbers the joints of a kind may have
+unfoldable pub numbersOf : ℕ → ℕ → ℕ → ℕ → ℕ
+numbersOf routers actives passives kind =
+    pick (eqb kind 1) routers (pick (eqb kind 2) actives (pick (eqb kind 3) passives 1))

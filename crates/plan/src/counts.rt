@@ -1,8 +1,10 @@
 // The plan's first 45 bits: counts and capacities, their ranges, the length that they give, and the fill bits behind it.
 use crate::Head;
 use kinds::Credit;
+use sets::below;
+use sets::both;
 ghost use mathlib.Core.Path.{_≡_};
-ghost use Prim.Native.Nat.{_≤_, _<_, _*_};
+ghost use Prim.Native.Nat.{_≤_, _<_, _*_, _+_};
 ghost use lib.ListN.{length};
 ghost use Rattle.plan.specs.Head.{capacityAt, headOf, within, countsOk, capacitiesOk, headOk, bitCount};
 ghost use Rattle.plan.specs.Rules.{fillOk};
@@ -130,16 +132,13 @@ pub fn bit_count(h: Head) -> usize
     JOINTS_AT + ROUTER_BITS * h.routers + ROUTE_BITS * (h.routers * (h.actives + h.passives))
 }
 
-// Whether each bit from a position on is zero: refusal 3.
+// Whether each bit from a position in the last byte on is zero: refusal 3.
 pub fn fill_ok(plan: &[u8], from: usize) -> bool
-    requires { ⌜ (length (now plan) ≤ 4096) × (from ≤ 8 * length (now plan)) ⌝ }
+    requires { ⌜ (1 ≤ length (now plan)) × (length (now plan) ≤ 4096) × (from ≤ 8 * length (now plan))
+        × (8 * length (now plan) < from + 8) ⌝ }
     ensures { λ r. ⌜ r ≡ fillOk (now (plan .entry)) from ⌝ }
 {
     let n = 8 * plan.len() - from;
-    for i in 0..n {
-        if fields::field(plan, from + i, 1) != 0 {
-            return false;
-        }
-    }
-    true
+    let last = plan[plan.len() - 1];
+    both(last as u32, below(n)) == 0
 }

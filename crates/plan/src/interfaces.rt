@@ -6,33 +6,27 @@ use crate::joints::NUMBER;
 use crate::joints::NUMBERS;
 use crate::joints::SIDES;
 use crate::joints::TO_ACTIVE;
-use crate::joints::TO_PASSIVE;
 use crate::joints::TO_ROUTER;
 ghost use mathlib.Core.Path.{_≡_};
-ghost use mathlib.Core.Bool.{_&&_};
+ghost use mathlib.Core.Bool.{true, _&&_};
 ghost use mathlib.Core.List.{[]};
 ghost use Prim.Native.Nat.{_≤_, _<_};
 ghost use lib.ListN.{length, getD, replicate};
 ghost use Rattle.plan.specs.declared.Head.{Head};
-ghost use Rattle.plan.specs.Head.{destinations};
+ghost use Rattle.plan.specs.Head.{destinations, Counts};
 ghost use Rattle.plan.specs.Rules.{backOk, jointOfPort, namedOk, portsOf, interfacesOk};
-ghost use Rattle.plan.specs.Tables.{tablePlan, interfaceAt, homesOf};
-ghost use Rattle.plan.specs.Found.{wantedOf, toldOf, columnOf, markOf, foundOf, portOfCell};
+ghost use Rattle.plan.specs.Tables.{tablePlan, interfaceAt, homesOf, jointByteOk, jointBytesOk};
+ghost use Rattle.plan.specs.Found.{wantedOf, toldOf, columnOf, markOf, foundStep, foundOf, portOfCell};
 
 // A cell of a column that no port was found for, and of one with several.
 const NONE_FOUND: u8 = 64;
 
 const MORE_FOUND: u8 = 65;
 
-// The byte of a joint to port 0, and the upper six bits of one to active 0 and to passive 0.
+// The byte of a joint to port 0, and the least of one to an interface.
 const ROUTER_FROM: usize = 64;
 
-const ACTIVE_FROM: usize = 32;
-
-const PASSIVE_FROM: usize = 48;
-
-// A column behind all interfaces.
-const NO_COLUMN: usize = 32;
+const ACTIVE_BYTES: u8 = 128;
 
 // Whether the i-th port, if it is joined to a router, is joined to another router, whose joint names it back.
 pub fn back_ok(joints: &[u8; 64], i: usize) -> bool
@@ -92,24 +86,16 @@ pub fn ports(h: Head, joints: &[u8; 64], d: usize) -> Ports
     told(count, at)
 }
 
-// The column of the interface that a joint's byte names, or 32 where it names none of the plan's.
-fn column(actives: usize, passives: usize, v: u8) -> usize
-    requires { ⌜ (actives ≤ 16) × (passives ≤ 16) ⌝ }
-    ensures { λ r. ⌜ r ≡ columnOf actives passives v ⌝ }
+// The column of the interface that a joint's byte names.
+fn column(h: Head, v: u8) -> usize
+    requires { ⌜ Counts h × (128 ≤ v) × (jointByteOk h v ≡ true) ⌝ }
+    ensures { λ r. ⌜ (r ≡ columnOf (h .actives) (h .passives) v) × (r < 32) ⌝ }
 {
-    let kind = v / KIND;
     let number = (v / NUMBER % NUMBERS) as usize;
-    if kind == TO_ACTIVE {
-        return if number < actives { number } else { NO_COLUMN };
+    if v / KIND == TO_ACTIVE {
+        return number;
     }
-    if kind == TO_PASSIVE {
-        return if number < passives {
-            actives + number
-        } else {
-            NO_COLUMN
-        };
-    }
-    NO_COLUMN
+    h.actives + number
 }
 
 // A column's cell after one more port.
@@ -119,19 +105,32 @@ fn mark(cell: u8, i: u8) -> u8
     if cell == NONE_FOUND { i } else { MORE_FOUND }
 }
 
+// One more port: that of an interface is marked; answers false for a router joint that is not named back.
+fn visit(h: Head, joints: &[u8; 64], t: &mut [u8; 32], i: usize) -> bool
+    requires { ⌜ Counts h × (i < 64) × (jointByteOk h (getD (now joints) i 0) ≡ true) ⌝ }
+    ensures { λ r. ⌜ (now (t .exit) ≡ foundStep (h .actives) (h .passives) (now (joints .entry)) i (now (t .entry)))
+        × (r ≡ backOk (tablePlan h [] (now (joints .entry))) i
+        (jointOfPort (tablePlan h [] (now (joints .entry))) i)) ⌝ }
+{
+    let v = joints[i];
+    if v < ACTIVE_BYTES {
+        return back_ok(joints, i);
+    }
+    let d = column(h, v);
+    t[d] = mark(t[d], i as u8);
+    true
+}
+
 // The port of each interface, by column; answers whether each router joint is named back by another router: refusal 5.
-fn found(h: Head, joints: &[u8; 64], t: &mut [u8; 33]) -> bool
-    requires { ⌜ (h .routers ≤ 16) × (h .actives ≤ 16) × (h .passives ≤ 16) × (now t ≡ replicate 33 64) ⌝ }
-    ensures { λ ok. ⌜ (now (t .exit) ≡ foundOf h (now (joints .entry))) × (ok ≡ namedOk (tablePlan h [] (now (joints .entry)))) ⌝ }
+fn found(h: Head, joints: &[u8; 64], t: &mut [u8; 32]) -> bool
+    requires { ⌜ Counts h × (jointBytesOk h (now joints) ≡ true) × (now t ≡ replicate 32 64) ⌝ }
+    ensures { λ ok. ⌜ (now (t .exit) ≡ foundOf h (now (joints .entry)))
+        × (ok ≡ namedOk (tablePlan h [] (now (joints .entry)))) ⌝ }
 {
     let n = SIDES * h.routers;
-    let actives = h.actives;
-    let passives = h.passives;
     let mut ok = true;
     for i in 0..n {
-        ok = ok & back_ok(joints, i);
-        let d = column(actives, passives, joints[i]);
-        t[d] = mark(t[d], i as u8);
+        ok = ok & visit(h, joints, t, i);
     }
     ok
 }
@@ -146,11 +145,11 @@ fn port_or_0(cell: u8) -> u8
 // The port number of every interface, by column; answers whether router joints are named back by another router, and each
 // interface has exactly one joint: refusal 5.
 pub fn homes(h: Head, joints: &[u8; 64], r: &mut [u8; 32]) -> bool
-    requires { ⌜ (h .routers ≤ 16) × (h .actives ≤ 16) × (h .passives ≤ 16) × (now r ≡ replicate 32 0) ⌝ }
+    requires { ⌜ Counts h × (jointBytesOk h (now joints) ≡ true) × (now r ≡ replicate 32 0) ⌝ }
     ensures { λ ok. ⌜ (now (r .exit) ≡ homesOf (tablePlan h [] (now (joints .entry))))
         × (ok ≡ (namedOk (tablePlan h [] (now (joints .entry))) && interfacesOk (tablePlan h [] (now (joints .entry))))) ⌝ }
 {
-    let mut t = [NONE_FOUND; 33];
+    let mut t = [NONE_FOUND; 32];
     let named = found(h, joints, &mut t);
     let n = h.actives + h.passives;
     let mut ok = true;

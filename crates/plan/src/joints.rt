@@ -4,6 +4,10 @@ use crate::Joint;
 ghost use mathlib.Core.Path.{_≡_};
 ghost use Prim.Native.Nat.{_≤_, _<_, _+_, _*_};
 ghost use lib.ListN.{length, replicate};
+ghost use Rattle.plan.specs.declared.Head.{Head};
+ghost use Rattle.plan.specs.Head.{Counts};
+ghost use Rattle.basis.specs.Choice.{pick};
+ghost use Rattle.plan.specs.Found.{numbersOf};
 ghost use Rattle.plan.specs.Tables.{jointByte, jointsOf, jointByteOk, jointBytesOk, jointOfByte};
 
 // The byte in which the first joint begins. Its last three bits and the next byte's first five are the joint.
@@ -36,37 +40,47 @@ pub fn joint_byte(plan: &[u8], i: usize) -> u8
     high % 8 * 32 + low / 8
 }
 
+// One of two numbers.
+fn choose(first: bool, x: u8, y: u8) -> u8
+    ensures { λ r. ⌜ r ≡ pick first x y ⌝ }
+{
+    if first { x } else { y }
+}
+
+// How many numbers the joints of a kind may have.
+fn numbers(routers: u8, actives: u8, passives: u8, kind: u8) -> u8
+    ensures { λ r. ⌜ r ≡ numbersOf routers actives passives kind ⌝ }
+{
+    let other = choose(kind == TO_PASSIVE, passives, 1);
+    let interfaces = choose(kind == TO_ACTIVE, actives, other);
+    choose(kind == TO_ROUTER, routers, interfaces)
+}
+
 // Whether kind, number and side are in range.
-pub fn joint_byte_ok(h: Head, v: u8) -> bool
-    ensures { λ r. ⌜ r ≡ jointByteOk h v ⌝ }
+fn joint_byte_ok(routers: u8, actives: u8, passives: u8, v: u8) -> bool
+    ensures { λ r. ⌜ ((h : Head) → routers ≡ h .routers → actives ≡ h .actives → passives ≡ h .passives
+        → r ≡ jointByteOk h v) ⌝ }
 {
     let kind = v / KIND;
-    let number = (v / NUMBER % NUMBERS) as usize;
-    let side = v % NUMBER;
-    if kind == 0 {
-        return (number == 0) & (side == 0);
-    }
-    if kind == TO_ROUTER {
-        return number < h.routers;
-    }
-    if kind == TO_ACTIVE {
-        return (number < h.actives) & (side == 0);
-    }
-    (number < h.passives) & (side == 0)
+    let most = numbers(routers, actives, passives, kind);
+    (v / NUMBER % NUMBERS < most) & ((kind == TO_ROUTER) | (v % NUMBER == 0))
 }
 
 // The joints of the plan's routers, and nothing at the ports behind them; answers whether each joint's kind, number and side
 // are in range: refusal 4.
 pub fn joints(plan: &[u8], h: Head, t: &mut [u8; 64]) -> bool
-    requires { ⌜ (h .routers ≤ 16) × (6 + 4 * h .routers ≤ length (now plan)) × (now t ≡ replicate 64 0) ⌝ }
+    requires { ⌜ Counts h × (6 + 4 * h .routers ≤ length (now plan)) × (now t ≡ replicate 64 0) ⌝ }
     ensures { λ ok. ⌜ (now (t .exit) ≡ jointsOf (now (plan .entry)) h) × (ok ≡ jointBytesOk h (now (t .exit))) ⌝ }
 {
     let n = SIDES * h.routers;
+    let routers = h.routers as u8;
+    let actives = h.actives as u8;
+    let passives = h.passives as u8;
     let mut ok = true;
     for i in 0..n {
         let v = joint_byte(plan, i);
         t[i] = v;
-        ok = ok & joint_byte_ok(h, v);
+        ok = ok & joint_byte_ok(routers, actives, passives, v);
     }
     ok
 }

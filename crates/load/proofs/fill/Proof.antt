@@ -1,3 +1,4 @@
+use Rattle.load.proofs.Exits.{holds-all, joints-fit}
 use Rattle.load.proofs.Exits.{sweeps-ready}
 use mathlib.Core.Bool.{_&&_}
 use mathlib.Core.Path.{refl, ap₂, _∙_}
@@ -57,7 +58,7 @@ joints-requires : tie.Need-joints-requires
 joints-requires c κs =
     let c5 = c .before .before .before .before .before in (
       range-counts _ (head-range _ (c .before .before .before .before .head-ok .ensures) (not-false _ (c .before
-          .before .before .if2 .left))) .0,
+          .before .before .if2 .left))),
       long-enough _ (c5 .read-head .ensures) (c .before .before .length-ok .ensures)
           (not-false _ (c .before .if3 .left)),
       c5 .before .before .before .pre .1,
@@ -67,9 +68,12 @@ joints-requires c κs =
 routes-requires : tie.Need-routes-requires
 routes-requires c κs =
     let c5 = c .before .before .before .before .before in
-    let c10 = c5 .before .before .before .before .before in
-    let k = range-counts _ (head-range _ (c5 .before .before .head-ok .ensures) (not-false _ (c5 .before .if2
-    .left))) in (k .0, k .1, k .2, c10 .before .pre .0)
+    let c10 = c5 .before .before .before .before .before in (
+      range-counts _ (head-range _ (c5 .before .before .head-ok .ensures) (not-false _ (c5 .before .if2 .left))),
+      holds-all _ (c5 .before .before .before .read-head .ensures) (c5 .length-ok .ensures) (not-false _ (c .before
+          .before .before .before .if3 .left)),
+      c10 .before .pre .0,
+    )
 
 -- src/lib.rt
 returns-4 : tie.Need-returns-4
@@ -87,12 +91,12 @@ homes-requires : tie.Need-homes-requires
 homes-requires c κs =
     let c5 = c .before .before .before .before .before in
     let c10 = c5 .before .before .before .before .before in
-    let c15 = c10 .before .before .before .before .before in
-    let k = range-counts _ (head-range _ (c10 .before .head-ok .ensures) (not-false _ (c10 .if2 .left))) in (
-      k .0,
-      k
-          .1,
-      k .2,
+    let c15 = c10 .before .before .before .before .before in (
+      range-counts _ (head-range _ (c10 .before .head-ok .ensures) (not-false _ (c10 .if2 .left))),
+      joints-fit _ _ (c
+          .before .before .before .routes .result) (c5 .before .joints .ensures .1) (not-false _ (c .before .before
+          .if4
+          .left)),
       c15 .pre .2,
     )
 

@@ -6,12 +6,12 @@ use Rattle.load.proofs.walk.Statement.{statement}
 use Rattle.load.proofs.walk.Tie as tie
 use Rattle.load.proofs.walk.Reads as reads
 use Rattle.load.proofs.walk.Lts as lts
-use Rattle.load.proofs.load.Reads as load-reads
+use Rattle.load.proofs.fill.Reads as fill-reads
 use Rattle.load.proofs.pair_walk.Reads as pair-walk-reads
 
 -- src/lib.rt:158:9
-load-requires : tie.Need-load-requires
-load-requires c κs = search needs
+fill-requires : tie.Need-fill-requires
+fill-requires c κs = search needs
 
 -- src/lib.rt:159:26
 enum-known-l : tie.Need-enum-known-l
@@ -23,27 +23,27 @@ enum-told c = search needs
 
 -- src/lib.rt:160:9
 returns : tie.Need-returns
-returns c = walk-refused _ _ _ (c .before .before .load .ensures .0) (c .enum-told .given .1)
+returns c = walk-refused _ _ _ (c .before .before .fill .ensures .0) (c .enum-told .given .1)
 
 -- src/lib.rt:163:9
 returns-2 : tie.Need-returns-2
-returns-2 c = walk-no-active _ _ _ (c .before .before .before .before .before .load .ensures .0)
+returns-2 c = walk-no-active _ _ _ (c .before .before .before .before .before .fill .ensures .0)
     (c .before .before .before .l .given .1) (c .if1 .taken)
 
 -- src/lib.rt:166:9
 returns-3 : tie.Need-returns-3
-returns-3 c = walk-no-passive _ _ _ (c .before .before .before .before .before .before .before .load .ensures .0)
+returns-3 c = walk-no-passive _ _ _ (c .before .before .before .before .before .before .before .fill .ensures .0)
     (c .before .before .before .before .before .l .given .1) (c .before .before .if1 .left) (c .if2 .taken)
 
 -- src/lib.rt:168:5
 pair-walk-requires : tie.Need-pair-walk-requires
 pair-walk-requires c κs =
-    let t = (lent _ _ _ _ _ (c .before .before .before .before .before .before .before .before .load .ensures .0)
+    let t = (lent _ _ _ _ _ (c .before .before .before .before .before .before .before .before .fill .ensures .0)
     (c .before .before .before .before .before .before .l .given .1)
-    (c .before .before .before .before .before .before .before .before .load .ensures .1)
-    (c .before .before .before .before .before .before .before .before .load .ensures .2)
-    (c .before .before .before .before .before .before .before .before .load .ensures .3)
-    (c .before .before .before .before .before .before .before .before .load .ensures .4)) in
+    (c .before .before .before .before .before .before .before .before .fill .ensures .1)
+    (c .before .before .before .before .before .before .before .before .fill .ensures .2)
+    (c .before .before .before .before .before .before .before .before .fill .ensures .3)
+    (c .before .before .before .before .before .before .before .before .fill .ensures .4)) in
     let a = t .range .actives .1 in
     let p = t .range .passives .1 in
     let la = c .before .before .before .if1 .left in
@@ -53,21 +53,21 @@ pair-walk-requires c κs =
 -- src/lib.rt:151:1
 returns-4 : tie.Need-returns-4
 returns-4 c =
-    walk-of-pair _ _ _ (c .before .before .before .before .before .before .before .before .before .load .ensures .0)
+    walk-of-pair _ _ _ (c .before .before .before .before .before .before .before .before .before .fill .ensures .0)
     (c .before .before .before .before .before .before .before .l .given .1)
-    (lent _ _ _ _ _ (c .before .before .before .before .before .before .before .before .before .load .ensures .0)
+    (lent _ _ _ _ _ (c .before .before .before .before .before .before .before .before .before .fill .ensures .0)
     (c .before .before .before .before .before .before .before .l .given .1)
-    (c .before .before .before .before .before .before .before .before .before .load .ensures .1)
-    (c .before .before .before .before .before .before .before .before .before .load .ensures .2)
-    (c .before .before .before .before .before .before .before .before .before .load .ensures .3)
-    (c .before .before .before .before .before .before .before .before .before .load .ensures .4))
+    (c .before .before .before .before .before .before .before .before .before .fill .ensures .1)
+    (c .before .before .before .before .before .before .before .before .before .fill .ensures .2)
+    (c .before .before .before .before .before .before .before .before .before .fill .ensures .3)
+    (c .before .before .before .before .before .before .before .before .before .fill .ensures .4))
     (c .before .before .before .before .if1 .left) (c .before .before .if2 .left) (c .pair-walk .ensures)
 
 pub walk-spec : {M : Type 1} → statement M
 walk-spec =
     tie.close
     (tie.spec
-    load-requires
+    fill-requires
     enum-known-l
     enum-told
     returns

@@ -1,37 +1,29 @@
-use Rattle.plan.specs.Found.{columnOf}
-use borrow.Author.Tests.{eq-eqb, ne-eqb, lt-ltb, le-ltb}
+use Rattle.plan.proofs.JointLaws.{named-active, named-passive}
+use native.Mathlib.Omega.{arith}
 use borrow.Author.Needs.{needs}
 use Rattle.plan.proofs.interfaces.column.Statement.{statement}
 use Rattle.plan.proofs.interfaces.column.Tie as tie
+use Rattle.plan.proofs.interfaces.column.Reads as reads
+use Rattle.plan.proofs.interfaces.column.Lts as lts
 
+-- src/interfaces.rt:94:18
 cast-number : tie.Need-cast-number
 cast-number c = search needs
 
+-- src/interfaces.rt:96:9
 returns : tie.Need-returns
-unfolding columnOf
-returns c = simp (eq-eqb _ _ (c .before .if1 .taken), lt-ltb _ _ (c .if2 .taken))
+returns c = (named-active _ _ (c .before .pre .2) (c .if1 .taken), omega arith)
 
-returns-2 : tie.Need-returns-2
-unfolding columnOf
-returns-2 c = simp (eq-eqb _ _ (c .before .if1 .taken), le-ltb _ _ (c .if2 .left))
-
+-- src/interfaces.rt:98:5
 add-result : tie.Need-add-result
 add-result c = search needs
 
-returns-3 : tie.Need-returns-3
-unfolding columnOf
-returns-3 c =
-    simp (ne-eqb _ _ (c .before .before .if1 .left), eq-eqb _ _ (c .before .if3 .taken), lt-ltb _ _ (c .if4 .taken))
-
-returns-4 : tie.Need-returns-4
-unfolding columnOf
-returns-4 c =
-    simp (ne-eqb _ _ (c .before .before .if1 .left), eq-eqb _ _ (c .before .if3 .taken), le-ltb _ _ (c .if4 .left))
-
-returns-5 : tie.Need-returns-5
-unfolding columnOf
-returns-5 c = simp (ne-eqb _ _ (c .before .if1 .left), ne-eqb _ _ (c .if3 .left))
+-- src/interfaces.rt:90:1
+returns-2 : tie.Need-returns-2
+returns-2 c =
+    let two = c .before .before .pre .1 in
+    let other = c .before .if1 .left in
+    (named-passive _ _ (c .before .before .pre .2) (omega arith), omega arith)
 
 pub column-spec : {M : Type 1} → statement M
-column-spec =
-    tie.close (tie.spec cast-number returns returns-2 add-result returns-3 returns-4 returns-5)
+column-spec = tie.close (tie.spec cast-number returns add-result returns-2)

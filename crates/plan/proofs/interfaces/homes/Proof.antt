@@ -27,7 +27,7 @@ abbrev μ-loop : tie.MeasureT-loop
 -- src/interfaces.rt:154:9
 found-requires : tie.Need-found-requires Inv-loop μ-loop
 found-requires c κs =
-    let p = c .before .pre in (p .0, p .1, p .2, refl)
+    let p = c .before .pre in (p .0, p .1, refl)
 
 -- src/interfaces.rt:155:13
 add-n : tie.Need-add-n Inv-loop μ-loop
@@ -77,11 +77,11 @@ returns c =
     let p = start .pre in
     let found = c .before .before .before .found .ensures in
     let end : c .before .loop .d ≡ a .h .actives + a .h .passives = omega arith in (
-      up-done _ _ (c .before .loop .inv .1) end ∙ ap (upTo _ _) (p .3)
-          ∙ found-homes (a .h) (a .joints .now) (p .0) (p .1) (p .2) _ (found .0),
+      up-done _ _ (c .before .loop .inv .1) end ∙ ap (upTo _ _) (p .2)
+          ∙ found-homes (a .h) (a .joints .now) (p .0 .0) (p .0 .1) (p .0 .2) _ (found .0),
       ap₂ (λ (x y : Bool). x && y) (found .1)
           (all-end _ (c .before .loop .inv .2) end
-          ∙ found-ok (a .h) (a .joints .now) (p .0) (p .1) (p .2) _ (found .0)),
+          ∙ found-ok (a .h) (a .joints .now) (p .0 .0) (p .0 .1) (p .0 .2) _ (found .0)),
     )
 
 pub homes-spec : {M : Type 1} → statement M

@@ -1,9 +1,11 @@
+use mathlib.Core.Path.{_≡_}
 use Rattle.plan.proofs.Marks.{side-small, sorted-row}
 use borrow.Author.Needs.{needs}
 use Rattle.plan.proofs.routes.read_row.Statement.{statement}
 use Rattle.plan.proofs.routes.read_row.Tie as tie
 use Rattle.plan.proofs.routes.read_row.Reads as reads
 use Rattle.plan.proofs.routes.read_row.Lts as lts
+use Rattle.plan.proofs.routes.fits.Reads as fits-reads
 use Rattle.plan.proofs.routes.sorted.Reads as sorted-reads
 
 -- src/routes.rt:91:9
@@ -42,12 +44,16 @@ array-read-sides-4 c = search needs
 element-write-sides-4 : tie.Need-element-write-sides-4
 element-write-sides-4 c = search needs
 
--- src/routes.rt:86:1
+-- src/routes.rt
+fits-requires : tie.Need-fits-requires
+fits-requires c κs = search needs
+
+-- src/routes.rt
 returns : tie.Need-returns
 returns c =
-    let start = c .before .before .before .before in
-    sorted-row _ (side-small _ _) _ _ (c .sorted .ensures .0) (start .args .sides .now)
-    (c .before .before .before .before .pre .2) (c .sorted .ensures .1)
+    let c5 = c .before .before .before .before .before in
+    sorted-row _ (side-small _ _) _ _ (c .before .before .sorted .ensures) (c5 .before .args .sides .now) (c5 .before
+    .pre .4) (c .fits2 .ensures)
 
 pub read-row-spec : {M : Type 1} → statement M
 read-row-spec =
@@ -62,4 +68,5 @@ read-row-spec =
     element-write-sides-3
     array-read-sides-4
     element-write-sides-4
+    fits-requires
     returns)

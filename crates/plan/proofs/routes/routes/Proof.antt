@@ -1,3 +1,4 @@
+use Rattle.plan.proofs.Routing.{row-inside}
 use mathlib.Core.Path.{_≡_}
 use Prim.Native.Nat.{_+_, _-_, _≤_, _*_}
 use borrow.Author.Needs.{needs}
@@ -30,7 +31,7 @@ add-at c = search needs
 
 -- src/routes.rt:152:5
 loop-holds : tie.Need-loop-holds Inv-loop μ-loop
-loop-holds c = (omega arith, rows-none _ _ _ _ _ (c .before .before .before .pre .3))
+loop-holds c = (omega arith, rows-none _ _ _ _ _ (c .before .before .before .pre .2))
 
 -- src/routes.rt:153:56
 mul-read-row : tie.Need-mul-read-row Inv-loop μ-loop
@@ -72,12 +73,13 @@ index-1-read-row-2 c = omega arith
 -- src/routes.rt:153:19
 read-row-requires : tie.Need-read-row-requires Inv-loop μ-loop
 read-row-requires c κs =
-    let h : c .before .before .before .before .before .before .before .args .h .actives
-    + c .before .before .before .before .before .before .before .args .h .passives ≤ 32 = omega arith in (
-      omega arith,
-      omega (arith, mul-le-mul-right (c .before .before .before .loop .r) h),
-      c .before .before .before .loop .inv .1 .four _ (omega arith),
-    )
+    let c5 = c .before .before .before .before .before in
+    let h : c5 .before .before .args .h .actives + c5 .before .before .args .h .passives ≤ 32 = omega arith in
+    let row = mul-le-mul-right (c .before .before .before .loop .r) h in
+    let inside = row-inside (c5 .before .before .args .h .actives + c5 .before .before .args .h .passives) (c .before
+    .before .before .loop .r) (c5 .before .before .args .h .routers) (omega arith) in
+    let long = c5 .before .before .pre .1 in
+    (omega arith, omega arith, omega arith, omega arith, c .before .before .before .loop .inv .1 .four _ (omega arith))
 
 -- src/routes.rt:152:9
 add-r : tie.Need-add-r Inv-loop μ-loop

@@ -2,17 +2,22 @@
 use mathlib.Core.Path.{_≡_, refl, sym, ap, _∙_, subst}
 use mathlib.Core.Bool.{Bool, true, false}
 use mathlib.Core.List.{List}
-use Prim.Native.Nat.{ℕ}
+use Prim.Native.Nat.{ℕ, _≤_, _<_}
+use native.Mathlib.Omega.{arith}
+use lib.ListN.{length}
+use Rattle.kinds.specs.declared.Refusal.{Refusal}
 use Rattle.plan.specs.declared.Head.{Head}
-use Rattle.plan.specs.Head.{InRange}
+use Rattle.plan.specs.Head.{InRange, Counts}
 use Rattle.plan.specs.Plan.{Plan, planOf}
 use Rattle.plan.specs.Tables.{tablePlan}
 use Rattle.arrivals.specs.Pairs.{lengthsOf}
 use Rattle.load.specs.declared.Loaded.{Loaded}
-use Rattle.load.specs.declared.Loaded.the-variants.{Accepted}
+use Rattle.load.specs.declared.Loaded.the-variants.{Accepted, Refused}
 use Rattle.load.specs.Load.{loadOf, loadRoutes, loadJoints, loadHomes, loadLengths, LentSides}
 use Rattle.load.proofs.Right.{lent-plan, lent-tables, lent-ports}
 use Rattle.claims.proofs.Exact.{accepted-range}
+use Rattle.layout.specs.Offsets.{size}
+use Rattle.acts.specs.Counts.{stateSize, size-by}
 use Rattle.moves.specs.Lent.{Lent}
 use Rattle.moves.specs.Wiring.{Wiring}
 use Rattle.inspect.specs.declared.Checked.{Checked}
@@ -66,3 +71,27 @@ checked-true false e f = cc
 pub checked-false : {x : Checked} (t : Bool) → x ≡ checkedOf t → x ≡ NotState → t ≡ false
 checked-false true e f = cc
 checked-false false e f = refl
+
+-- ---- the answers of Load and of Start's length
+pub refused-same : {l : Loaded} {w v : Refusal} → l ≡ Refused w → l ≡ Refused v → w ≡ v
+refused-same e f = cc
+
+pub refused-not : {l : Loaded} {h : Head} {w v : Refusal} → l ≡ Accepted h → l ≡ Refused w → v ≡ w
+refused-not e f = let z : _≡_ {A = ℕ} 0 1 = cc in absurd (omega arith)
+
+pub table-head : (h : Head) (routes : List (List ℕ)) (joints : List ℕ) → tablePlan h routes joints .head ≡ h
+unfolding tablePlan
+table-head h routes joints = refl
+
+module _ (h : Head) (routes : List (List ℕ)) (joints : List ℕ) {n : ℕ} (e : n ≡ stateSize h) where
+  same-size : size (tablePlan h routes joints) ≡ n
+  same-size = size-by (tablePlan h routes joints) ∙ ap stateSize (table-head h routes joints) ∙ sym e
+
+  pub size-short : (b : List ℕ) → length b < n → length b < size (tablePlan h routes joints)
+  size-short b l = rw same-size l
+
+  pub size-long : (b : List ℕ) → n ≤ length b → size (tablePlan h routes joints) ≤ length b
+  size-long b l = rw same-size l
+
+pub counts-of : {h : Head} → InRange h → Counts h
+counts-of r = (r .routers .1, r .actives .1, r .passives .1)

@@ -1,0 +1,44 @@
+-- What Rust and C get: an answer as a number, and what a call returns as bytes.
+use mathlib.Core.List.{List}
+use Prim.Native.Nat.{ℕ}
+use lib.ListN.{set}
+use lib.Seq.{sets}
+use Rattle.kinds.specs.Refusals.{refusalNumber}
+use Rattle.packets.specs.declared.Answer.{Answer}
+use Rattle.packets.specs.declared.Answer.the-variants.{Refused, Done, Taken, Holds}
+use Rattle.packets.specs.Answers.{entryNumber}
+use Rattle.plan.specs.Plan.{planOf}
+use Rattle.load.specs.declared.Loaded.{Loaded}
+use Rattle.load.specs.declared.Loaded.the-variants.{Accepted, Refused as Unloaded}
+use Rattle.load.specs.Load.{loadOf}
+use Rattle.acts.specs.Counts.{stateSize}
+use Rattle.layout.specs.Places.{packetBytes}
+
+-- 0 for what is accepted, else the refusal's number
+abbrev pub answerNumber : Answer → ℕ
+answerNumber (Refused w) = refusalNumber w
+answerNumber Done = 0
+answerNumber (Taken x) = 0
+answerNumber (Holds e) = 0
+
+-- a packet that was taken: kind, active, passive, slot, hub; else the bytes stay
+abbrev pub takenBytes : Answer → List ℕ → List ℕ
+takenBytes (Refused w) b = b
+takenBytes Done b = b
+takenBytes (Taken x) b = sets b 0 (packetBytes x)
+takenBytes (Holds e) b = b
+
+-- an entry: the side, 4 for free; else the bytes stay
+abbrev pub entryByte : Answer → List ℕ → List ℕ
+entryByte (Refused w) b = b
+entryByte Done b = b
+entryByte (Taken x) b = b
+entryByte (Holds e) b = set b 0 (entryNumber e)
+
+-- the state's bytes of a plan that loads, else 0
+abbrev pub sizeIn : Loaded → ℕ
+sizeIn (Accepted h) = stateSize h
+sizeIn (Unloaded w) = 0
+
+unfoldable pub sizeOf : List ℕ → ℕ
+sizeOf p = sizeIn (loadOf p)

@@ -20,7 +20,14 @@ pub fn start(plan: &[u8], state: &mut [u8]) -> Answer
     let mut homes = [0u8; 32];
     let mut lengths = [[0u8; 16]; 16];
     let mut by = [[0u32; 4]; 16];
-    let l = load::load(plan, &mut routes, &mut joints, &mut homes, &mut lengths, &mut by);
+    let l = load::load(
+        plan,
+        &mut routes,
+        &mut joints,
+        &mut homes,
+        &mut lengths,
+        &mut by,
+    );
     let Loaded::Accepted(h) = l else {
         return Answer::Refused(opened::refusal(l));
     };
@@ -40,7 +47,14 @@ pub fn read(plan: &[u8], state: &mut [u8]) -> Answer
     let mut homes = [0u8; 32];
     let mut lengths = [[0u8; 16]; 16];
     let mut by = [[0u32; 4]; 16];
-    let l = load::load(plan, &mut routes, &mut joints, &mut homes, &mut lengths, &mut by);
+    let l = load::load(
+        plan,
+        &mut routes,
+        &mut joints,
+        &mut homes,
+        &mut lengths,
+        &mut by,
+    );
     let Loaded::Accepted(h) = l else {
         return Answer::Refused(opened::refusal(l));
     };
@@ -60,7 +74,14 @@ pub fn execute(plan: &[u8], state: &mut [u8]) -> Answer
     let mut homes = [0u8; 32];
     let mut lengths = [[0u8; 16]; 16];
     let mut by = [[0u32; 4]; 16];
-    let l = load::load(plan, &mut routes, &mut joints, &mut homes, &mut lengths, &mut by);
+    let l = load::load(
+        plan,
+        &mut routes,
+        &mut joints,
+        &mut homes,
+        &mut lengths,
+        &mut by,
+    );
     let Loaded::Accepted(h) = l else {
         return Answer::Refused(opened::refusal(l));
     };
@@ -80,7 +101,14 @@ pub fn write(plan: &[u8], state: &mut [u8]) -> Answer
     let mut homes = [0u8; 32];
     let mut lengths = [[0u8; 16]; 16];
     let mut by = [[0u32; 4]; 16];
-    let l = load::load(plan, &mut routes, &mut joints, &mut homes, &mut lengths, &mut by);
+    let l = load::load(
+        plan,
+        &mut routes,
+        &mut joints,
+        &mut homes,
+        &mut lengths,
+        &mut by,
+    );
     let Loaded::Accepted(h) = l else {
         return Answer::Refused(opened::refusal(l));
     };
@@ -100,7 +128,14 @@ pub fn launch(plan: &[u8], state: &mut [u8], active: usize, passive: usize, slot
     let mut homes = [0u8; 32];
     let mut lengths = [[0u8; 16]; 16];
     let mut by = [[0u32; 4]; 16];
-    let l = load::load(plan, &mut routes, &mut joints, &mut homes, &mut lengths, &mut by);
+    let l = load::load(
+        plan,
+        &mut routes,
+        &mut joints,
+        &mut homes,
+        &mut lengths,
+        &mut by,
+    );
     let Loaded::Accepted(h) = l else {
         return Answer::Refused(opened::refusal(l));
     };
@@ -120,7 +155,14 @@ pub fn reply(plan: &[u8], state: &mut [u8], passive: usize, choice: usize) -> An
     let mut homes = [0u8; 32];
     let mut lengths = [[0u8; 16]; 16];
     let mut by = [[0u32; 4]; 16];
-    let l = load::load(plan, &mut routes, &mut joints, &mut homes, &mut lengths, &mut by);
+    let l = load::load(
+        plan,
+        &mut routes,
+        &mut joints,
+        &mut homes,
+        &mut lengths,
+        &mut by,
+    );
     let Loaded::Accepted(h) = l else {
         return Answer::Refused(opened::refusal(l));
     };
@@ -140,7 +182,14 @@ pub fn consume(plan: &[u8], state: &mut [u8], active: usize) -> Answer
     let mut homes = [0u8; 32];
     let mut lengths = [[0u8; 16]; 16];
     let mut by = [[0u32; 4]; 16];
-    let l = load::load(plan, &mut routes, &mut joints, &mut homes, &mut lengths, &mut by);
+    let l = load::load(
+        plan,
+        &mut routes,
+        &mut joints,
+        &mut homes,
+        &mut lengths,
+        &mut by,
+    );
     let Loaded::Accepted(h) = l else {
         return Answer::Refused(opened::refusal(l));
     };
@@ -160,7 +209,14 @@ pub fn entry(plan: &[u8], state: &[u8], router: usize, side: usize, slot: usize)
     let mut homes = [0u8; 32];
     let mut lengths = [[0u8; 16]; 16];
     let mut by = [[0u32; 4]; 16];
-    let l = load::load(plan, &mut routes, &mut joints, &mut homes, &mut lengths, &mut by);
+    let l = load::load(
+        plan,
+        &mut routes,
+        &mut joints,
+        &mut homes,
+        &mut lengths,
+        &mut by,
+    );
     let Loaded::Accepted(h) = l else {
         return Answer::Refused(opened::refusal(l));
     };

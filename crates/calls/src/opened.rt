@@ -14,7 +14,9 @@ ghost use Rattle.moves.specs.Wiring.{Wiring};
 
 // The phases' bytes.
 const READ: u8 = 0;
+
 const EXECUTE: u8 = 1;
+
 const WRITE: u8 = 2;
 
 // Load's refusal.
@@ -28,7 +30,13 @@ pub fn refusal(l: Loaded) -> Refusal
 }
 
 // Read.
-pub fn read(h: Head, routes: &[[u8; 32]; 16], joints: &[u8; 64], homes: &[u8; 32], s: &mut [u8]) -> Answer
+pub fn read(
+    h: Head,
+    routes: &[[u8; 32]; 16],
+    joints: &[u8; 64],
+    homes: &[u8; 32],
+    s: &mut [u8],
+) -> Answer
     requires { ⌜ Wiring h (now routes) (now joints) (now homes)
         × Holds (tablePlan h (now routes) (now joints)) (Good (tablePlan h (now routes) (now joints))) (now s) ⌝ }
     ensures { λ x. ⌜ Acts (tablePlan h (now (routes .entry)) (now (joints .entry))) read (now (s .entry)) x (now (s .exit)) ⌝ }
@@ -41,7 +49,13 @@ pub fn read(h: Head, routes: &[[u8; 32]; 16], joints: &[u8; 64], homes: &[u8; 32
 }
 
 // Execute.
-pub fn execute(h: Head, routes: &[[u8; 32]; 16], joints: &[u8; 64], homes: &[u8; 32], s: &mut [u8]) -> Answer
+pub fn execute(
+    h: Head,
+    routes: &[[u8; 32]; 16],
+    joints: &[u8; 64],
+    homes: &[u8; 32],
+    s: &mut [u8],
+) -> Answer
     requires { ⌜ Wiring h (now routes) (now joints) (now homes)
         × Holds (tablePlan h (now routes) (now joints)) (Good (tablePlan h (now routes) (now joints))) (now s) ⌝ }
     ensures { λ x. ⌜ Acts (tablePlan h (now (routes .entry)) (now (joints .entry))) execute (now (s .entry)) x (now (s .exit)) ⌝ }
@@ -54,7 +68,13 @@ pub fn execute(h: Head, routes: &[[u8; 32]; 16], joints: &[u8; 64], homes: &[u8;
 }
 
 // Write.
-pub fn write(h: Head, routes: &[[u8; 32]; 16], joints: &[u8; 64], homes: &[u8; 32], s: &mut [u8]) -> Answer
+pub fn write(
+    h: Head,
+    routes: &[[u8; 32]; 16],
+    joints: &[u8; 64],
+    homes: &[u8; 32],
+    s: &mut [u8],
+) -> Answer
     requires { ⌜ Wiring h (now routes) (now joints) (now homes)
         × Holds (tablePlan h (now routes) (now joints)) (Good (tablePlan h (now routes) (now joints))) (now s) ⌝ }
     ensures { λ x. ⌜ Acts (tablePlan h (now (routes .entry)) (now (joints .entry))) write (now (s .entry)) x (now (s .exit)) ⌝ }

@@ -2,9 +2,13 @@
 use load::Loaded;
 use packets::Answer;
 use packets::Entry;
+use packets::Packet;
 ghost use mathlib.Core.Path.{_≡_};
 ghost use Rattle.load.specs.Load.{loadOf, loadNumber};
 ghost use Rattle.load.specs.Walk.{walkOf};
+ghost use lib.ListN.{set};
+ghost use lib.Seq.{sets};
+ghost use Rattle.layout.specs.Places.{packetBytes};
 ghost use Rattle.packets.specs.Answers.{entryNumber};
 ghost use Rattle.machine.specs.Calls.{read, execute, write, launch, reply, consume, entry};
 ghost use Rattle.claims.specs.Calls.{startOn, callOn};
@@ -63,7 +67,14 @@ pub extern "C" fn pandabrass_size(plan: &[u8]) -> u32
     let mut homes = [0u8; 32];
     let mut lengths = [[0u8; 16]; 16];
     let mut by = [[0u32; 4]; 16];
-    let l = load::load(plan, &mut routes, &mut joints, &mut homes, &mut lengths, &mut by);
+    let l = load::load(
+        plan,
+        &mut routes,
+        &mut joints,
+        &mut homes,
+        &mut lengths,
+        &mut by,
+    );
     let Loaded::Accepted(h) = l else {
         return 0;
     };
@@ -108,11 +119,23 @@ pub extern "C" fn pandabrass_write(plan: &[u8], state: &mut [u8]) -> u32
 
 // Launch.
 #[no_mangle]
-pub extern "C" fn pandabrass_launch(plan: &[u8], state: &mut [u8], active: u32, passive: u32, slot: u32) -> u32
+pub extern "C" fn pandabrass_launch(
+    plan: &[u8],
+    state: &mut [u8],
+    active: u32,
+    passive: u32,
+    slot: u32,
+) -> u32
     ensures { λ r. ⌜ (r ≡ answerNumber (callOn (now (plan .entry)) (launch active passive slot) (now (state .entry)) .answer))
         × (now (state .exit) ≡ callOn (now (plan .entry)) (launch active passive slot) (now (state .entry)) .bytes) ⌝ }
 {
-    number_of(calls::launch(plan, state, active as usize, passive as usize, slot as usize))
+    number_of(calls::launch(
+        plan,
+        state,
+        active as usize,
+        passive as usize,
+        slot as usize,
+    ))
 }
 
 // Reply: 1 accept, 0 decline.
@@ -126,7 +149,12 @@ pub extern "C" fn pandabrass_reply(plan: &[u8], state: &mut [u8], passive: u32, 
 
 // Consume: the packet's kind, active, passive, slot and hub stand in the first five bytes of out.
 #[no_mangle]
-pub extern "C" fn pandabrass_consume(plan: &[u8], state: &mut [u8], active: u32, out: &mut [u8; 8]) -> u32
+pub extern "C" fn pandabrass_consume(
+    plan: &[u8],
+    state: &mut [u8],
+    active: u32,
+    out: &mut [u8; 8],
+) -> u32
     ensures { λ r. ⌜ (r ≡ answerNumber (callOn (now (plan .entry)) (consume active) (now (state .entry)) .answer))
         × (now (state .exit) ≡ callOn (now (plan .entry)) (consume active) (now (state .entry)) .bytes)
         × (now (out .exit) ≡ takenBytes (callOn (now (plan .entry)) (consume active) (now (state .entry)) .answer) (now (out .entry))) ⌝ }
@@ -136,13 +164,10 @@ pub extern "C" fn pandabrass_consume(plan: &[u8], state: &mut [u8], active: u32,
     number_of(x)
 }
 
-// The bytes of a packet that was taken.
-fn put_taken(x: Answer, out: &mut [u8; 8])
-    ensures { λ _. ⌜ now (out .exit) ≡ takenBytes x (now (out .entry)) ⌝ }
+// A packet's five bytes.
+fn put_packet(p: Packet, out: &mut [u8; 8])
+    ensures { λ _. ⌜ now (out .exit) ≡ sets (now (out .entry)) 0 (packetBytes p) ⌝ }
 {
-    let Answer::Taken(p) = x else {
-        return;
-    };
     let k = p.kind;
     out[0] = rows::kind_code(k);
     out[1] = p.active;
@@ -151,9 +176,28 @@ fn put_taken(x: Answer, out: &mut [u8; 8])
     out[4] = p.hub.0;
 }
 
+// The bytes of a packet that was taken.
+fn put_taken(x: Answer, out: &mut [u8; 8])
+    ensures { λ _. ⌜ now (out .exit) ≡ takenBytes x (now (out .entry)) ⌝ }
+{
+    match x {
+        Answer::Refused(_) => {}
+        Answer::Done => {}
+        Answer::Taken(p) => put_packet(p, out),
+        Answer::Holds(_) => {}
+    }
+}
+
 // Entry: the side stands in the first byte of out, 4 for free.
 #[no_mangle]
-pub extern "C" fn pandabrass_entry(plan: &[u8], state: &[u8], router: u32, side: u32, slot: u32, out: &mut [u8; 8]) -> u32
+pub extern "C" fn pandabrass_entry(
+    plan: &[u8],
+    state: &[u8],
+    router: u32,
+    side: u32,
+    slot: u32,
+    out: &mut [u8; 8],
+) -> u32
     ensures { λ r. ⌜ (r ≡ answerNumber (callOn (now (plan .entry)) (entry router side slot) (now (state .entry)) .answer))
         × (now (out .exit) ≡ entryByte (callOn (now (plan .entry)) (entry router side slot) (now (state .entry)) .answer) (now (out .entry))) ⌝ }
 {
@@ -172,12 +216,21 @@ fn entry_number(e: Entry) -> u8
     }
 }
 
+// A side's byte.
+fn put_side(e: Entry, out: &mut [u8; 8])
+    ensures { λ _. ⌜ now (out .exit) ≡ set (now (out .entry)) 0 (entryNumber e) ⌝ }
+{
+    out[0] = entry_number(e);
+}
+
 // The byte of an entry that was told.
 fn put_entry(x: Answer, out: &mut [u8; 8])
     ensures { λ _. ⌜ now (out .exit) ≡ entryByte x (now (out .entry)) ⌝ }
 {
-    let Answer::Holds(e) = x else {
-        return;
-    };
-    out[0] = entry_number(e);
+    match x {
+        Answer::Refused(_) => {}
+        Answer::Done => {}
+        Answer::Taken(_) => {}
+        Answer::Holds(e) => put_side(e, out),
+    }
 }

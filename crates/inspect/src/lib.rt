@@ -84,10 +84,32 @@ fn busy_ok(
     let mut up = no_tracks();
     arrivals::tracks::tracks(h, joints, homes, by, &mut up);
     let mut coming = none_coming();
-    if !wires::outputs_ok(h, routes, joints, homes, lengths, by, &up, s, &mut coming, spent) {
+    if !wires::outputs_ok(
+        h,
+        routes,
+        joints,
+        homes,
+        lengths,
+        by,
+        &up,
+        s,
+        &mut coming,
+        spent,
+    ) {
         return false;
     }
-    if !lines::lines_ok(h, routes, joints, homes, lengths, by, &up, s, &coming, spent) {
+    if !lines::lines_ok(
+        h,
+        routes,
+        joints,
+        homes,
+        lengths,
+        by,
+        &up,
+        s,
+        &coming,
+        spent,
+    ) {
         return false;
     }
     if s[0] == 2 {

@@ -61,13 +61,13 @@ returns c = (
   omega arith,
   λ n i l s. side-on n l (c .before .w .given .1) (stands-on (c .before .before .before .before .before
       .before .before .before .before .before .pre .0) (c .before .before .before .before .before .before .before
-          .before
+      .before
       .before .before .pre .1) (c .before .before .before .before .before .before .before .before .before .before .pre
       .2) (c .before .before .before .before .before .before .index3 .ensures .0) (c .before .before .before .before
       .before .before .before .before .before .index .ensures .0) (c .before .before .before .before .index4 .ensures
-          .0)
+      .0)
       (c .before .before .before .before .before .before .before .index2 .ensures .0) (c .before .before .before
-          .stands
+      .stands
       .ensures) s),
 )
 
@@ -77,7 +77,7 @@ returns-2 c = (
   omega arith,
   λ n i l s. side-end (c .enum-told .given .1) (stands-on (c .before .before .before .before .before
       .before .before .before .before .pre .0) (c .before .before .before .before .before .before .before .before
-          .before
+      .before
       .pre .1) (c .before .before .before .before .before .before .before .before .before .pre .2) (c .before .before
       .before .before .before .index3 .ensures .0) (c .before .before .before .before .before .before .before .before
       .index .ensures .0) (c .before .before .before .index4 .ensures .0) (c .before .before .before .before .before
@@ -90,7 +90,7 @@ returns-3 c = (
   omega arith,
   λ n i l s. side-lost (c .enum-told2 .given .1) (stands-on (c .before .before .before .before .before
       .before .before .before .before .pre .0) (c .before .before .before .before .before .before .before .before
-          .before
+      .before
       .pre .1) (c .before .before .before .before .before .before .before .before .before .pre .2) (c .before .before
       .before .before .before .index3 .ensures .0) (c .before .before .before .before .before .before .before .before
       .index .ensures .0) (c .before .before .before .index4 .ensures .0) (c .before .before .before .before .before

@@ -85,15 +85,15 @@ set-up-requires c κs =
       c .before .enum-told .given .1,
       (unit-at _ _ _ _ (c .before .before .before .before .before .before
           .before .before .before .before .base-of .ensures .0) (c .before .before .before .before .before .before
-              .before
+          .before
           .before .before .queue-row .ensures)),
       holds-by _ (heads-by (p .0 .wired) (range-of (p .0)) _ (is-router (p .0) (p
           .1)) (unit-at _ _ _ _ (c .before .before .before .before .before .before .before .before .before .before
-              .base-of
+          .base-of
           .ensures .0) (c .before .before .before .before .before .before .before .before .before .queue-row .ensures))
-              (c
+          (c
           .before .before .before .before .before .before .before .if1 .left) (c .before .before .before .before
-              .before .if2
+          .before .if2
           .left) (c .before .before .before .packet-at .ensures)) (p .2),
     )
 
@@ -110,15 +110,15 @@ tear-down-requires c κs =
       c .before .enum-told2 .given .1,
       (unit-at _ _ _ _ (c .before .before .before .before .before .before
           .before .before .before .before .base-of .ensures .0) (c .before .before .before .before .before .before
-              .before
+          .before
           .before .before .queue-row .ensures)),
       holds-by _ (heads-by (p .0 .wired) (range-of (p .0)) _ (is-router (p .0) (p
           .1)) (unit-at _ _ _ _ (c .before .before .before .before .before .before .before .before .before .before
-              .base-of
+          .base-of
           .ensures .0) (c .before .before .before .before .before .before .before .before .before .queue-row .ensures))
-              (c
+          (c
           .before .before .before .before .before .before .before .if1 .left) (c .before .before .before .before
-              .before .if2
+          .before .if2
           .left) (c .before .before .before .packet-at .ensures)) (p .2),
     )
 

@@ -79,7 +79,7 @@ may-go-requires-2 c κs =
       p .3,
       holds-by _ (leaves-passing (p .0
           .wired) (range-of (p .0)) _ (is-queue (p .0) (p .2)) (p .4 ∙ c .if2 .left) (c .before .before .before
-              .queue-row
+          .queue-row
           .ensures) (c .before .if1 .left)) (p .5),
     )
 

@@ -110,11 +110,11 @@ pick-requires c κs =
       holds-open (p .0)
           (ap (λ (k : ℕ). k + c .before .before .before .before .before .before .before .before .before .before .before
           .before .before .args .o) (c .before .first-of .ensures .0)) (side-open (p .0) (p .1) (p .2) (slot-small (p
-              .0) (p
+          .0) (p
           .1) _ (p .3) (c .before .before .before .before .before .index .ensures .0)) (c .before .before .before
-              .before
+          .before
           .before .index .ensures .0) (c .before .before .before .before .entry-row .ensures) (c .before .before .if2
-              .left))
+          .left))
           (p .3),
     )
 

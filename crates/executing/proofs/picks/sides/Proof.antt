@@ -53,7 +53,7 @@ loop-again c =
       omega arith,
       sides-more (p .0) (p .1) (c
           .before .before .before .before .loop-test .taken) (c .before .before .before .before .before .loop .inv .1)
-              (c
+          (c
           .before .before .side .ensures),
       c .before .before .side .kept .1 .1 .1 .1 .1 .1 .0 ∙ c .before .before .before
           .before .before .loop .inv .2,

@@ -57,7 +57,7 @@ pick-requires c κs =
       omega arith,
       up-sends (p
           .0) (p .1) (c .before .before .before .before .before .before .base-of .ensures .0) (c .before .first-of
-              .ensures
+          .ensures
           .0),
       holds-open (p .0) (ap (λ (k : ℕ). k + 4) (c .before .first-of .ensures .0)) (up-open (p .0) (p .1)) (p .2),
     )

@@ -1,0 +1,21 @@
+use borrow.Author.Needs.{needs}
+use Rattle.export.proofs.put_side.Statement.{statement}
+use Rattle.export.proofs.put_side.Tie as tie
+use Rattle.export.proofs.put_side.Reads as reads
+use Rattle.export.proofs.put_side.Lts as lts
+use Rattle.export.proofs.entry_number.Reads as entry-number-reads
+
+-- src/lib.rt:192:14
+entry-number-requires : tie.Need-entry-number-requires
+entry-number-requires c κs = search needs
+
+-- src/lib.rt:192:5
+element-write-out : tie.Need-element-write-out
+element-write-out c = search needs
+
+-- src/lib.rt:189:1
+returns : tie.Need-returns
+returns c = rw (c .entry-number .ensures)
+
+pub put-side-spec : {M : Type 1} → statement M
+put-side-spec = tie.close (tie.spec entry-number-requires element-write-out returns)

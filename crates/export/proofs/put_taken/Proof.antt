@@ -1,0 +1,54 @@
+use Rattle.export.proofs.Told.{taken-some}
+use borrow.Author.Needs.{needs}
+use Rattle.export.proofs.put_taken.Statement.{statement}
+use Rattle.export.proofs.put_taken.Tie as tie
+use Rattle.export.proofs.put_taken.Reads as reads
+use Rattle.export.proofs.put_taken.Lts as lts
+use Rattle.export.proofs.put_packet.Reads as put-packet-reads
+
+enum-told : tie.Need-enum-told
+enum-told c = search needs
+
+enum-told-2 : tie.Need-enum-told-2
+enum-told-2 c = search needs
+
+-- src/lib.rt:162:23
+enum-known-x : tie.Need-enum-known-x
+enum-known-x c = search needs
+
+-- src/lib.rt:162:29
+put-packet-requires : tie.Need-put-packet-requires
+put-packet-requires c κs = search needs
+
+enum-told-3 : tie.Need-enum-told-3
+enum-told-3 c = search needs
+
+-- src/lib.rt:156:1
+returns : tie.Need-returns
+returns c = search needs
+
+-- src/lib.rt:156:1
+returns-2 : tie.Need-returns-2
+returns-2 c = search needs
+
+-- src/lib.rt:156:1
+returns-3 : tie.Need-returns-3
+returns-3 c = taken-some _ (c .before .before .before .x .given .1) (c .put-packet .ensures)
+
+-- src/lib.rt:156:1
+returns-4 : tie.Need-returns-4
+returns-4 c = search needs
+
+pub put-taken-spec : {M : Type 1} → statement M
+put-taken-spec =
+    tie.close
+    (tie.spec
+    enum-told
+    enum-told-2
+    enum-known-x
+    put-packet-requires
+    enum-told-3
+    returns
+    returns-2
+    returns-3
+    returns-4)

@@ -13,16 +13,17 @@ pub struct Found {
     pub queues: [u32; GROUPS],
     /// By group: the outputs with a packet on the wire (READ) or a choice (WRITE).
     pub outputs: [u32; 18],
-    /// For these outputs, in their order: the row of the queue that the packet goes to.
-    pub to: [u16; 128],
 }
 
 impl Found {
     /// Nothing yet.
     pub const fn nothing() -> Found {
-        Found { queues: [0; GROUPS], outputs: [0; 18], to: [0; 128] }
+        Found { queues: [0; GROUPS], outputs: [0; 18] }
     }
 }
+
+/// For the outputs that are found, in their order: the row of the queue that the packet goes to.
+pub type Rows = [u16; 128];
 
 /// Where the packets of a router's queue came from and go to.
 #[derive(Clone, Copy)]
@@ -69,8 +70,9 @@ const LIMITS: [u8; 128] = {
     limits
 };
 
-/// Whether these bytes are a state's; what is found is for the phases.
-pub fn check(net: &Net, state: &[u8], found: &mut Found) -> bool {
+/// Whether these bytes are a state's; what is found is for the phases. `to` is such as [`Rows`], or
+/// empty if nobody asks.
+pub fn check(net: &Net, state: &[u8], found: &mut Found, to: &mut [u16]) -> bool {
     if state.len() < net.size() {
         return false;
     }
@@ -86,7 +88,7 @@ pub fn check(net: &Net, state: &[u8], found: &mut Found) -> bool {
     }
     sweep_queues(net, state, found);
     busy |= found.queues.iter().fold(0, |any, set| any | set) != 0;
-    if busy && !Busy::new(net, state, &mut counts).check(found) {
+    if busy && !Busy::new(net, state, &mut counts).check(found, to) {
         return false;
     }
     allowances_add_up(net, state, &counts) && table_is_one(net, state)
@@ -102,7 +104,8 @@ fn sweep_outputs(net: &Net, state: &[u8], found: &mut Found) -> bool {
     }
     // An eighth byte is there: allowances and tables follow.
     let some = |at: usize| word(state, at) << 8 != 0;
-    let set = |at: usize, count| (0..count).fold(0, |set, i| set | (some(at + OUT * i) as u32) << i);
+    let set =
+        |at: usize, count| (0..count).fold(0, |set, i| set | (some(at + OUT * i) as u32) << i);
     found.outputs[ACTIVE_OUT] = set(net.outs_at(ACTIVE_OUT), net.a);
     found.outputs[PASSIVE_OUT] = set(net.outs_at(PASSIVE_OUT), net.p);
     for x in 0..net.r {
@@ -140,13 +143,7 @@ fn sweep_queues(net: &Net, state: &[u8], found: &mut Found) {
         }
     }
     sweep_group(state, net.group_at(ACTIVE_IN), net.a, cap[CAP_ACTIVE_IN], &mut sets[ACTIVE_IN]);
-    sweep_group(
-        state,
-        net.group_at(PASSIVE_IN),
-        net.p,
-        cap[CAP_PASSIVE_IN],
-        &mut sets[PASSIVE_IN],
-    );
+    sweep_group(state, net.group_at(PASSIVE_IN), net.p, cap[CAP_PASSIVE_IN], &mut sets[PASSIVE_IN]);
 }
 
 #[inline(always)]
@@ -171,11 +168,13 @@ fn allowances_add_up(net: &Net, state: &[u8], counts: &[u8; 16]) -> bool {
 #[inline(always)]
 fn table_is_one(net: &Net, state: &[u8]) -> bool {
     let Some(limits) = LIMITS[64 - 2 * net.s..].first_chunk::<64>() else { return false };
-    let mut sides = state[net.table_at()..].chunks_exact(64);
-    sides.all(|side| {
+    for side in state[net.table_at()..].chunks_exact(64) {
         let any = (0..8).fold(0, |any, w| any | word(side, 8 * w));
-        any == 0 || side_is_one(side, limits)
-    })
+        if any != 0 && !side_is_one(side, limits) {
+            return false;
+        }
+    }
+    true
 }
 
 /// A side that is not all free.
@@ -205,9 +204,9 @@ impl<'a> Busy<'a> {
         Busy { net, state, walks: Walks::new(net), counts, coming: [0; GROUPS] }
     }
 
-    fn check(mut self, found: &mut Found) -> bool {
+    fn check(mut self, found: &Found, to: &mut [u16]) -> bool {
         let phase = self.state[0];
-        if phase == READ && !self.wires_fit(found) {
+        if phase == READ && !self.wires_fit(found, to) {
             return false;
         }
         for x in 0..self.net.r {
@@ -222,22 +221,24 @@ impl<'a> Busy<'a> {
                 return false;
             }
         }
-        phase != WRITE || self.choices_fit(found)
+        phase != WRITE || self.choices_fit(found, to)
     }
 
     /// Every wire that is full holds a packet that fits there; notes where it goes.
     #[inline(always)]
-    fn wires_fit(&mut self, found: &mut Found) -> bool {
+    fn wires_fit(&mut self, found: &Found, to: &mut [u16]) -> bool {
         let mut n = 0;
-        for group in 0..18 {
-            let mut left = found.outputs[group];
+        for (group, &set) in found.outputs.iter().enumerate() {
+            if set == 0 {
+                continue;
+            }
+            let mut left = set;
             let first = self.net.outs_at(group);
             while left != 0 {
                 let i = take(&mut left);
-                let Some(to) = self.carried(group, i, first + OUT * i) else { return false };
-                self.coming[to >> 5] |= 1 << (to & 31);
-                found.to[n & 127] = self.net.row_at(to) as u16;
-                n += 1;
+                let Some(queue) = self.carried(group, i, first + OUT * i) else { return false };
+                self.coming[queue >> 5] |= 1 << (queue & 31);
+                note(to, &mut n, self.net.row_at(queue));
             }
         }
         true
@@ -316,12 +317,8 @@ impl<'a> Busy<'a> {
                 Place::U(side) => walks.fits_u(net, 4 * x + side, &k),
                 Place::Q if m == 0 && row[2] != 0 => walks.fits_done(net, x, &k),
                 Place::Q => walks.fits_unit(net, x, &k),
-                Place::F(side) => {
-                    net.side(x, net.dest(&k)) == side && walks.fits_done(net, x, &k)
-                }
-                Place::K(from, to) => {
-                    net.side(x, k.a) == to && walks.fits_k(net, 4 * x + from, &k)
-                }
+                Place::F(side) => net.side(x, net.dest(&k)) == side && walks.fits_done(net, x, &k),
+                Place::K(from, to) => net.side(x, k.a) == to && walks.fits_k(net, 4 * x + from, &k),
             };
             if !fits {
                 return false;
@@ -369,16 +366,18 @@ impl<'a> Busy<'a> {
 
     /// Every choice is of a candidate whose flag is down; notes where its head goes.
     #[inline(always)]
-    fn choices_fit(&self, found: &mut Found) -> bool {
+    fn choices_fit(&self, found: &Found, to: &mut [u16]) -> bool {
         let mut n = 0;
-        for group in 0..18 {
-            let mut left = found.outputs[group];
+        for (group, &set) in found.outputs.iter().enumerate() {
+            if set == 0 {
+                continue;
+            }
+            let mut left = set;
             let first = self.net.outs_at(group);
             while left != 0 {
                 let i = take(&mut left);
-                let Some(to) = self.chosen(group, i, first + OUT * i) else { return false };
-                found.to[n & 127] = to as u16;
-                n += 1;
+                let Some(row) = self.chosen(group, i, first + OUT * i) else { return false };
+                note(to, &mut n, row);
             }
         }
         true
@@ -421,6 +420,15 @@ pub fn sender_at(net: &Net, group: usize, i: usize, choice: u8) -> Option<usize>
         (0..=15, 4) if rank < 4 => Some(first + ROW * rank),
         (0..=15, 5) if rank == 0 => Some(first + ROW * Q),
         _ => None,
+    }
+}
+
+/// Puts a row behind the others, if there is room.
+#[inline(always)]
+fn note(to: &mut [u16], n: &mut usize, row: usize) {
+    if let Some(place) = to.get_mut(*n) {
+        *place = row as u16;
+        *n += 1;
     }
 }
 

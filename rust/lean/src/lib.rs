@@ -14,7 +14,7 @@ mod phases;
 mod visits;
 mod walks;
 
-use check::{check, Found};
+use check::{check, Found, Rows};
 use layout::{EXECUTE, READ, WRITE};
 use load::Net;
 
@@ -44,77 +44,68 @@ pub fn start(plan: &[u8], state: &mut [u8]) -> u32 {
     0
 }
 
-/// Load and refusal 7; any phase, or 8.
-#[inline(always)]
-fn open(net: &mut Net, found: &mut Found, plan: &[u8], state: &[u8], phase: Option<u8>) -> u32 {
-    let refusal = net.load(plan);
-    if refusal != 0 {
-        return refusal;
-    }
-    if !check(net, state, found) {
-        return 7;
-    }
-    if phase.is_some_and(|phase| phase != state[0]) {
-        return 8;
-    }
-    0
-}
-
-/// A call that asks for a phase: opens plan and state, then does this to the state's bytes.
-macro_rules! call {
-    ($plan:ident, $state:ident, $phase:expr, $act:expr) => {{
-        let (mut net, mut found) = (Net::empty(), Found::nothing());
-        let refusal = open(&mut net, &mut found, $plan, $state, $phase);
+/// Opens plan and state: Load's refusals, 7, and 8 in another phase than the one asked for. Then
+/// the net, what the check found and where it noted rows have these names.
+macro_rules! open {
+    ($plan:ident, $state:ident, $phase:expr, $net:ident, $found:ident, $to:ident: $rows:expr) => {
+        let mut $net = Net::empty();
+        let refusal = $net.load($plan);
         if refusal != 0 {
             return refusal;
         }
-        $act(&net, &found)
-    }};
+        let mut $found = Found::nothing();
+        let mut $to = $rows;
+        if !check(&$net, $state, &mut $found, &mut $to) {
+            return 7;
+        }
+        if $phase.is_some_and(|phase: u8| phase != $state[0]) {
+            return 8;
+        }
+    };
 }
+
+/// Rows that nobody asks for.
+const NO_ROWS: [u16; 0] = [];
+/// Rows not yet noted.
+const ROWS: Rows = [0; 128];
 
 /// Read: 1 to 8, or 0.
 pub fn read(plan: &[u8], state: &mut [u8]) -> u32 {
-    call!(plan, state, Some(READ), |net: &Net, found: &Found| {
-        phases::read(net, &mut state[..net.size()], found);
-        0
-    })
+    open!(plan, state, Some(READ), net, found, to: ROWS);
+    phases::read(&net, &mut state[..net.size()], &found, &to);
+    0
 }
 
 /// Execute: 1 to 8, or 0.
 pub fn execute(plan: &[u8], state: &mut [u8]) -> u32 {
-    call!(plan, state, Some(EXECUTE), |net: &Net, found: &Found| {
-        phases::execute(net, &mut state[..net.size()], found);
-        0
-    })
+    open!(plan, state, Some(EXECUTE), net, found, to: NO_ROWS);
+    phases::execute(&net, &mut state[..net.size()], &found);
+    0
 }
 
 /// Write: 1 to 8, or 0.
 pub fn write(plan: &[u8], state: &mut [u8]) -> u32 {
-    call!(plan, state, Some(WRITE), |net: &Net, found: &Found| {
-        phases::write(net, &mut state[..net.size()], found);
-        0
-    })
+    open!(plan, state, Some(WRITE), net, found, to: ROWS);
+    phases::write(&net, &mut state[..net.size()], &found, &to);
+    0
 }
 
 /// Launch: 1 to 12, or 0.
 pub fn launch(plan: &[u8], state: &mut [u8], active: u32, passive: u32, slot: u32) -> u32 {
-    call!(plan, state, Some(READ), |net: &Net, _: &Found| {
-        visits::launch(net, &mut state[..net.size()], active, passive, slot)
-    })
+    open!(plan, state, Some(READ), net, found, to: NO_ROWS);
+    visits::launch(&net, &mut state[..net.size()], active, passive, slot)
 }
 
 /// Reply: 1 to 9, 12 to 14, or 0.
 pub fn reply(plan: &[u8], state: &mut [u8], passive: u32, choice: u32) -> u32 {
-    call!(plan, state, Some(WRITE), |net: &Net, _: &Found| {
-        visits::reply(net, &mut state[..net.size()], passive, choice)
-    })
+    open!(plan, state, Some(WRITE), net, found, to: NO_ROWS);
+    visits::reply(&net, &mut state[..net.size()], passive, choice)
 }
 
 /// Consume: 1 to 9, 13 to 15, or 0 with kind, active, passive, slot and hub in `out`.
 pub fn consume(plan: &[u8], state: &mut [u8], active: u32, out: &mut [u8; 8]) -> u32 {
-    call!(plan, state, Some(WRITE), |net: &Net, _: &Found| {
-        visits::consume(net, &mut state[..net.size()], active, out)
-    })
+    open!(plan, state, Some(WRITE), net, found, to: NO_ROWS);
+    visits::consume(&net, &mut state[..net.size()], active, out)
 }
 
 /// Entry: 1 to 7, 9, or 0 with the entry in `out`, 4 for free.
@@ -126,7 +117,6 @@ pub fn entry(
     slot: u32,
     out: &mut [u8; 8],
 ) -> u32 {
-    call!(plan, state, None, |net: &Net, _: &Found| {
-        visits::entry(net, &state[..net.size()], router, side, slot, out)
-    })
+    open!(plan, state, None, net, found, to: NO_ROWS);
+    visits::entry(&net, &state[..net.size()], router, side, slot, out)
 }

@@ -154,7 +154,10 @@ impl Net {
                 }
             }
         }
-        if wrong || seen_a != (0xffffu32 >> (16 - a)) as u16 || seen_p != (0xffffu32 >> (16 - p)) as u16 {
+        if wrong
+            || seen_a != (0xffffu32 >> (16 - a)) as u16
+            || seen_p != (0xffffu32 >> (16 - p)) as u16
+        {
             return 5;
         }
 

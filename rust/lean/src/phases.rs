@@ -1,27 +1,33 @@
 //! Read, Execute and Write.
 
-use crate::check::{sender_at, Found};
+use crate::check::{sender_at, Found, Rows};
 use crate::layout::*;
 use crate::load::Net;
 use crate::walks::{numbers, NO_QUEUE};
 
 /// Each wire's packet joins its queue, each raised flag becomes a credit.
 #[inline(always)]
-pub fn read(net: &Net, state: &mut [u8], found: &Found) {
+pub fn read(net: &Net, state: &mut [u8], found: &Found, to: &Rows) {
     let mut n = 0;
-    for group in 0..18 {
-        let mut left = found.outputs[group];
+    for (group, &set) in found.outputs.iter().enumerate() {
+        if set == 0 {
+            continue;
+        }
+        let mut left = set;
         let first = net.outs_at(group);
         while left != 0 {
             let wire = first + OUT * take(&mut left);
             let Some(bytes) = state[wire..].first_chunk_mut::<OUT>() else { return };
             let [_, packet @ .., _] = std::mem::take(bytes);
-            push(state, found.to[n & 127] as usize, packet);
+            push(state, to[n & 127] as usize, packet);
             n += 1;
         }
     }
-    for group in 0..GROUPS {
-        let mut left = found.queues[group];
+    for (group, &set) in found.queues.iter().enumerate() {
+        if set == 0 {
+            continue;
+        }
+        let mut left = set;
         let first = net.group_at(group);
         while left != 0 {
             let Some([credit, flag]) = state[first + ROW * take(&mut left)..].first_chunk_mut()
@@ -161,10 +167,13 @@ fn is_free_besides(state: &[u8], side: usize, entry: usize, slots: usize) -> boo
 
 /// Each picked head enters its wire; the slot grows.
 #[inline(always)]
-pub fn write(net: &Net, state: &mut [u8], found: &Found) {
+pub fn write(net: &Net, state: &mut [u8], found: &Found, to: &Rows) {
     let mut n = 0;
-    for group in 0..18 {
-        let mut left = found.outputs[group];
+    for (group, &set) in found.outputs.iter().enumerate() {
+        if set == 0 {
+            continue;
+        }
+        let mut left = set;
         let first = net.outs_at(group);
         while left != 0 {
             let i = take(&mut left);
@@ -176,7 +185,7 @@ pub fn write(net: &Net, state: &mut [u8], found: &Found) {
             if let Some(bytes) = state[wire..].first_chunk_mut() {
                 *bytes = [1, kind, a, p, slot, hub, 0];
             }
-            state[found.to[n & 127] as usize] -= 1;
+            state[to[n & 127] as usize] -= 1;
             n += 1;
         }
     }

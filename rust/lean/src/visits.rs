@@ -110,14 +110,7 @@ pub fn consume(net: &Net, state: &mut [u8], active: u32, out: &mut [u8; 8]) -> u
 
 /// Entry: 9, else the entry.
 #[inline(always)]
-pub fn entry(
-    net: &Net,
-    state: &[u8],
-    router: u32,
-    side: u32,
-    slot: u32,
-    out: &mut [u8; 8],
-) -> u32 {
+pub fn entry(net: &Net, state: &[u8], router: u32, side: u32, slot: u32, out: &mut [u8; 8]) -> u32 {
     let (r, o, t) = (router as usize, side as usize, slot as usize);
     if r >= net.r || o > 3 || t >= net.s {
         return 9;

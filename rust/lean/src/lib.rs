@@ -6,6 +6,7 @@
 //! * `check`: refusal 7. `phases`: Read, Execute, Write. `visits`: Start and the other calls.
 
 #![forbid(unsafe_code)]
+#![no_std]
 
 mod check;
 mod layout;
@@ -30,6 +31,16 @@ pub fn size(plan: &[u8]) -> u32 {
 /// Load's answer: 0, or the number of the first refusal that applies, 1 to 6.
 pub fn load(plan: &[u8]) -> u32 {
     Net::empty().load(plan)
+}
+
+/// The number of routers on the walk of a served pair; 0 where the plan does not load, a number is
+/// out of range or the pair is not served.
+pub fn walk(plan: &[u8], active: u32, passive: u32) -> u32 {
+    let mut net = Net::empty();
+    if net.load(plan) != 0 {
+        return 0;
+    }
+    visits::walk(&net, active as usize, passive as usize)
 }
 
 /// Start: 1 to 7, or 0.

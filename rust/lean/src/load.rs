@@ -210,7 +210,7 @@ impl Net {
         while work != 0 {
             let x = work.trailing_zeros() as usize & 15;
             work &= work - 1;
-            let m = std::mem::take(&mut pend[x]) & !used[x];
+            let m = core::mem::take(&mut pend[x]) & !used[x];
             used[x] |= m;
             for o in 0..4 {
                 let (k, n) = (m & self.by[x][o], self.next[x][o]);
@@ -263,7 +263,7 @@ impl Net {
         while work != 0 {
             let x = work.trailing_zeros() as usize & 15;
             work &= work - 1;
-            let m = std::mem::take(&mut pend[x]);
+            let m = core::mem::take(&mut pend[x]);
             met[x] |= m;
             for o in 0..4 {
                 let (k, n) = (m & self.by[x][o], self.next[x][o]);

@@ -18,7 +18,7 @@ pub fn read(net: &Net, state: &mut [u8], found: &Found, to: &Rows) {
         while left != 0 {
             let wire = first + OUT * take(&mut left);
             let Some(bytes) = state[wire..].first_chunk_mut::<OUT>() else { return };
-            let [_, packet @ .., _] = std::mem::take(bytes);
+            let [_, packet @ .., _] = core::mem::take(bytes);
             push(state, to[n & 127] as usize, packet);
             n += 1;
         }

@@ -3,6 +3,20 @@
 use crate::layout::*;
 use crate::load::Net;
 
+/// The number of routers on the walk of a served pair, else 0.
+pub fn walk(net: &Net, a: usize, p: usize) -> u32 {
+    if a >= net.a || p >= net.p || net.served[a & 15] >> p & 1 == 0 {
+        return 0;
+    }
+    let (mut x, d) = (net.home[a & 31] as usize >> 2, net.a + p);
+    let mut routers = 0;
+    while x < 16 {
+        x = net.next[x][net.side(x, d) & 3] as usize;
+        routers += 1;
+    }
+    routers
+}
+
 /// Start's bytes.
 #[inline(always)]
 pub fn start(net: &Net, state: &mut [u8]) {

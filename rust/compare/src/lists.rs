@@ -26,7 +26,7 @@ pub fn compare(calls: &Calls, seed: u64, listed: usize, changed: usize) -> Tally
         tally.plans += 1;
         let length = random.within(LONGEST / 8..=LONGEST);
         let mut list = List::start(calls, &mut random, Network::of(plan), &mut tally);
-        if random.chance(1, 4) {
+        if random.chance(1, 3) {
             list.elsewhere(&mut random);
         }
         for _ in 0..length {
@@ -115,22 +115,15 @@ impl<'c> List<'c> {
         self.bytes[..bytes.len()].copy_from_slice(&bytes);
     }
 
-    /// The next call: mostly one that keeps the network busy, else one in its phase with any
-    /// numbers in range, so that the later refusals are met.
+    /// The next call: mostly one that keeps the network busy, else one in its phase with numbers in
+    /// range.
     fn next_call(&mut self, random: &mut Random) -> Call {
-        let plan = self.network.plan();
-        if !random.chance(1, 12) {
+        if !random.chance(1, 10) {
             return narrow(self.caller.next(random, &self.network, &self.state));
         }
-        let mut active = random.below(plan.actives());
-        let mut passive = random.below(plan.passives());
-        if random.chance(1, 3) {
-            let raised = |queue| self.state.flags[self.network.queue_index(queue)];
-            let mut actives = 0..plan.actives();
-            let mut passives = 0..plan.passives();
-            active = actives.find(|&n| raised(Queue::ActiveIn(n))).unwrap_or(active);
-            passive = passives.find(|&n| raised(Queue::PassiveIn(n))).unwrap_or(passive);
-        }
+        let plan = self.network.plan();
+        let active = self.some(random, plan.actives(), |list, n| list.is_active_refused(n));
+        let passive = self.some(random, plan.passives(), |list, n| list.is_passive_refused(n));
         match (self.state.phase, random.below(2)) {
             (Phase::Read, _) => {
                 Call::Launch { active, passive, slot: random.below(self.network.slots()) }
@@ -139,6 +132,32 @@ impl<'c> List<'c> {
             (Phase::Write, _) => Call::Consume { active },
             (Phase::Execute, _) => narrow(stray(random, &self.network)),
         }
+    }
+
+    /// A number below this, every other time one for which a late refusal applies, if there is one.
+    fn some(&self, random: &mut Random, count: usize, refused: fn(&Self, usize) -> bool) -> usize {
+        let late: Vec<usize> = (0..count).filter(|&number| refused(self, number)).collect();
+        let steered = random.pick(&late).filter(|_| random.chance(1, 2));
+        steered.unwrap_or(random.below(count))
+    }
+
+    /// Whether a flag is up, an out-queue full or a NACK unmarked.
+    fn is_active_refused(&self, active: usize) -> bool {
+        let within = Queue::ActiveIn(active);
+        let head = self.network.queue(&self.state, within).front();
+        self.is_raised(within)
+            || head.is_some_and(|head| head.is_unmarked_nack())
+            || self.network.is_full(&self.state, Queue::ActiveOut(active))
+    }
+
+    /// Whether a flag is up or an out-queue full.
+    fn is_passive_refused(&self, passive: usize) -> bool {
+        self.is_raised(Queue::PassiveIn(passive))
+            || self.network.is_full(&self.state, Queue::PassiveOut(passive))
+    }
+
+    fn is_raised(&self, queue: Queue) -> bool {
+        self.state.flags[self.network.queue_index(queue)]
     }
 
     /// One call of the list; now and then the same call with a damaged plan first.

@@ -19,6 +19,20 @@ pub const PROVED: Calls = Calls {
     entry: bytes::entry,
 };
 
+/// The calls written for speed.
+pub const LEAN: Calls = Calls {
+    size: lean::size,
+    load: lean::load,
+    start: lean::start,
+    read: lean::read,
+    execute: lean::execute,
+    write: lean::write,
+    launch: lean::launch,
+    reply: lean::reply,
+    consume: lean::consume,
+    entry: lean::entry,
+};
+
 /// How often each of Load's answers, 0 to 6, was met, and how many walks were compared.
 #[derive(Clone, Copy, Debug, Default)]
 pub struct Tally {

@@ -26,10 +26,11 @@ pub fn changed(random: &mut Random, network: &Network, state: &State) -> Vec<u8>
 /// A small change of bytes.
 type Change = fn(&mut Random, &Network, &mut [u8]);
 
-const BYTES: [Change; 9] = [
+const BYTES: [Change; 10] = [
     any_byte,
     queue_byte,
     head_byte,
+    flag_for_credit,
     output_byte,
     clock_or_allowance,
     entry_byte,
@@ -76,6 +77,17 @@ fn queue_byte(random: &mut Random, network: &Network, bytes: &mut [u8]) {
 fn head_byte(random: &mut Random, network: &Network, bytes: &mut [u8]) {
     let at = filled_row(random, network, bytes) + random.below(9);
     tweak(random, &mut bytes[at]);
+}
+
+/// A flag goes up for a credit, or down; also on queues that no wire feeds.
+fn flag_for_credit(random: &mut Random, network: &Network, bytes: &mut [u8]) {
+    let row = queue_row(random, network);
+    let [credit, flag] = [bytes[row], bytes[row + 1]];
+    if flag == 0 && credit > 0 {
+        (bytes[row], bytes[row + 1]) = (credit - 1, 1);
+    } else if flag == 1 {
+        (bytes[row], bytes[row + 1]) = (credit.saturating_add(1), 0);
+    }
 }
 
 fn output_byte(random: &mut Random, network: &Network, bytes: &mut [u8]) {

@@ -3,6 +3,9 @@
 use crate::layout::{take, Packet, ACK, ACTIVE_IN, NACK, PASSIVE_IN, Q, SETUP, TDOWN};
 use crate::load::Net;
 
+/// So few destinations are taken one by one.
+const FEW: usize = 8;
+
 /// What stands for a queue where there is none.
 pub const NO_QUEUE: usize = 640;
 
@@ -156,15 +159,39 @@ impl Walks {
         let mut new = 0;
         for o in 0..4 {
             let n = net.next[x & 15][o] as usize;
-            let mut k = net.by[x & 15][o] & have[n & 31] & !old;
-            new |= k;
-            while k != 0 {
-                let d = take(&mut k);
-                self.up[x & 15][d & 31] = self.up[n & 15][d & 31] + (1 << x | 1 << 16);
+            let k = net.by[x & 15][o] & have[n & 31] & !old;
+            if k != 0 {
+                new |= k;
+                let more = 1 << x | 1 << 16;
+                if net.a + net.p > FEW {
+                    self.lengthen_all(x, n, k, more);
+                } else {
+                    self.lengthen(x, n, k, more);
+                }
             }
         }
         have[x & 31] = old | new;
         new
+    }
+
+    /// The walks of x to these destinations are those of n and x more, one by one.
+    #[inline(always)]
+    fn lengthen(&mut self, x: usize, n: usize, to: u32, more: u32) {
+        let mut left = to;
+        while left != 0 {
+            let d = take(&mut left) & 31;
+            self.up[x & 15][d] = self.up[n & 15][d] + more;
+        }
+    }
+
+    /// The same for a whole row at once.
+    #[inline(always)]
+    fn lengthen_all(&mut self, x: usize, n: usize, to: u32, more: u32) {
+        let from = self.up[n & 15];
+        for (d, (walk, from)) in self.up[x & 15].iter_mut().zip(from).enumerate() {
+            let asked = if to & 1 << d != 0 { u32::MAX } else { 0 };
+            *walk |= (from + more) & asked;
+        }
     }
 
     /// The pair's walk.

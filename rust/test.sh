@@ -3,9 +3,13 @@
 cd "$(dirname "$0")" || exit 2
 unset CARGO_TARGET_DIR
 log=$(mktemp) || exit 2
+tally=target/tmp/calls.txt
+rm -f "$tally"
 cargo test --release --workspace --no-fail-fast >"$log" 2>&1
 status=$?
 cat "$log"
+# How often each answer was met when the proved calls were compared with the model.
+[ -f "$tally" ] && cat "$tally"
 # A run that ends before its tests counts as one failure.
 awk -v status="$status" '
   /^test result:/ { passed += $4; failed += $6 }

@@ -14,6 +14,8 @@ fn main() {
     }
     println!("cargo::rustc-link-search=native={}", folder.display());
     println!("cargo::rustc-link-lib=static=export");
+    // For the test that compiles the C example.
+    println!("cargo::rustc-env=PANDABRASS_FOLDER={}", folder.display());
 }
 
 /// target/staticlib of the repository, or the folder that PANDABRASS_STATICLIB names.

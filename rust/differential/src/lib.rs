@@ -1,7 +1,37 @@
 //! The proved calls against the model: the same bytes to both, the answers equal.
 
+use compare::Calls;
 use model::generate::{damage, good, rings, Random};
 use model::Plan;
+use pandabrass::bytes;
+
+/// The proved calls.
+pub const PROVED: Calls = Calls {
+    size: bytes::size,
+    load: bytes::load,
+    start: bytes::start,
+    read: bytes::read,
+    execute: bytes::execute,
+    write: bytes::write,
+    launch: bytes::launch,
+    reply: bytes::reply,
+    consume: bytes::consume,
+    entry: bytes::entry,
+};
+
+/// The calls written for speed.
+pub const LEAN: Calls = Calls {
+    size: lean::size,
+    load: lean::load,
+    start: lean::start,
+    read: lean::read,
+    execute: lean::execute,
+    write: lean::write,
+    launch: lean::launch,
+    reply: lean::reply,
+    consume: lean::consume,
+    entry: lean::entry,
+};
 
 /// How often each of Load's answers, 0 to 6, was met, and how many walks were compared.
 #[derive(Clone, Copy, Debug, Default)]

@@ -1,23 +1,45 @@
-//! The proved calls Load and Walk of the reservation network, behind safe functions.
+//! The proved calls of the arm controller's reservation network, for Rust programs.
 //!
-//! The static library `export` holds them; its functions take a slice as a pointer and a length
-//! and only read it.
+//! A [`Plan`] is plan bytes that load; a [`State`] is the bytes of a network that was started on
+//! it. Every call gives what it returns or a [`Refusal`], and a refusal alters no byte. The rules
+//! are document 01's, the state's bytes are those of docs/STATE.md.
+//!
+//! Document 01's first run: a launch in round 0 waits at the passive from round 4 on, is accepted
+//! there, and its ACK is consumed in round 7 with slot 1 and hub 1.
+//!
+//! ```
+//! use pandabrass::{Choice, Entry, Kind, Plan, Refusal};
+//!
+//! let plan = Plan::load(&[0x08, 0x42, 0x11, 0x24, 0x92, 0x4C, 0x06, 0x00, 0x00, 0x00, 0x20])?;
+//! let mut state = plan.start();
+//! state.launch(0, 0, 0)?;
+//! for round in 0..7 {
+//!     state.read()?;
+//!     state.execute()?;
+//!     if round == 4 {
+//!         state.reply(0, Choice::Accept)?;
+//!     }
+//!     state.write()?;
+//! }
+//! state.read()?;
+//! assert_eq!(state.consume(0), Err(Refusal::WrongPhase));
+//! state.execute()?;
+//! let ack = state.consume(0)?;
+//! assert_eq!((ack.kind, ack.slot, ack.hub), (Kind::Ack, 1, 1));
+//! // The connection stays: router 0 sends slot 0 out by side 1, as it came in by side 0.
+//! assert_eq!(state.entry(0, 1, 0)?, Entry::Booked(0));
+//! assert_eq!(state.entry(0, 1, 1)?, Entry::Free);
+//! # Ok::<(), Refusal>(())
+//! ```
+//!
+//! [`bytes`] has the same calls on slices, with numbers for answers.
 
-extern "C" {
-    fn pandabrass_load(plan: *const u8, len: usize) -> u32;
-    fn pandabrass_walk(plan: *const u8, len: usize, active: u32, passive: u32) -> u32;
-}
+pub mod bytes;
+mod plan;
+mod refusal;
+mod state;
 
-/// Load: 0, or the number of the refusal, 1 to 6.
-pub fn load(plan: &[u8]) -> u32 {
-    // SAFETY: pointer and length are those of a slice that is lent for the call; the function
-    // reads these bytes, writes none and keeps no pointer. An empty slice's pointer is not null.
-    unsafe { pandabrass_load(plan.as_ptr(), plan.len()) }
-}
-
-/// The number of routers on the walk of a served pair; 0 where the plan does not load, a number is
-/// out of range or the pair is not served.
-pub fn walk(plan: &[u8], active: u32, passive: u32) -> u32 {
-    // SAFETY: as for `load`; any two numbers are allowed.
-    unsafe { pandabrass_walk(plan.as_ptr(), plan.len(), active, passive) }
-}
+pub use bytes::{load, walk};
+pub use plan::Plan;
+pub use refusal::Refusal;
+pub use state::{Choice, Entry, Kind, Packet, State};

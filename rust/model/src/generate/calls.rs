@@ -109,7 +109,7 @@ impl Mood {
 }
 
 /// Any call with any arguments, in range more often than not.
-fn stray(random: &mut Random, network: &Network) -> Call {
+pub fn stray(random: &mut Random, network: &Network) -> Call {
     let plan = network.plan();
     let mut number = |bound: usize| {
         if random.chance(1, 12) {

@@ -37,6 +37,25 @@ pub fn scramble(random: &mut Random, network: &Network, state: &mut State, count
     kept
 }
 
+/// The out-queue of some active is filled up with tear-downs, and a NACK joins its in-queue: Launch
+/// finds it full, and Consume an unmarked NACK.
+pub fn jam(random: &mut Random, network: &Network, state: &mut State) {
+    let plan = network.plan();
+    let (active, passive) = (random.below(plan.actives()), random.below(plan.passives()));
+    let slot = Slot(random.below(network.slots()));
+    let tear_down = Packet { kind: Kind::Tdown, active, passive, slot, hub: Hub(1) };
+    let out = network.queue_index(Queue::ActiveOut(active));
+    let room = network.capacity(Queue::ActiveOut(active)) - state.queues[out].len();
+    state.queues[out].extend(std::iter::repeat_n(tear_down, room));
+    let nack = Packet { kind: Kind::Nack, ..tear_down };
+    let within = network.queue_index(Queue::ActiveIn(active));
+    if state.allowances[active] > 0 && state.credits[within].0 > 0 {
+        state.allowances[active] -= 1;
+        state.credits[within].0 -= 1;
+        state.queues[within].push_front(nack);
+    }
+}
+
 fn change_entry(random: &mut Random, network: &Network, state: &mut State) {
     let router = random.below(network.plan().routers());
     let slot = Slot(random.below(network.slots()));

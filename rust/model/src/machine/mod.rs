@@ -5,9 +5,11 @@
 //! * [`state`]: queues, wires, credits, flags, marks, choices, table, allowances.
 //! * [`phases`]: what READ, EXECUTE and WRITE do. [`calls`]: the calls with their refusals.
 //! * [`valid`]: what is a state (refusal 7), and [`places`], where a packet of a pair can be.
+//! * [`bytes`]: a state's bytes, by docs/STATE.md.
 //! * [`list`]: calls as values. [`claims`]: demand 3, watched from outside by the calls and their
 //!   answers.
 
+pub mod bytes;
 pub mod calls;
 pub mod claims;
 pub mod list;

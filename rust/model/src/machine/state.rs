@@ -98,8 +98,8 @@ pub fn is_out_queue(queue: Queue) -> bool {
 impl Network {
     /// Whether a wire leads into this queue: it has credit and a flag. "A wire enters each joined
     /// side and each interface from its neighbour; one leads from router to unit, one back." What
-    /// enters by side i goes to U[i] or a K[i,o], what enters an interface to its in-queue, what
-    /// goes to the unit to Q, and back to an F[o].
+    /// enters by side i goes to `U[i]` or a `K[i,o]`, what enters an interface to its in-queue, what
+    /// goes to the unit to Q, and back to an `F[o]`.
     pub fn is_fed_by_a_wire(&self, queue: Queue) -> bool {
         match queue {
             Queue::U { router, from: side } | Queue::K { router, from: side, .. } => {

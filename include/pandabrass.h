@@ -1,0 +1,131 @@
+/*
+ * The arm controller's reservation network: the proved calls, for C and C++.
+ *
+ * Link with target/staticlib/libexport.a, which `rt staticlib export` writes.
+ *
+ * The rules are document 01's; the state's bytes are laid out in docs/STATE.md.
+ *
+ * - A plan and a state are bytes of the caller: a pointer and a count. Nothing is kept between calls and no memory is
+ *   asked for. The calls may be used from several threads at once on different states.
+ * - A pointer is not null, also where its count is 0. State and `out` do not overlap each other or the plan.
+ * - An answer is 0 (PANDABRASS_ACCEPTED) or the number of the first refusal that applies. A refusal alters no byte.
+ * - Every call but pandabrass_walk and pandabrass_size answers Load's refusals, 1 to 6, first. Every call on a state
+ *   answers 7 for bytes that are not a state of the plan: any bytes may be handed in.
+ * - Bytes past the state are never written. `out` is written only by an accepted call.
+ */
+#ifndef PANDABRASS_H
+#define PANDABRASS_H
+
+#include <stddef.h>
+#include <stdint.h>
+
+#ifdef __cplusplus
+extern "C" {
+#endif
+
+/* What a call answers. */
+enum pandabrass_answer {
+    PANDABRASS_ACCEPTED = 0,
+    /* of the plan */
+    PANDABRASS_TOO_SHORT = 1,    /* fewer than six bytes */
+    PANDABRASS_OUT_OF_RANGE = 2, /* R, A, P, S or a capacity outside its range */
+    PANDABRASS_WRONG_LENGTH = 3, /* wrong length or a fill bit set */
+    PANDABRASS_BAD_FIELD = 4,    /* a later field outside its range */
+    PANDABRASS_BAD_JOINT = 5,    /* a router joint not named back, a joint to the same router, or an interface without
+                                    exactly one joint */
+    PANDABRASS_HAS_RING = 6,     /* a ring */
+    /* of the state and the call */
+    PANDABRASS_NOT_STATE = 7,     /* not a state; of Start: state buffer too short */
+    PANDABRASS_WRONG_PHASE = 8,   /* another phase */
+    PANDABRASS_BAD_NUMBER = 9,    /* a number out of range */
+    PANDABRASS_NOT_SERVED = 10,   /* pair not served */
+    PANDABRASS_NO_ALLOWANCE = 11, /* allowance 0 */
+    PANDABRASS_QUEUE_FULL = 12,   /* out-queue full */
+    PANDABRASS_QUEUE_EMPTY = 13,  /* in-queue empty */
+    PANDABRASS_FLAG_UP = 14,      /* in-queue flag up */
+    PANDABRASS_UNMARKED = 15      /* head is an unmarked NACK */
+};
+
+/* A packet's kind, out[0] of pandabrass_consume. */
+enum pandabrass_kind {
+    PANDABRASS_SETUP = 0,
+    PANDABRASS_TDOWN = 1,
+    PANDABRASS_ACK = 2,
+    PANDABRASS_NACK = 3 /* with hub 0 it is marked */
+};
+
+/* What pandabrass_reply takes. */
+enum pandabrass_choice { PANDABRASS_DECLINE = 0, PANDABRASS_ACCEPT = 1 };
+
+/* out[0] of pandabrass_entry where the entry is free. */
+#define PANDABRASS_FREE 4
+
+/* The most bytes that a state of any plan has, and the most that a plan has. */
+#define PANDABRASS_LARGEST_STATE 20610
+#define PANDABRASS_LARGEST_PLAN 262
+
+/* How many bytes a state of this plan has; 0 if the plan does not load. */
+uint32_t pandabrass_size(const uint8_t *plan, size_t n);
+
+/* Load: 0, or 1 to 6. */
+uint32_t pandabrass_load(const uint8_t *plan, size_t n);
+
+/* The number of routers on the walk of a served pair; 0 where the plan does not load, a number is out of range or the
+ * pair is not served. */
+uint32_t pandabrass_walk(const uint8_t *plan, size_t n, uint32_t active, uint32_t passive);
+
+/* Start: 0, or 1 to 7. Looks at nothing in the state buffer but its length l, which is at least pandabrass_size. */
+uint32_t pandabrass_start(const uint8_t *plan, size_t n, uint8_t *state, size_t l);
+
+/* Read: 0, or 1 to 8. Each wire's packet joins its queue, each raised flag becomes a credit. */
+uint32_t pandabrass_read(const uint8_t *plan, size_t n, uint8_t *state, size_t l);
+
+/* Execute: 0, or 1 to 8. Units handle heads, outputs pick senders, declined set-ups are torn down. */
+uint32_t pandabrass_execute(const uint8_t *plan, size_t n, uint8_t *state, size_t l);
+
+/* Write: 0, or 1 to 8. Each picked head enters its wire; the slot grows by one. */
+uint32_t pandabrass_write(const uint8_t *plan, size_t n, uint8_t *state, size_t l);
+
+/* Launch, in READ: 0, or 1 to 12. A SETUP joins the active's out-queue. */
+uint32_t pandabrass_launch(const uint8_t *plan, size_t n, uint8_t *state, size_t l, uint32_t active, uint32_t passive,
+                           uint32_t slot);
+
+/* Reply, in WRITE: 0, or 1 to 9, 14, 13, 12. The head of the passive's in-queue becomes an ACK or a NACK in its
+ * out-queue. */
+uint32_t pandabrass_reply(const uint8_t *plan, size_t n, uint8_t *state, size_t l, uint32_t passive, uint32_t choice);
+
+/* Consume, in WRITE: 0, or 1 to 9, 14, 13, 15. The head of the active's in-queue leaves it: kind, active, passive,
+ * slot and hub stand in out[0] to out[4]. */
+uint32_t pandabrass_consume(const uint8_t *plan, size_t n, uint8_t *state, size_t l, uint32_t active, uint8_t out[8]);
+
+/* Entry, in every phase: 0, or 1 to 7, 9. out[0] is the side, 0 to 3, by which the booking came in, or
+ * PANDABRASS_FREE. */
+uint32_t pandabrass_entry(const uint8_t *plan, size_t n, const uint8_t *state, size_t l, uint32_t router, uint32_t side,
+                          uint32_t slot, uint8_t out[8]);
+
+/* A packet, by name. */
+struct pandabrass_packet {
+    uint8_t kind; /* enum pandabrass_kind */
+    uint8_t active;
+    uint8_t passive;
+    uint8_t slot;
+    uint8_t hub;
+};
+
+/* What an accepted pandabrass_consume put into out. */
+static inline struct pandabrass_packet pandabrass_packet_of(const uint8_t out[8])
+{
+    struct pandabrass_packet packet;
+    packet.kind = out[0];
+    packet.active = out[1];
+    packet.passive = out[2];
+    packet.slot = out[3];
+    packet.hub = out[4];
+    return packet;
+}
+
+#ifdef __cplusplus
+}
+#endif
+
+#endif

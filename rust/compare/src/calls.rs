@@ -1,0 +1,67 @@
+//! The calls on slices, as `lean` and `pandabrass` have them.
+
+use model::machine::Call;
+
+/// Eight bytes for what a call returns.
+pub type Out = [u8; 8];
+
+/// One function for each call. An answer is 0 for accepted, else the refusal's number.
+#[derive(Clone, Copy, Debug)]
+pub struct Calls {
+    /// The state's bytes, 0 if the plan does not load.
+    pub size: fn(&[u8]) -> u32,
+    /// Load.
+    pub load: fn(&[u8]) -> u32,
+    /// Start.
+    pub start: fn(&[u8], &mut [u8]) -> u32,
+    /// Read.
+    pub read: fn(&[u8], &mut [u8]) -> u32,
+    /// Execute.
+    pub execute: fn(&[u8], &mut [u8]) -> u32,
+    /// Write.
+    pub write: fn(&[u8], &mut [u8]) -> u32,
+    /// Launch: active, passive, slot.
+    pub launch: fn(&[u8], &mut [u8], u32, u32, u32) -> u32,
+    /// Reply: passive, choice.
+    pub reply: fn(&[u8], &mut [u8], u32, u32) -> u32,
+    /// Consume: active.
+    pub consume: fn(&[u8], &mut [u8], u32, &mut Out) -> u32,
+    /// Entry: router, side, slot.
+    pub entry: fn(&[u8], &[u8], u32, u32, u32, &mut Out) -> u32,
+}
+
+impl Calls {
+    /// Runs a call on a state.
+    pub fn run(&self, plan: &[u8], state: &mut [u8], call: Call, out: &mut Out) -> u32 {
+        let n = |number: usize| number as u32;
+        match call {
+            Call::Read => (self.read)(plan, state),
+            Call::Execute => (self.execute)(plan, state),
+            Call::Write => (self.write)(plan, state),
+            Call::Launch { active, passive, slot } => {
+                (self.launch)(plan, state, n(active), n(passive), n(slot))
+            }
+            Call::Reply { passive, choice } => (self.reply)(plan, state, n(passive), n(choice)),
+            Call::Consume { active } => (self.consume)(plan, state, n(active), out),
+            Call::Entry { router, side, slot } => {
+                (self.entry)(plan, state, n(router), n(side), n(slot), out)
+            }
+        }
+    }
+}
+
+/// The same call with numbers of 32 bits, as all calls on slices have them.
+pub fn narrow(call: Call) -> Call {
+    let n = |number: usize| number as u32 as usize;
+    match call {
+        Call::Read | Call::Execute | Call::Write => call,
+        Call::Launch { active, passive, slot } => {
+            Call::Launch { active: n(active), passive: n(passive), slot: n(slot) }
+        }
+        Call::Reply { passive, choice } => Call::Reply { passive: n(passive), choice: n(choice) },
+        Call::Consume { active } => Call::Consume { active: n(active) },
+        Call::Entry { router, side, slot } => {
+            Call::Entry { router: n(router), side: n(side), slot: n(slot) }
+        }
+    }
+}

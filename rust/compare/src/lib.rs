@@ -1,0 +1,16 @@
+//! Calls on bytes compared with the model: lists of calls, and calls on changed bytes. Compared are
+//! the answer, all bytes of the state, the bytes past it and what is returned.
+//!
+//! * [`Calls`]: the calls on slices, whoever has them. [`Tally`]: how often each answer was met.
+//! * [`lists`]: lists of calls on random plans. [`change`]: changed bytes.
+
+#![forbid(unsafe_code)]
+
+pub mod calls;
+pub mod change;
+pub mod lists;
+pub mod tally;
+
+pub use calls::Calls;
+pub use lists::compare;
+pub use tally::Tally;

@@ -1,0 +1,84 @@
+//! How often each answer was met.
+
+use std::fmt;
+
+use model::machine::Call;
+
+/// The calls by name; Start stands before those on a state.
+const NAMES: [&str; 8] =
+    ["Start", "Read", "Execute", "Write", "Launch", "Reply", "Consume", "Entry"];
+
+/// By call and answer.
+#[derive(Clone, Copy, Debug, Default, PartialEq, Eq)]
+pub struct Tally {
+    answers: [[usize; 16]; 8],
+    /// Plans.
+    pub plans: usize,
+    /// Calls in lists.
+    pub listed: usize,
+    /// Calls on changed bytes, and how many of these bytes were a state's.
+    pub changed: usize,
+    /// Of the changed bytes those that are still a state's.
+    pub states: usize,
+    /// The most packets that were under way at once.
+    pub packets: usize,
+}
+
+impl Tally {
+    /// Notes a Start.
+    pub fn start(&mut self, answer: u32) {
+        self.answers[0][answer as usize] += 1;
+    }
+
+    /// Notes a call on a state.
+    pub fn call(&mut self, call: Call, answer: u32) {
+        let row = match call {
+            Call::Read => 1,
+            Call::Execute => 2,
+            Call::Write => 3,
+            Call::Launch { .. } => 4,
+            Call::Reply { .. } => 5,
+            Call::Consume { .. } => 6,
+            Call::Entry { .. } => 7,
+        };
+        self.answers[row][answer as usize] += 1;
+    }
+
+    /// How often an answer was met, in all calls.
+    pub fn met(&self, answer: usize) -> usize {
+        self.answers.iter().map(|row| row[answer]).sum()
+    }
+
+    /// Adds another one.
+    pub fn add(&mut self, other: &Tally) {
+        for (row, more) in self.answers.iter_mut().zip(&other.answers) {
+            row.iter_mut().zip(more).for_each(|(count, more)| *count += more);
+        }
+        self.plans += other.plans;
+        self.listed += other.listed;
+        self.changed += other.changed;
+        self.states += other.states;
+        self.packets = self.packets.max(other.packets);
+    }
+
+    /// The refusals, 1 to 15, that were met less often than that.
+    pub fn rarer_than(&self, least: usize) -> Vec<usize> {
+        (1..16).filter(|&answer| self.met(answer) < least).collect()
+    }
+}
+
+impl fmt::Display for Tally {
+    fn fmt(&self, f: &mut fmt::Formatter) -> fmt::Result {
+        let Tally { plans, listed, changed, states, packets, .. } = self;
+        writeln!(f, "{plans} plans, {listed} calls in lists, {changed} on changed bytes")?;
+        writeln!(f, "{states} changed bytes were a state's; most packets at once: {packets}")?;
+        write!(f, "{:>8}", "answer")?;
+        (0..16).try_for_each(|answer| write!(f, " {answer:>7}"))?;
+        for (name, row) in NAMES.iter().zip(&self.answers) {
+            write!(f, "\n{name:>8}")?;
+            row.iter().try_for_each(|count| write!(f, " {count:>7}"))?;
+        }
+        write!(f, "\n{:>8}", "in all")?;
+        (0..16).try_for_each(|answer| write!(f, " {:>7}", self.met(answer)))
+    }
+}

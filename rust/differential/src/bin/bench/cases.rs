@@ -1,0 +1,160 @@
+//! What is measured: every call on three plans, on an idle network and on a busy one.
+
+use compare::calls::Calls;
+use model::generate::{Draft, Random};
+use model::machine::{Call, Network};
+use model::named;
+
+/// Rounds that a network is kept busy for, to find states with many packets.
+const BUSY_ROUNDS: usize = 400;
+/// Rounds at whose end some set-ups are accepted; later all are declined, so that tear-downs run.
+const ACCEPTING: usize = 40;
+
+/// A call on a state.
+pub struct Case {
+    /// The plan's name.
+    pub name: &'static str,
+    /// The plan bytes.
+    pub plan: Vec<u8>,
+    /// The state's bytes before the call.
+    pub state: Vec<u8>,
+    /// The call; none for Start.
+    pub call: Option<Call>,
+    /// How many packets the state has.
+    pub packets: usize,
+}
+
+/// A line of four routers, an active at each of the first two, a passive at each of the last two.
+fn line_of_four() -> Draft {
+    let mut draft = Draft::new(4, 8, 2);
+    draft.join((0, 1), (1, 0)).join((1, 1), (2, 0)).join((2, 1), (3, 0));
+    draft.active(0, 3).active(1, 3).passive(2, 3).passive(3, 3).shortest_routes();
+    draft
+}
+
+/// The plans by name.
+pub fn plans() -> [(&'static str, Vec<u8>); 3] {
+    [
+        ("t", named::plan_t().encode()),
+        ("line of four", line_of_four().encode()),
+        ("largest", named::largest().encode()),
+    ]
+}
+
+/// The cases of a plan, idle ones first.
+pub fn cases(name: &'static str, plan: &[u8], calls: &Calls) -> Vec<Case> {
+    let mut run = Run::new(name, plan, calls);
+    let mut cases = run.idle();
+    cases.extend(run.busy());
+    cases
+}
+
+/// A network that is run to find the cases.
+struct Run<'c> {
+    name: &'static str,
+    plan: Vec<u8>,
+    network: Network,
+    calls: &'c Calls,
+    random: Random,
+    state: Vec<u8>,
+}
+
+impl<'c> Run<'c> {
+    fn new(name: &'static str, plan: &[u8], calls: &'c Calls) -> Run<'c> {
+        let network = Network::load(plan).expect("loads");
+        let mut state = vec![0; network.size()];
+        assert_eq!((calls.start)(plan, &mut state), 0);
+        Run { name, plan: plan.to_vec(), network, calls, random: Random::new(5), state }
+    }
+
+    /// Runs a call on the state; whether it is accepted.
+    fn does(&mut self, call: Call) -> bool {
+        self.calls.run(&self.plan, &mut self.state, call, &mut [0; 8]) == 0
+    }
+
+    /// The case of a call on the state as it is.
+    fn case(&self, call: Option<Call>) -> Case {
+        let decoded = self.network.decode(&self.state).expect("a state");
+        let packets = self.network.packets(&decoded).count();
+        Case { name: self.name, plan: self.plan.clone(), state: self.state.clone(), call, packets }
+    }
+
+    /// Every call on the network as it was started, in each call's phase.
+    fn idle(&mut self) -> Vec<Case> {
+        let mut cases = vec![self.case(None)];
+        let launch = Call::Launch { active: 0, passive: 0, slot: 0 };
+        let entry = Call::Entry { router: 0, side: 1, slot: 0 };
+        cases.extend([launch, entry, Call::Read].map(|call| self.case(Some(call))));
+        assert!(self.does(Call::Read));
+        cases.push(self.case(Some(Call::Execute)));
+        assert!(self.does(Call::Execute));
+        let (reply, consume) = (Call::Reply { passive: 0, choice: 1 }, Call::Consume { active: 0 });
+        cases.extend([reply, consume, Call::Write].map(|call| self.case(Some(call))));
+        assert!(self.does(Call::Write));
+        cases
+    }
+
+    /// For each call, of the states of a busy run on which it is accepted one with the most packets.
+    fn busy(&mut self) -> Vec<Case> {
+        let mut best: [Option<Case>; 7] = Default::default();
+        for round in 0..BUSY_ROUNDS {
+            self.launches(&mut best);
+            self.keep(&mut best[1], Call::Entry { router: 0, side: 1, slot: 0 });
+            self.keep(&mut best[2], Call::Read);
+            assert!(self.does(Call::Read));
+            self.keep(&mut best[3], Call::Execute);
+            assert!(self.does(Call::Execute));
+            self.answers(round, &mut best);
+            self.keep(&mut best[6], Call::Write);
+            assert!(self.does(Call::Write));
+        }
+        best.into_iter().flatten().collect()
+    }
+
+    /// Keeps a case that has more packets than the one before, if the call is accepted.
+    fn keep(&self, best: &mut Option<Case>, call: Call) {
+        let mut state = self.state.clone();
+        if self.calls.run(&self.plan, &mut state, call, &mut [0; 8]) != 0 {
+            return;
+        }
+        let case = self.case(Some(call));
+        if best.as_ref().is_none_or(|best| best.packets < case.packets) {
+            *best = Some(case);
+        }
+    }
+
+    /// Every active launches as long as it may.
+    fn launches(&mut self, best: &mut [Option<Case>; 7]) {
+        for active in 0..self.network.plan().actives() {
+            loop {
+                let passive = self.random.below(self.network.plan().passives());
+                let slot = self.random.below(self.network.slots());
+                let launch = Call::Launch { active, passive, slot };
+                self.keep(&mut best[0], launch);
+                if !self.does(launch) {
+                    break;
+                }
+            }
+        }
+    }
+
+    /// Most passives reply and most actives consume.
+    fn answers(&mut self, round: usize, best: &mut [Option<Case>; 7]) {
+        let slots = self.network.slots();
+        for passive in 0..self.network.plan().passives() {
+            let accepts = round < ACCEPTING && slots > 2 && self.random.chance(1, 3);
+            let reply = Call::Reply { passive, choice: usize::from(accepts) };
+            self.keep(&mut best[4], reply);
+            if self.random.chance(3, 4) {
+                self.does(reply);
+            }
+        }
+        for active in 0..self.network.plan().actives() {
+            let consume = Call::Consume { active };
+            self.keep(&mut best[5], consume);
+            if self.random.chance(3, 4) {
+                self.does(consume);
+            }
+        }
+    }
+}

@@ -1,0 +1,31 @@
+//! The proved calls give the model's answers and leave its bytes.
+
+use std::path::Path;
+use std::thread;
+
+use compare::{compare, Tally};
+use differential::PROVED;
+
+/// Calls in lists, calls on changed bytes, and how often each refusal is met at least.
+const LISTED: usize = 1_000_000;
+const CHANGED: usize = 200_000;
+const LEAST: usize = 1_000;
+/// A seed for each thread.
+const SEEDS: [u64; 2] = [2028, 2029];
+
+#[test]
+fn lists_and_changed_bytes() {
+    let mut tally = Tally::default();
+    let (listed, changed) = (LISTED / SEEDS.len(), CHANGED / SEEDS.len());
+    thread::scope(|scope| {
+        let parts = SEEDS.map(|seed| scope.spawn(move || compare(&PROVED, seed, listed, changed)));
+        for part in parts {
+            tally.add(&part.join().expect("no call differs"));
+        }
+    });
+    println!("{tally}");
+    let file = Path::new(env!("CARGO_TARGET_TMPDIR")).join("calls.txt");
+    std::fs::write(file, format!("{tally}\n")).expect("the tally is kept");
+    assert!(tally.listed >= LISTED && tally.changed >= CHANGED);
+    assert_eq!(tally.rarer_than(LEAST), [], "{tally}");
+}

@@ -1,0 +1,23 @@
+//! The lean calls give the model's answers and bytes.
+
+use compare::{compare, Calls};
+
+const LEAN: Calls = Calls {
+    size: lean::size,
+    load: lean::load,
+    start: lean::start,
+    read: lean::read,
+    execute: lean::execute,
+    write: lean::write,
+    launch: lean::launch,
+    reply: lean::reply,
+    consume: lean::consume,
+    entry: lean::entry,
+};
+
+#[test]
+fn lists_and_changed_bytes() {
+    let tally = compare(&LEAN, 2027, 300_000, 100_000);
+    println!("{tally}");
+    assert_eq!(tally.rarer_than(100), [], "{tally}");
+}

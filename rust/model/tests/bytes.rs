@@ -1,0 +1,105 @@
+//! The state's bytes: the figures of docs/STATE.md, and that reading undoes writing.
+
+use model::generate::calls::Caller;
+use model::generate::states::scramble;
+use model::generate::{good, Random};
+use model::machine::{Link, Network};
+use model::{named, Port, Queue};
+
+fn t() -> Network {
+    Network::load(&named::T).expect("loads")
+}
+
+/// "R = A = P = 1, S = 2: 25 queues, 8 outputs, 1,290 bytes."
+#[test]
+fn figures_of_plan_t() {
+    let network = t();
+    let (router, side) = (0, 0);
+    let rows = [
+        (Queue::ActiveOut(0), 2),
+        (Queue::PassiveOut(0), 41),
+        (Queue::U { router, from: 3 }, 197),
+        (Queue::Q { router }, 236),
+        (Queue::F { router, to: 0 }, 275),
+        (Queue::K { router, from: 1, to: 0 }, 314),
+        (Queue::F { router, to: 1 }, 431),
+        (Queue::K { router, from: 0, to: 1 }, 470),
+        (Queue::K { router, from: 3, to: 2 }, 704),
+        (Queue::K { router, from: 2, to: 3 }, 860),
+        (Queue::ActiveIn(0), 899),
+        (Queue::PassiveIn(0), 938),
+    ];
+    for (queue, row) in rows {
+        assert_eq!(network.queue_at(queue), row, "{queue:?}");
+    }
+    let outputs = [
+        (Link::Active(0), 977),
+        (Link::Passive(0), 984),
+        (Link::Side(Port { router, side }), 991),
+        (Link::Side(Port { router, side: 3 }), 1012),
+        (Link::Unit(router), 1019),
+        (Link::Back(router), 1026),
+    ];
+    for (link, row) in outputs {
+        assert_eq!(network.output_at(link), row, "{link:?}");
+    }
+    assert_eq!(network.allowance_at(0), 1033);
+    assert_eq!([0, 1, 2, 3].map(|side| network.entry_at(0, side, 0)), [1034, 1098, 1162, 1226]);
+    assert_eq!(network.size(), 1290);
+}
+
+/// "After Start all bytes are 0 but the credits and the allowance; these 26 are 1."
+#[test]
+fn start_of_plan_t() {
+    let bytes = t().encode(&t().start());
+    let rows = (2..=938).step_by(39).chain([1033]);
+    let mut expected = vec![0; 1290];
+    rows.for_each(|at| expected[at] = 1);
+    assert_eq!(bytes, expected);
+}
+
+/// "At most 20,610 bytes (R, A, P = 16)."
+#[test]
+fn largest_state() {
+    let network = Network::load(&named::largest().encode()).expect("loads");
+    assert_eq!(network.size(), 20_610);
+}
+
+/// Rows of queues and outputs, allowances and tables fill the state, none on another.
+#[test]
+fn every_byte_has_one_place() {
+    let mut random = Random::new(61);
+    for _ in 0..50 {
+        let network = Network::of(good::loadable(&mut random));
+        let mut places = vec![0; network.size()];
+        let mut put = |at: usize, width| places[at..at + width].iter_mut().for_each(|n| *n += 1);
+        put(0, 2);
+        network.queues().iter().for_each(|&queue| put(network.queue_at(queue), 39));
+        network.links().iter().for_each(|&link| put(network.output_at(link), 7));
+        (0..network.plan().actives()).for_each(|active| put(network.allowance_at(active), 1));
+        (0..network.plan().routers()).for_each(|router| put(network.entry_at(router, 0, 0), 256));
+        assert!(places.iter().all(|&count| count == 1));
+    }
+}
+
+/// Equal states have equal bytes, and equal bytes come from equal states.
+#[test]
+fn reading_undoes_writing() {
+    let mut random = Random::new(62);
+    for _ in 0..60 {
+        let network = Network::of(good::loadable(&mut random));
+        let mut caller = Caller::new(&mut random, &network);
+        let mut state = network.start();
+        for round in 0..200 {
+            let call = caller.next(&mut random, &network, &state);
+            let _ = network.call(&mut state, call);
+            if round % 50 == 0 {
+                scramble(&mut random, &network, &mut state, 20);
+            }
+            let mut bytes = network.encode(&state);
+            bytes.push(9);
+            assert_eq!(network.decode(&bytes).as_ref(), Some(&state));
+            assert_eq!(network.decode(&bytes[..network.size() - 1]), None);
+        }
+    }
+}

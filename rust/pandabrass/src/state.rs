@@ -1,0 +1,142 @@
+//! A started network and its calls.
+
+use crate::bytes;
+use crate::plan::Plan;
+use crate::refusal::Refusal;
+
+/// The bytes of a state: what Start left, and then each call.
+#[derive(Clone, Debug, PartialEq, Eq)]
+pub struct State<'p> {
+    plan: &'p Plan,
+    bytes: Vec<u8>,
+}
+
+/// A packet's kind. SETUP and TDOWN go to the passive, ACK and NACK to the active.
+#[derive(Clone, Copy, Debug, PartialEq, Eq, Hash)]
+pub enum Kind {
+    /// Books a slot at each router.
+    Setup,
+    /// Frees what a declined set-up had booked.
+    Tdown,
+    /// The far end accepts.
+    Ack,
+    /// A router or the far end declines; with hub 0 it is marked.
+    Nack,
+}
+
+/// A packet.
+#[derive(Clone, Copy, Debug, PartialEq, Eq, Hash)]
+pub struct Packet {
+    /// Its kind.
+    pub kind: Kind,
+    /// Its active's number.
+    pub active: u8,
+    /// Its passive's number.
+    pub passive: u8,
+    /// Its slot.
+    pub slot: u8,
+    /// How many routers are booked.
+    pub hub: u8,
+}
+
+/// An entry of the slot table.
+#[derive(Clone, Copy, Debug, PartialEq, Eq, Hash)]
+pub enum Entry {
+    /// Free.
+    Free,
+    /// The side, 0 to 3, by which the booking came in.
+    Booked(u8),
+}
+
+/// What a passive replies.
+#[derive(Clone, Copy, Debug, PartialEq, Eq, Hash)]
+pub enum Choice {
+    /// The head becomes a NACK.
+    Decline,
+    /// The head becomes an ACK.
+    Accept,
+}
+
+impl<'p> State<'p> {
+    pub(crate) fn new(plan: &'p Plan, bytes: Vec<u8>) -> State<'p> {
+        State { plan, bytes }
+    }
+
+    /// The plan.
+    pub fn plan(&self) -> &'p Plan {
+        self.plan
+    }
+
+    /// The bytes, by docs/STATE.md. Equal states have equal bytes.
+    pub fn bytes(&self) -> &[u8] {
+        &self.bytes
+    }
+
+    /// The bytes, to be kept.
+    pub fn into_bytes(self) -> Vec<u8> {
+        self.bytes
+    }
+
+    /// Read: each wire's packet joins its queue, each raised flag becomes a credit.
+    pub fn read(&mut self) -> Result<(), Refusal> {
+        Refusal::result(bytes::read(self.plan.bytes(), &mut self.bytes))
+    }
+
+    /// Execute: units handle heads, outputs pick senders, declined set-ups are torn down.
+    pub fn execute(&mut self) -> Result<(), Refusal> {
+        Refusal::result(bytes::execute(self.plan.bytes(), &mut self.bytes))
+    }
+
+    /// Write: each picked head enters its wire; the slot grows by one.
+    pub fn write(&mut self) -> Result<(), Refusal> {
+        Refusal::result(bytes::write(self.plan.bytes(), &mut self.bytes))
+    }
+
+    /// Launch: a SETUP of this pair, from this slot on, joins the active's out-queue.
+    pub fn launch(&mut self, active: u32, passive: u32, slot: u32) -> Result<(), Refusal> {
+        let plan = self.plan.bytes();
+        Refusal::result(bytes::launch(plan, &mut self.bytes, active, passive, slot))
+    }
+
+    /// Reply: the head of the passive's in-queue becomes an ACK or a NACK in its out-queue.
+    pub fn reply(&mut self, passive: u32, choice: Choice) -> Result<(), Refusal> {
+        let plan = self.plan.bytes();
+        Refusal::result(bytes::reply(plan, &mut self.bytes, passive, choice as u32))
+    }
+
+    /// Consume: the packet at the head of the active's in-queue, which leaves it.
+    pub fn consume(&mut self, active: u32) -> Result<Packet, Refusal> {
+        let mut out = [0; 8];
+        let plan = self.plan.bytes();
+        Refusal::result(bytes::consume(plan, &mut self.bytes, active, &mut out))?;
+        let [kind, active, passive, slot, hub, ..] = out;
+        Ok(Packet { kind: Kind::of(kind), active, passive, slot, hub })
+    }
+
+    /// Entry: what the slot table holds for a router's side and slot.
+    pub fn entry(&self, router: u32, side: u32, slot: u32) -> Result<Entry, Refusal> {
+        let mut out = [0; 8];
+        let plan = self.plan.bytes();
+        Refusal::result(bytes::entry(plan, &self.bytes, router, side, slot, &mut out))?;
+        Ok(if out[0] == 4 { Entry::Free } else { Entry::Booked(out[0]) })
+    }
+}
+
+impl AsRef<[u8]> for State<'_> {
+    fn as_ref(&self) -> &[u8] {
+        &self.bytes
+    }
+}
+
+impl Kind {
+    /// The kind of that byte.
+    fn of(byte: u8) -> Kind {
+        match byte {
+            0 => Kind::Setup,
+            1 => Kind::Tdown,
+            2 => Kind::Ack,
+            3 => Kind::Nack,
+            _ => unreachable!("the library returns kinds 0 to 3"),
+        }
+    }
+}

@@ -1,0 +1,83 @@
+//! The typed calls on document 01's runs.
+
+use pandabrass::{Choice, Entry, Kind, Packet, Plan, Refusal, State};
+
+/// Plan T of document 01.
+const T: [u8; 11] = [0x08, 0x42, 0x11, 0x24, 0x92, 0x4C, 0x06, 0x00, 0x00, 0x00, 0x20];
+
+/// A whole round; in its WRITE what waits is accepted, and what is returned is consumed.
+fn round(state: &mut State) -> Result<Option<Packet>, Refusal> {
+    state.read()?;
+    state.execute()?;
+    match state.reply(0, Choice::Accept) {
+        Ok(()) | Err(Refusal::QueueEmpty) => {}
+        Err(refusal) => return Err(refusal),
+    }
+    let packet = match state.consume(0) {
+        Ok(packet) => Some(packet),
+        Err(Refusal::QueueEmpty) => None,
+        Err(refusal) => return Err(refusal),
+    };
+    state.write()?;
+    Ok(packet)
+}
+
+#[test]
+fn loads_and_starts() -> Result<(), Refusal> {
+    let plan = Plan::load(&T)?;
+    assert_eq!((plan.bytes(), plan.state_size()), (&T[..], 1290));
+    assert_eq!((plan.walk(0, 0), plan.walk(0, 1)), (Some(1), None));
+    let state = plan.start();
+    assert_eq!(state.bytes().iter().filter(|&&byte| byte == 1).count(), 26);
+    assert_eq!(plan.resume(state.bytes())?, state);
+    assert_eq!(plan.resume(&state.bytes()[1..]), Err(Refusal::NotState));
+    Ok(())
+}
+
+#[test]
+fn plans_that_do_not_load() {
+    let with = |at: usize, byte: u8| {
+        let mut plan = T;
+        plan[at] = byte;
+        Plan::load(&plan).unwrap_err()
+    };
+    assert_eq!(Plan::load(&T[..5]).unwrap_err(), Refusal::TooShort);
+    assert_eq!(with(0, 0x00), Refusal::OutOfRange);
+    assert_eq!(with(10, 0x21), Refusal::WrongLength);
+}
+
+#[test]
+fn a_second_launch_is_declined() -> Result<(), Refusal> {
+    let plan = Plan::load(&T)?;
+    let mut state = plan.start();
+    state.launch(0, 0, 0)?;
+    assert_eq!(state.launch(0, 0, 1), Err(Refusal::NoAllowance));
+    let packets = (0..8).map(|_| round(&mut state)).collect::<Result<Vec<_>, _>>()?;
+    let ack = Packet { kind: Kind::Ack, active: 0, passive: 0, slot: 1, hub: 1 };
+    assert_eq!(packets, [None, None, None, None, None, None, None, Some(ack)]);
+    assert_eq!(state.entry(0, 1, 0)?, Entry::Booked(0));
+    // "After that ACK is consumed, launch (0,0,1): last free entry, NACK with hub 0."
+    state.launch(0, 0, 1)?;
+    let mut packet = None;
+    while packet.is_none() {
+        packet = round(&mut state)?;
+    }
+    let nack = Packet { kind: Kind::Nack, active: 0, passive: 0, slot: 1, hub: 0 };
+    assert_eq!(packet, Some(nack));
+    Ok(())
+}
+
+#[test]
+fn refusals_alter_no_byte() -> Result<(), Refusal> {
+    let plan = Plan::load(&T)?;
+    let mut state = plan.start();
+    let before = state.clone();
+    assert_eq!(state.execute(), Err(Refusal::WrongPhase));
+    assert_eq!(state.write(), Err(Refusal::WrongPhase));
+    assert_eq!(state.launch(0, 1, 0), Err(Refusal::BadNumber));
+    assert_eq!(state.reply(0, Choice::Decline), Err(Refusal::WrongPhase));
+    assert_eq!(state.consume(0), Err(Refusal::WrongPhase));
+    assert_eq!(state.entry(0, 4, 0), Err(Refusal::BadNumber));
+    assert_eq!(state, before);
+    Ok(())
+}

@@ -17,7 +17,7 @@ use Rattle.wiring.proofs.Tables.{replicate-at}
 use Rattle.sets.specs.Sets.{has, both, less, below}
 use Rattle.sets.specs.Laws.{has-less, has-below, none-has}
 use Rattle.reach.proofs.Sweeps.{same-or-not}
-use Rattle.arrivals.specs.Tables.{firstOf, firstStep, nearOf, nearStep, farOf}
+use Rattle.arrivals.specs.Tables.{firstOf, firstStep, firstsOf, nearOf, nearStep, farOf}
 use Rattle.arrivals.specs.Pairs.{plainOf, atHome, atHomes, Lacking, Sift, Chosen, Choices, Known, Serving}
 use Rattle.arrivals.specs.Pairs.{Servings, lengthOf, lengthsBy}
 
@@ -26,6 +26,11 @@ pub first-step : (by : List (List ℕ)) (homes : List ℕ) (d : ℕ) (t : List �
 unfolding firstStep
 first-step by homes d t {k} e f = ap (set t (k / 4)) f ∙ ap (λ (i : ℕ). set t (i / 4)
     (firstOf by (getD t (i / 4) 0) i d)) e
+
+pub firsts-done : (by : List (List ℕ)) (homes : List ℕ) {d n : ℕ} {t t₀ : List ℕ} → t₀ ≡ replicate 32 0
+    → t ≡ upTo (firstStep by homes) d t₀ → d ≡ n → t ≡ firstsOf by homes n
+unfolding firstsOf
+firsts-done by homes b e f = e ∙ rw (b, f)
 
 pub near-step : (t homes : List ℕ) (actives p : ℕ) (z : List (List ℕ)) {k v : ℕ} → k ≡ getD homes (actives + p) 0
     → v ≡ nearOf (getD t (k / 4) 0) (actives + p) → set z (k / 4) (set (getD z (k / 4) []) p v)
@@ -124,9 +129,9 @@ length-step z arrive served homes a column far {k} e f g =
     ∙ ap (λ (k : ℕ). lengthOf z (k / 4) (getD served a 0) (both (getD arrive (k / 4) 0) far) column) e
 
 pub lengths-done : (z : List (List ℕ)) (arrive served homes : List ℕ) (h : Head) (a : ℕ) {far : ℕ}
-    {t : List (List ℕ)} → far ≡ farOf h
+    {t t₀ : List (List ℕ)} → t₀ ≡ replicate 16 (replicate 16 0) → far ≡ farOf h
     → t ≡ upTo (fill (λ i. lengthOf z (getD homes i 0 / 4) (getD served i 0)
-    (both (getD arrive (getD homes i 0 / 4) 0) far) (h .actives))) a (replicate 16 (replicate 16 0))
+    (both (getD arrive (getD homes i 0 / 4) 0) far) (h .actives))) a t₀
     → a ≡ h .actives → t ≡ lengthsBy z arrive served homes h
 unfolding lengthsBy
-lengths-done z arrive served homes h a e f g = f ∙ rw (e, g)
+lengths-done z arrive served homes h a b e f g = f ∙ rw (b, e, g)

@@ -13,7 +13,7 @@ ghost use mathlib.Core.Bool.{false};
 ghost use Rattle.basis.specs.Choice.{pick};
 ghost use mathlib.Core.List.{List, []};
 ghost use Prim.Native.Nat.{ℕ, _+_, _*_, _/_, _%_, _≤_, _<_};
-ghost use lib.ListN.{getD, length};
+ghost use lib.ListN.{getD, length, replicate};
 ghost use Rattle.plan.specs.Head.{Counts};
 ghost use Rattle.sets.specs.Sets.{has};
 ghost use Rattle.arrivals.specs.Pairs.{copyOf, maskOf, lengthOf, lengthsBy, Walks};
@@ -71,16 +71,14 @@ fn first_of(by: &[[u32; 4]; 16], t: u32, k: usize, d: usize) -> u32
 }
 
 // By router: the destinations that are one step away.
-fn firsts(by: &[[u32; 4]; 16], homes: &[u8; 32], n: usize) -> [u32; 32]
-    requires { ⌜ (n ≤ 32) × PortsIn (now homes) n ⌝ }
-    ensures { λ t. ⌜ t ≡ firstsOf (now (by .entry)) (now (homes .entry)) n ⌝ }
+fn firsts(by: &[[u32; 4]; 16], homes: &[u8; 32], n: usize, t: &mut [u32; 32])
+    requires { ⌜ (n ≤ 32) × PortsIn (now homes) n × (now t ≡ replicate 32 0) ⌝ }
+    ensures { λ _. ⌜ now (t .exit) ≡ firstsOf (now (by .entry)) (now (homes .entry)) n ⌝ }
 {
-    let mut t = [0u32; 32];
     for d in 0..n {
         let k = port(homes, d, n);
         t[k / 4] = first_of(by, t[k / 4], k, d);
     }
-    t
 }
 
 // 1 where a destination is one step away, else 0.
@@ -161,23 +159,23 @@ fn lengths_of(
     served: &[u32; 16],
     homes: &[u8; 32],
     h: Head,
-) -> [[u8; 16]; 16]
-    requires { ⌜ Counts h × PortsIn (now homes) (h .actives + h .passives) ⌝ }
-    ensures { λ t. ⌜ t ≡ lengthsBy (now (z .entry)) (now (arrive .entry)) (now (served .entry)) (now (homes .entry)) h ⌝ }
+    t: &mut [[u8; 16]; 16],
+)
+    requires { ⌜ Counts h × PortsIn (now homes) (h .actives + h .passives) × (now t ≡ replicate 16 (replicate 16 0)) ⌝ }
+    ensures { λ _. ⌜ now (t .exit)
+        ≡ lengthsBy (now (z .entry)) (now (arrive .entry)) (now (served .entry)) (now (homes .entry)) h ⌝ }
 {
     let n = h.actives + h.passives;
     let actives = h.actives;
     let far = far_of(h);
-    let mut t = [[0u8; 16]; 16];
     for a in 0..actives {
         let x = port(homes, a, n) / 4;
         t[a] = length_row(z, x, served[a], both(arrive[x], far), actives);
     }
-    t
 }
 
 // All walks: where they arrive, by router; how long those of served pairs are, by active and passive; and which pairs are
-// served, by active.
+// served, by active. Both lent tables are filled in place.
 pub fn walks(
     h: Head,
     routes: &[[u8; 32]; 16],
@@ -188,23 +186,23 @@ pub fn walks(
     lengths: &mut [[u8; 16]; 16],
 ) -> [u32; 16]
     requires { ⌜ Counts h × PortsIn (now homes) (h .actives + h .passives)
-        × ((r o d : ℕ) → h .routers ≤ r → o < 4 → has (getD (getD (now by) r []) o 0) d ≡ false) ⌝ }
+        × ((r o d : ℕ) → h .routers ≤ r → o < 4 → has (getD (getD (now by) r []) o 0) d ≡ false)
+        × (now arrive ≡ replicate 32 0) × (now lengths ≡ replicate 16 (replicate 16 0)) ⌝ }
     ensures { λ w. ⌜ Walks h (now (routes .entry)) (now (joints .entry)) (now (homes .entry)) (now (by .entry))
         (now (arrive .exit)) (now (lengths .exit)) w ⌝ }
 {
     let n = h.actives + h.passives;
     let next = nexts(joints, h.routers);
-    let mut t = firsts(by, homes, n);
-    let mut z = nears(&t, homes, h.actives, h.passives);
+    firsts(by, homes, n, arrive);
+    let mut z = nears(arrive, homes, h.actives, h.passives);
     let s = Span {
         routers: h.routers,
         all: below(n),
         sized: far_of(h),
         column: h.actives,
     };
-    let all = reach::reach(by, &next, routes, s, &mut t, &mut z);
-    let w = served::serves(h, joints, homes, by, &t, all);
-    *lengths = lengths_of(&z, &t, &w, homes, h);
-    *arrive = t;
+    let all = reach::reach(by, &next, routes, s, arrive, &mut z);
+    let w = served::serves(h, joints, homes, by, arrive, all);
+    lengths_of(&z, arrive, &w, homes, h, lengths);
     w
 }

@@ -33,6 +33,7 @@ pub fn tracks(
 {
     let n = h.actives + h.passives;
     let next = nexts(joints, h.routers);
-    let mut t = firsts(by, homes, n);
+    let mut t = [0u32; 32];
+    firsts(by, homes, n, &mut t);
     reach::trails::trails(by, &next, h.routers, below(n), &mut t, up);
 }

@@ -13,8 +13,8 @@ use Rattle.plan.specs.Tables.{tablePlan}
 use Rattle.arrivals.specs.Pairs.{lengthsOf}
 use Rattle.load.specs.declared.Loaded.{Loaded}
 use Rattle.load.specs.declared.Loaded.the-variants.{Accepted, Refused}
-use Rattle.load.specs.Load.{loadOf, loadRoutes, loadJoints, loadHomes, loadLengths, LentSides}
-use Rattle.load.proofs.Right.{lent-plan, lent-tables, lent-ports}
+use Rattle.load.specs.Load.{Filled}
+use Rattle.load.proofs.Right.{lent-right, lent-plan, lent-tables, lent-ports}
 use Rattle.claims.proofs.Exact.{accepted-range}
 use Rattle.layout.specs.Offsets.{size}
 use Rattle.acts.specs.Counts.{stateSize, size-by}
@@ -24,13 +24,10 @@ use Rattle.inspect.specs.declared.Checked.{Checked}
 use Rattle.inspect.specs.declared.Checked.the-variants.{State, NotState}
 use Rattle.inspect.specs.Inspect.{checkedOf}
 
-module _ (b : List ℕ) (t : List (List ℕ)) (j o : List ℕ) (u : List (List ℕ)) {h : Head} {l : Loaded}
-    {routes : List (List ℕ)} {joints homes : List ℕ} {lengths by : List (List ℕ)} (known : l ≡ loadOf b)
-    (told : l ≡ Accepted h) (routed : routes ≡ loadRoutes b t (loadOf b)) (joined : joints ≡ loadJoints b j (loadOf b))
-    (homed : homes ≡ loadHomes b o (loadOf b)) (sized : lengths ≡ loadLengths b u (loadOf b))
-    (sided : LentSides b l by) where
+module _ {b : List ℕ} {h : Head} {l : Loaded} {routes : List (List ℕ)} {joints homes : List ℕ}
+    {lengths by : List (List ℕ)} (f : Filled b l routes joints homes lengths by) (told : l ≡ Accepted h) where
   pub tables-plan : planOf b ≡ tablePlan h routes joints
-  tables-plan = lent-plan b t j o u known told routed joined homed sized sided
+  tables-plan = lent-plan f told
 
   plan-head : tablePlan h routes joints .head ≡ h
   unfolding tablePlan
@@ -39,19 +36,19 @@ module _ (b : List ℕ) (t : List (List ℕ)) (j o : List ℕ) (u : List (List �
   range : InRange h
   range =
       subst InRange plan-head
-      (subst (λ (x : Plan). InRange (x .head)) tables-plan (accepted-range b h (sym known ∙ told)))
+      (subst (λ (x : Plan). InRange (x .head)) tables-plan (accepted-range b h (sym (f .answer) ∙ told)))
 
   lengths-are : lengths ≡ lengthsOf (tablePlan h routes joints)
-  lengths-are = sized ∙ ap (loadLengths b u) (sym known ∙ told) ∙ ap lengthsOf tables-plan
+  lengths-are = lent-right f told .walks
 
   pub tables-lent : Lent h routes joints homes lengths by
   tables-lent =
       record {
         range = range;
-        tables = lent-tables b t j o u known told routed joined homed sized sided;
+        tables = lent-tables f told;
         sizes = lengths-are;
-        ports = lent-ports b t j o u known told routed joined homed sized sided;
-        past = sided .past h told;
+        ports = lent-ports f told;
+        past = f .sided .past h told;
       }
 
   pub tables-wired : Wiring h routes joints homes

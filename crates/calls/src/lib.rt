@@ -20,7 +20,7 @@ pub fn start(plan: &[u8], state: &mut [u8]) -> Answer
     let mut homes = [0u8; 32];
     let mut lengths = [[0u8; 16]; 16];
     let mut by = [[0u32; 4]; 16];
-    let l = load::load(
+    let l = load::fill(
         plan,
         &mut routes,
         &mut joints,
@@ -47,7 +47,7 @@ pub fn read(plan: &[u8], state: &mut [u8]) -> Answer
     let mut homes = [0u8; 32];
     let mut lengths = [[0u8; 16]; 16];
     let mut by = [[0u32; 4]; 16];
-    let l = load::load(
+    let l = load::fill(
         plan,
         &mut routes,
         &mut joints,
@@ -74,7 +74,7 @@ pub fn execute(plan: &[u8], state: &mut [u8]) -> Answer
     let mut homes = [0u8; 32];
     let mut lengths = [[0u8; 16]; 16];
     let mut by = [[0u32; 4]; 16];
-    let l = load::load(
+    let l = load::fill(
         plan,
         &mut routes,
         &mut joints,
@@ -101,7 +101,7 @@ pub fn write(plan: &[u8], state: &mut [u8]) -> Answer
     let mut homes = [0u8; 32];
     let mut lengths = [[0u8; 16]; 16];
     let mut by = [[0u32; 4]; 16];
-    let l = load::load(
+    let l = load::fill(
         plan,
         &mut routes,
         &mut joints,
@@ -128,7 +128,7 @@ pub fn launch(plan: &[u8], state: &mut [u8], active: usize, passive: usize, slot
     let mut homes = [0u8; 32];
     let mut lengths = [[0u8; 16]; 16];
     let mut by = [[0u32; 4]; 16];
-    let l = load::load(
+    let l = load::fill(
         plan,
         &mut routes,
         &mut joints,
@@ -155,7 +155,7 @@ pub fn reply(plan: &[u8], state: &mut [u8], passive: usize, choice: usize) -> An
     let mut homes = [0u8; 32];
     let mut lengths = [[0u8; 16]; 16];
     let mut by = [[0u32; 4]; 16];
-    let l = load::load(
+    let l = load::fill(
         plan,
         &mut routes,
         &mut joints,
@@ -182,7 +182,7 @@ pub fn consume(plan: &[u8], state: &mut [u8], active: usize) -> Answer
     let mut homes = [0u8; 32];
     let mut lengths = [[0u8; 16]; 16];
     let mut by = [[0u32; 4]; 16];
-    let l = load::load(
+    let l = load::fill(
         plan,
         &mut routes,
         &mut joints,
@@ -209,7 +209,7 @@ pub fn entry(plan: &[u8], state: &[u8], router: usize, side: usize, slot: usize)
     let mut homes = [0u8; 32];
     let mut lengths = [[0u8; 16]; 16];
     let mut by = [[0u32; 4]; 16];
-    let l = load::load(
+    let l = load::fill(
         plan,
         &mut routes,
         &mut joints,

@@ -24,7 +24,7 @@ pub extern "C" fn pandabrass_load(plan: &[u8]) -> u32
     let mut homes = [0u8; 32];
     let mut lengths = [[0u8; 16]; 16];
     let mut by = [[0u32; 4]; 16];
-    let l = load::load(
+    let l = load::fill(
         plan,
         &mut routes,
         &mut joints,
@@ -67,7 +67,7 @@ pub extern "C" fn pandabrass_size(plan: &[u8]) -> u32
     let mut homes = [0u8; 32];
     let mut lengths = [[0u8; 16]; 16];
     let mut by = [[0u32; 4]; 16];
-    let l = load::load(
+    let l = load::fill(
         plan,
         &mut routes,
         &mut joints,

@@ -32,7 +32,7 @@ use Rattle.wiring.proofs.Tables.{tables-ok, table-plan, named-alike, interfaces
 use Rattle.load.specs.declared.Loaded.{Loaded}
 use Rattle.load.specs.declared.Loaded.the-variants.{Accepted, Refused}
 use Rattle.load.specs.Load.{lengthOk, jointsOk, loadOf, loadRoutes, loadJoints, loadHomes, loadLengths}
-use Rattle.load.specs.Load.{LentSides}
+use Rattle.load.specs.Load.{Blank, Filled, noRoutes, noWalks, noDestinations, LentSides}
 use Rattle.paths.specs.Drawn.{Sides}
 use Rattle.arrivals.specs.Tables.{PortsIn}
 use Rattle.arrivals.specs.Pairs.{pairWalk, lengthsOf, Tables, Walks}
@@ -193,23 +193,23 @@ refused-not e = let z : _≡_ {A = ℕ} 0 1 = cc in omega arith
 same-head : {h k : Head} → Accepted h ≡ Accepted k → h ≡ k
 same-head e = cc
 
-module _ (b : List ℕ) (t : List (List ℕ)) (j o : List ℕ) (u : List (List ℕ)) where
-  abbrev Leaves : Loaded → List (List ℕ) → List ℕ → List ℕ → List (List ℕ) → List (List ℕ) → Type 0
-  Leaves l routes joints homes lengths sides =
-      (l ≡ loadOf b) × (routes ≡ loadRoutes b t (loadOf b)) × (joints ≡ loadJoints b j (loadOf b))
-      × (homes ≡ loadHomes b o (loadOf b)) × (lengths ≡ loadLengths b u (loadOf b)) × LentSides b l sides
+module _ (b : List ℕ) where
+  -- nothing is said of the tables after a refusal
+  abbrev Refuses : Refusal → Type 0
+  Refuses w =
+      (t : List (List ℕ)) (j o : List ℕ) (u sides : List (List ℕ)) → Filled b (Refused w) t j o u sides
 
-  refused : {w : Refusal} {sides : List (List ℕ)} → Refused w ≡ loadOf b → Leaves (Refused w) t j o u sides
-  refused e = (
-    e,
-    ap (loadRoutes b t) e,
-    ap (loadJoints b j) e,
-    ap (loadHomes b o) e,
-    ap (loadLengths b u) e,
-    record { sides = λ h q. absurd (refused-not q); past = λ h q. absurd (refused-not q) },
-  )
+  refused : {w : Refusal} → Refused w ≡ loadOf b → Refuses w
+  refused e t j o u sides = record {
+    answer = e;
+    routed = ap (loadRoutes b t) e;
+    joined = ap (loadJoints b j) e;
+    homed = ap (loadHomes b o) e;
+    sized = ap (loadLengths b u) e;
+    sided = record { sides = λ h q. absurd (refused-not q); past = λ h q. absurd (refused-not q) };
+  }
 
-  pub too-short : {sides : List (List ℕ)} → length b < 6 → Leaves (Refused TooShort) t j o u sides
+  pub too-short : length b < 6 → Refuses TooShort
   unfolding loadOf
   too-short l = refused (rw (lt-ltb (length b) 6 l))
 
@@ -217,12 +217,12 @@ module _ (b : List ℕ) (t : List (List ℕ)) (j o : List ℕ) (u : List (List �
     ranged : headOk (headOf b) ≡ ranges
     ranged = ap headOk (sym read) ∙ sym range
 
-    pub out-of-range : {sides : List (List ℕ)} → ranges ≡ false → Leaves (Refused OutOfRange) t j o u sides
+    pub out-of-range : ranges ≡ false → Refuses OutOfRange
     unfolding loadOf
     out-of-range q = refused (rw (le-ltb (length b) 6 six, ranged, q))
 
     module _ (two : ranges ≡ true) {size : Bool} (sized : size ≡ lengthOk b) where
-      pub wrong-length : {sides : List (List ℕ)} → size ≡ false → Leaves (Refused WrongLength) t j o u sides
+      pub wrong-length : size ≡ false → Refuses WrongLength
       unfolding loadOf
       wrong-length q = refused (rw (le-ltb (length b) 6 six, ranged, two, ← sized, q))
 
@@ -235,7 +235,7 @@ module _ (b : List ℕ) (t : List (List ℕ)) (j o : List ℕ) (u : List (List �
         fitted : fieldsOk b ≡ fields
         fitted = sym (fields-tested b read inside joined routed fielded)
 
-        pub bad-field : {sides : List (List ℕ)} → fields ≡ false → Leaves (Refused BadField) t j o u sides
+        pub bad-field : fields ≡ false → Refuses BadField
         unfolding loadOf
         bad-field q = refused (rw (le-ltb (length b) 6 six, ranged, two, ← sized, three, fitted, q))
 
@@ -255,7 +255,7 @@ module _ (b : List ℕ) (t : List (List ℕ)) (j o : List ℕ) (u : List (List �
               (wired b (fields-ok b (fitted ∙ four)) (passed .0) (passed .1)) routed
               (homed ∙ homes-alike h [] rt jt) (read-in .sides)
 
-          pub bad-joint : {sides : List (List ℕ)} → named ≡ false → Leaves (Refused BadJoint) t j o u sides
+          pub bad-joint : named ≡ false → Refuses BadJoint
           unfolding loadOf
           bad-joint q = refused (rw (le-ltb (length b) 6 six, ranged, two, ← sized, three, fitted, four, matched, q))
 
@@ -276,12 +276,12 @@ module _ (b : List ℕ) (t : List (List ℕ)) (j o : List ℕ) (u : List (List �
                 (ring-tested b read inside joined routed
                 (ring-told h rt jt ht by (range-counts h inside) home-ports told walked search))
 
-            pub has-ring : {sides : List (List ℕ)} → ring ≡ true → Leaves (Refused HasRing) t j o u sides
+            pub has-ring : ring ≡ true → Refuses HasRing
             unfolding loadOf
             has-ring q = refused
                 (rw (le-ltb (length b) 6 six, ranged, two, ← sized, three, fitted, four, matched, five, circled, q))
 
-            pub accepted : ring ≡ false → Leaves (Accepted h) rt jt ht ways by
+            pub accepted : ring ≡ false → Filled b (Accepted h) rt jt ht ways by
             unfolding loadOf
             accepted q =
                 let e : Accepted h ≡ loadOf b = rw (
@@ -298,47 +298,60 @@ module _ (b : List ℕ) (t : List (List ℕ)) (j o : List ℕ) (u : List (List �
                   q,
                   read,
                 ) in
-                let same : ht ≡ homesOf (planOf b) = homes-kept b read inside joined routed home-ports in (
-                  e,
-                  routed ∙ ap (loadRoutes b t) e,
-                  joined ∙ ap (loadJoints b j) e,
-                  same ∙ ap (loadHomes b o) e,
-                  walked told .2 ∙ ap lengthsOf (plan-same b read inside joined routed) ∙ ap (loadLengths b u) e,
-                  record {
+                let same : ht ≡ homesOf (planOf b) = homes-kept b read inside joined routed home-ports in
+                record {
+                  answer = e;
+                  routed = routed ∙ ap (loadRoutes b rt) e;
+                  joined = joined ∙ ap (loadJoints b jt) e;
+                  homed = same ∙ ap (loadHomes b ht) e;
+                  sized = walked told .2 ∙ ap lengthsOf (plan-same b read inside joined routed)
+                      ∙ ap (loadLengths b ways) e;
+                  sided = record {
                     sides = λ k q. subst (λ (pl : Plan). Sides pl by) (plan-same b read inside joined routed)
                         (told .chart .sides);
                     past = λ k q r d n m. sweeps-ready h rt jt ht by (range-counts h inside) told .2 r d n
                         (rw (same-head q) m);
-                  },
-                )
+                  };
+                }
 
--- what was filled is lent where the plan is accepted, else nothing
-pub lent-accepted : (b : List ℕ) (t : List (List ℕ)) (j o : List ℕ) (u : List (List ℕ)) {h : Head} {l : Loaded}
-    {routes : List (List ℕ)} {joints homes : List ℕ} {lengths sides : List (List ℕ)} → l ≡ Accepted h
-    → Leaves b routes joints homes lengths l routes joints homes lengths sides
-    → Leaves b t j o u l routes joints homes lengths sides
-lent-accepted b t j o u {h} a f =
-    let e : loadOf b ≡ Accepted h = sym (f .0) ∙ a in (
-      f .0,
-      f .1 ∙ rw e,
-      f .2 ∙ rw e,
-      f .3 ∙ rw e,
-      f .4 ∙ rw e,
-      f .5,
-    )
+-- ---- what is lent: an accepted plan's tables, else blank ones
+module _ (b : List ℕ) where
+  abbrev Lends : Loaded → List (List ℕ) → List ℕ → List ℕ → List (List ℕ) → List (List ℕ) → Type 0
+  Lends l routes joints homes lengths sides =
+      (l ≡ loadOf b) × (routes ≡ loadRoutes b noRoutes (loadOf b)) × (joints ≡ loadJoints b (replicate 64 0) (loadOf b))
+      × (homes ≡ loadHomes b (replicate 32 0) (loadOf b)) × (lengths ≡ loadLengths b noWalks (loadOf b))
+      × LentSides b l sides × ((w : Refusal) → l ≡ Refused w → sides ≡ noDestinations)
 
-pub lent-refused : (b : List ℕ) (t : List (List ℕ)) (j o : List ℕ) (u : List (List ℕ)) {w : Refusal} {l : Loaded}
-    {sides : List (List ℕ)} → l ≡ Refused w → l ≡ loadOf b → LentSides b l sides → Leaves b t j o u l t j o u sides
-lent-refused b t j o u {w} a f s =
-    let e : loadOf b ≡ Refused w = sym f ∙ a in (
-      f,
-      sym (ap (loadRoutes b t) e),
-      sym (ap (loadJoints b j) e),
-      sym (ap (loadHomes b o) e),
-      sym (ap (loadLengths b
-          u) e),
-      s,
-    )
+  pub lent-accepted : {h : Head} {l : Loaded} {routes : List (List ℕ)} {joints homes : List ℕ}
+      {lengths sides : List (List ℕ)} → l ≡ Accepted h → Filled b l routes joints homes lengths sides
+      → Lends l routes joints homes lengths sides
+  lent-accepted {h} a f =
+      let e : loadOf b ≡ Accepted h = sym (f .answer) ∙ a in (
+        f .answer,
+        f .routed ∙ rw e,
+        f .joined ∙ rw e,
+        f .homed ∙ rw e,
+        f .sized ∙ rw e,
+        f .sided,
+        λ w q. absurd (refused-not (sym q ∙ a)),
+      )
+
+  pub lent-refused : {w : Refusal} {l : Loaded} {routes : List (List ℕ)} {joints homes : List ℕ}
+      {lengths sides : List (List ℕ)} → l ≡ Refused w → l ≡ loadOf b → Blank routes joints homes lengths sides
+      → Lends l routes joints homes lengths sides
+  lent-refused {w} a f n =
+      let e : loadOf b ≡ Refused w = sym f ∙ a in (
+        f,
+        n .0 .0 ∙ sym (ap (loadRoutes b noRoutes) e),
+        n .1 ∙ sym (ap (loadJoints b (replicate 64 0)) e),
+        n .2 ∙ sym (ap (loadHomes b (replicate 32 0)) e),
+        n .3 ∙ sym (ap (loadLengths b noWalks) e),
+        record {
+          sides = λ h q. absurd (refused-not (sym a ∙ q));
+          past = λ h q. absurd (refused-not (sym a ∙ q));
+        },
+        λ _ _. n .0 .1,
+      )
 
 -- ---- Walk's returns
 module _ (b : List ℕ) (a p : ℕ) {l : Loaded} (known : l ≡ loadOf b) where

@@ -7,16 +7,17 @@ use mathlib.Core.Bool.{Bool, false, not, _&&_}
 use mathlib.Core.List.{List, []}
 use Prim.Native.Nat.{ℕ, _≤_, _<_}
 use lib.Dec.{eqb, ltb}
-use lib.ListN.{getD, length}
+use lib.ListN.{getD, length, replicate}
 use Rattle.basis.specs.Choice.{pick}
 use Rattle.kinds.specs.declared.Refusal.{Refusal}
 use Rattle.kinds.specs.declared.Refusal.the-variants.{TooShort, OutOfRange, WrongLength, BadField, BadJoint, HasRing}
 use Rattle.kinds.specs.Refusals.{refusalNumber}
 use Rattle.plan.specs.declared.Head.{Head}
 use Rattle.plan.specs.Head.{headOf, headOk, bitCount, byteCount}
-use Rattle.plan.specs.Plan.{planOf}
+use Rattle.plan.specs.Plan.{noSide, planOf}
 use Rattle.plan.specs.Rules.{fillOk, fieldsOk, namedOk, interfacesOk}
 use Rattle.plan.specs.Tables.{routesOf, jointsOf, homesOf}
+use Rattle.plan.specs.Marks.{NoRoutes}
 use Rattle.sets.specs.Sets.{has}
 use Rattle.paths.specs.Drawn.{Sides}
 use Rattle.circles.specs.RingTest.{hasRing}
@@ -44,7 +45,23 @@ abbrev pub loadNumber : Loaded → ℕ
 loadNumber (Accepted h) = 0
 loadNumber (Refused w) = refusalNumber w
 
--- ---- the lent tables after Load: an accepted plan's, else as they were
+-- ---- the lent tables
+-- before any plan is read: no router gives a side, no walk is known, no destination leaves by any side
+abbrev pub noRoutes : List (List ℕ)
+noRoutes = replicate 16 (replicate 32 noSide)
+
+abbrev pub noWalks : List (List ℕ)
+noWalks = replicate 16 (replicate 16 0)
+
+abbrev pub noDestinations : List (List ℕ)
+noDestinations = replicate 16 (replicate 4 0)
+
+-- all five: also no joints and no homes
+abbrev pub Blank : List (List ℕ) → List ℕ → List ℕ → List (List ℕ) → List (List ℕ) → Type 0
+Blank routes joints homes lengths by =
+    NoRoutes routes by × (joints ≡ replicate 64 0) × (homes ≡ replicate 32 0) × (lengths ≡ noWalks)
+
+-- after Load: an accepted plan's, else what the caller of these names
 -- the routes, router by destination
 abbrev pub loadRoutes : List ℕ → List (List ℕ) → Loaded → List (List ℕ)
 loadRoutes b t (Accepted h) = routesOf b h
@@ -70,3 +87,14 @@ pub record LentSides (b : List ℕ) (l : Loaded) (by : List (List ℕ)) : Type 0
   pub sides : (h : Head) → l ≡ Accepted h → Sides (planOf b) by
   pub past : (h : Head) → l ≡ Accepted h → (r o d : ℕ) → h .routers ≤ r → o < 4
       → has (getD (getD by r []) o 0) d ≡ false
+
+-- what Load leaves in tables that were blank: its answer, and an accepted plan's tables; after a refusal nothing is said
+-- of them
+pub record Filled (b : List ℕ) (l : Loaded) (routes : List (List ℕ)) (joints homes : List ℕ)
+    (lengths by : List (List ℕ)) : Type 0 where
+  pub answer : l ≡ loadOf b
+  pub routed : routes ≡ loadRoutes b routes (loadOf b)
+  pub joined : joints ≡ loadJoints b joints (loadOf b)
+  pub homed : homes ≡ loadHomes b homes (loadOf b)
+  pub sized : lengths ≡ loadLengths b lengths (loadOf b)
+  pub sided : LentSides b l by

@@ -7,10 +7,12 @@ ghost use mathlib.Core.Path.{_≡_};
 ghost use mathlib.Core.List.{[]};
 ghost use Prim.Native.Nat.{_<_};
 ghost use lib.ListN.{getD, replicate};
+ghost use Rattle.kinds.specs.declared.Refusal.{Refusal as Why};
 ghost use Rattle.kinds.specs.Refusals.{refusalNumber};
 ghost use Rattle.plan.specs.Head.{headOf, InRange};
 ghost use Rattle.load.specs.Load.{lengthOk, loadOf, loadNumber, loadRoutes, loadJoints, loadHomes, loadLengths, LentSides};
-ghost use Rattle.plan.specs.Marks.{NoRoutes};
+ghost use Rattle.load.specs.Load.{Blank, Filled, noRoutes, noWalks, noDestinations};
+ghost use Rattle.load.specs.declared.Loaded.the-variants.{Refused as Unloaded};
 ghost use Rattle.load.specs.Walk.{walkOf};
 
 // The fewest bytes in which counts and capacities fit.
@@ -34,9 +36,10 @@ fn length_ok(plan: &[u8], h: Head) -> bool
     plan::counts::fill_ok(plan, bits)
 }
 
-// The first refusal that applies, in document 01's order, or the plan's head. The tables are filled as the plan is
-// read: an accepted plan's routes, joints, homes, lengths of walks and sets of destinations are in them.
-fn fill(
+// Load into blank tables: the first refusal that applies, in document 01's order, or the plan's head. The tables are
+// filled as the plan is read, each once: an accepted plan's routes, joints, homes, lengths of walks and sets of
+// destinations are in them. After a refusal they hold what was read so far, and nothing is said of them.
+pub fn fill(
     plan: &[u8],
     routes: &mut [[u8; 32]; 16],
     joints: &mut [u8; 64],
@@ -44,13 +47,9 @@ fn fill(
     lengths: &mut [[u8; 16]; 16],
     by: &mut [[u32; 4]; 16],
 ) -> Loaded
-    requires { ⌜ NoRoutes (now routes) (now by) × (now joints ≡ replicate 64 0) × (now homes ≡ replicate 32 0) ⌝ }
-    ensures { λ l. ⌜ (l ≡ loadOf (now (plan .entry)))
-        × (now (routes .exit) ≡ loadRoutes (now (plan .entry)) (now (routes .exit)) (loadOf (now (plan .entry))))
-        × (now (joints .exit) ≡ loadJoints (now (plan .entry)) (now (joints .exit)) (loadOf (now (plan .entry))))
-        × (now (homes .exit) ≡ loadHomes (now (plan .entry)) (now (homes .exit)) (loadOf (now (plan .entry))))
-        × (now (lengths .exit) ≡ loadLengths (now (plan .entry)) (now (lengths .exit)) (loadOf (now (plan .entry))))
-        × LentSides (now (plan .entry)) l (now (by .exit)) ⌝ }
+    requires { ⌜ Blank (now routes) (now joints) (now homes) (now lengths) (now by) ⌝ }
+    ensures { λ l. ⌜ Filled (now (plan .entry)) l (now (routes .exit)) (now (joints .exit)) (now (homes .exit))
+        (now (lengths .exit)) (now (by .exit)) ⌝ }
 {
     if plan.len() < HEAD_BYTES {
         return Loaded::Refused(Refusal::TooShort);
@@ -78,9 +77,27 @@ fn fill(
     Loaded::Accepted(h)
 }
 
+// The tables before any plan is read.
+fn clear(
+    routes: &mut [[u8; 32]; 16],
+    joints: &mut [u8; 64],
+    homes: &mut [u8; 32],
+    lengths: &mut [[u8; 16]; 16],
+    by: &mut [[u32; 4]; 16],
+)
+    ensures { λ _. ⌜ Blank (now (routes .exit)) (now (joints .exit)) (now (homes .exit)) (now (lengths .exit))
+        (now (by .exit)) ⌝ }
+{
+    *routes = [[NO_SIDE; 32]; 16];
+    *joints = [0u8; 64];
+    *homes = [0u8; 32];
+    *lengths = [[0u8; 16]; 16];
+    *by = [[0u32; 4]; 16];
+}
+
 // Load: the first refusal that applies, in document 01's order, or the plan's head. An accepted plan's routes, joints,
-// homes and lengths of walks are then in the lent tables, and its destinations by router and side; a refusal leaves
-// the tables as they were, but for the last.
+// homes and lengths of walks are then in the lent tables, and its destinations by router and side, whatever the tables
+// held; a refusal leaves them blank.
 pub fn load(
     plan: &[u8],
     routes: &mut [[u8; 32]; 16],
@@ -90,25 +107,19 @@ pub fn load(
     by: &mut [[u32; 4]; 16],
 ) -> Loaded
     ensures { λ l. ⌜ (l ≡ loadOf (now (plan .entry)))
-        × (now (routes .exit) ≡ loadRoutes (now (plan .entry)) (now (routes .entry)) (loadOf (now (plan .entry))))
-        × (now (joints .exit) ≡ loadJoints (now (plan .entry)) (now (joints .entry)) (loadOf (now (plan .entry))))
-        × (now (homes .exit) ≡ loadHomes (now (plan .entry)) (now (homes .entry)) (loadOf (now (plan .entry))))
-        × (now (lengths .exit) ≡ loadLengths (now (plan .entry)) (now (lengths .entry)) (loadOf (now (plan .entry))))
-        × LentSides (now (plan .entry)) l (now (by .exit)) ⌝ }
+        × (now (routes .exit) ≡ loadRoutes (now (plan .entry)) noRoutes (loadOf (now (plan .entry))))
+        × (now (joints .exit) ≡ loadJoints (now (plan .entry)) (replicate 64 0) (loadOf (now (plan .entry))))
+        × (now (homes .exit) ≡ loadHomes (now (plan .entry)) (replicate 32 0) (loadOf (now (plan .entry))))
+        × (now (lengths .exit) ≡ loadLengths (now (plan .entry)) noWalks (loadOf (now (plan .entry))))
+        × LentSides (now (plan .entry)) l (now (by .exit))
+        × ((w : Why) → l ≡ Unloaded w → now (by .exit) ≡ noDestinations) ⌝ }
 {
-    let mut t = [[NO_SIDE; 32]; 16];
-    let mut j = [0u8; 64];
-    let mut o = [0u8; 32];
-    let mut ways = [[0u8; 16]; 16];
-    *by = [[0u32; 4]; 16];
-    let l = fill(plan, &mut t, &mut j, &mut o, &mut ways, by);
+    clear(routes, joints, homes, lengths, by);
+    let l = fill(plan, routes, joints, homes, lengths, by);
     let Loaded::Accepted(_) = l else {
+        clear(routes, joints, homes, lengths, by);
         return l;
     };
-    *routes = t;
-    *joints = j;
-    *homes = o;
-    *lengths = ways;
     l
 }
 

@@ -1,11 +1,10 @@
 use Prim.Native.Nat.{_+_, _-_, _≤_, _*_, _/_, _%_}
-use lib.ListN.{getD, set, length, length-set}
-use mathlib.Core.Path.{_≡_, ap}
-use Rattle.basis.specs.Fold.{upTo, fill, up-none, up-more, up-fill, up-done}
+use mathlib.Core.Path.{_≡_}
+use Rattle.basis.specs.Fold.{upTo, up-none, up-more}
 use borrow.Author.Needs.{needs}
 use native.Mathlib.Omega.{arith}
-use Rattle.arrivals.proofs.Steps.{first-step}
-use Rattle.arrivals.specs.Tables.{firstStep, firstsOf}
+use Rattle.arrivals.proofs.Steps.{first-step, firsts-done}
+use Rattle.arrivals.specs.Tables.{firstStep}
 use Rattle.arrivals.proofs.firsts.Statement.{statement}
 use Rattle.arrivals.proofs.firsts.Tie as tie
 use Rattle.arrivals.proofs.firsts.Reads as reads
@@ -19,54 +18,53 @@ Inv-loop by homes n t₀ d₀ t d = (d ≤ n) × (t ≡ upTo (firstStep by homes
 abbrev μ-loop : tie.MeasureT-loop
 μ-loop by homes n t₀ d₀ t d = n - d
 
--- src/lib.rt:71:5
+-- src/lib.rt:78:5
 loop-holds : tie.Need-loop-holds Inv-loop μ-loop
 loop-holds c = (omega arith, up-none _ _)
 
--- src/lib.rt:72:13
+-- src/lib.rt:79:13
 port-requires : tie.Need-port-requires Inv-loop μ-loop
 port-requires c κs = (omega arith, omega arith, c .before .before .pre .1)
 
--- src/lib.rt:73:33
+-- src/lib.rt:80:33
 mul-first-of : tie.Need-mul-first-of Inv-loop μ-loop
 mul-first-of c = record { fits = omega (arith, c .port .ensures .1) }
 
--- src/lib.rt:73:33
-array-read-first-of : tie.Need-array-read-first-of Inv-loop μ-loop
-array-read-first-of c = omega (arith, c .port .ensures .1)
+-- src/lib.rt:80:33
+element-copy-out-first-of : tie.Need-element-copy-out-first-of Inv-loop μ-loop
+element-copy-out-first-of c = omega (arith, c .port .ensures .1)
 
--- src/lib.rt:73:20
+-- src/lib.rt:80:20
 first-of-requires : tie.Need-first-of-requires Inv-loop μ-loop
-first-of-requires c κs = (c .port .ensures .1, omega arith)
+first-of-requires c κs = (c .before .port .ensures .1, omega arith)
 
--- src/lib.rt:73:9
+-- src/lib.rt:80:9
 mul-t : tie.Need-mul-t Inv-loop μ-loop
-mul-t c = record { fits = omega (arith, c .before .port .ensures .1) }
+mul-t c = record { fits = omega (arith, c .before .before .port .ensures .1) }
 
--- src/lib.rt:73:9
-array-write-t : tie.Need-array-write-t Inv-loop μ-loop
-array-write-t c = omega (arith, c .before .port .ensures .1)
+-- src/lib.rt:80:9
+element-write-t : tie.Need-element-write-t Inv-loop μ-loop
+element-write-t c = omega (arith, c .before .before .port .ensures .1)
 
--- src/lib.rt:71:9
+-- src/lib.rt:78:9
 add-d : tie.Need-add-d Inv-loop μ-loop
 add-d c = search needs
 
--- src/lib.rt:71:5
+-- src/lib.rt:78:5
 loop-less : tie.Need-loop-less Inv-loop μ-loop
 loop-less c = search needs
 
--- src/lib.rt:71:5
+-- src/lib.rt:78:5
 loop-again : tie.Need-loop-again Inv-loop μ-loop
 loop-again c = (
   omega arith,
-  up-more _ _ _ (c .before .before .before .loop .inv .1)
-      (first-step _ _ _ _ (c .before .port .ensures .0) (c .first-of .ensures)),
+  up-more _ _ _ (c .before .before .before .before .loop .inv .1)
+      (first-step _ _ _ _ (c .before .before .port .ensures .0) (c .first-of .ensures)),
 )
 
--- src/lib.rt:66:1
+-- src/lib.rt:74:1
 returns : tie.Need-returns Inv-loop μ-loop
-unfolding firstsOf
-returns c = up-done _ _ (c .before .loop .inv .1) (omega arith)
+returns c = firsts-done _ _ (c .before .before .pre .2) (c .before .loop .inv .1) (omega arith)
 
 pub firsts-spec : {M : Type 1} → statement M
 firsts-spec =
@@ -77,10 +75,10 @@ firsts-spec =
     loop-holds
     port-requires
     mul-first-of
-    array-read-first-of
+    element-copy-out-first-of
     first-of-requires
     mul-t
-    array-write-t
+    element-write-t
     add-d
     loop-less
     loop-again

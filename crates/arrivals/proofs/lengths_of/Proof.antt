@@ -19,80 +19,79 @@ use Rattle.arrivals.proofs.port.Reads as port-reads
 use Rattle.sets.proofs.both.Reads as both-reads
 
 abbrev Inv-loop : tie.InvT-loop
-Inv-loop z arrive served homes n actives far t₀ a₀ t a =
+Inv-loop z arrive served homes t₀ n actives far a₀ t a =
     (a ≤ actives)
     × (t ≡ upTo (fill (λ i. lengthOf z (getD homes i 0 / 4) (getD served i 0)
     (both (getD arrive (getD homes i 0 / 4) 0) far) actives)) a t₀)
-    × (length t ≡ 16)
 
 abbrev μ-loop : tie.MeasureT-loop
-μ-loop z arrive served homes n actives far t₀ a₀ t a = actives - a
+μ-loop z arrive served homes t₀ n actives far a₀ t a = actives - a
 
--- src/lib.rt:247:13
+-- src/lib.rt:168:13
 add-n : tie.Need-add-n Inv-loop μ-loop
 add-n c = let m = c .before .pre .0 in record { fits = omega (arith, m .1, m .2) }
 
--- src/lib.rt:249:9
+-- src/lib.rt:170:9
 far-of-requires : tie.Need-far-of-requires Inv-loop μ-loop
 far-of-requires c κs = c .before .pre .0
 
--- src/lib.rt:251:5
+-- src/lib.rt:171:5
 loop-holds : tie.Need-loop-holds Inv-loop μ-loop
-loop-holds c = (omega arith, up-none _ _, search needs)
+loop-holds c = (omega arith, up-none _ _)
 
--- src/lib.rt:252:17
+-- src/lib.rt:172:17
 port-requires : tie.Need-port-requires Inv-loop μ-loop
 port-requires c κs =
     let m = c .before .before .before .before .pre .0 in
     (omega arith, omega (arith, m .1, m .2), c .before .before .before .before .pre .1)
 
--- src/lib.rt:253:33
+-- src/lib.rt:173:33
 mul-length-row : tie.Need-mul-length-row Inv-loop μ-loop
 mul-length-row c = let m = c .before .before .before .before .before .pre .0 .1 in record { fits = omega arith }
 
--- src/lib.rt:253:33
+-- src/lib.rt:173:33
 element-copy-out-length-row : tie.Need-element-copy-out-length-row Inv-loop μ-loop
 element-copy-out-length-row c = let m = c .before .before .before .before .before .pre .0 .1 in omega arith
 
--- src/lib.rt:253:49
+-- src/lib.rt:173:49
 mul-both : tie.Need-mul-both Inv-loop μ-loop
 mul-both c = record { fits = omega (arith, c .before .port .ensures .1) }
 
--- src/lib.rt:253:49
+-- src/lib.rt:173:49
 element-copy-out-both : tie.Need-element-copy-out-both Inv-loop μ-loop
 element-copy-out-both c = omega (arith, c .before .port .ensures .1)
 
--- src/lib.rt:253:44
+-- src/lib.rt:173:44
 both-requires : tie.Need-both-requires Inv-loop μ-loop
 both-requires c κs = search needs
 
--- src/lib.rt:253:16
+-- src/lib.rt:173:16
 length-row-requires : tie.Need-length-row-requires Inv-loop μ-loop
 length-row-requires c κs =
     let m = c .before .before .before .before .before .before .before .before .pre .0 .1 in
     (omega (arith, c .before .before .before .port .ensures .1), omega arith)
 
--- src/lib.rt:253:9
-mul-t : tie.Need-mul-t Inv-loop μ-loop
-mul-t c =
+-- src/lib.rt:173:9
+mul-t23 : tie.Need-mul-t23 Inv-loop μ-loop
+mul-t23 c =
     let m = c .before .before .before .before .before .before .before .before .before .pre .0 .1 in
     record { fits = omega arith }
 
--- src/lib.rt:253:9
-array-set-from-t : tie.Need-array-set-from-t Inv-loop μ-loop
-array-set-from-t c =
+-- src/lib.rt:173:9
+element-set-from-t : tie.Need-element-set-from-t Inv-loop μ-loop
+element-set-from-t c =
     let m = c .before .before .before .before .before .before .before .before .before .pre .0 .1 in
     omega arith
 
--- src/lib.rt:251:9
+-- src/lib.rt:171:9
 add-a : tie.Need-add-a Inv-loop μ-loop
 add-a c = search needs
 
--- src/lib.rt:251:5
+-- src/lib.rt:171:5
 loop-less : tie.Need-loop-less Inv-loop μ-loop
 loop-less c = search needs
 
--- src/lib.rt:251:5
+-- src/lib.rt:171:5
 loop-again : tie.Need-loop-again Inv-loop μ-loop
 loop-again c = (
   omega arith,
@@ -105,12 +104,13 @@ loop-again c = (
       (c .before .before .before .before .before .before .before .before .before .args .h .actives)
       (c .before .before .before .before .before .before .before .far-of .result)
       (c .before .before .before .before .port .ensures .0) (c .before .both .ensures) (c .length-row .ensures)),
-  simp length-set (c .before .before .before .before .before .before .loop .inv .2),
 )
 
--- src/lib.rt:243:1
+-- src/lib.rt:156:1
 returns : tie.Need-returns Inv-loop μ-loop
-returns c = lengths-done _ _ _ _ _ _ (c .before .before .far-of .ensures) (c .before .loop .inv .1) (omega arith)
+returns c =
+    lengths-done _ _ _ _ _ _ (c .before .before .before .before .pre .2) (c .before .before .far-of .ensures)
+    (c .before .loop .inv .1) (omega arith)
 
 pub lengths-of-spec : {M : Type 1} → statement M
 lengths-of-spec =
@@ -128,8 +128,8 @@ lengths-of-spec =
     element-copy-out-both
     both-requires
     length-row-requires
-    mul-t
-    array-set-from-t
+    mul-t23
+    element-set-from-t
     add-a
     loop-less
     loop-again

@@ -43,50 +43,38 @@ far-of-requires c κs = search needs
 
 -- src/lib.rt:284:9
 reach-requires : tie.Need-reach-requires
-reach-requires c κs = (
-  c .before .before .before .before .before .before .before .before .before .before .pre .0 .0,
-  c .before .before .before .before .before .before .before .before .before .before .pre .0 .1,
-  rw (c .before .before .before .before .before .before .before .before .nexts .ensures)
-      (nexts-inside _ _
-      (c .before .before .before .before .before .before .before .before .before .before .pre .0 .0)),
-  rw (c .before .before .before .before .before .before .before .firsts .ensures)
-      (first-idle _ _ _ _ (c .before .before .before .before .before .before .before .before .before .before .pre .1)
-      (c .before .before .before .before .before .before .before .before .before .before .pre .2) _),
-  ap length (c .before .before .before .before .before .before .before .firsts .ensures) ∙ firsts-long _ _ _,
-)
+reach-requires c κs =
+    let made = c .before .before .before .before .before .before .before .firsts .ensures in
+    let pre = c .before .before .before .before .before .before .before .before .before .before .before .pre in (
+      pre .0 .0,
+      pre .0 .1,
+      rw (c .before .before .before .before .before .before .before .before .before .nexts .ensures) (nexts-inside _ _ (pre .0 .0)),
+      rw made (first-idle _ _ _ _ (pre .1) (pre .2) _),
+      ap length made ∙ firsts-long _ _ _,
+    )
 
 -- src/lib.rt:285:13
 serves-requires : tie.Need-serves-requires
-serves-requires c κs = (
-  c .before .before .before .before .before .before .before .before .before .before .before
-      .before .pre .0,
-  c .before .before .before .before .before .before .before .before .before .before .before .before
-      .pre .1,
-  c .before .before .before .before .before .before .before .before .before .before .before .before .pre .2,
-)
+serves-requires c κs = let pre = c .before .before .before .before .before .before .before .before .before .before .before .before .before .pre in (pre .0, pre .1, pre .2)
 
 -- src/lib.rt:286:16
 lengths-of-requires : tie.Need-lengths-of-requires
-lengths-of-requires c κs = search needs
+lengths-of-requires c κs = let pre = c .before .before .before .before .before .before .before .before .before .before .before .before .before .before .before .before .before .before .pre in (pre .0, pre .1, pre .4)
 
 -- src/lib.rt:260:1
 returns : tie.Need-returns
 returns c =
-    walks-sound _ _ _ _ _ _ _ (c .before .before .before .before .before .before .before .before .before .before
-    .before .before .before .before .before .before .before .pre .0 .1)
-    (c .before .before .before .before .before .before .before .before .before .before .before .before .before .before
-    .before .before .before .pre .0 .2)
-    (c .before .before .before .before .before .before .before .before .before .before .before .before .before .before
-    .before .nexts .ensures)
-    (c .before .before .before .before .before .before .before .before .before .before .before .before .before .before
-    .firsts .ensures)
-    (c .before .before .before .before .before .before .before .before .before .before .before .before .nears .ensures)
-    (c .before .before .before .before .before .before .before .before .before .before .before .below .ensures)
-    (c .before .before .before .before .before .before .before .before .before .before .far-of .ensures)
-    (c .before .before .before .before .before .before .reach .ensures .0)
-    (c .before .before .before .before .before .before .reach .ensures .1)
-    (c .before .before .before .before .before .before .reach .ensures .2)
-    (c .before .before .before .before .serves .ensures) (c .lengths-of .ensures)
+    let pre = c .before .before .before .before .before .before .before .before .before .before .before .before .before .before .before .before .before .before .before .pre in
+    walks-sound _ _ _ _ _ _ _ (pre .0 .1) (pre .0 .2)
+    (c .before .before .before .before .before .before .before .before .before .before .before .before .before .before .before .before .before .nexts .ensures)
+    (c .before .before .before .before .before .before .before .before .before .before .before .before .before .before .before .firsts .ensures)
+    (c .before .before .before .before .before .before .before .before .before .before .before .before .before .nears .ensures)
+    (c .before .before .before .before .before .before .before .before .before .before .before .before .below .ensures)
+    (c .before .before .before .before .before .before .before .before .before .before .before .far-of .ensures)
+    (c .before .before .before .before .before .before .before .reach .ensures .0)
+    (c .before .before .before .before .before .before .before .reach .ensures .1)
+    (c .before .before .before .before .before .before .before .reach .ensures .2)
+    (c .before .before .before .before .before .serves .ensures) (c .lengths-of .ensures)
 
 pub walks-spec : {M : Type 1} → statement M
 walks-spec =

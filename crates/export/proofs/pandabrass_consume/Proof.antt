@@ -26,7 +26,13 @@ same-length c = search needs
 
 -- src/lib.rt:128:1
 returns : tie.Need-returns
-returns c = (number-told (c .before .before .before .before .before .consume .ensures) (c .number-of .ensures), bytes-told (c .before .before .before .before .before .consume .ensures), taken-told (c .before .before .before .before .before .consume .ensures) _ (c .before .put-taken .ensures))
+returns c = (
+  number-told (c .before .before .before .before .before .consume .ensures) (c .number-of .ensures),
+  bytes-told
+      (c .before .before .before .before .before .consume .ensures),
+  taken-told
+      (c .before .before .before .before .before .consume .ensures) _ (c .before .put-taken .ensures),
+)
 
 pub pandabrass-consume-spec : {M : Type 1} → statement M
 pandabrass-consume-spec =

@@ -22,7 +22,11 @@ number-of-requires c κs = search needs
 
 -- src/lib.rt:155:1
 returns : tie.Need-returns
-returns c = (number-told (c .before .before .before .entry .ensures) (c .number-of .ensures), entry-told (c .before .before .before .entry .ensures) _ (c .before .put-entry .ensures))
+returns c = (
+  number-told (c .before .before .before .entry .ensures) (c .number-of .ensures),
+  entry-told
+      (c .before .before .before .entry .ensures) _ (c .before .put-entry .ensures),
+)
 
 pub pandabrass-entry-spec : {M : Type 1} → statement M
 pandabrass-entry-spec =

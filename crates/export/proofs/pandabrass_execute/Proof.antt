@@ -21,7 +21,11 @@ same-length c = search needs
 
 -- src/lib.rt:92:1
 returns : tie.Need-returns
-returns c = (number-told (c .before .before .before .execute .ensures) (c .number-of .ensures), bytes-told (c .before .before .before .execute .ensures))
+returns c = (
+  number-told (c .before .before .before .execute .ensures) (c .number-of .ensures),
+  bytes-told
+      (c .before .before .before .execute .ensures),
+)
 
 pub pandabrass-execute-spec : {M : Type 1} → statement M
 pandabrass-execute-spec =

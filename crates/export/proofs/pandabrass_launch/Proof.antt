@@ -21,7 +21,11 @@ same-length c = search needs
 
 -- src/lib.rt:110:1
 returns : tie.Need-returns
-returns c = (number-told (c .before .before .before .launch .ensures) (c .number-of .ensures), bytes-told (c .before .before .before .launch .ensures))
+returns c = (
+  number-told (c .before .before .before .launch .ensures) (c .number-of .ensures),
+  bytes-told
+      (c .before .before .before .launch .ensures),
+)
 
 pub pandabrass-launch-spec : {M : Type 1} → statement M
 pandabrass-launch-spec =

@@ -5,12 +5,12 @@ use Rattle.export.proofs.pandabrass_load.Statement.{statement}
 use Rattle.export.proofs.pandabrass_load.Tie as tie
 use Rattle.export.proofs.pandabrass_load.Reads as reads
 use Rattle.export.proofs.pandabrass_load.Lts as lts
-use Rattle.load.proofs.load.Reads as load-reads
+use Rattle.load.proofs.fill.Reads as fill-reads
 use Rattle.load.proofs.load_number.Reads as load-number-reads
 
 -- src/lib.rt:14:9
-load-requires : tie.Need-load-requires
-load-requires c κs = search needs
+fill-requires : tie.Need-fill-requires
+fill-requires c κs = search needs
 
 -- src/lib.rt:15:5
 load-number-requires : tie.Need-load-number-requires
@@ -22,7 +22,7 @@ cast-result c = search needs
 
 -- src/lib.rt:7:1
 returns : tie.Need-returns
-returns c = c .load-number .ensures ∙ ap loadNumber (c .before .load .ensures .0)
+returns c = c .load-number .ensures ∙ ap loadNumber (c .before .fill .ensures .answer)
 
 pub pandabrass-load-spec : {M : Type 1} → statement M
-pandabrass-load-spec = tie.close (tie.spec load-requires load-number-requires cast-result returns)
+pandabrass-load-spec = tie.close (tie.spec fill-requires load-number-requires cast-result returns)

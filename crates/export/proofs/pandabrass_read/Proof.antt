@@ -21,7 +21,11 @@ same-length c = search needs
 
 -- src/lib.rt:83:1
 returns : tie.Need-returns
-returns c = (number-told (c .before .before .before .read .ensures) (c .number-of .ensures), bytes-told (c .before .before .before .read .ensures))
+returns c = (
+  number-told (c .before .before .before .read .ensures) (c .number-of .ensures),
+  bytes-told
+      (c .before .before .before .read .ensures),
+)
 
 pub pandabrass-read-spec : {M : Type 1} → statement M
 pandabrass-read-spec = tie.close (tie.spec read-requires number-of-requires same-length returns)

@@ -21,7 +21,11 @@ same-length c = search needs
 
 -- src/lib.rt:119:1
 returns : tie.Need-returns
-returns c = (number-told (c .before .before .before .reply .ensures) (c .number-of .ensures), bytes-told (c .before .before .before .reply .ensures))
+returns c = (
+  number-told (c .before .before .before .reply .ensures) (c .number-of .ensures),
+  bytes-told
+      (c .before .before .before .reply .ensures),
+)
 
 pub pandabrass-reply-spec : {M : Type 1} → statement M
 pandabrass-reply-spec = tie.close (tie.spec reply-requires number-of-requires same-length returns)

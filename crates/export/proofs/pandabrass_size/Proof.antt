@@ -7,11 +7,11 @@ use Rattle.export.proofs.pandabrass_size.Tie as tie
 use Rattle.export.proofs.pandabrass_size.Reads as reads
 use Rattle.export.proofs.pandabrass_size.Lts as lts
 use Rattle.acts.proofs.state_size.Reads as state-size-reads
-use Rattle.load.proofs.load.Reads as load-reads
+use Rattle.load.proofs.fill.Reads as fill-reads
 
 -- src/lib.rt:66:9
-load-requires : tie.Need-load-requires
-load-requires c κs = search needs
+fill-requires : tie.Need-fill-requires
+fill-requires c κs = search needs
 
 -- src/lib.rt:67:26
 enum-known-l : tie.Need-enum-known-l
@@ -23,25 +23,33 @@ enum-told c = search needs
 
 -- src/lib.rt:68:9
 returns : tie.Need-returns
-returns c = size-none _ (c .before .before .load .ensures .0) (c .enum-told .given .1)
+returns c = size-none _ (c .before .before .fill .ensures .answer) (c .enum-told .given .1)
 
 -- src/lib.rt:70:5
 state-size-requires : tie.Need-state-size-requires
-state-size-requires c κs = lent-counts _ _ _ _ _ (c .before .before .before .load .ensures .0) (c .before .l .given .1) (c .before .before .before .load .ensures .1) (c .before .before .before .load .ensures .2) (c .before .before .before .load .ensures .3) (c .before .before .before .load .ensures .4) (c .before .before .before .load .ensures .5)
+state-size-requires c κs = lent-counts (c .before .before .before .fill .ensures) (c .before .l .given .1)
 
 -- src/lib.rt:70:5
 cast-result : tie.Need-cast-result
-cast-result c = let k = lent-counts _ _ _ _ _ (c .before .before .before .before .load .ensures .0) (c .before .before .l .given .1) (c .before .before .before .before .load .ensures .1) (c .before .before .before .before .load .ensures .2) (c .before .before .before .before .load .ensures .3) (c .before .before .before .before .load .ensures .4) (c .before .before .before .before .load .ensures .5) in let a = k .0 in let b = k .1 in let d = k .2 in let e = c .state-size .ensures in omega arith
+cast-result c =
+    let k = lent-counts (c .before .before .before .before .fill .ensures) (c .before .before .l .given .1) in
+    let a = k .0 in
+    let b = k .1 in
+    let d = k .2 in
+    let e = c .state-size .ensures in
+    omega arith
 
 -- src/lib.rt:57:1
 returns-2 : tie.Need-returns-2
-returns-2 c = size-some _ (c .before .before .before .before .load .ensures .0) (c .before .before .l .given .1) (c .state-size .ensures)
+returns-2 c =
+    size-some _ (c .before .before .before .before .fill .ensures .answer) (c .before .before .l .given .1)
+    (c .state-size .ensures)
 
 pub pandabrass-size-spec : {M : Type 1} → statement M
 pandabrass-size-spec =
     tie.close
     (tie.spec
-    load-requires
+    fill-requires
     enum-known-l
     enum-told
     returns

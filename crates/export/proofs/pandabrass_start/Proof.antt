@@ -21,7 +21,11 @@ same-length c = search needs
 
 -- src/lib.rt:74:1
 returns : tie.Need-returns
-returns c = (number-told (c .before .before .before .start .ensures) (c .number-of .ensures), bytes-told (c .before .before .before .start .ensures))
+returns c = (
+  number-told (c .before .before .before .start .ensures) (c .number-of .ensures),
+  bytes-told
+      (c .before .before .before .start .ensures),
+)
 
 pub pandabrass-start-spec : {M : Type 1} → statement M
 pandabrass-start-spec = tie.close (tie.spec start-requires number-of-requires same-length returns)

@@ -21,7 +21,11 @@ same-length c = search needs
 
 -- src/lib.rt:101:1
 returns : tie.Need-returns
-returns c = (number-told (c .before .before .before .write .ensures) (c .number-of .ensures), bytes-told (c .before .before .before .write .ensures))
+returns c = (
+  number-told (c .before .before .before .write .ensures) (c .number-of .ensures),
+  bytes-told
+      (c .before .before .before .write .ensures),
+)
 
 pub pandabrass-write-spec : {M : Type 1} → statement M
 pandabrass-write-spec = tie.close (tie.spec write-requires number-of-requires same-length returns)

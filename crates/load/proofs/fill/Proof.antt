@@ -22,7 +22,7 @@ use Rattle.plan.proofs.routes.routes.Reads as routes-reads
 -- src/lib.rt
 returns : tie.Need-returns
 returns c =
-    too-short _ _ _ _ _ (c .if1 .taken)
+    too-short _ (c .if1 .taken) _ _ _ _ _
 
 -- src/lib.rt
 read-head-requires : tie.Need-read-head-requires
@@ -37,8 +37,8 @@ head-ok-requires c κs =
 -- src/lib.rt
 returns-2 : tie.Need-returns-2
 returns-2 c =
-    out-of-range _ _ _ _ _ (c .before .before .before .if1 .left) (c .before .before .read-head .ensures) (c .before
-    .head-ok .ensures) (not-true _ (c .if2 .taken))
+    out-of-range _ (c .before .before .before .if1 .left) (c .before .before .read-head .ensures) (c .before
+    .head-ok .ensures) (not-true _ (c .if2 .taken)) _ _ _ _ _
 
 -- src/lib.rt
 length-ok-requires : tie.Need-length-ok-requires
@@ -49,9 +49,9 @@ length-ok-requires c κs =
 returns-3 : tie.Need-returns-3
 returns-3 c =
     let c5 = c .before .before .before .before .before in
-    wrong-length _ _ _ _ _ (c5 .if1 .left) (c .before .before .before .before .read-head .ensures) (c .before .before
+    wrong-length _ (c5 .if1 .left) (c .before .before .before .before .read-head .ensures) (c .before .before
     .before .head-ok .ensures) (not-false _ (c .before .before .if2 .left)) (c .before .length-ok .ensures) (not-true
-    _ (c .if3 .taken))
+    _ (c .if3 .taken)) _ _ _ _ _
 
 -- src/lib.rt
 joints-requires : tie.Need-joints-requires
@@ -80,11 +80,11 @@ returns-4 : tie.Need-returns-4
 returns-4 c =
     let c5 = c .before .before .before .before .before in
     let c10 = c5 .before .before .before .before .before in
-    bad-field _ _ _ _ _ (c10 .before .if1 .left) (c10 .read-head .ensures) (c5 .before .before .before .before
+    bad-field _ (c10 .before .if1 .left) (c10 .read-head .ensures) (c5 .before .before .before .before
     .head-ok .ensures) (not-false _ (c5 .before .before .before .if2 .left)) (c5 .before .before .length-ok .ensures)
     (not-false _ (c5 .before .if3 .left)) (c .before .before .before .before .joints .ensures .0) (c .before .routes
     .ensures .table) (ap₂ _&&_ (c .before .before .before .before .joints .ensures .1) (c .before .routes .ensures
-    .fit)) (not-true _ (c .if4 .taken))
+    .fit)) (not-true _ (c .if4 .taken)) _ _ _ _ _
 
 -- src/lib.rt
 homes-requires : tie.Need-homes-requires
@@ -106,11 +106,11 @@ returns-5 c =
     let c5 = c .before .before .before .before .before in
     let c10 = c5 .before .before .before .before .before in
     let c15 = c10 .before .before .before .before .before in
-    bad-joint _ _ _ _ _ (c15 .if1 .left) (c10 .before .before .before .before .read-head .ensures) (c10 .before
+    bad-joint _ (c15 .if1 .left) (c10 .before .before .before .before .read-head .ensures) (c10 .before
     .before .before .head-ok .ensures) (not-false _ (c10 .before .before .if2 .left)) (c10 .before .length-ok
     .ensures) (not-false _ (c10 .if3 .left)) (c5 .before .before .before .joints .ensures .0) (c5 .routes .ensures
     .table) (ap₂ _&&_ (c5 .before .before .before .joints .ensures .1) (c5 .routes .ensures .fit)) (not-false _ (c
-    .before .before .before .before .if4 .left)) (c .before .homes .ensures .1) (not-true _ (c .if5 .taken))
+    .before .before .before .before .if4 .left)) (c .before .homes .ensures .1) (not-true _ (c .if5 .taken)) _ _ _ _ _
 
 -- src/lib.rt
 walks-requires : tie.Need-walks-requires
@@ -119,16 +119,15 @@ walks-requires c κs =
     let c10 = c5 .before .before .before .before .before in
     let c15 = c10 .before .before .before .before .before in
     let c20 = c15 .before .before .before .before .before in
-    sweeps-ready _ _ _ _ _ (range-counts _ (head-range _ (c15 .before .before .before .before .head-ok .ensures)
-    (not-false _ (c15 .before .before .before .if2 .left)))) (tables _ (c20 .before .before .before .args .routes
-    .now) (c20 .before .before .before .args .joints .now) (c20 .before .before .before .args .homes .now) (c20
-    .before .before .before .args .lengths .now) (c20 .before .if1 .left) (c20 .read-head .ensures) (c15 .before
+    let ready = sweeps-ready _ _ _ _ _ (range-counts _ (head-range _ (c15 .before .before .before .before .head-ok .ensures)
+    (not-false _ (c15 .before .before .before .if2 .left)))) (tables _ (c20 .before .if1 .left) (c20 .read-head .ensures) (c15 .before
     .before .before .before .head-ok .ensures) (not-false _ (c15 .before .before .before .if2 .left)) (c15 .before
     .before .length-ok .ensures) (not-false _ (c15 .before .if3 .left)) (c10 .before .before .before .before .joints
     .ensures .0) (c10 .before .routes .ensures .table) (ap₂ _&&_ (c10 .before .before .before .before .joints
     .ensures .1) (c10 .before .routes .ensures .fit)) (not-false _ (c10 .if4 .left)) (c5 .before .before .homes
     .ensures .1) (not-false _ (c5 .before .if5 .left)) (c5 .before .before .homes .ensures .0) (c10 .before .routes
-    .ensures))
+    .ensures)) in
+    (ready .0, ready .1, ready .2, refl, c20 .before .before .before .pre .3)
 
 -- src/lib.rt
 ring-found-requires : tie.Need-ring-found-requires
@@ -149,14 +148,14 @@ returns-6 c =
     let c15 = c10 .before .before .before .before .before in
     let c20 = c15 .before .before .before .before .before in
     let c25 = c20 .before .before .before .before .before in
-    has-ring _ _ _ _ _ (c25 .before .before .before .before .if1 .left) (c25 .before .before .before .read-head
+    has-ring _ (c25 .before .before .before .before .if1 .left) (c25 .before .before .before .read-head
     .ensures) (c25 .before .before .head-ok .ensures) (not-false _ (c25 .before .if2 .left)) (c25 .length-ok
     .ensures) (not-false _ (c20 .before .before .before .before .if3 .left)) (c20 .before .before .joints .ensures
     .0) (c15 .before .before .before .before .routes .ensures .table) (ap₂ _&&_ (c20 .before .before .joints .ensures
     .1) (c15 .before .before .before .before .routes .ensures .fit)) (not-false _ (c15 .before .before .before .if4
     .left)) (c15 .homes .ensures .1) (not-false _ (c10 .before .before .before .before .if5 .left)) (c15 .homes
     .ensures .0) (c15 .before .before .before .before .routes .ensures) (c5 .before .before .walks .ensures) (c
-    .before .ring-found .ensures) (c .if6 .taken)
+    .before .ring-found .ensures) (c .if6 .taken) _ _ _ _ _
 
 -- src/lib.rt
 returns-7 : tie.Need-returns-7
@@ -166,7 +165,7 @@ returns-7 c =
     let c15 = c10 .before .before .before .before .before in
     let c20 = c15 .before .before .before .before .before in
     let c25 = c20 .before .before .before .before .before in
-    accepted _ _ _ _ _ (c25 .before .before .before .before .if1 .left) (c25 .before .before .before .read-head
+    accepted _ (c25 .before .before .before .before .if1 .left) (c25 .before .before .before .read-head
     .ensures) (c25 .before .before .head-ok .ensures) (not-false _ (c25 .before .if2 .left)) (c25 .length-ok
     .ensures) (not-false _ (c20 .before .before .before .before .if3 .left)) (c20 .before .before .joints .ensures
     .0) (c15 .before .before .before .before .routes .ensures .table) (ap₂ _&&_ (c20 .before .before .joints .ensures

@@ -31,20 +31,23 @@ below-requires c κs = search needs
 
 -- src/tracks.rt:36:5
 trails-requires : tie.Need-trails-requires
-trails-requires c κs = (
-  c .before .before .before .before .before .before .before .pre .0 .0,
-  rw (c .before .before .before .before .before .nexts .ensures) (nexts-inside _ _ (omega arith)),
-  rw (c .before .before .before .before .firsts .ensures) (first-idle _ _ _ _ (c .before .before .before .before
-      .before .before .before .pre .1) (c .before .before .before .before .before .before .before .pre .2) _),
-  ap length (c .before .before .before .before .firsts .ensures) ∙ firsts-long _ _ _,
-  rw (c .before .before .before .before .before .before .before .pre .3) blank,
-)
+trails-requires c κs =
+    let made = c .before .before .before .before .firsts .ensures in
+    let pre = c .before .before .before .before .before .before .before .before .pre in (
+      pre .0 .0,
+      rw (c .before .before .before .before .before .before .nexts .ensures) (nexts-inside _ _ (omega arith)),
+      rw made (first-idle _ _ _ _ (pre .1) (pre .2) _),
+      ap length made ∙ firsts-long _ _ _,
+      rw (pre .3) blank,
+    )
 
 -- src/tracks.rt:20:1
 returns : tie.Need-returns
-returns c = tracks-are (c .before .before .before .before .before .before .before .before .args .h) _ _ _ (c .before
-    .before .before .before .before .before .nexts .ensures) (c .before .before .before .before .before .firsts
-    .ensures) (c .before .before .before .below .ensures) (c .trails .ensures .0) (c .trails .ensures .1 .1)
+returns c =
+    tracks-are (c .before .before .before .before .before .before .before .before .before .args .h) _ _ _
+    (c .before .before .before .before .before .before .before .nexts .ensures)
+    (c .before .before .before .before .before .firsts .ensures) (c .before .before .before .below .ensures) (c .trails .ensures .0)
+    (c .trails .ensures .1 .1)
 
 pub tracks-spec : {M : Type 1} → statement M
 tracks-spec =

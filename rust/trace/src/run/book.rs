@@ -82,13 +82,18 @@ pub struct Book {
 }
 
 impl Book {
+    /// A connection's number; the next one if it has none yet.
+    pub fn number(&mut self, connection: Connection) -> usize {
+        let known = self.connections.iter().position(|&other| other == connection);
+        known.unwrap_or_else(|| {
+            self.connections.push(connection);
+            self.connections.len() - 1
+        })
+    }
+
     /// Notes an accepted Launch and gives its set-up's number.
     pub fn launch(&mut self, connection: Connection) -> Id {
-        let known = self.connections.iter().position(|&other| other == connection);
-        let number = known.unwrap_or(self.connections.len());
-        if known.is_none() {
-            self.connections.push(connection);
-        }
+        let number = self.number(connection);
         let launch = self.launches.len();
         let id = self.make(launch, None);
         let hold = Hold::UnderWay;

@@ -106,12 +106,13 @@ impl Run<'_> {
         }
         for (rank, &sender) in senders.iter().enumerate() {
             let row = self.net.row(plan, sender);
-            let Some(packet) = row.packets.first() else { continue };
+            // A tear-down that joined an out-queue after the picking has no seat yet.
+            let Some(&id) = self.seats.queue(plan, sender).front() else { continue };
             let unhandled = matches!(sender, Queue::Q(_)) && !row.handled;
             if choice == Some(rank) || unhandled {
                 continue;
             }
-            let id = self.seats.head(plan, sender);
+            let packet = &row.packets[0];
             if let Some(wait) = self.wait(output, packet, picked) {
                 events.push(Event::Waits { id, output, wait });
             }

@@ -101,6 +101,11 @@ impl<'a> Run<'a> {
         &self.book
     }
 
+    /// Gives a connection its letter before its first launch; its number.
+    pub fn name_connection(&mut self, connection: Connection) -> usize {
+        self.book.number(connection)
+    }
+
     /// Every packet in the network, queues first, by the numbers of their places.
     pub fn packets(&self) -> Vec<Seated> {
         let seated = |(place, at, &packet): (Place, usize, &Packet)| {

@@ -1,0 +1,53 @@
+// The list of calls. Only the rows in view are in the page, so that long runs stay quick.
+
+/** The height of a row. */
+const ROW = 24;
+
+/** Draws the rows in view; `follow` brings the current call into view first. */
+function drawCallList(follow) {
+  const pane = part("calls");
+  const rows = part("calls-rows");
+  rows.style.height = callCount() * ROW + "px";
+  const height = pane.clientHeight || 300;
+  if (follow) followCall(pane, height);
+  const first = Math.max(0, Math.floor(pane.scrollTop / ROW) - 2);
+  const last = Math.min(callCount(), first + Math.ceil(height / ROW) + 5);
+  rows.innerHTML = run.calls.slice(first, last).map((call, at) => callRow(call, first + at)).join("");
+}
+
+/** Scrolls to the current call where it is out of view. */
+function followCall(pane, height) {
+  const y = (shown.position - 1) * ROW;
+  if (y < pane.scrollTop + ROW || y > pane.scrollTop + height - 3 * ROW) pane.scrollTop = Math.max(0, y - height / 2);
+}
+
+/** The row of a call: number, when, and what. */
+function callRow(call, number) {
+  const line = escapeText(callLine(call));
+  const classes = ["row"];
+  if (number === shown.position - 1) classes.push("current");
+  if (number >= shown.position) classes.push("later");
+  if (call.refusal) classes.push("refused");
+  else if (CALLS[call.letter].turn) classes.push("turn");
+  return `<div class="${classes.join(" ")}" data-call="${number}" style="top:${number * ROW}px" title="${line}"><span>${number + 1}</span>` +
+    `<span>round ${call.round}</span><span>${call.refusal ? "! " : ""}${line}</span></div>`;
+}
+
+/** What the current call did, above the list. */
+function drawNow() {
+  part("now").innerHTML = shown.position === 0 ? startHtml() : nowHtml(run.calls[shown.position - 1], explain(shown.position));
+}
+
+/** The card before the first call. */
+function startHtml() {
+  const { routers, actives, passives, slots, walks } = run.plan;
+  return `<h2>Start</h2><p>${count(routers, "router")}, ${count(actives, "active")}, ${count(passives, "passive")}, ${slots} slots, ` +
+    `${count(walks.size, "served pair")}; ${count(callCount(), "call")}.</p><p class="dim">${escapeText(run.note)}</p>` +
+    "<p>Press <kbd>→</kbd> for the first call, <kbd>?</kbd> for keys and signs.</p>";
+}
+
+/** The card of a call: itself, its answer, what happened. */
+function nowHtml(call, sentences) {
+  const items = sentences.map(({ html, key }) => `<li${key ? ' class="key"' : ""}>${html}</li>`).join("");
+  return `<h2>${escapeText(callText(call))}</h2><span class="answer${call.refusal ? " refused" : ""}">${escapeText(answerText(call))}</span><ul>${items}</ul>`;
+}

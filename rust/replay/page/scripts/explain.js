@@ -1,0 +1,149 @@
+// What a call did, in sentences. Each sentence is { html, key }: key sentences are shown bold.
+
+/** The walk of a pair: router, side it came in by and side it leaves by, one after the other. */
+function walkOf(packet) {
+  return run.plan.walks.get(packet.active + "," + packet.passive);
+}
+
+/** Where on its walk a packet's router is. */
+function hopAt(packet) {
+  const { router } = placeOf(packet.place);
+  return walkOf(packet).find((hop) => hop.router === router);
+}
+
+/** An entry in words: router, side and slot. */
+function entryText(entry) {
+  const { router, side, slot } = entryParts(entry);
+  return `${escapeText(nameOf.router(router))} side ${side} slot ${slot}`;
+}
+
+/** All sentences about the call that led to the state after `position` calls. */
+function explain(position) {
+  const call = run.calls[position - 1];
+  if (call.refusal) return [{ html: "Nothing changed: a refusal alters no byte." }];
+  const before = stateAt(position - 1);
+  const after = copyState(before);
+  const events = [];
+  applyCall(after, position - 1, events);
+  const sentences = events.map((event) => eventSentence(event, before, after)).filter(Boolean);
+  if (call.letter === "X") sentences.push(...executeSentences(after, sentences.length));
+  if (call.letter === "R" || call.letter === "W") sentences.push(...moveSentences(call, events));
+  return sentences;
+}
+
+/** The sentence about an event, if it has one of its own. */
+function eventSentence(event, before, after) {
+  if (event.what === "made") return event.parent === undefined ? launchSentence(event, after) : answerSentence(event);
+  if (event.what === "changed") return changeSentence(event, before);
+  if (event.what === "ended") return endSentence(event, after);
+  return null;
+}
+
+/** A set-up joins an out-queue. */
+function launchSentence({ packet }, after) {
+  const left = after.allowances[packet.active];
+  return { html: `Set-up ${chip(packet.connection)} joins ${escapeText(placeOf(packet.place).name)}. Allowance left: ${left}.` };
+}
+
+/** An active answers a NACK with a tear-down. */
+function answerSentence({ packet }) {
+  const routers = walkOf(packet).slice(0, packet.hub).map((hop) => escapeText(nameOf.router(hop.router)));
+  const html = `${escapeText(nameOf.active(packet.active))} answers the NACK with tear-down ${chip(packet.connection)}: ` +
+    `slot ${packet.slot}, hub ${packet.hub}. It will free exactly ${count(packet.hub, "router")} (${listed(routers, 5)}) and end there.`;
+  return { html, key: true };
+}
+
+/** A packet changed where it is. */
+function changeSentence({ packet, before }, state) {
+  if (before.kind === "S" && packet.kind === "S") return bookSentence(packet, before);
+  if (packet.kind === "A" && before.kind === "S") return acceptSentence(packet);
+  if (packet.kind === "N" && before.kind === "S") return declineSentence(packet, before, state);
+  if (packet.kind === "T") return freeSentence(packet, before, `hub falls to ${packet.hub}`);
+  return null;
+}
+
+/** A unit books an entry. */
+function bookSentence(packet, before) {
+  const hop = hopAt(before);
+  return { html: `The unit of ${escapeText(nameOf.router(hop.router))} books side ${hop.side}, slot ${before.slot} for ` +
+    `${chip(packet.connection)}: hub ${packet.hub}, next slot ${packet.slot}.` };
+}
+
+/** A passive accepts. */
+function acceptSentence(packet) {
+  return { html: `${escapeText(nameOf.passive(packet.passive))} accepts ${chip(packet.connection)}: an ACK with slot ${packet.slot}, hub ${packet.hub}.` };
+}
+
+/** A unit or a passive declines. What stays booked is left out while the student is asked for it. */
+function declineSentence(packet, before, state) {
+  const stays = packet.hub === 0 ? "Nothing was booked." :
+    `${count(packet.hub, "router")} ${packet.hub === 1 ? "stays" : "stay"} booked until a tear-down has followed.`;
+  const told = shown.question ? "" : " " + stays;
+  return { html: `${decliner(packet, before, state)} The NACK keeps slot ${packet.slot} and hub ${packet.hub}.${told}`, key: true };
+}
+
+/** Who declined, and why. */
+function decliner(packet, before, state) {
+  const declined = `declines ${chip(packet.connection)}`;
+  if (placeOf(before.place).router === undefined) return `${escapeText(nameOf.passive(packet.passive))} ${declined}.`;
+  const hop = hopAt(before);
+  const entry = entryNumber(hop.router, hop.side, before.slot);
+  const owner = state.owners[entry];
+  const by = owner < 0 ? "" : ` by ${chip(owner)} (${HOLDS[state.holds[entry]].word})`;
+  const why = isBooked(state, entry) ? `side ${hop.side}, slot ${before.slot} is booked${by}` :
+    `slot ${before.slot} is the last free entry of side ${hop.side}, which is kept`;
+  return `The unit of ${escapeText(nameOf.router(hop.router))} ${declined}: ${why}.`;
+}
+
+/** A tear-down frees an entry. */
+function freeSentence(packet, before, then) {
+  const hop = hopAt(before);
+  return { html: `Tear-down ${chip(packet.connection)} frees side ${hop.side}, slot ${before.slot} of ` +
+    `${escapeText(nameOf.router(hop.router))}; ${then}.`, key: true };
+}
+
+/** A packet ends: a tear-down at its last router, an answer that is consumed. */
+function endSentence({ packet }, after) {
+  if (packet.kind === "T") return freeSentence(packet, packet, "hub was 1, it ends");
+  const left = after.allowances[packet.active];
+  const start = run.connections[packet.connection].slot;
+  const pair = `${escapeText(nameOf.active(packet.active))} → ${escapeText(nameOf.passive(packet.passive))}`;
+  if (packet.kind === "A") {
+    return { html: `Connection ${chip(packet.connection)} ${pair}, start slot ${start}, is accepted. Allowance back to ${left}.`, key: true };
+  }
+  return { html: `The NACK of ${chip(packet.connection)} is taken off. Allowance back to ${left}.` };
+}
+
+/** What EXECUTE says beside its events: sides that send nobody, and who was picked. */
+function executeSentences(state, others) {
+  const sentences = waitingSentences(state);
+  const picked = [...state.picked].map((id) => packetChip(state.packets.get(id)));
+  if (picked.length > 0) sentences.push({ html: `Picked to leave: ${listed(picked, 12, " ")}` });
+  if (others + sentences.length === 0) sentences.push({ html: "Nothing to handle, nobody to send." });
+  return sentences;
+}
+
+/** Sides whose entry for the current slot is booked while packets wait to leave by them. */
+function waitingSentences(state) {
+  return run.sides.filter(({ router, side }) => isBooked(state, entryNumber(router, side, state.slot)))
+    .map(({ router, side, leaving }) => ({ router, side, waiting: leaving.filter((place) => state.held[place].length > 0) }))
+    .filter(({ waiting }) => waiting.length > 0)
+    .map(({ router, side, waiting }) => ({
+      html: `Side ${side} of ${escapeText(nameOf.router(router))} sends nobody: slot ${state.slot} is booked. Waiting: ` +
+        waiting.map((place) => packetChip(state.packets.get(state.held[place][0]))).join(" "),
+    }));
+}
+
+/** The moves of READ and WRITE. */
+function moveSentences(call, events) {
+  const moves = events.filter((event) => event.what === "moved");
+  if (moves.length === 0) {
+    return [{ html: call.letter === "R" ? "No packet was on a wire." : "Nobody was picked. The slot grows by one." }];
+  }
+  const sentences = moves.slice(0, 6).map(({ packet, from }) => ({
+    html: packetChip(packet) + escapeText(call.letter === "R" ? ` joins ${placeOf(packet.place).name}` :
+      ` leaves ${placeOf(from).name} by the ${placeOf(packet.place).name}`),
+  }));
+  if (moves.length > 6) sentences.push({ html: `and ${moves.length - 6} more` });
+  return sentences;
+}

@@ -117,8 +117,8 @@ fn table(before: &Seen, after: &Seen, tokens: &mut Vec<String>) {
         match new {
             new if old == new => {}
             None => tokens.push(format!("o{}", base36(entry))),
-            Some((connection, hold)) => {
-                tokens.push(format!("o{},{},{hold}", base36(entry), base36(*connection)));
+            Some((set_up, hold)) => {
+                tokens.push(format!("o{},{},{hold}", base36(entry), base36(*set_up)));
             }
         }
     }

@@ -38,7 +38,7 @@ pub struct Seen {
     pub credits: Vec<usize>,
     /// The slot table.
     pub table: Vec<u8>,
-    /// The connection that owns an entry, and how it holds it.
+    /// Whose an entry is, by the number of its set-up, and how it is held.
     pub owners: Vec<Option<(usize, char)>>,
     /// The allowances, by active.
     pub allowances: Vec<usize>,
@@ -141,7 +141,8 @@ fn owners(run: &Run) -> Vec<Option<(usize, char)>> {
     let mut owners = vec![None; plan.routers() * 4 * slots];
     for (cell, owner) in run.book().owned() {
         let entry = (cell.port.router * 4 + cell.port.side) * slots + cell.slot;
-        owners[entry] = Some((owner.connection, hold_letter(owner.hold)));
+        let set_up = run.book().launches[owner.launch].id;
+        owners[entry] = Some((set_up.0, hold_letter(owner.hold)));
     }
     owners
 }
@@ -174,5 +175,5 @@ fn pair((at, value): (usize, &u8)) -> String {
 
 /// An entry with its owner.
 fn owner_text((at, owner): (usize, &Option<(usize, char)>)) -> Option<String> {
-    owner.map(|(connection, hold)| format!("{at}:{connection}{hold}"))
+    owner.map(|(set_up, hold)| format!("{at}:{set_up}{hold}"))
 }

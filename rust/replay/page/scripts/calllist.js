@@ -18,7 +18,7 @@ function drawCallList(follow) {
 /** Scrolls to the current call where it is out of view. */
 function followCall(pane, height) {
   const y = (shown.position - 1) * ROW;
-  if (y < pane.scrollTop + ROW || y > pane.scrollTop + height - 3 * ROW) pane.scrollTop = Math.max(0, y - height / 2);
+  if (y < pane.scrollTop + ROW || y > pane.scrollTop + height - 3 * ROW) pane.scrollTop = Math.max(0, Math.floor((y - height / 2) / ROW) * ROW);
 }
 
 /** The row of a call: number, when, and what. */

@@ -18,7 +18,7 @@ function standings(state) {
     if (number >= shown.position) break;
     standing.set(run.launched.get(number), "gone");
   }
-  state.holds.forEach((hold, entry) => { if (hold === "a") standing.set(state.owners[entry], "accepted"); });
+  state.holds.forEach((hold, entry) => { if (hold === "a") standing.set(ownerOf(state, entry), "accepted"); });
   for (const packet of state.packets.values()) {
     const ids = { T: "torn", N: packet.hub > 0 ? "left" : "nack", S: "underway", A: "answered" };
     if (packet.kind === "N" && standing.get(packet.connection) === "torn") continue;

@@ -88,7 +88,7 @@ function decliner(packet, before, state) {
   if (placeOf(before.place).router === undefined) return `${escapeText(nameOf.passive(packet.passive))} ${declined}.`;
   const hop = hopAt(before);
   const entry = entryNumber(hop.router, hop.side, before.slot);
-  const owner = state.owners[entry];
+  const owner = ownerOf(state, entry);
   const by = owner < 0 ? "" : ` by ${chip(owner)} (${HOLDS[state.holds[entry]].word})`;
   const why = isBooked(state, entry) ? `side ${hop.side}, slot ${before.slot} is booked${by}` :
     `slot ${before.slot} is the last free entry of side ${hop.side}, which is kept`;

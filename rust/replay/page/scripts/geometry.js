@@ -5,14 +5,16 @@ const SIZE = {
   box: 66, // half a router's box
   lane: 17, // in- and out-lane, off the middle of a side
   deep: 48, // trays, off the middle of the box
-  corner: 50, // the tray of crossing answers, along the edge
-  tray: [32, 20],
+  corner: 48, // the tray of crossing answers, along the edge
+  tray: [30, 20],
   unit: [44, 74],
-  gap: 26, // the wires between a box and an interface
-  upright: [78, 26], // an interface above or below a router
+  gap: 22, // the wires between a box and an interface
+  upright: [76, 24], // an interface above or below a router
   lying: [44, 66], // an interface beside a router
-  name: 17, // room for an interface's name
-  between: 46, // between two boxes
+  name: 16, // room for an interface's name
+  beside: 30, // room for what a name is wider than an interface beside a router
+  between: 44, // between two boxes
+  margin: 8, // around the drawing
 };
 
 /** A point of a side's frame, turned to an edge. */
@@ -41,7 +43,8 @@ function gaps(layout, axis, size, least) {
     const upper = at.some((cell, router) => cell === line - 1 && interfaceOn(layout, router, after));
     const lower = at.some((cell, router) => cell === line && interfaceOn(layout, router, before));
     const outer = line === 0 || line === lines;
-    return Math.max((upper + lower) * size + (upper && lower ? 12 : 0), outer ? 22 : least) + (outer ? 4 : 0);
+    const inner = (upper + lower) * size + (upper && lower ? SIZE.margin : 0);
+    return outer ? Math.max(inner, SIZE.name) + SIZE.margin : Math.max(inner, least);
   });
 }
 
@@ -59,7 +62,7 @@ function spread(room) {
 /** Works out the map: middles of the boxes, where interfaces are joined, width and height. */
 function workOutMap() {
   const layout = layOut();
-  const columns = spread(gaps(layout, 0, SIZE.gap + SIZE.lying[0] + 22, SIZE.between));
+  const columns = spread(gaps(layout, 0, SIZE.gap + SIZE.lying[0] + SIZE.beside, SIZE.between));
   const rows = spread(gaps(layout, 1, SIZE.gap + SIZE.upright[1] + SIZE.name, SIZE.between));
   run.map = {
     edges: layout.edges,

@@ -79,7 +79,13 @@ function onClick(event) {
 /** A click on a cell: an answer while the student is asked, else its owner. */
 function onCell(entry) {
   if (shown.question) clickEntry(entry);
-  else if (shown.state.owners[entry] >= 0) chooseConnection(shown.state.owners[entry]);
+  else if (shown.state.owners[entry] >= 0) choosePacket(lastOfSetUp(shown.state.owners[entry]));
+}
+
+/** A set-up's tear-down where there is one, else itself. */
+function lastOfSetUp(id) {
+  const { child } = run.journeys.get(id);
+  return child !== undefined && run.journeys.get(child).steps[0].call < shown.position ? child : id;
 }
 
 /** Shows the last packet of a connection. */
@@ -124,7 +130,7 @@ function dialogHtml() {
     `<li>${keys("1", "2", "3")} map, both, tables; ${keys("+", "−", "0")} larger, smaller, fit; ${keys("g")} light or dark</li>` +
     `<li>${keys("p")} predict first, ${keys("Enter")} show the answer, ${keys("Esc")} skip, or let go of what is chosen</li></ul>` +
     `<h2>Signs</h2><ul>${packets}<li>The letter is the connection: active, passive and start slot, in the order of the launches.</li>` +
-    "<li>A black dot at a packet: it is picked. ●○ beside an active: allowance left and spent.</li>" +
+    "<li>A dot at a packet's tip: it is picked. ●○ beside an active: allowance left and spent.</li>" +
     "<li>A bar across a side's way out: its entry for the current slot is booked, nobody leaves by it.</li>" +
     "<li>U, Q, F and K are document 01's queues; K·1 holds the answers that cross to side 1.</li></ul>" +
     `<h2>Cells</h2><p class="legend">${legendHtml()}</p><p class="close"><button id="close">Close</button></p>`;

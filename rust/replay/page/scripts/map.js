@@ -1,7 +1,7 @@
 // The map: boxes, wires and trays are drawn once; packets, bars and allowances for each state.
 
 /** What the drawing keeps of the elements it changes. */
-const drawn = { wires: new Map(), routers: [], bars: [], names: [], packets: new Map(), counts: new Map(), layer: null };
+const drawn = { wires: new Map(), routers: [], bars: [], allowances: [], packets: new Map(), counts: new Map(), layer: null };
 
 /** Makes an element of the drawing. */
 function svgElement(name, attributes, parent, text) {
@@ -97,14 +97,16 @@ function drawInterface(kind, number, joined, layer) {
   const { middle: [x, y], width, height, edge } = interfaceBox(joined);
   const box = svgElement("rect", { x: x - width / 2, y: y - height / 2, width, height, rx: kind === "active" ? 2 : 13, class: `interface ${kind}` }, layer);
   svgElement("title", {}, box, `${kind} ${number}, ${nameOf[kind](number)}`);
-  const below = edge === 1;
-  const text = svgElement("text", { x, y: below ? y + height / 2 + 14 : y - height / 2 - 6, class: "interface-name" }, layer);
-  if (kind === "active") drawn.names[number] = text;
-  else text.textContent = shortName(nameOf.passive(number), 13);
+  const [above, below] = [y - height / 2 - 5, y + height / 2 + 13];
+  const name = svgElement("text", { x, y: edge === 1 ? below : above, class: "interface-name" }, layer, shortName(nameOf[kind](number), 11));
+  if (kind === "passive") return;
+  const beside = edge % 2 === 0;
+  const dots = beside ? svgElement("text", { x, y: below, class: "interface-name" }, layer) : svgElement("tspan", { dx: 5 }, name);
+  drawn.allowances[number] = dots;
 }
 
 /** The outline of a packet: it points on to the passive, or back to the active. */
-const OUTLINES = { onward: "M-16,-9H9L16,0L9,9H-16Z", back: "M16,-9H-9L-16,0L-9,9H16Z" };
+const OUTLINES = { onward: "M-16,-9.5H9L16,0L9,9.5H-16Z", back: "M16,-9.5H-9L-16,0L-9,9.5H16Z" };
 
 /** Draws the packets, bars and allowances of a state. */
 function drawMap() {
@@ -166,6 +168,7 @@ function dressPacket(entry, packet, look, picked, depth) {
   entry.text.textContent = kind.sign + letterOf(packet.connection);
   entry.text.style.fill = kind.full ? ink : "var(--ink)";
   entry.text.setAttribute("x", kind.onward ? -2 : 2);
+  if (entry.text.textContent.length > 3) entry.text.setAttribute("textLength", 27);
   entry.dot.setAttribute("cx", kind.onward ? 16 : -16);
   entry.title.textContent = packetTitle(packet, picked);
   entry.group.setAttribute("class", "packet" + (shown.packet === packet.id ? " chosen" : "") + (picked ? " picked" : ""));
@@ -200,7 +203,7 @@ function drawCounts(stacks) {
 function drawBars(state) {
   for (const item of drawn.bars) {
     const entry = entryNumber(item.router, item.side, state.slot);
-    const owner = isBooked(state, entry) && !shown.question ? state.owners[entry] : -1;
+    const owner = isBooked(state, entry) && !shown.question ? ownerOf(state, entry) : -1;
     if (item.owner === owner) continue;
     item.owner = owner;
     item.bar.classList.toggle("on", owner >= 0);
@@ -208,12 +211,12 @@ function drawBars(state) {
   }
 }
 
-/** Beside each active's name its allowance: ● left, ○ spent. */
+/** Each active's allowance: ● left, ○ spent. */
 function drawAllowances(state) {
-  drawn.names.forEach((text, active) => {
+  drawn.allowances.forEach((text, active) => {
     const left = state.allowances[active];
-    const line = `${shortName(nameOf.active(active), 10)} ${"●".repeat(left)}${"○".repeat(Math.max(0, run.plan.allowance - left))}`;
-    if (text.textContent !== line) text.textContent = line;
+    const dots = "●".repeat(left) + "○".repeat(Math.max(0, run.plan.allowance - left));
+    if (text.textContent !== dots) text.textContent = dots;
   });
 }
 

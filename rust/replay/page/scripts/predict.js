@@ -37,11 +37,11 @@ function askHere() {
 }
 
 /** The entries that the declined set-up holds. */
-function heldEntries(connection) {
+function heldEntries(id) {
   const held = new Set();
   shown.state.owners.forEach((owner, entry) => {
     const hold = shown.state.holds[entry];
-    if (owner === connection && (hold === "l" || hold === "d")) held.add(entry);
+    if (owner === id && (hold === "l" || hold === "d")) held.add(entry);
   });
   return held;
 }
@@ -75,7 +75,7 @@ function clickEntry(entry) {
 /** Shows the tables and compares them with what was clicked. */
 function answerQuestion() {
   const { packet, clicked } = shown.question;
-  const held = heldEntries(packet.connection);
+  const held = heldEntries(packet.id);
   const comparison = {
     packet,
     right: [...clicked].filter((entry) => held.has(entry)),
@@ -120,7 +120,7 @@ function comparisonHtml({ packet, right, missed, wrong }) {
 
 /** An entry that was clicked and is not the declined set-up's. */
 function wrongText(entry) {
-  const owner = shown.state.owners[entry];
+  const owner = ownerOf(shown.state, entry);
   return entryText(entry) + (owner < 0 ? " is free" : ` is ${chip(owner)}'s`);
 }
 

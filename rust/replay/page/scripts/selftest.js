@@ -87,23 +87,19 @@ function checkOwners(position) {
 /** The owners by the rules of document 01, worked out here without the told ones. */
 function ownersFromPackets(state, position) {
   const owners = new Map();
-  const own = (connection, from, hops, slot, hold) => {
-    const { active, passive } = run.connections[connection];
-    run.plan.walks.get(active + "," + passive).slice(from, from + hops).forEach((hop, at) => {
+  const own = (packet, id, from, slot, hold) => {
+    walkOf(packet).slice(from, from + packet.hub).forEach((hop, at) => {
       const entry = entryNumber(hop.router, hop.side, slot + at);
-      owners.set(entry, [...(owners.get(entry) ?? []), connection + hold]);
+      owners.set(entry, [...(owners.get(entry) ?? []), id + hold]);
     });
   };
-  for (const number of run.lanes.accepted) {
-    if (number >= position) break;
-    const [, active, passive, slot, hub] = run.calls[number].answer.split(",").map(Number);
-    const start = (slot + hub * run.plan.slots - hub) % run.plan.slots;
-    const connection = run.connections.findIndex((one) => one.active === active && one.passive === passive && one.slot === start);
-    own(connection, 0, hub, start, "a");
+  for (const [number, packet] of run.accepted) {
+    if (number < position) own(packet, packet.id, 0, packet.slot - packet.hub, "a");
   }
   for (const packet of state.packets.values()) {
-    if (packet.kind === "T") own(packet.connection, hopsBehind(state, packet), packet.hub, packet.slot, "d");
-    else own(packet.connection, 0, packet.hub, packet.slot - packet.hub, packet.kind === "N" ? "l" : "w");
+    const { parent } = run.journeys.get(packet.id);
+    if (packet.kind === "T") own(packet, parent, hopsBehind(state, packet), packet.slot, "d");
+    else own(packet, packet.id, 0, packet.slot - packet.hub, packet.kind === "N" ? "l" : "w");
   }
   return owners;
 }
@@ -136,7 +132,8 @@ function checkCell(position, cell, entry) {
   const { state } = shown;
   const signs = { a: ["", "accepted"], w: ["+", "underway"], l: ["✕", "leftover"], d: ["−", "teardown"], f: ["!", "forgotten"] };
   const [sign, style] = signs[state.holds[entry]] ?? ["", ""];
-  const text = state.owners[entry] < 0 ? "" : sign + run.connections[state.owners[entry]].letter;
+  const owner = run.journeys.get(state.owners[entry]);
+  const text = owner ? sign + run.connections[owner.connection].letter : "";
   if (cell.textContent !== text || (style && !cell.classList.contains(style))) fault(position, `the cell of ${entryText(entry)} shows '${cell.textContent}'`);
   if (cell.classList.contains("current") !== (entry % run.plan.slots === state.slot)) fault(position, `the cell of ${entryText(entry)} has a wrong frame`);
 }
@@ -191,8 +188,8 @@ function checkQuestions() {
     setState(number + 1);
     for (const packet of packets) {
       const wanted = ownersFromPackets(shown.state, number + 1);
-      const held = heldEntries(packet.connection);
-      const right = held.size === packet.hub && [...held].every((entry) => wanted.get(entry)?.[0] === packet.connection + "l");
+      const held = heldEntries(packet.id);
+      const right = held.size === packet.hub && [...held].every((entry) => wanted.get(entry)?.[0] === packet.id + "l");
       if (!right) fault(number + 1, `the question of ${letterOf(packet.connection)} has ${held.size} entries, the hub is ${packet.hub}`);
     }
   }
@@ -201,8 +198,13 @@ function checkQuestions() {
 /** Names on the map do not overlap, and no text is smaller than ten points. */
 function checkLabels() {
   fitMap();
+  const drawing = part("drawing").getBoundingClientRect();
   const labels = [...part("drawing").querySelectorAll(".router-name,.interface-name,.side-number")];
   const boxes = labels.map((label) => ({ text: label.textContent, box: label.getBoundingClientRect() })).filter(({ box }) => box.width > 0);
+  for (const { text, box } of boxes) {
+    const inside = box.left >= drawing.left - 1 && box.right <= drawing.right + 1 && box.top >= drawing.top - 1 && box.bottom <= drawing.bottom + 1;
+    if (!inside) fault(callCount(), `the name '${text}' leaves the map`);
+  }
   boxes.forEach((one, at) => boxes.slice(at + 1).forEach((other) => {
     const apart = one.box.right <= other.box.left + 1 || other.box.right <= one.box.left + 1 ||
       one.box.bottom <= other.box.top + 3 || other.box.bottom <= one.box.top + 3;

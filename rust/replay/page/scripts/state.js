@@ -31,7 +31,7 @@ function startState() {
     handled: new Uint8Array(places.length),
     picked: new Set(),
     table: new Int8Array(entries).fill(FREE),
-    owners: new Int16Array(entries).fill(-1),
+    owners: new Int32Array(entries).fill(-1),
     holds: new Array(entries).fill(""),
     allowances: new Array(plan.actives).fill(plan.allowance),
   };
@@ -84,6 +84,11 @@ function entryParts(entry) {
   const { slots } = run.plan;
   const row = Math.floor(entry / slots);
   return { router: Math.floor(row / 4), side: row % 4, slot: entry % slots };
+}
+
+/** The connection that owns an entry; -1 for none. */
+function ownerOf(state, entry) {
+  return state.owners[entry] < 0 ? -1 : run.journeys.get(state.owners[entry]).connection;
 }
 
 /** Whether an entry is booked. */

@@ -32,7 +32,7 @@ function isTearDown(event) {
 
 /** Reads every call once and fills the run's calls, rounds, lanes, journeys and snapshots. */
 function tellStory() {
-  Object.assign(run, { calls: [], roundStarts: [0], snapshots: [], journeys: new Map(), declines: new Map(), launched: new Map() });
+  Object.assign(run, { calls: [], roundStarts: [0], snapshots: [], journeys: new Map(), declines: new Map(), launched: new Map(), accepted: new Map() });
   run.lanes = Object.fromEntries(LANES.map((lane) => [lane.id, []]));
   const state = startState();
   for (let number = 0; number < run.lines.length; number += 1) {
@@ -53,6 +53,7 @@ function tellCall(state, number) {
   for (const lane of LANES) if (lane.when(call, events)) run.lanes[lane.id].push(number);
   const declined = events.filter(isDecline).map((event) => event.packet);
   if (declined.length > 0) run.declines.set(number, declined);
+  events.filter(isAccepted).forEach((event) => run.accepted.set(number, event.packet));
   if (call.letter === "L" && events.length > 0) run.launched.set(number, events[0].packet.connection);
   if (call.letter === "W" && !call.refusal) run.roundStarts.push(number + 1);
 }

@@ -14,8 +14,8 @@ function leftEntries(state) {
   const left = new Map();
   state.holds.forEach((hold, entry) => {
     if (hold === "" || hold === "a" || hold === "w") return;
-    if (!left.has(state.owners[entry])) left.set(state.owners[entry], []);
-    left.get(state.owners[entry]).push(entry);
+    const owner = ownerOf(state, entry);
+    left.set(owner, [...(left.get(owner) ?? []), entry]);
   });
   return left;
 }
@@ -28,7 +28,7 @@ function leftSentence() {
   const total = [...left.values()].reduce((sum, entries) => sum + entries.length, 0);
   const items = [...left].map(([connection, entries]) =>
     chip(connection) + " " + listed(entries.map((entry) => escapeText(nameOf.router(entryParts(entry).router))), 4, " "));
-  return `<span class="left">⚠ ${left.size} declined set-ups still hold ${count(total, "entry", "entries")}: ${listed(items, 6, " &nbsp; ")}</span>`;
+  return `<span class="left">⚠ ${left.size} declined set-ups still hold ${count(total, "entry", "entries")}: ${items.join(" &nbsp; ")}</span>`;
 }
 
 /** What a single declined set-up left behind. */

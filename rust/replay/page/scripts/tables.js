@@ -82,7 +82,7 @@ function drawTables() {
 function drawCell(state, entry, hidden) {
   const item = cells.byEntry[entry];
   const booked = isBooked(state, entry) && !hidden;
-  const owner = booked ? state.owners[entry] : -1;
+  const owner = booked ? ownerOf(state, entry) : -1;
   const look = hidden ? "hidden" : booked ? `${owner}${state.holds[entry]}` : "";
   if (item.look === look) return;
   const kept = [...item.cell.classList].filter((name) => name === "current").join("");

@@ -113,10 +113,10 @@ function setEntry(state, [entry, side], events) {
   if (events) events.push({ what: "entry", entry, side });
 }
 
-/** `o`: whose an entry is and how it is held; without a connection nobody's. */
-function setOwner(state, [entry, connection, hold]) {
+/** `o`: whose an entry is, by the number of its set-up, and how it is held; alone: nobody's. */
+function setOwner(state, [entry, setUp, hold]) {
   if (entry >= state.table.length) stop(`there is no entry ${entry}`);
-  if (connection !== undefined && (!run.connections[connection] || !hold)) stop(`entry ${entry} has no readable owner`);
-  state.owners[entry] = connection === undefined ? -1 : connection;
-  state.holds[entry] = connection === undefined ? "" : hold;
+  if (setUp !== undefined && (!run.journeys.has(setUp) || !hold)) stop(`entry ${entry} has no readable owner`);
+  state.owners[entry] = setUp === undefined ? -1 : setUp;
+  state.holds[entry] = setUp === undefined ? "" : hold;
 }

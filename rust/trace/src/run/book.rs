@@ -2,7 +2,7 @@
 
 use std::collections::HashMap;
 
-use super::event::Cell;
+use super::event::{Cell, Why};
 use super::seats::Id;
 
 /// Active, passive, start slot.
@@ -54,8 +54,17 @@ pub struct Launch {
     pub hold: Hold,
     /// How many entries it owns.
     pub entries: usize,
-    /// Where it was declined: a router, or the passive if none.
-    pub declined: Option<Option<usize>>,
+    /// Where and why it was declined, if it was.
+    pub declined: Option<Decline>,
+}
+
+/// Who declined a set-up.
+#[derive(Clone, Copy, Debug, PartialEq, Eq)]
+pub enum Decline {
+    /// A router, and why.
+    Router(usize, Why),
+    /// The passive.
+    Passive,
 }
 
 /// A packet that was made in the run.
@@ -144,7 +153,7 @@ impl Book {
     }
 
     /// A router or the passive declined a set-up.
-    pub fn decline(&mut self, id: Id, by: Option<usize>) {
+    pub fn decline(&mut self, id: Id, by: Decline) {
         let launch = self.launch_mut(id);
         launch.hold = Hold::LeftBehind;
         launch.declined = Some(by);

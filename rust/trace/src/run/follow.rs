@@ -3,7 +3,7 @@
 use pandabrass::{Entry, Kind, Packet};
 
 use super::event::{Cell, Event, Wait, Why};
-use super::{Connection, Run};
+use super::{Connection, Decline, Run};
 use crate::calls::{Answer, Call};
 use crate::net::{Net, Phase};
 use crate::place::{Output, Place, Port, Queue};
@@ -79,7 +79,7 @@ impl Run<'_> {
             Entry::Free => Why::LastFree,
             Entry::Booked(_) => Why::Booked(self.book.owner(cell)),
         };
-        self.book.decline(id, Some(router));
+        self.book.decline(id, Decline::Router(router, why));
         Some(Event::Declined { id, cell, why })
     }
 
@@ -173,7 +173,7 @@ impl Run<'_> {
         let id = self.seats.leave(self.plan, Queue::PassiveIn(passive));
         self.seats.join(self.plan, Queue::PassiveOut(passive), id);
         if !accepts {
-            self.book.decline(id, None);
+            self.book.decline(id, Decline::Passive);
         }
         Event::Answered { id }
     }

@@ -5,7 +5,7 @@ mod event;
 mod follow;
 mod seats;
 
-pub use book::{letter, Book, Connection, Hold, Launch, Made, Owner};
+pub use book::{letter, Book, Connection, Decline, Hold, Launch, Made, Owner};
 pub use event::{Cell, Event, Step, Wait, Why};
 pub use seats::{Id, Seats};
 

@@ -44,7 +44,7 @@ function gaps(layout, axis, size, least) {
     const lower = at.some((cell, router) => cell === line && interfaceOn(layout, router, before));
     const outer = line === 0 || line === lines;
     const inner = (upper + lower) * size + (upper && lower ? SIZE.margin : 0);
-    return outer ? Math.max(inner, SIZE.name) + SIZE.margin : Math.max(inner, least);
+    return outer ? Math.max(inner, axis === 0 ? SIZE.beside : SIZE.name) + SIZE.margin : Math.max(inner, least);
   });
 }
 

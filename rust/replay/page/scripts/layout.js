@@ -104,11 +104,15 @@ function improve(inCell, cost, exchange) {
   }
 }
 
-/** Takes out columns and rows without a router. */
+/** Takes out columns and rows without a router, and has the first router left and above. */
 function closeUp(cells) {
   const used = (axis) => [...new Set(cells.map((cell) => cell[axis]))].sort((one, other) => one - other);
-  const [columns, rows] = [used(0), used(1)];
-  return cells.map(([column, row]) => [columns.indexOf(column), rows.indexOf(row)]);
+  const lines = [used(0), used(1)];
+  const turn = lines.map((line, axis) => 2 * line.indexOf(cells[0][axis]) > line.length - 1);
+  return cells.map((cell) => cell.map((value, axis) => {
+    const at = lines[axis].indexOf(value);
+    return turn[axis] ? lines[axis].length - 1 - at : at;
+  }));
 }
 
 /** All orders of the four edges. */

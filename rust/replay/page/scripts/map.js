@@ -56,13 +56,13 @@ function drawRouter(router, layer) {
   });
 }
 
-/** A router's name, left above its box, beside the wires that leave upwards. */
+/** A router's name, left above its box; a long one goes out to the left, away from packets on the wires. */
 function drawRouterName(router, group) {
   const [x, y] = run.map.centres[router];
   const name = nameOf.router(router);
-  const wide = name.length > 5;
-  const text = svgElement("text", { x: wide ? x - SIZE.lane - 6 : x - SIZE.box + 2, y: y - SIZE.box - 6, class: "router-name",
-    "text-anchor": wide ? "end" : "start" }, group, shortName(name, 10));
+  const wide = name.length > 3;
+  const text = svgElement("text", { x: wide ? x - 2 * SIZE.lane - 3 : x - SIZE.box + 2, y: y - SIZE.box - 6, class: "router-name",
+    "text-anchor": wide ? "end" : "start" }, group, shortName(name, 8));
   svgElement("title", {}, text, name);
 }
 
@@ -75,7 +75,7 @@ function drawSide(router, side, group) {
   drawn.bars.push({ bar, router, side });
   const [x, y] = pointAt(router, edge, SIZE.box, 0);
   svgElement("circle", { cx: x, cy: y, r: 8.5, class: "side" }, group);
-  svgElement("text", { x, y: y + 4.6, class: "side-number" }, group, side);
+  svgElement("text", { x, y: y + 5, class: "side-number" }, group, side);
 }
 
 /** The tray of a queue at a router; queues of one spot share a tray. */
@@ -106,7 +106,7 @@ function drawInterface(kind, number, joined, layer) {
 }
 
 /** The outline of a packet: it points on to the passive, or back to the active. */
-const OUTLINES = { onward: "M-16,-9.5H9L16,0L9,9.5H-16Z", back: "M16,-9.5H-9L-16,0L-9,9.5H16Z" };
+const OUTLINES = { onward: "M-17,-9.5H10L17,0L10,9.5H-17Z", back: "M17,-9.5H-10L-17,0L-10,9.5H17Z" };
 
 /** Draws the packets, bars and allowances of a state. */
 function drawMap() {
@@ -152,7 +152,7 @@ function drawPacket(packet, number, stacks) {
 /** The elements of a packet that is new on the map. */
 function newPacket(packet) {
   const group = svgElement("g", { class: "packet", "data-packet": packet.id }, drawn.layer);
-  const entry = { group, outline: svgElement("path", {}, group), text: svgElement("text", { y: 4.6 }, group),
+  const entry = { group, outline: svgElement("path", {}, group), text: svgElement("text", { y: 5 }, group),
     title: svgElement("title", {}, group), dot: svgElement("circle", { r: 4, class: "picked-dot" }, group) };
   drawn.packets.set(packet.id, entry);
   return entry;
@@ -169,7 +169,7 @@ function dressPacket(entry, packet, look, picked, depth) {
   entry.text.style.fill = kind.full ? ink : "var(--ink)";
   entry.text.setAttribute("x", kind.onward ? -2 : 2);
   if (entry.text.textContent.length > 3) entry.text.setAttribute("textLength", 27);
-  entry.dot.setAttribute("cx", kind.onward ? 16 : -16);
+  entry.dot.setAttribute("cx", kind.onward ? 17 : -17);
   entry.title.textContent = packetTitle(packet, picked);
   entry.group.setAttribute("class", "packet" + (shown.packet === packet.id ? " chosen" : "") + (picked ? " picked" : ""));
   Object.assign(entry.group.dataset, { kind: packet.kind, place: packet.place });
@@ -229,7 +229,7 @@ function markChosen() {
 }
 
 /** The smallest size at which letters of the map have ten points of the screen. */
-const LEAST_SCALE = 10 / 13;
+const LEAST_SCALE = 10 / 14;
 
 /** Sizes the drawing: it fits its room, but never so small that letters cannot be read. */
 function fitMap() {

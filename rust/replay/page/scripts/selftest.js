@@ -59,7 +59,7 @@ function isDressed(group, packet) {
   const kind = { S: "+", T: "−", A: "✓", N: "✕" }[packet.kind];
   const [outline, text] = group.children;
   const onward = packet.kind === "S" || packet.kind === "T";
-  return text.textContent === kind + run.connections[packet.connection].letter && outline.getAttribute("d").startsWith(onward ? "M-16" : "M16") &&
+  return text.textContent === kind + run.connections[packet.connection].letter && outline.getAttribute("d").startsWith(onward ? "M-17" : "M17") &&
     group.classList.contains("picked") === shown.state.picked.has(packet.id);
 }
 

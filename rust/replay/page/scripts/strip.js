@@ -7,6 +7,7 @@ function drawStrip() {
     return;
   }
   part("strip").innerHTML = [leftSentence(), keptSentence(), quietSentence()].join("");
+  for (const item of part("strip").children) item.title = item.textContent;
 }
 
 /** The entries that declined connections still hold, by connection. */

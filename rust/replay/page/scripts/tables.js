@@ -31,11 +31,12 @@ function buildTables() {
   part("legend").innerHTML = legendHtml();
 }
 
-/** The size of cells, by how many there are. */
+/** The size of cells, by how many there are and by how long the letters of connections are. */
 function sizeClass() {
   const { routers, slots } = run.plan;
   if (slots <= 4 && routers <= 4) return "large";
-  return slots <= 8 && routers <= 6 ? "middle" : "small";
+  if (slots <= 8 && routers <= 6) return "middle";
+  return run.connections.some(({ letter }) => letter.length > 2) ? "small long" : "small";
 }
 
 /** The block of a router. */

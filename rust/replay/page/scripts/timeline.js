@@ -42,6 +42,7 @@ function drawRounds(pen, width, height) {
   const step = [1, 2, 5, 10, 20, 50, 100, 200, 500, 1000, 2000].find((size) => each * size >= 50) ?? 5000;
   pen.strokeStyle = styleColour("--line");
   pen.fillStyle = styleColour("--dim");
+  let free = 0;
   for (let round = 0; round <= rounds; round += step) {
     const x = Math.round((run.roundStarts[round] / Math.max(1, callCount())) * width) + 0.5;
     pen.beginPath();
@@ -49,7 +50,10 @@ function drawRounds(pen, width, height) {
     pen.lineTo(x, height);
     pen.stroke();
     const text = round === 0 ? "round 0" : String(round);
-    if (x + pen.measureText(text).width + 3 < width) pen.fillText(text, x + 3, 10);
+    const end = x + 3 + pen.measureText(text).width;
+    if (x < free || end > width) continue;
+    pen.fillText(text, x + 3, 10);
+    free = end + 4;
   }
 }
 

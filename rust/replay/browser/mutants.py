@@ -14,12 +14,13 @@ DATA = [
     ("an allowance not taken", "a0,0", "a0,1"),
     ("a flag not raised", " ^q", ""),
     ("a mark not set", " h7,1", ""),
-    ("a packet not picked", "p2 *1 h7,1", "p2 h7,1"),
+    ("a packet not picked", "=1,S,0,1 *1", "=1,S,0,1"),
     ("a line left out", "\\nX 7ec6956d p2 *0", ""),
     ("another owner", " o7,1,w", " o7,0,w"),
     ("an owner too early accepted", " o7,1,l", " o7,1,a"),
     ("an owner not told", " o7,1,w", ""),
-    ("another letter's connection", "+1,S,0,0,3,0,0,1", "+1,S,0,0,3,0,0,0"),
+    ("another pair's connection", "+1,S,0,0,3,0,0,1", "+1,S,0,0,3,0,0,0"),
+    ("another start slot", '[0,0,3,"B"]', '[0,0,2,"B"]'),
     ("a refusal that changes something", "E0,1,3=4 6fafa66d", "E0,1,3!9 6fafa66d s2"),
     ("another check sum", "X ade8bb18", "X ade8bb19"),
 ]
@@ -42,7 +43,8 @@ DRAWING = [
     ("the round one late", 'part("clock-round").textContent = roundAt(position)', 'part("clock-round").textContent = roundAt(position) + 1'),
     ("another phase", 'classList.toggle("on", phase === state.phase)', 'classList.toggle("on", phase !== state.phase)'),
     ("jumps one call short", "number < position; number += 1) applyCall", "number < position - 1; number += 1) applyCall"),
-    ("shared lists in snapshots", "held: state.held.slice(),", "held: state.held,"),
+    ("states that share their places", "held: state.held.slice(),", "held: state.held,"),
+    ("states that share their packets", "[id, { ...packet }]", "[id, packet]"),
     ("credits without flags", " - state.flags[number]", ""),
     ("declines not found", 'event.before.kind === "S" && event.packet.kind === "N"', "false"),
     ("refusals left out", "when: (call) => call.refusal > 0", "when: (call) => call.refusal > 99"),
@@ -52,7 +54,7 @@ DRAWING = [
 ]
 
 REPORT = 'document.getElementById("selftest")?.textContent ?? "no report"'
-BASE = {"a ring at the wrong entry": "t", "refusals left out": "t", "free entries counted wrong": "t", "names over one another": "mesh", "letters too small": "largest"}
+BASE = {"a ring at the wrong entry": "t", "refusals left out": "t", "free entries counted wrong": "t", "names over one another": "mesh", "a question about all that is booked": "mesh", "letters too small": "largest"}
 
 
 def test(browser, pages, tally):

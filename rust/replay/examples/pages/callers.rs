@@ -44,12 +44,14 @@ pub fn declined() -> Vec<Call> {
 #[derive(Clone, Debug)]
 pub struct Caller {
     random: Random,
+    /// How often it goes on launching and answering, in parts of 16.
+    eager: usize,
 }
 
 impl Caller {
     /// The caller of a seed.
-    pub fn new(seed: u64) -> Caller {
-        Caller { random: Random::new(seed) }
+    pub fn new(seed: u64, eager: usize) -> Caller {
+        Caller { random: Random::new(seed), eager }
     }
 
     /// The next call, for the state as it is now.
@@ -70,7 +72,7 @@ impl Caller {
         let served = pairs.iter().filter(|pair| pair.served.is_ok());
         let can = served.filter(|pair| run.net().allowances[pair.active] > 0);
         let pairs: Vec<(usize, usize)> = can.map(|pair| (pair.active, pair.passive)).collect();
-        let launches = self.random.chance(9, 16);
+        let launches = self.random.chance(self.eager, 16);
         let (active, passive) = self.random.pick(&pairs).filter(|_| launches)?;
         let slot = self.random.below(run.plan().slots()) as u32;
         Some(Call::Launch { active: active as u32, passive: passive as u32, slot })
@@ -88,7 +90,7 @@ impl Caller {
         let replies = passives.map(|n| Call::Reply { passive: n as u32, choice });
         let consumes = actives.map(|n| Call::Consume { active: n as u32 });
         let calls: Vec<Call> = replies.chain(consumes).collect();
-        let answers = self.random.chance(11, 16);
+        let answers = self.random.chance(self.eager, 16);
         self.random.pick(&calls).filter(|_| answers)
     }
 

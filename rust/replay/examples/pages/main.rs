@@ -58,7 +58,7 @@ fn main() -> ExitCode {
     let folder = Path::new(&folder);
     std::fs::create_dir_all(folder).expect("the folder can be made");
     let scripted = |calls: Vec<Call>| calls.into_iter();
-    let busy = |seed, calls| (Caller::new(seed), calls);
+    let busy = |seed, calls| (Caller::new(seed, 10), calls);
     let note = "Document 01's first run: a set-up is accepted and stays booked.";
     write(folder, "t", "First run on plan T", note, &plans::t(), &mut scripted(callers::first()));
     let note = "The second router declines; the tear-down frees one router only.";
@@ -74,6 +74,7 @@ fn main() -> ExitCode {
     let largest = plans::largest();
     write(folder, "largest", "The largest plan", note, &largest, &mut busy(6, 500));
     let note = "5,000 calls on the largest plan.";
-    write(folder, "long", "A long run", note, &largest, &mut busy(7, 5000));
+    let mut eager = (Caller::new(7, 14), 5000);
+    write(folder, "long", "A long run", note, &largest, &mut eager);
     ExitCode::SUCCESS
 }

@@ -35,7 +35,8 @@ function callRow(call, number) {
 
 /** What the current call did, above the list. */
 function drawNow() {
-  part("now").innerHTML = shown.position === 0 ? startHtml() : nowHtml(run.calls[shown.position - 1], explain(shown.position));
+  const call = run.calls[shown.position - 1];
+  part("now").innerHTML = call ? nowHtml(call, explain(call, shown.events, shown.before, shown.state)) : startHtml();
 }
 
 /** The card before the first call. */

@@ -17,14 +17,9 @@ function entryText(entry) {
   return `${escapeText(nameOf.router(router))} side ${side} slot ${slot}`;
 }
 
-/** All sentences about the call that led to the state after `position` calls. */
-function explain(position) {
-  const call = run.calls[position - 1];
+/** All sentences about a call: its events, the state before it and the one after. */
+function explain(call, events, before, after) {
   if (call.refusal) return [{ html: "Nothing changed: a refusal alters no byte." }];
-  const before = stateAt(position - 1);
-  const after = copyState(before);
-  const events = [];
-  applyCall(after, position - 1, events);
   const sentences = events.map((event) => eventSentence(event, before, after)).filter(Boolean);
   if (call.letter === "X") sentences.push(...executeSentences(after, sentences.length));
   if (call.letter === "R" || call.letter === "W") sentences.push(...moveSentences(call, events));

@@ -21,8 +21,8 @@ function fillFrame() {
 
 /** Draws everything for the first time. */
 function begin() {
-  tellStory();
   findSides();
+  tellStory();
   workOutMap();
   fillFrame();
   drawFixed();

@@ -5,7 +5,7 @@ const NARROW = 820;
 
 /** What is shown now. */
 const shown = {
-  position: -1, state: null, packet: null, router: null, pane: "calls", zoom: 0, scale: 1,
+  position: -1, state: null, before: null, events: [], packet: null, router: null, pane: "calls", zoom: 0, scale: 1,
   question: null, comparison: null, timer: 0,
 };
 
@@ -13,22 +13,24 @@ const shown = {
 function showPosition(position) {
   const target = Math.max(0, Math.min(callCount(), position));
   const near = Math.abs(target - shown.position) <= 8;
-  const events = setState(target);
+  setState(target);
   part("drawing").classList.toggle("moving", near);
   endQuestion();
   askHere();
   redraw();
-  followMap(events);
+  followMap(shown.events);
   history.replaceState(null, "", "#" + target);
 }
 
-/** Works out the state of a position: by one call more, or from a snapshot. */
+/** Works out the state of a position, the one before it, and the events between them. */
 function setState(target) {
-  const events = [];
-  if (shown.state && target === shown.position + 1) applyCall(shown.state, shown.position, events);
-  else if (target !== shown.position) shown.state = stateAt(target);
+  if (shown.state && target === shown.position) return;
+  const next = shown.state && target === shown.position + 1;
+  shown.before = next ? shown.state : stateAt(Math.max(0, target - 1));
+  shown.state = copyState(shown.before);
+  shown.events = [];
+  if (target > 0) applyCall(shown.state, target - 1, shown.events);
   shown.position = target;
-  return events;
 }
 
 /** Draws everything for the position that is shown. */

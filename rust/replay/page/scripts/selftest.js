@@ -21,7 +21,7 @@ function selfTest() {
     checkOwners(position);
     checkCells(position, small || position % 97 === 0 || position === callCount());
     checkClock(position);
-    if (position > 0) checkRefusal(position);
+    if (position > 0) checkCall(position);
   }
   checkJumps();
   checkMoments();
@@ -49,9 +49,18 @@ function checkPackets(position) {
   if (groups.length !== shown.state.packets.size) fault(position, `${groups.length} packets drawn, ${shown.state.packets.size} in the state`);
   for (const group of groups) {
     const packet = shown.state.packets.get(Number(group.dataset.packet));
+    if (packet && !isOfConnection(packet)) fault(position, `packet ${packet.id} is not of connection ${letterOf(packet.connection)}`);
     if (!packet || !isDressed(group, packet)) fault(position, `packet ${group.dataset.packet} is drawn as another`);
     else if (!isInPlace(group, packet)) fault(position, `packet ${packet.id} is drawn in a wrong place`);
   }
+}
+
+/** A packet's slot and hub lead back to its connection's start slot; a marked NACK's no longer do. */
+function isOfConnection(packet) {
+  const { slot } = run.connections[packet.connection];
+  const behind = packet.kind === "T" ? hopsBehind(shown.state, packet) : packet.hub;
+  const marked = packet.kind === "N" && placeOf(packet.place).spot === "active-in";
+  return marked || (packet.slot - behind - slot) % run.plan.slots === 0;
 }
 
 /** Sign, letter, direction and picked mark of a packet. */
@@ -146,7 +155,8 @@ function checkFreeCounts(position) {
     const free = shown.state.table.slice(row * slots, (row + 1) * slots).filter((side) => side === 4).length;
     const text = free === slots ? "" : free === 1 ? "1 kept" : `${free} free`;
     const rings = head.parentElement.querySelectorAll("td.last").length;
-    if (head.textContent !== text || rings !== (free === 1 ? 1 : 0)) fault(position, `the row of ${entryText(row * slots)} says '${head.textContent}'`);
+    const wrong = [...head.parentElement.querySelectorAll("td.last")].some((cell) => shown.state.table[cell.dataset.entry] !== 4);
+    if (head.textContent !== text || wrong || rings !== (free === 1 ? 1 : 0)) fault(position, `the row of ${entryText(row * slots)} says '${head.textContent}'`);
   }
 }
 
@@ -159,15 +169,18 @@ function checkClock(position) {
   if (!right) fault(position, "the clock is wrong");
 }
 
-/** A refused call changed nothing. */
-function checkRefusal(position) {
-  if (run.calls[position - 1].refusal && run.lines[position - 1].split(" ").length > 2) fault(position, "a refused call changed something");
+/** A refused call changed nothing, and an accepted one was made in its phase. */
+function checkCall(position) {
+  const { letter, refusal, phase } = run.calls[position - 1];
+  if (refusal && run.lines[position - 1].split(" ").length > 2) fault(position, "a refused call changed something");
+  const needed = { R: 0, X: 1, W: 2, L: 0, P: 2, C: 2 }[letter];
+  if (needed !== undefined && (needed !== phase) !== (refusal === 8)) fault(position, `the call ${letter} does not fit the phase before it`);
 }
 
 /** Jumps give the same states as single steps. */
 function checkJumps() {
   for (let jump = 0; jump < 40; jump += 1) {
-    const position = (jump * 7919) % (callCount() + 1);
+    const position = Math.floor((callCount() + 1) * ((jump * 0.618034) % 1));
     setState(position);
     if (!isRecorded(shown.state, position)) fault(position, "a jump gives another state");
   }
@@ -175,11 +188,26 @@ function checkJumps() {
 
 /** The lanes have the calls that the lines tell. */
 function checkMoments() {
-  const count = (pattern) => run.lines.filter((line) => pattern.test(line)).length;
-  const expected = { refusal: count(/^\S+!/), launch: count(/^L[\d,]+ /), accepted: count(/^C\d+=A/) };
+  const matching = (pattern) => run.lines.filter((line) => pattern.test(line)).length;
+  const expected = { refusal: matching(/^\S+!/), launch: matching(/^L[\d,]+ /), accepted: matching(/^C\d+=A/), ...countKinds() };
   for (const [lane, calls] of Object.entries(expected)) {
     if (run.lanes[lane].length !== calls) fault(callCount(), `the lane ${lane} has ${run.lanes[lane].length} calls, the lines ${calls}`);
   }
+}
+
+/** How many calls decline a set-up, and how many make or end a tear-down, by the kinds in the lines alone. */
+function countKinds() {
+  const kinds = new Map();
+  const found = { decline: 0, "tear-down": 0 };
+  for (const line of run.lines) {
+    const tokens = [...line.matchAll(/ ([-+=])([0-9a-z]+)(?:,([STAN]))?/g)];
+    const declines = tokens.some(([, sign, id, kind]) => sign === "=" && kind === "N" && kinds.get(id) === "S");
+    const tears = tokens.some(([, sign, id, kind]) => (sign === "+" && kind === "T") || (sign === "-" && kinds.get(id) === "T"));
+    found.decline += declines ? 1 : 0;
+    found["tear-down"] += tears ? 1 : 0;
+    for (const [, , id, kind] of tokens) if (kind) kinds.set(id, kind);
+  }
+  return found;
 }
 
 /** After each decline the question wants exactly the entries that its hub tells. */

@@ -1,7 +1,7 @@
 // The state after a call: what is in which place, and snapshots for steps back and jumps.
 
 /** A snapshot is kept after each so many calls. */
-const SNAPSHOT_EVERY = 64;
+const SNAPSHOT_EVERY = 32;
 
 /** A place by its number. */
 function placeOf(number) {

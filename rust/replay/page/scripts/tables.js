@@ -21,6 +21,8 @@ function buildTables() {
   const used = usedSides();
   part("blocks").innerHTML = run.plan.joints.map((_, router) => blockHtml(router, used)).join("");
   part("blocks").className = sizeClass();
+  part("blocks").style.setProperty("--names", nameWidth() + "px");
+  part("blocks").style.setProperty("--slots", run.plan.slots);
   cells.bySlot = Array.from({ length: run.plan.slots }, () => []);
   for (const cell of part("blocks").querySelectorAll("td")) {
     cells.byEntry[Number(cell.dataset.entry)] = { cell, look: "" };
@@ -39,14 +41,22 @@ function sizeClass() {
   return run.connections.some(({ letter }) => letter.length > 2) ? "small long" : "small";
 }
 
+/** The width of the names before the rows: the longest one, within limits. */
+function nameWidth() {
+  const rows = run.sides.map(({ router, side }) => `${side} → ${jointName(router, side)}`);
+  const names = run.plan.joints.map((_, router) => nameOf.router(router));
+  return Math.min(116, 16 + 7 * Math.max(...[...rows, ...names].map((name) => name.length)));
+}
+
 /** The block of a router. */
 function blockHtml(router, used) {
   const { slots, joints } = run.plan;
   const heads = Array.from({ length: slots }, (_, slot) => `<th data-slot="${slot}">${slot}</th>`).join("");
   const rows = joints[router].map(([kind], side) => (kind === JOINT.nothing ? "" : rowHtml(router, side, used)));
   const unused = joints[router].some((_, side) => used.has(router + "," + side)) ? "" : " unused";
-  return `<table class="block${unused}" data-router="${router}"><thead><tr><th class="name" title="${escapeText(nameOf.router(router))}">` +
-    `${escapeText(nameOf.router(router))}</th>${heads}<th></th></tr></thead><tbody>${rows.join("")}</tbody></table>`;
+  const name = escapeText(nameOf.router(router));
+  return `<div class="block${unused}"><table><thead><tr><th class="name" title="${name}">${name}</th>${heads}<th></th></tr></thead>` +
+    `<tbody>${rows.join("")}</tbody></table></div>`;
 }
 
 /** The row of a side. */

@@ -65,7 +65,8 @@ function applyCall(state, number, events) {
 /** `+`: a packet is made in a place; a tear-down names the NACK it answers. */
 function makePacket(state, [id, kind, active, passive, slot, hub, place, connection, parent], events) {
   if (state.packets.has(id)) stop(`packet ${id} is there already`);
-  if (!run.connections[connection]) stop(`there is no connection ${connection}`);
+  const told = run.connections[connection] ?? stop(`there is no connection ${connection}`);
+  if (told.active !== active || told.passive !== passive) stop(`packet ${id} is not of connection ${told.letter}`);
   const packet = { id, kind, active, passive, slot, hub, place: placeOf(place).number, bound: -1, connection };
   state.packets.set(id, packet);
   enter(state, packet.place, id);

@@ -39,6 +39,7 @@ def test(browser, pages, tally):
         report = re.sub(r"\s+", " ", browser.run(REPORT))
         tally.check(name, sentence in report, report)
     wrong_state(browser, pages, source, tally)
+    later_places(browser, pages, source, tally)
 
 
 def wrong_state(browser, pages, source, tally):
@@ -47,3 +48,17 @@ def wrong_state(browser, pages, source, tally):
     page.write_text(source.replace("a1,0", "a1,1", 1), encoding="utf-8")
     browser.open(page, "3")
     tally.check("a wrong state is told", "not the recorded one" in browser.run('part("strip").textContent'))
+
+
+def later_places(browser, pages, source, tally):
+    """Places that a later program adds are drawn by this page: here four queues in each unit."""
+    more = [f'["unit","Q[{side}] of r{router}","Q{side}",1,1,{router},{side},4]' for router in (0, 1) for side in (1, 2, 3)]
+    changed = source.replace("],\n\"connections\"", ",\n" + ",\n".join(more) + "],\n\"connections\"", 1)
+    for router in (0, 1):
+        changed = changed.replace(f'"Q",1,1,{router},0,1]', f'"Q",1,1,{router},0,4]', 1)
+    page = pages / "damaged.html"
+    page.write_text(changed, encoding="utf-8")
+    browser.open(page, "selftest")
+    report = browser.run('document.getElementById("selftest").textContent')
+    tally.check("places of a later program", report.startswith("PASS"), report)
+    tally.equal("their trays", browser.run('document.querySelectorAll("[data-tray^=unit]").length'), 8)

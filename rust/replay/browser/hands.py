@@ -19,6 +19,7 @@ def test(browser, pages, tally):
     playing(browser, tally)
     timeline(browser, tally)
     address(browser, pages, tally)
+    odd_signs(browser, pages, tally)
     refusals(browser, pages, tally)
     phone(browser, pages, tally)
     browser.size(1280, 800)
@@ -182,6 +183,12 @@ def address(browser, pages, tally):
     tally.equal("the address", browser.run('[shown.position, document.documentElement.dataset.theme, document.body.dataset.view]'), [48, "dark", "table"])
     press(browser, "ArrowRight")
     tally.equal("the address follows", browser.run("location.hash"), "#49")
+
+
+def odd_signs(browser, pages, tally):
+    browser.open(pages / "star.html")
+    title = 'Four routers in a "star" <b>&amp;</b></script>'
+    tally.equal("a title with odd signs", browser.run('[part("title").textContent, document.title]'), [title, title + " – Pandabrass"])
 
 
 def refusals(browser, pages, tally):

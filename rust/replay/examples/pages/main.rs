@@ -68,8 +68,10 @@ fn main() -> ExitCode {
     write(folder, "arm", "An arm of three routers", note, &plans::arm(), &mut busy(3, 420));
     let note = "Nine routers; sensors left and above, drives below and right.";
     write(folder, "mesh", "A mesh of nine routers", note, &plans::mesh(), &mut busy(4, 500));
+    // The title has every sign that could end a tag, a string or the data block.
     let note = "One router in the middle of three others.";
-    write(folder, "star", "Four routers in a star", note, &plans::star(), &mut busy(5, 400));
+    let title = "Four routers in a \"star\" <b>&amp;</b></script>";
+    write(folder, "star", title, note, &plans::star(), &mut busy(5, 400));
     let note = "16 routers, 16 actives, 16 passives, 32 slots.";
     let largest = plans::largest();
     write(folder, "largest", "The largest plan", note, &largest, &mut busy(6, 500));

@@ -28,7 +28,7 @@ function explain(call, events, before, after) {
 
 /** The sentence about an event, if it has one of its own. */
 function eventSentence(event, before, after) {
-  if (event.what === "made") return event.parent === undefined ? launchSentence(event, after) : answerSentence(event);
+  if (event.what === "made") return isLaunch(event) ? launchSentence(event, after) : tearDownSentence(event);
   if (event.what === "changed") return changeSentence(event, before);
   if (event.what === "ended") return endSentence(event, after);
   return null;
@@ -40,11 +40,12 @@ function launchSentence({ packet }, after) {
   return { html: `Set-up ${chip(packet.connection)} joins ${escapeText(placeOf(packet.place).name)}. Allowance left: ${left}.` };
 }
 
-/** An active answers a NACK with a tear-down. */
-function answerSentence({ packet }) {
+/** An active sends a tear-down, after a NACK as the answer to it. */
+function tearDownSentence({ packet, parent }) {
   const routers = walkOf(packet).slice(0, packet.hub).map((hop) => escapeText(nameOf.router(hop.router)));
-  const html = `${escapeText(nameOf.active(packet.active))} answers the NACK with tear-down ${chip(packet.connection)}: ` +
-    `slot ${packet.slot}, hub ${packet.hub}. It will free exactly ${count(packet.hub, "router")} (${listed(routers, 5)}) and end there.`;
+  const sends = parent === undefined ? "sends tear-down" : "answers the NACK with tear-down";
+  const html = `${escapeText(nameOf.active(packet.active))} ${sends} ${chip(packet.connection)}: slot ${packet.slot}, ` +
+    `hub ${packet.hub}. It will free exactly ${count(packet.hub, "router")} (${listed(routers, 5)}) and end there.`;
   return { html, key: true };
 }
 

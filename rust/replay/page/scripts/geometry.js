@@ -97,11 +97,9 @@ function interfacePoint(joined, lane) {
   return pointAt(joined.router, edge, SIZE.box + SIZE.gap + depth / 2, lane);
 }
 
-/** The queues of a unit stand in the middle: one, or several in two columns. */
-function unitPoint(place) {
-  const { router, index, of } = place;
-  if (of === 1) return pointAt(router, 0, 0, 0);
-  return pointAt(router, 0, index % 2 ? 11 : -11, index < 2 ? -8 : 8);
+/** The queues of a unit stand in the middle, several below one another. */
+function unitPoint({ router, index, of }) {
+  return pointAt(router, 0, 0, (index - (of - 1) / 2) * 18);
 }
 
 /** Every spot that the data can give a place: the numbers that go with it, and the point where its packets

@@ -80,13 +80,13 @@ function drawSide(router, side, group) {
 
 /** The tray of a queue at a router; queues of one spot share a tray. */
 function drawTray(place) {
-  const { group, trays } = { group: drawn.routers[place.router].group, trays: drawn.routers[place.router].trays };
-  const side = place.side;
+  const { group, trays } = drawn.routers[place.router];
+  const { side } = place;
   if (side !== undefined && run.plan.joints[place.router][side][0] === JOINT.nothing) return;
   const key = [place.spot, side, place.index].join();
   if (group.querySelector(`[data-tray="${key}"]`)) return;
   const [x, y] = run.points[place.number];
-  const [width, height] = place.of > 1 ? [20, 14] : SIZE.tray;
+  const [width, height] = [SIZE.tray[0], place.of > 1 ? 16 : SIZE.tray[1]];
   const tray = svgElement("rect", { x: x - width / 2, y: y - height / 2, width, height, rx: 4, class: "tray", "data-tray": key }, trays);
   svgElement("title", {}, tray, place.name);
   svgElement("text", { x, y: y + 4, class: "tray-label" }, trays, place.label);
@@ -168,12 +168,18 @@ function dressPacket(entry, packet, look, picked, depth) {
   entry.text.textContent = kind.sign + letterOf(packet.connection);
   entry.text.style.fill = kind.full ? ink : "var(--ink)";
   entry.text.setAttribute("x", kind.onward ? -2 : 2);
-  if (entry.text.textContent.length > 3) entry.text.setAttribute("textLength", 27);
+  if (entry.text.textContent.length > 3) squeeze(entry.text);
   entry.dot.setAttribute("cx", kind.onward ? 17 : -17);
   entry.title.textContent = packetTitle(packet, picked);
   entry.group.setAttribute("class", "packet" + (shown.packet === packet.id ? " chosen" : "") + (picked ? " picked" : ""));
   Object.assign(entry.group.dataset, { kind: packet.kind, place: packet.place });
   if (depth > 0) drawn.layer.prepend(entry.group);
+}
+
+/** Makes a text narrower that is too long for a packet. */
+function squeeze(text) {
+  text.setAttribute("textLength", 27);
+  text.setAttribute("lengthAdjust", "spacingAndGlyphs");
 }
 
 /** A packet in words. */

@@ -1,7 +1,7 @@
 // Predict first: after a decline the tables are hidden and the student says which entries stay booked for
 // the declined set-up; then the page shows them and compares.
 
-/** What was answered so far: by call and packet whether it was right. */
+/** What was answered so far: by call and packet whether it was right, null where it was skipped. */
 const predictions = { on: false, answers: new Map() };
 
 /** The name of a question: the call that declined, and the packet. */
@@ -91,7 +91,7 @@ function answerQuestion() {
 
 /** Leaves a question without an answer. */
 function skipQuestion() {
-  predictions.answers.set(questionKey(shown.position - 1, shown.question.packet.id), false);
+  predictions.answers.set(questionKey(shown.position - 1, shown.question.packet.id), null);
   endQuestion();
   askHere();
   redraw();
@@ -126,7 +126,7 @@ function wrongText(entry) {
 
 /** How many predictions were right. */
 function scoreText() {
-  const answers = [...predictions.answers.values()];
+  const answers = [...predictions.answers.values()].filter((right) => right !== null);
   return `${answers.filter(Boolean).length} of ${answers.length} right so far.`;
 }
 

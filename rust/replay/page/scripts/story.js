@@ -4,7 +4,7 @@
     entry; its button, its key and its row of the timeline follow. */
 const LANES = [
   { id: "launch", key: "l", sign: "+", name: "launch", colour: "#0072B2",
-    when: (call, events) => events.some((event) => event.what === "made" && event.parent === undefined) },
+    when: (call, events) => events.some(isLaunch) },
   { id: "accepted", key: "a", sign: "✓", name: "accepted", colour: "#007A5A", button: true,
     when: (call, events) => events.some(isAccepted) },
   { id: "decline", key: "d", sign: "✕", name: "decline", colour: "#C24E00", button: true,
@@ -14,6 +14,11 @@ const LANES = [
   { id: "refusal", key: "r", sign: "!", name: "refusal", colour: "#B3261E", button: true,
     when: (call) => call.refusal > 0 },
 ];
+
+/** A set-up joins its active's out-queue. */
+function isLaunch(event) {
+  return event.what === "made" && event.packet.kind === "S";
+}
 
 /** A connection comes to be accepted: its ACK is consumed. */
 function isAccepted(event) {
@@ -54,7 +59,7 @@ function tellCall(state, number) {
   const declined = events.filter(isDecline).map((event) => event.packet);
   if (declined.length > 0) run.declines.set(number, declined);
   events.filter(isAccepted).forEach((event) => run.accepted.set(number, event.packet));
-  if (call.letter === "L" && events.length > 0) run.launched.set(number, events[0].packet.connection);
+  events.filter(isLaunch).forEach((event) => run.launched.set(number, event.packet.connection));
   if (call.letter === "W" && !call.refusal) run.roundStarts.push(number + 1);
 }
 
@@ -74,8 +79,8 @@ function startJourney({ packet, parent }) {
 }
 
 /** What happened to a packet, in a word; nothing for a move. */
-function stepWord({ what, packet, before, parent }) {
-  if (what === "made") return parent === undefined ? "launched" : "made";
+function stepWord({ what, packet, before }) {
+  if (what === "made") return packet.kind === "S" ? "launched" : "made";
   if (what === "ended") return packet.kind === "T" ? "frees, ends" : "consumed";
   if (what !== "changed") return "";
   if (before.kind !== packet.kind) return packet.kind === "A" ? "accepted" : "declined";

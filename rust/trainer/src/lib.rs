@@ -4,11 +4,13 @@
 //! * [`text`]: words, places and mistakes of texts. [`plan`]: plan text, hex and bytes, and why the
 //!   library refuses a plan. [`script`]: scripts as they are written.
 //! * [`play`]: plays a script over the proved library. [`print`]: what is printed.
-//! * [`commands`]: show, check, encode, decode, run, orders, lesson.
+//! * [`lesson`]: what students write instead, played beside the proved rule.
+//! * [`commands`]: show, check, encode, decode, run, orders, lesson, replay.
 
 #![forbid(unsafe_code)]
 
 pub mod commands;
+pub mod lesson;
 pub mod plan;
 pub mod play;
 pub mod print;

@@ -188,17 +188,27 @@ fn read_joint(reader: &mut Reader, port: Port, counts: [usize; 4]) -> Result<Joi
     let bit = reader.at;
     let (kind, number, side) = (reader.take(2), reader.take(4), reader.take(2));
     let field = format!("r{} side {}", port.router, port.side);
-    let fault = |what| Err(Fault::at_field(bit, &field, what));
+    // Kind, number and side stand 0, 2 and 6 bits after the joint's first.
+    let fault = |at: usize, what| Err(Fault::at_field(bit + at, &field, what));
     let name = ["nothing", "router", "active", "passive"][kind];
     let limit = [1, counts[0], counts[1], counts[2]][kind];
     if kind == 0 && (number, side) != (0, 0) {
-        return fault(format!("joined to nothing, but number {number} and side {side} are not 0"));
+        return fault(
+            2,
+            format!("joined to nothing, but number {number} and side {side} are not 0"),
+        );
     }
     if number >= limit {
-        return fault(format!("joined to {name} {number}, but the numbers end at {}", limit - 1));
+        return fault(
+            2,
+            format!("joined to {name} {number}, but the numbers end at {}", limit - 1),
+        );
     }
     if kind > 1 && side != 0 {
-        return fault(format!("joined to {name} {number}, but the partner's side {side} is not 0"));
+        return fault(
+            6,
+            format!("joined to {name} {number}, but the partner's side {side} is not 0"),
+        );
     }
     Ok(match kind {
         0 => Joint::Nothing,

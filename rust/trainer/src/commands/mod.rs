@@ -4,7 +4,9 @@ mod args;
 mod check;
 mod code;
 mod help;
+mod lesson;
 mod orders;
+mod replay;
 mod run;
 mod show;
 
@@ -59,8 +61,16 @@ pub struct Command {
 }
 
 /// All commands.
-pub const COMMANDS: &[Command] =
-    &[show::SHOW, check::CHECK, code::ENCODE, code::DECODE, run::RUN, orders::ORDERS];
+pub const COMMANDS: &[Command] = &[
+    show::SHOW,
+    check::CHECK,
+    code::ENCODE,
+    code::DECODE,
+    run::RUN,
+    orders::ORDERS,
+    lesson::LESSON,
+    replay::REPLAY,
+];
 
 /// Does what the words after the program's name say.
 pub fn main(words: &[String]) -> Done {

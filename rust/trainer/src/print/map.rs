@@ -70,8 +70,8 @@ fn draw(plan: &Plan, row: &[usize], boxes: &[Vec<String>], width: usize) -> Stri
     let mut lines = vec!["    ".to_string(); SIDES + 2];
     for (place, &router) in row.iter().enumerate() {
         let name = plan.names().router(router);
-        let dashes = width + 1 - name.chars().count() - 2;
-        lines[0] += &format!("+- {name} {}+", "-".repeat(dashes.saturating_sub(1)));
+        let dashes = (width + 2).saturating_sub(name.chars().count() + 3);
+        lines[0] += &format!("+- {name} {}+", "-".repeat(dashes));
         for (side, text) in boxes[router].iter().enumerate() {
             lines[1 + side] += &format!("| {text:width$} |");
         }

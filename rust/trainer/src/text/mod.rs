@@ -64,7 +64,7 @@ impl Mistake {
             text += &format!("    {line}\n    {:before$}^\n", "");
         }
         if let Some(note) = note {
-            text += &format!("    {note}\n");
+            text += &format!("    {}\n", crate::print::wrap(note, 4, 4));
         }
         text
     }

@@ -35,7 +35,7 @@ DRAWING = [
     ("picked packets not marked", '+ (picked ? " picked" : "")', ""),
     ("old packets left on the map", "entry.group.remove();", ""),
     ("what is left behind drawn as accepted", 'sign: "✕", style: "leftover"', 'sign: "", style: "accepted"'),
-    ("letters of another connection", "HOLDS[state.holds[entry]].sign + letterOf(owner)", "HOLDS[state.holds[entry]].sign + letterOf(0)"),
+    ("letters of another connection", "hold.sign + (owner < 0 ? \"\" : letterOf(owner))", "hold.sign + letterOf(0)"),
     ("freed cells stay drawn", "if (item.look === look) return;", 'if (item.look === look || look === "") return;'),
     ("the current slot one late", "for (const cell of cells.bySlot[slot])", "for (const cell of cells.bySlot[(slot + 1) % run.plan.slots])"),
     ("a ring at the wrong entry", "free === 1 && !isBooked(state, entry)", "free === 1 && isBooked(state, entry)"),

@@ -40,6 +40,8 @@ const SCRIPTS: &[&str] = &[
     include_str!("../page/scripts/moves.js"),
     include_str!("../page/scripts/keys.js"),
     include_str!("../page/scripts/selftest.js"),
+    include_str!("../page/scripts/selfdrawn.js"),
+    include_str!("../page/scripts/selfowners.js"),
     include_str!("../page/scripts/main.js"),
 ];
 

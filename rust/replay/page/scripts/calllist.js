@@ -18,7 +18,8 @@ function drawCallList(follow) {
 /** Scrolls to the current call where it is out of view. */
 function followCall(pane, height) {
   const y = (shown.position - 1) * ROW;
-  if (y < pane.scrollTop + ROW || y > pane.scrollTop + height - 3 * ROW) pane.scrollTop = Math.max(0, Math.floor((y - height / 2) / ROW) * ROW);
+  const inView = y >= pane.scrollTop + ROW && y <= pane.scrollTop + height - 3 * ROW;
+  if (!inView) pane.scrollTop = Math.max(0, Math.floor((y - height / 2) / ROW) * ROW);
 }
 
 /** The row of a call: number, when, and what. */
@@ -29,8 +30,8 @@ function callRow(call, number) {
   if (number >= shown.position) classes.push("later");
   if (call.refusal) classes.push("refused");
   else if (CALLS[call.letter].turn) classes.push("turn");
-  return `<div class="${classes.join(" ")}" data-call="${number}" style="top:${number * ROW}px" title="${line}"><span>${number + 1}</span>` +
-    `<span>round ${call.round}</span><span>${call.refusal ? "! " : ""}${line}</span></div>`;
+  return `<div class="${classes.join(" ")}" data-call="${number}" style="top:${number * ROW}px" title="${line}">` +
+    `<span>${number + 1}</span><span>round ${call.round}</span><span>${call.refusal ? "! " : ""}${line}</span></div>`;
 }
 
 /** What the current call did, above the list. */
@@ -42,13 +43,16 @@ function drawNow() {
 /** The card before the first call. */
 function startHtml() {
   const { routers, actives, passives, slots, walks } = run.plan;
-  return `<h2>Start</h2><p>${count(routers, "router")}, ${count(actives, "active")}, ${count(passives, "passive")}, ${slots} slots, ` +
-    `${count(walks.size, "served pair")}; ${count(callCount(), "call")}.</p><p class="dim">${escapeText(run.note)}</p>` +
+  const parts = [count(routers, "router"), count(actives, "active"), count(passives, "passive"), `${slots} slots`,
+    count(walks.size, "served pair")];
+  return `<h2>Start</h2><p>${parts.join(", ")}; ${count(callCount(), "call")}.</p>` +
+    `<p class="dim">${escapeText(run.note)}</p>` +
     "<p>Press <kbd>→</kbd> for the first call, <kbd>?</kbd> for keys and signs.</p>";
 }
 
 /** The card of a call: itself, its answer, what happened. */
 function nowHtml(call, sentences) {
   const items = sentences.map(({ html, key }) => `<li${key ? ' class="key"' : ""}>${html}</li>`).join("");
-  return `<h2>${escapeText(callText(call))}</h2><span class="answer${call.refusal ? " refused" : ""}">${escapeText(answerText(call))}</span><ul>${items}</ul>`;
+  const answer = `<span class="answer${call.refusal ? " refused" : ""}">${escapeText(answerText(call))}</span>`;
+  return `<h2>${escapeText(callText(call))}</h2>${answer}<ul>${items}</ul>`;
 }

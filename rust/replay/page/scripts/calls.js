@@ -6,10 +6,12 @@ const CALLS = {
   X: { name: "Execute", phase: 1, turn: true, args: [], text: () => "Execute" },
   W: { name: "Write", phase: 2, turn: true, args: [], text: () => "Write" },
   L: { name: "Launch", phase: 0, args: ["active", "passive", "slot"],
-    text: ([active, passive, slot]) => `Launch ${nameOf.active(active)} → ${nameOf.passive(passive)} at slot ${slot}` },
+    text: ([active, passive, slot]) =>
+      `Launch ${nameOf.active(active)} → ${nameOf.passive(passive)} at slot ${slot}` },
   P: { name: "Reply", phase: 2, args: ["passive", "choice"],
     text: ([passive, choice]) => `Reply ${nameOf.passive(passive)}: ${["decline", "accept"][choice] ?? choice}` },
-  C: { name: "Consume", phase: 2, args: ["active"], text: ([active]) => `Consume ${nameOf.active(active)}`, answer: packetAnswer },
+  C: { name: "Consume", phase: 2, args: ["active"],
+    text: ([active]) => `Consume ${nameOf.active(active)}`, answer: packetAnswer },
   E: { name: "Entry", args: ["router", "side", "slot"],
     text: ([router, side, slot]) => `Entry ${nameOf.router(router)}, side ${side}, slot ${slot}`, answer: entryAnswer },
 };
@@ -34,7 +36,7 @@ function interfaceOf(call) {
 /** The refusals of calls on a state, in sentences about the call. */
 const REFUSALS = {
   7: () => "not a state of this plan",
-  8: (call) => `${CALLS[call.letter].name} needs ${PHASES[CALLS[call.letter].phase]}, the phase is ${PHASES[call.phase]}`,
+  8: ({ letter, phase }) => `${CALLS[letter].name} needs ${PHASES[CALLS[letter].phase]}, the phase is ${PHASES[phase]}`,
   9: () => "a number is out of range",
   10: (call) => `the pair ${nameOf.active(call.args[0])} → ${nameOf.passive(call.args[1])} is not served`,
   11: (call) => `${interfaceOf(call)}'s allowance is spent`,

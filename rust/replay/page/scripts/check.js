@@ -33,11 +33,12 @@ function stateText(state) {
   const packets = (number) => state.held[number].map((id) => packetText(state.packets.get(id))).join();
   const picked = [...state.picked].map((id) => state.packets.get(id).place).sort((one, other) => one - other);
   const owner = (entry) => `${entry}:${state.owners[entry]}${state.holds[entry]}`;
+  const used = (at) => places[at].credit && credits[at] !== places[at].capacity;
   return [
     `${state.phase},${state.slot}`,
     numbersWhere(places.length, (at) => state.held[at].length > 0, (at) => `${at}:${packets(at)}`).join(";"),
     numbersWhere(places.length, (at) => state.flags[at], String),
-    numbersWhere(places.length, (at) => places[at].credit && credits[at] !== places[at].capacity, (at) => `${at}:${credits[at]}`),
+    numbersWhere(places.length, used, (at) => `${at}:${credits[at]}`),
     numbersWhere(places.length, (at) => state.handled[at], String),
     numbersWhere(state.table.length, (at) => isBooked(state, at), (at) => `${at}:${state.table[at]}`),
     numbersWhere(state.table.length, (at) => state.owners[at] >= 0, owner),

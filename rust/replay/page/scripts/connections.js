@@ -30,17 +30,18 @@ function standings(state) {
 /** Draws the list. */
 function drawConnections() {
   const rank = new Map(STANDINGS.map((standing, at) => [standing.id, at]));
-  const rows = [...standings(shown.state)].sort((one, other) => rank.get(one[1]) - rank.get(other[1]) || one[0] - other[0]);
+  const byRank = (one, other) => rank.get(one[1]) - rank.get(other[1]) || one[0] - other[0];
+  const rows = [...standings(shown.state)].sort(byRank);
   const body = rows.map(([connection, id]) => connectionRow(connection, STANDINGS[rank.get(id)])).join("");
   part("connections").innerHTML = rows.length === 0 ? "<p>No set-up was launched yet.</p>" :
-    `<table><thead><tr><th></th><th>from → to</th><th>start</th><th>now</th></tr></thead><tbody>${body}</tbody></table>`;
+    `<table>${tableHead("", "from → to", "start", "now")}<tbody>${body}</tbody></table>`;
 }
 
 /** The row of a connection. */
 function connectionRow(connection, standing) {
-  const { active, passive, slot } = run.connections[connection];
-  return `<tr class="go" data-connection="${connection}"><td>${chip(connection)}</td><td>${escapeText(nameOf.active(active))} → ` +
-    `${escapeText(nameOf.passive(passive))}</td><td>${slot}</td><td class="${standing.style}">${standing.text}</td></tr>`;
+  const told = run.connections[connection];
+  return `<tr class="go" data-connection="${connection}"><td>${chip(connection)}</td><td>${html.pair(told)}</td>` +
+    `<td>${told.slot}</td><td class="${standing.style}">${standing.text}</td></tr>`;
 }
 
 /** The last packet of a connection that was made before the current position. */

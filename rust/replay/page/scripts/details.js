@@ -11,12 +11,12 @@ function drawDetails() {
 /** A packet's journey, one row for each step, the current one marked. */
 function journeyHtml(id) {
   const { connection, steps } = run.journeys.get(id);
-  const { active, passive, slot } = run.connections[connection];
+  const told = run.connections[connection];
   const current = steps.filter((step) => step.call < shown.position).length - 1;
   const rows = steps.map((step, at) => stepHtml(step, at === current)).join("");
-  return `<h3>${chip(connection)} ${escapeText(nameOf.active(active))} → ${escapeText(nameOf.passive(passive))}, start slot ${slot}</h3>` +
-    `<p>Journey of this packet${relativesHtml(id)}</p><table><thead><tr><th>round</th><th>what</th><th>where</th><th>slot</th><th>hub</th></tr></thead>` +
-    `<tbody>${rows}</tbody></table>`;
+  return `<h3>${chip(connection)} ${html.pair(told)}, start slot ${told.slot}</h3>` +
+    `<p>Journey of this packet${relativesHtml(id)}</p>` +
+    `<table>${tableHead("round", "what", "where", "slot", "hub")}<tbody>${rows}</tbody></table>`;
 }
 
 /** Links between a NACK and its tear-down. */
@@ -29,17 +29,19 @@ function relativesHtml(id) {
 /** A step of a journey. */
 function stepHtml(step, current) {
   const call = run.calls[step.call];
-  return `<tr class="go${current ? " current" : ""}" data-call="${step.call}"><td>${call.round} ${PHASES[call.phase]}</td>` +
-    `<td>${KINDS[step.kind].sign} ${step.word}</td><td>${escapeText(placeOf(step.place).name)}</td><td>${step.slot}</td><td>${step.hub}</td></tr>`;
+  const cells = [`${call.round} ${PHASES[call.phase]}`, `${KINDS[step.kind].sign} ${step.word}`, html.place(step.place),
+    step.slot, step.hub];
+  return `<tr class="go${current ? " current" : ""}" data-call="${step.call}"><td>${cells.join("</td><td>")}</td></tr>`;
 }
 
 /** A router's queues with their packets, credits and flags. */
 function routerHtml(router) {
   const credits = creditsOf(shown.state);
   const queues = run.places.filter((place) => place.router === router && !isWire(place) && place.credit);
-  const shownQueues = queues.filter((place) => place.spot !== "cross" || shown.state.held[place.number].length > 0 || isJoined(place));
-  return `<h3>${escapeText(nameOf.router(router))}</h3><table><thead><tr><th>queue</th><th>packets, head first</th><th>capacity</th><th>credit</th><th>flag</th></tr></thead>` +
-    `<tbody>${shownQueues.map((place) => queueHtml(place, credits)).join("")}</tbody></table>`;
+  const used = queues.filter((place) => place.spot !== "cross" || isJoined(place));
+  const rows = used.map((place) => queueHtml(place, credits)).join("");
+  const head = tableHead("queue", "packets, head first", "capacity", "credit", "flag");
+  return `<h3>${html.router(router)}</h3><table>${head}<tbody>${rows}</tbody></table>`;
 }
 
 /** Whether the side that a queue's packets leave by is joined. */
@@ -54,7 +56,8 @@ function queueHtml(place, credits) {
     const packet = state.packets.get(id);
     return `${packetChip(packet)} <small>slot ${packet.slot} hub ${packet.hub}</small>`;
   });
-  const name = place.name.replace(/ (of|at) .*/, "");
-  return `<tr><td>${escapeText(name)}</td><td>${packets.join("<br>")}${state.handled[place.number] ? " <small>handled</small>" : ""}</td>` +
-    `<td>${place.capacity}</td><td>${credits[place.number]}</td><td>${state.flags[place.number] ? "up" : ""}</td></tr>`;
+  const handled = state.handled[place.number] ? " <small>handled</small>" : "";
+  const cells = [escapeText(place.name.replace(/ of .*/, "")), packets.join("<br>") + handled, place.capacity,
+    credits[place.number], state.flags[place.number] ? "up" : ""];
+  return `<tr><td>${cells.join("</td><td>")}</td></tr>`;
 }

@@ -14,7 +14,7 @@ function hopAt(packet) {
 /** An entry in words: router, side and slot. */
 function entryText(entry) {
   const { router, side, slot } = entryParts(entry);
-  return `${escapeText(nameOf.router(router))} side ${side} slot ${slot}`;
+  return `${html.router(router)} side ${side} slot ${slot}`;
 }
 
 /** All sentences about a call: its events, the state before it and the one after. */
@@ -37,16 +37,17 @@ function eventSentence(event, before, after) {
 /** A set-up joins an out-queue. */
 function launchSentence({ packet }, after) {
   const left = after.allowances[packet.active];
-  return { html: `Set-up ${chip(packet.connection)} joins ${escapeText(placeOf(packet.place).name)}. Allowance left: ${left}.` };
+  return { html: `Set-up ${chip(packet.connection)} joins ${html.place(packet.place)}. Allowance left: ${left}.` };
 }
 
 /** An active sends a tear-down, after a NACK as the answer to it. */
 function tearDownSentence({ packet, parent }) {
-  const routers = walkOf(packet).slice(0, packet.hub).map((hop) => escapeText(nameOf.router(hop.router)));
+  const routers = walkOf(packet).slice(0, packet.hub).map((hop) => html.router(hop.router));
   const sends = parent === undefined ? "sends tear-down" : "answers the NACK with tear-down";
-  const html = `${escapeText(nameOf.active(packet.active))} ${sends} ${chip(packet.connection)}: slot ${packet.slot}, ` +
-    `hub ${packet.hub}. It will free exactly ${count(packet.hub, "router")} (${listed(routers, 5)}) and end there.`;
-  return { html, key: true };
+  const figures = `slot ${packet.slot}, hub ${packet.hub}`;
+  const made = `${html.active(packet.active)} ${sends} ${chip(packet.connection)}: ${figures}.`;
+  const frees = `It will free exactly ${count(packet.hub, "router")} (${listed(routers, 5)}) and end there.`;
+  return { html: `${made} ${frees}`, key: true };
 }
 
 /** A packet changed where it is. */
@@ -61,13 +62,14 @@ function changeSentence({ packet, before }, state) {
 /** A unit books an entry. */
 function bookSentence(packet, before) {
   const hop = hopAt(before);
-  return { html: `The unit of ${escapeText(nameOf.router(hop.router))} books side ${hop.side}, slot ${before.slot} for ` +
+  return { html: `The unit of ${html.router(hop.router)} books side ${hop.side}, slot ${before.slot} for ` +
     `${chip(packet.connection)}: hub ${packet.hub}, next slot ${packet.slot}.` };
 }
 
 /** A passive accepts. */
 function acceptSentence(packet) {
-  return { html: `${escapeText(nameOf.passive(packet.passive))} accepts ${chip(packet.connection)}: an ACK with slot ${packet.slot}, hub ${packet.hub}.` };
+  return { html: `${html.passive(packet.passive)} accepts ${chip(packet.connection)}: ` +
+    `an ACK with slot ${packet.slot}, hub ${packet.hub}.` };
 }
 
 /** A unit or a passive declines. What stays booked is left out while the student is asked for it. */
@@ -75,27 +77,28 @@ function declineSentence(packet, before, state) {
   const stays = packet.hub === 0 ? "Nothing was booked." :
     `${count(packet.hub, "router")} ${packet.hub === 1 ? "stays" : "stay"} booked until a tear-down has followed.`;
   const told = shown.question ? "" : " " + stays;
-  return { html: `${decliner(packet, before, state)} The NACK keeps slot ${packet.slot} and hub ${packet.hub}.${told}`, key: true };
+  const nack = `The NACK keeps slot ${packet.slot} and hub ${packet.hub}.`;
+  return { html: `${decliner(packet, before, state)} ${nack}${told}`, key: true };
 }
 
 /** Who declined, and why. */
 function decliner(packet, before, state) {
   const declined = `declines ${chip(packet.connection)}`;
-  if (placeOf(before.place).router === undefined) return `${escapeText(nameOf.passive(packet.passive))} ${declined}.`;
+  if (placeOf(before.place).router === undefined) return `${html.passive(packet.passive)} ${declined}.`;
   const hop = hopAt(before);
   const entry = entryNumber(hop.router, hop.side, before.slot);
   const owner = ownerOf(state, entry);
   const by = owner < 0 ? "" : ` by ${chip(owner)} (${HOLDS[state.holds[entry]].word})`;
   const why = isBooked(state, entry) ? `side ${hop.side}, slot ${before.slot} is booked${by}` :
     `slot ${before.slot} is the last free entry of side ${hop.side}, which is kept`;
-  return `The unit of ${escapeText(nameOf.router(hop.router))} ${declined}: ${why}.`;
+  return `The unit of ${html.router(hop.router)} ${declined}: ${why}.`;
 }
 
 /** A tear-down frees an entry. */
 function freeSentence(packet, before, then) {
   const hop = hopAt(before);
   return { html: `Tear-down ${chip(packet.connection)} frees side ${hop.side}, slot ${before.slot} of ` +
-    `${escapeText(nameOf.router(hop.router))}; ${then}.`, key: true };
+    `${html.router(hop.router)}; ${then}.`, key: true };
 }
 
 /** A packet ends: a tear-down at its last router, an answer that is consumed. */
@@ -103,11 +106,10 @@ function endSentence({ packet }, after) {
   if (packet.kind === "T") return freeSentence(packet, packet, "hub was 1, it ends");
   const left = after.allowances[packet.active];
   const start = run.connections[packet.connection].slot;
-  const pair = `${escapeText(nameOf.active(packet.active))} → ${escapeText(nameOf.passive(packet.passive))}`;
-  if (packet.kind === "A") {
-    return { html: `Connection ${chip(packet.connection)} ${pair}, start slot ${start}, is accepted. Allowance back to ${left}.`, key: true };
-  }
-  return { html: `The NACK of ${chip(packet.connection)} is taken off. Allowance back to ${left}.` };
+  const back = `Allowance back to ${left}.`;
+  if (packet.kind !== "A") return { html: `The NACK of ${chip(packet.connection)} is taken off. ${back}` };
+  const accepted = `Connection ${chip(packet.connection)} ${html.pair(packet)}, start slot ${start}, is accepted.`;
+  return { html: `${accepted} ${back}`, key: true };
 }
 
 /** What EXECUTE says beside its events: sides that send nobody, and who was picked. */
@@ -121,13 +123,16 @@ function executeSentences(state, others) {
 
 /** Sides whose entry for the current slot is booked while packets wait to leave by them. */
 function waitingSentences(state) {
-  return run.sides.filter(({ router, side }) => isBooked(state, entryNumber(router, side, state.slot)))
-    .map(({ router, side, leaving }) => ({ router, side, waiting: leaving.filter((place) => state.held[place].length > 0) }))
-    .filter(({ waiting }) => waiting.length > 0)
-    .map(({ router, side, waiting }) => ({
-      html: `Side ${side} of ${escapeText(nameOf.router(router))} sends nobody: slot ${state.slot} is booked. Waiting: ` +
-        waiting.map((place) => packetChip(state.packets.get(state.held[place][0]))).join(" "),
-    }));
+  const sentences = [];
+  for (const { router, side, leaving } of run.sides) {
+    if (!isBooked(state, entryNumber(router, side, state.slot))) continue;
+    const heads = leaving.filter((place) => state.held[place].length > 0)
+      .map((place) => packetChip(state.packets.get(state.held[place][0])));
+    if (heads.length === 0) continue;
+    const booked = `Side ${side} of ${html.router(router)} sends nobody: slot ${state.slot} is booked.`;
+    sentences.push({ html: `${booked} Waiting: ${heads.join(" ")}` });
+  }
+  return sentences;
 }
 
 /** The moves of READ and WRITE. */
@@ -136,10 +141,9 @@ function moveSentences(call, events) {
   if (moves.length === 0) {
     return [{ html: call.letter === "R" ? "No packet was on a wire." : "Nobody was picked. The slot grows by one." }];
   }
-  const sentences = moves.slice(0, 6).map(({ packet, from }) => ({
-    html: packetChip(packet) + escapeText(call.letter === "R" ? ` joins ${placeOf(packet.place).name}` :
-      ` leaves ${placeOf(from).name} by the ${placeOf(packet.place).name}`),
-  }));
+  const moved = ({ packet, from }) => (call.letter === "R" ? `joins ${html.place(packet.place)}` :
+    `leaves ${html.place(from)} by the ${html.place(packet.place)}`);
+  const sentences = moves.slice(0, 6).map((move) => ({ html: `${packetChip(move.packet)} ${moved(move)}` }));
   if (moves.length > 6) sentences.push({ html: `and ${moves.length - 6} more` });
   return sentences;
 }

@@ -74,10 +74,11 @@ const CALL_FORM = /^([A-Z])(\d+(?:,\d+)*)?(?:!(\d+)|=([A-Z0-9,]+))?$/;
 function readCall(line, number) {
   const [first, check] = line.split(" ", 2);
   const parts = CALL_FORM.exec(first);
-  if (!parts || !/^[0-9a-f]{1,8}$/.test(check)) damagedLine(number, line, "its call or its check sum is not readable");
-  if (!CALLS[parts[1]]) damagedLine(number, line, `this page knows no call '${parts[1]}'`);
+  const readable = parts && /^[0-9a-f]{1,8}$/.test(check);
+  if (!readable) damagedLine(number, line, "its call or its check sum is not readable");
+  const kind = CALLS[parts[1]] ?? damagedLine(number, line, `this page knows no call '${parts[1]}'`);
   const args = parts[2] === undefined ? [] : parts[2].split(",").map(Number);
-  if (args.length !== CALLS[parts[1]].args.length) damagedLine(number, line, "its call has another number of arguments");
+  if (args.length !== kind.args.length) damagedLine(number, line, "its call has another number of arguments");
   return { letter: parts[1], args, refusal: Number(parts[3] || 0), answer: parts[4] || "", check };
 }
 

@@ -111,14 +111,19 @@ const SPOTS = {
   unit: { numbers: ["router", "index", "of"], point: unitPoint },
   "to-unit": { numbers: ["router"], point: ({ router }) => pointAt(router, 0, 0, -23) },
   "from-unit": { numbers: ["router"], point: ({ router }) => pointAt(router, 0, 0, 23) },
-  "active-out": { numbers: ["active"], point: ({ active }) => interfacePoint(run.map.actives[active], -SIZE.lane) },
-  "active-in": { numbers: ["active"], point: ({ active }) => interfacePoint(run.map.actives[active], SIZE.lane) },
-  "passive-out": { numbers: ["passive"], point: ({ passive }) => interfacePoint(run.map.passives[passive], -SIZE.lane) },
-  "passive-in": { numbers: ["passive"], point: ({ passive }) => interfacePoint(run.map.passives[passive], SIZE.lane) },
+  "active-out": { numbers: ["active"], point: (place) => interfacePoint(homeOf(place), -SIZE.lane) },
+  "active-in": { numbers: ["active"], point: (place) => interfacePoint(homeOf(place), SIZE.lane) },
+  "passive-out": { numbers: ["passive"], point: (place) => interfacePoint(homeOf(place), -SIZE.lane) },
+  "passive-in": { numbers: ["passive"], point: (place) => interfacePoint(homeOf(place), SIZE.lane) },
   "to-side": { numbers: ["router", "side"], point: (place) => middleOf(wireCurve(place)) },
   "to-active": { numbers: ["active"], point: (place) => middleOf(wireCurve(place)) },
   "to-passive": { numbers: ["passive"], point: (place) => middleOf(wireCurve(place)) },
 };
+
+/** Router and side of the interface that a place is at. */
+function homeOf({ active, passive }) {
+  return active === undefined ? run.map.passives[passive] : run.map.actives[active];
+}
 
 /** A tray at a router's side. */
 function sidePoint({ router, side }, along) {
@@ -127,8 +132,7 @@ function sidePoint({ router, side }, along) {
 
 /** A wire as a curve of four points, from its sender to where it leads; none for the wires of a unit. */
 function wireCurve(place) {
-  if (place.spot === "to-active") return interfaceWire(run.map.actives[place.active], true);
-  if (place.spot === "to-passive") return interfaceWire(run.map.passives[place.passive], true);
+  if (place.spot === "to-active" || place.spot === "to-passive") return interfaceWire(homeOf(place), true);
   if (place.spot !== "to-side") return null;
   const { router, side } = place;
   const [kind, partner, back] = run.plan.joints[router][side];

@@ -43,7 +43,7 @@ function onKey(event) {
 /** What a click on an element with such an attribute does; the first that fits. */
 const CLICKS = [
   ["[data-move]", (element) => { setPlaying(false); MOVES[element.dataset.move](); }],
-  ["[data-lane]", (element, event) => { setPlaying(false); moveToLane(element.dataset.lane, event.shiftKey ? -1 : 1); }],
+  ["[data-lane]", (element, event) => onLane(element.dataset.lane, event.shiftKey)],
   ["button[data-view]", (element) => showView(element.dataset.view)],
   ["button[data-tab]", (element) => showTab(element.dataset.tab)],
   ["[data-pane]", (element) => showPane(element.dataset.pane)],
@@ -74,6 +74,12 @@ function onClick(event) {
     if (element.tagName === "BUTTON" && event.detail > 0) element.blur();
     return;
   }
+}
+
+/** A click on the button of a lane. */
+function onLane(id, back) {
+  setPlaying(false);
+  moveToLane(id, back ? -1 : 1);
 }
 
 /** A click on a cell: an answer while the student is asked, else its owner. */
@@ -114,24 +120,44 @@ function watchInput() {
   document.addEventListener("click", onClick);
   watchTimeline();
   part("calls").addEventListener("scroll", () => drawCallList(false));
-  part("all-sides").addEventListener("change", (event) => part("blocks").classList.toggle("all-sides", event.target.checked));
+  const allSides = part("all-sides");
+  allSides.addEventListener("change", () => part("blocks").classList.toggle("all-sides", allSides.checked));
   addEventListener("resize", () => { fitMap(); drawTimeline(); drawCursor(); drawPane(); });
   new ResizeObserver(fitMap).observe(part("map-scroll"));
 }
 
-/** The keys and signs, for the dialog. */
+/** Keys, as HTML. */
+function keyHtml(...names) {
+  return names.map((name) => `<kbd>${name}</kbd>`).join(" ");
+}
+
+/** What the dialog says of keys. */
+function keySentences() {
+  const lanes = LANES.map((lane) => `${keyHtml(lane.key)} ${lane.name}`).join(", ");
+  return [
+    `${keyHtml("←", "→")} a call, ${keyHtml("↑", "↓")} a round, ${keyHtml("Home", "End")}, ${keyHtml("space")} play`,
+    `next ${lanes}; with ${keyHtml("Shift")} the one before`,
+    `${keyHtml("1", "2", "3")} map, both, tables; ${keyHtml("+", "−", "0")} larger, smaller, fit`,
+    `${keyHtml("p")} predict first, ${keyHtml("Enter")} show the answer, ${keyHtml("Esc")} skip`,
+    `${keyHtml("Esc")} lets go of what is chosen; ${keyHtml("g")} light or dark`,
+  ];
+}
+
+/** What the dialog says of signs. */
+function signSentences() {
+  const looks = { S: "full, points on", T: "dashed, points on", A: "full, points back", N: "hollow, points back" };
+  return [
+    ...Object.entries(looks).map(([kind, look]) => `<b>${KINDS[kind].sign}</b> ${KINDS[kind].term}: ${look}`),
+    "The letter is the connection: active, passive and start slot, in the order of the launches.",
+    "A dot at a packet's tip: it is picked. ●○ beside an active: allowance left and spent.",
+    "A bar across a side's way out: its entry for the current slot is booked, nobody leaves by it.",
+    "U, Q, F and K are document 01's queues; K·1 holds the answers that cross to side 1.",
+  ];
+}
+
+/** The dialog with keys and signs. */
 function dialogHtml() {
-  const keys = (...names) => names.map((name) => `<kbd>${name}</kbd>`).join(" ");
-  const lanes = LANES.map((lane) => `${keys(lane.key)} ${lane.name}`).join(", ");
-  const kinds = { S: "full, points on", T: "dashed, points on", A: "full, points back", N: "hollow, points back" };
-  const packets = Object.entries(kinds).map(([kind, look]) => `<li><b>${KINDS[kind].sign}</b> ${KINDS[kind].term}: ${look}</li>`).join("");
-  return `<h2>Keys</h2><ul><li>${keys("←", "→")} a call, ${keys("↑", "↓")} a round, ${keys("Home", "End")}, ${keys("space")} play</li>` +
-    `<li>next ${lanes}; with ${keys("Shift")} the one before</li>` +
-    `<li>${keys("1", "2", "3")} map, both, tables; ${keys("+", "−", "0")} larger, smaller, fit; ${keys("g")} light or dark</li>` +
-    `<li>${keys("p")} predict first, ${keys("Enter")} show the answer, ${keys("Esc")} skip, or let go of what is chosen</li></ul>` +
-    `<h2>Signs</h2><ul>${packets}<li>The letter is the connection: active, passive and start slot, in the order of the launches.</li>` +
-    "<li>A dot at a packet's tip: it is picked. ●○ beside an active: allowance left and spent.</li>" +
-    "<li>A bar across a side's way out: its entry for the current slot is booked, nobody leaves by it.</li>" +
-    "<li>U, Q, F and K are document 01's queues; K·1 holds the answers that cross to side 1.</li></ul>" +
+  const list = (sentences) => `<ul>${sentences.map((sentence) => `<li>${sentence}</li>`).join("")}</ul>`;
+  return `<h2>Keys</h2>${list(keySentences())}<h2>Signs</h2>${list(signSentences())}` +
     `<h2>Cells</h2><p class="legend">${legendHtml()}</p><p class="close"><button id="close">Close</button></p>`;
 }

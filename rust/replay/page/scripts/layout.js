@@ -9,13 +9,15 @@ const JOINT = { nothing: 0, router: 1, active: 2, passive: 3 };
 
 /** The neighbours of each router, each once. */
 function neighbours() {
-  return run.plan.joints.map((joints) => [...new Set(joints.filter(([kind]) => kind === JOINT.router).map(([, number]) => number))]);
+  const routers = (joints) => joints.filter(([kind]) => kind === JOINT.router).map(([, number]) => number);
+  return run.plan.joints.map((joints) => [...new Set(routers(joints))]);
 }
 
 /** All routers, neighbours behind one another, from routers with few neighbours on. */
 function walkingOrder(near) {
   const order = [];
-  const starts = near.map((_, router) => router).sort((one, other) => near[one].length - near[other].length || one - other);
+  const byNeighbours = (one, other) => near[one].length - near[other].length || one - other;
+  const starts = near.map((_, router) => router).sort(byNeighbours);
   for (const start of starts) {
     if (order.includes(start)) continue;
     order.push(start);
@@ -137,7 +139,8 @@ function edgeCost(cells, router, [kind, number], edge) {
 
 /** The best of the 24 ways to put a router's sides on its edges. */
 function bestEdges(cells, router) {
-  const cost = (edges) => edges.reduce((sum, edge, side) => sum + edgeCost(cells, router, run.plan.joints[router][side], edge), 0);
+  const joints = run.plan.joints[router];
+  const cost = (edges) => edges.reduce((sum, edge, side) => sum + edgeCost(cells, router, joints[side], edge), 0);
   return edgeOrders().reduce((best, edges) => (cost(edges) < cost(best) - 1e-9 ? edges : best));
 }
 

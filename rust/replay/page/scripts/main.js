@@ -14,9 +14,13 @@ function fillFrame() {
   part("note").textContent = part("note").title = run.note;
   part("clock-slots").textContent = `of ${run.plan.slots}`;
   document.title = `${run.title || "Replay"} – Pandabrass`;
-  part("jumps").innerHTML = LANES.filter((lane) => lane.button).map((lane) =>
-    `<button data-lane="${lane.id}" title="next ${lane.name} (${lane.key}), with Shift the one before">${lane.sign} ${lane.name}</button>`).join("");
+  part("jumps").innerHTML = LANES.filter((lane) => lane.button).map(laneButton).join("");
   part("dialog").innerHTML = dialogHtml();
+}
+
+/** The button that goes to the next call of a lane. */
+function laneButton({ id, key, name, sign }) {
+  return `<button data-lane="${id}" title="next ${name} (${key}), with Shift the one before">${sign} ${name}</button>`;
 }
 
 /** Draws everything for the first time. */

@@ -1,7 +1,9 @@
 // The map: boxes, wires and trays are drawn once; packets, bars and allowances for each state.
 
 /** What the drawing keeps of the elements it changes. */
-const drawn = { wires: new Map(), routers: [], bars: [], allowances: [], packets: new Map(), counts: new Map(), layer: null };
+const drawn = {
+  wires: new Map(), routers: [], bars: [], allowances: [], packets: new Map(), counts: new Map(), layer: null,
+};
 
 /** Makes an element of the drawing. */
 function svgElement(name, attributes, parent, text) {
@@ -10,6 +12,11 @@ function svgElement(name, attributes, parent, text) {
   if (text !== undefined) element.textContent = text;
   if (parent) parent.append(element);
   return element;
+}
+
+/** Makes a rectangle around a point. */
+function svgBox([x, y], [width, height], attributes, parent) {
+  return svgElement("rect", { x: x - width / 2, y: y - height / 2, width, height, ...attributes }, parent);
 }
 
 /** A name that fits its room; the whole one is in the title. */
@@ -37,7 +44,8 @@ function drawFixed() {
 function drawWire(place, layer) {
   const curve = isWire(place) ? wireCurve(place) : null;
   if (!curve) return;
-  const path = svgElement("path", { class: "wire", d: `M${curve[0]}C${curve[1]} ${curve[2]} ${curve[3]}`, "marker-end": "url(#arrow)" }, layer);
+  const line = `M${curve[0]}C${curve[1]} ${curve[2]} ${curve[3]}`;
+  const path = svgElement("path", { class: "wire", d: line, "marker-end": "url(#arrow)" }, layer);
   svgElement("title", {}, path, place.name);
   drawn.wires.set(place.number, path);
 }
@@ -45,10 +53,9 @@ function drawWire(place, layer) {
 /** A router: its box, its unit, its name, and a number and a bar for each joined side. */
 function drawRouter(router, layer) {
   const group = svgElement("g", { class: "router", "data-router": router }, layer);
-  const [x, y] = run.map.centres[router];
-  svgElement("rect", { x: x - SIZE.box, y: y - SIZE.box, width: 2 * SIZE.box, height: 2 * SIZE.box, rx: 10, class: "router-box" }, group);
-  const [width, height] = SIZE.unit;
-  svgElement("rect", { x: x - width / 2, y: y - height / 2, width, height, rx: 8, class: "unit" }, group);
+  const centre = run.map.centres[router];
+  svgBox(centre, [2 * SIZE.box, 2 * SIZE.box], { rx: 10, class: "router-box" }, group);
+  svgBox(centre, SIZE.unit, { rx: 8, class: "unit" }, group);
   drawn.routers[router] = { group, trays: svgElement("g", {}, group) };
   drawRouterName(router, group);
   run.plan.joints[router].forEach(([kind], side) => {
@@ -61,8 +68,9 @@ function drawRouterName(router, group) {
   const [x, y] = run.map.centres[router];
   const name = nameOf.router(router);
   const wide = name.length > 3;
-  const text = svgElement("text", { x: wide ? x - 2 * SIZE.lane - 3 : x - SIZE.box + 2, y: y - SIZE.box - 6, class: "router-name",
-    "text-anchor": wide ? "end" : "start" }, group, shortName(name, 8));
+  const place = { x: wide ? x - 2 * SIZE.lane - 3 : x - SIZE.box + 2, y: y - SIZE.box - 6 };
+  const anchor = wide ? "end" : "start";
+  const text = svgElement("text", { ...place, class: "router-name", "text-anchor": anchor }, group, shortName(name, 8));
   svgElement("title", {}, text, name);
 }
 
@@ -86,8 +94,8 @@ function drawTray(place) {
   const key = [place.spot, side, place.index].join();
   if (group.querySelector(`[data-tray="${key}"]`)) return;
   const [x, y] = run.points[place.number];
-  const [width, height] = [SIZE.tray[0], place.of > 1 ? 16 : SIZE.tray[1]];
-  const tray = svgElement("rect", { x: x - width / 2, y: y - height / 2, width, height, rx: 4, class: "tray", "data-tray": key }, trays);
+  const size = [SIZE.tray[0], place.of > 1 ? 16 : SIZE.tray[1]];
+  const tray = svgBox([x, y], size, { rx: 4, class: "tray", "data-tray": key }, trays);
   svgElement("title", {}, tray, place.name);
   svgElement("text", { x, y: y + 4, class: "tray-label" }, trays, place.label);
 }
@@ -95,14 +103,14 @@ function drawTray(place) {
 /** An interface: an active is squared, a passive round; its name beside it. */
 function drawInterface(kind, number, joined, layer) {
   const { middle: [x, y], width, height, edge } = interfaceBox(joined);
-  const box = svgElement("rect", { x: x - width / 2, y: y - height / 2, width, height, rx: kind === "active" ? 2 : 13, class: `interface ${kind}` }, layer);
-  svgElement("title", {}, box, `${kind} ${number}, ${nameOf[kind](number)}`);
+  const name = nameOf[kind](number);
+  const look = { rx: kind === "active" ? 2 : 13, class: `interface ${kind}` };
+  svgElement("title", {}, svgBox([x, y], [width, height], look, layer), `${kind} ${number}, ${name}`);
   const [above, below] = [y - height / 2 - 5, y + height / 2 + 13];
-  const name = svgElement("text", { x, y: edge === 1 ? below : above, class: "interface-name" }, layer, shortName(nameOf[kind](number), 11));
+  const label = (at, text) => svgElement("text", { x, y: at, class: "interface-name" }, layer, text);
+  const written = label(edge === 1 ? below : above, shortName(name, 11));
   if (kind === "passive") return;
-  const beside = edge % 2 === 0;
-  const dots = beside ? svgElement("text", { x, y: below, class: "interface-name" }, layer) : svgElement("tspan", { dx: 5 }, name);
-  drawn.allowances[number] = dots;
+  drawn.allowances[number] = edge % 2 === 0 ? label(below, "") : svgElement("tspan", { dx: 5 }, written);
 }
 
 /** The outline of a packet: it points on to the passive, or back to the active. */
@@ -164,14 +172,17 @@ function dressPacket(entry, packet, look, picked, depth) {
   const [colour, ink] = colourOf(packet.connection);
   entry.look = look;
   entry.outline.setAttribute("d", kind.onward ? OUTLINES.onward : OUTLINES.back);
-  entry.outline.style.cssText = `fill:${kind.full ? colour : "var(--paper)"};stroke:${colour};stroke-dasharray:${packet.kind === "T" ? "4 2.5" : "none"}`;
+  const fill = kind.full ? colour : "var(--paper)";
+  const dashes = packet.kind === "T" ? "4 2.5" : "none";
+  entry.outline.style.cssText = `fill:${fill};stroke:${colour};stroke-dasharray:${dashes}`;
   entry.text.textContent = kind.sign + letterOf(packet.connection);
   entry.text.style.fill = kind.full ? ink : "var(--ink)";
   entry.text.setAttribute("x", kind.onward ? -2 : 2);
   if (entry.text.textContent.length > 3) squeeze(entry.text);
   entry.dot.setAttribute("cx", kind.onward ? 17 : -17);
   entry.title.textContent = packetTitle(packet, picked);
-  entry.group.setAttribute("class", "packet" + (shown.packet === packet.id ? " chosen" : "") + (picked ? " picked" : ""));
+  const chosen = shown.packet === packet.id ? " chosen" : "";
+  entry.group.setAttribute("class", "packet" + chosen + (picked ? " picked" : ""));
   Object.assign(entry.group.dataset, { kind: packet.kind, place: packet.place });
   if (depth > 0) drawn.layer.prepend(entry.group);
 }
@@ -185,7 +196,8 @@ function squeeze(text) {
 /** A packet in words. */
 function packetTitle(packet, picked) {
   const marked = packet.kind === "N" && packet.hub === 0 ? " (marked)" : "";
-  return `${KINDS[packet.kind].term} ${letterOf(packet.connection)}: ${nameOf.active(packet.active)} → ${nameOf.passive(packet.passive)}, ` +
+  const pair = `${nameOf.active(packet.active)} → ${nameOf.passive(packet.passive)}`;
+  return `${KINDS[packet.kind].term} ${letterOf(packet.connection)}: ${pair}, ` +
     `slot ${packet.slot}, hub ${packet.hub}${marked}, in ${placeOf(packet.place).name}${picked ? ", picked" : ""}`;
 }
 
@@ -200,7 +212,8 @@ function drawCounts(stacks) {
   for (const [key, { count: packets, number }] of stacks) {
     if (packets < 3) continue;
     const [x, y] = run.points[number];
-    if (!drawn.counts.has(key)) drawn.counts.set(key, svgElement("text", { x: x + 26, y: y - 10, class: "count" }, drawn.layer));
+    const place = { x: x + 26, y: y - 10, class: "count" };
+    if (!drawn.counts.has(key)) drawn.counts.set(key, svgElement("text", place, drawn.layer));
     drawn.counts.get(key).textContent = "×" + packets;
   }
 }

@@ -65,7 +65,8 @@ function drawClock() {
 /** Says so where the state is not the one that was recorded. */
 function warnOfDamage() {
   if (isRecorded(shown.state, shown.position)) return;
-  part("strip").insertAdjacentHTML("afterbegin", '<span class="left">This state is not the recorded one: the data of this page is damaged.</span>');
+  const sentence = "This state is not the recorded one: the data of this page is damaged.";
+  part("strip").insertAdjacentHTML("afterbegin", `<span class="left">${sentence}</span>`);
 }
 
 /** Draws the pane at the side that is open. */
@@ -95,7 +96,8 @@ function moveToLane(id, direction) {
   const last = shown.position - 1;
   const found = direction > 0 ? calls.find((number) => number > last) : calls.filter((number) => number < last).pop();
   if (found !== undefined) return showPosition(found + 1);
-  part("position").textContent = `no ${direction > 0 ? "further" : "earlier"} ${LANES.find((lane) => lane.id === id).name}`;
+  const { name } = LANES.find((lane) => lane.id === id);
+  part("position").textContent = `no ${direction > 0 ? "further" : "earlier"} ${name}`;
   return undefined;
 }
 

@@ -57,10 +57,11 @@ function drawQuestion() {
 
 /** The question with what is known of the NACK. */
 function questionHtml({ packet, clicked }) {
-  const routers = walkOf(packet).map((hop) => `${escapeText(nameOf.router(hop.router))} side ${hop.side}`);
-  return `<p><b>${chip(packet.connection)} was declined. Which entries stay booked for it?</b> Its NACK has slot ${packet.slot}, hub ${packet.hub}; ` +
-    `its walk leaves ${listed(routers, 6, ", then ")}. Click cells of the slot tables, or none.</p>` +
-    `<span class="group"><button id="answer" class="main">Show (${count(clicked.size, "entry", "entries")})</button><button id="skip">Skip</button></span>`;
+  const routers = walkOf(packet).map((hop) => `${html.router(hop.router)} side ${hop.side}`);
+  const answer = `<button id="answer" class="main">Show (${count(clicked.size, "entry", "entries")})</button>`;
+  return `<p><b>${chip(packet.connection)} was declined. Which entries stay booked for it?</b> ` +
+    `Its NACK has slot ${packet.slot}, hub ${packet.hub}; its walk leaves ${listed(routers, 6, ", then ")}. ` +
+    `Click cells of the slot tables, or none.</p><span class="group">${answer}<button id="skip">Skip</button></span>`;
 }
 
 /** A click on a cell while the student is asked. */
@@ -106,16 +107,23 @@ function endQuestion() {
 /** What was right, missed and wrong, and the rule. */
 function comparisonHtml({ packet, right, missed, wrong }) {
   const good = missed.length === 0 && wrong.length === 0;
-  const start = run.connections[packet.connection].slot;
-  const rule = packet.hub === 0 ? "Hub 0: nothing was booked, nothing stays." :
-    `Hub ${packet.hub}: the first ${count(packet.hub, "router")} of its walk ${packet.hub === 1 ? "stays" : "stay"} booked, from slot ${start} on.`;
-  const parts = [
-    right.length > 0 ? `✓ right: ${listed(right.map(entryText), 4, "; ")}.` : "",
-    missed.length > 0 ? `○ missed: ${listed(missed.map(entryText), 4, "; ")}.` : "",
-    wrong.length > 0 ? `✕ not: ${listed(wrong.map(wrongText), 4, "; ")}.` : "",
-  ].filter(Boolean);
-  const more = openDecline(shown.position - 1) ? '<button id="next-question" class="main">Next question</button>' : '<button id="go-on" class="main">Go on</button>';
-  return `<p><b>${good ? "Right." : "Not quite."}</b> ${rule} ${parts.join(" ")} <span class="dim">${scoreText()}</span></p><span class="group">${more}</span>`;
+  const group = (word, entries, text) => `${word}: ${listed(entries.map(text), 4, "; ")}.`;
+  const parts = [`<b>${good ? "Right." : "Not quite."}</b>`, ruleSentence(packet)];
+  if (right.length > 0) parts.push(group("✓ right", right, entryText));
+  if (missed.length > 0) parts.push(group("○ missed", missed, entryText));
+  if (wrong.length > 0) parts.push(group("✕ not", wrong, wrongText));
+  const [id, word] = openDecline(shown.position - 1) ? ["next-question", "Next question"] : ["go-on", "Go on"];
+  return `<p>${parts.join(" ")} <span class="dim">${scoreText()}</span></p>` +
+    `<span class="group"><button id="${id}" class="main">${word}</button></span>`;
+}
+
+/** The rule: a NACK's hub says how many routers of the walk stay booked. */
+function ruleSentence(packet) {
+  if (packet.hub === 0) return "Hub 0: nothing was booked, nothing stays.";
+  const stays = packet.hub === 1 ? "stays" : "stay";
+  const { slot } = run.connections[packet.connection];
+  const routers = count(packet.hub, "router");
+  return `Hub ${packet.hub}: the first ${routers} of its walk ${stays} booked, from slot ${slot} on.`;
 }
 
 /** An entry that was clicked and is not the declined set-up's. */
@@ -132,9 +140,10 @@ function scoreText() {
 
 /** Marks the cells of a comparison: right, missed, not. */
 function markComparison() {
-  for (const cell of part("blocks").querySelectorAll(".guess,.right,.missed,.wrong")) cell.classList.remove("guess", "right", "missed", "wrong");
+  const marks = ["guess", "right", "missed", "wrong"];
+  for (const cell of part("blocks").querySelectorAll("." + marks.join(",."))) cell.classList.remove(...marks);
   if (!shown.comparison) return;
-  for (const mark of ["right", "missed", "wrong"]) {
+  for (const mark of marks.slice(1)) {
     for (const entry of shown.comparison[mark]) cells.byEntry[entry].cell.classList.add(mark);
   }
 }

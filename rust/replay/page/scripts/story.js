@@ -37,7 +37,8 @@ function isTearDown(event) {
 
 /** Reads every call once and fills the run's calls, rounds, lanes, journeys and snapshots. */
 function tellStory() {
-  Object.assign(run, { calls: [], roundStarts: [0], snapshots: [], journeys: new Map(), declines: new Map(), launched: new Map(), accepted: new Map() });
+  Object.assign(run, { calls: [], roundStarts: [0], snapshots: [] });
+  Object.assign(run, { journeys: new Map(), declines: new Map(), launched: new Map(), accepted: new Map() });
   run.lanes = Object.fromEntries(LANES.map((lane) => [lane.id, []]));
   const state = startState();
   for (let number = 0; number < run.lines.length; number += 1) {
@@ -65,11 +66,10 @@ function tellCall(state, number) {
 
 /** An event goes into the journey of its packet. */
 function tellEvent(event, number) {
-  const { packet } = event;
-  if (!packet) return;
+  if (!event.packet) return;
   if (event.what === "made") startJourney(event);
-  const steps = run.journeys.get(packet.id).steps;
-  steps.push({ call: number, place: packet.place, kind: packet.kind, slot: packet.slot, hub: packet.hub, word: stepWord(event) });
+  const { id, place, kind, slot, hub } = event.packet;
+  run.journeys.get(id).steps.push({ call: number, place, kind, slot, hub, word: stepWord(event) });
 }
 
 /** The journey of a packet that was made; a tear-down and the NACK it answers name each other. */

@@ -27,22 +27,24 @@ function leftSentence() {
   if (left.size === 0) return "";
   if (left.size === 1) return oneLeft(...left.entries().next().value);
   const total = [...left.values()].reduce((sum, entries) => sum + entries.length, 0);
-  const items = [...left].map(([connection, entries]) =>
-    chip(connection) + " " + listed(entries.map((entry) => escapeText(nameOf.router(entryParts(entry).router))), 4, " "));
-  return `<span class="left">⚠ ${left.size} declined set-ups still hold ${count(total, "entry", "entries")}: ${items.join(" &nbsp; ")}</span>`;
+  const routers = (entries) => entries.map((entry) => html.router(entryParts(entry).router));
+  const items = [...left].map(([connection, entries]) => chip(connection) + " " + listed(routers(entries), 4, " "));
+  return `<span class="left">⚠ ${left.size} declined set-ups still hold ${count(total, "entry", "entries")}: ` +
+    `${items.join(" &nbsp; ")}</span>`;
 }
 
 /** What a single declined set-up left behind. */
 function oneLeft(connection, entries) {
   const torn = entries.some((entry) => shown.state.holds[entry] === "d");
-  return `<span class="left">⚠ ${chip(connection)} was declined, still booked: ${listed(entries.map(entryText), 4, "; ")}. ` +
+  const still = listed(entries.map(entryText), 4, "; ");
+  return `<span class="left">⚠ ${chip(connection)} was declined, still booked: ${still}. ` +
     `${torn ? "The tear-down is on its way." : "No tear-down sent yet."}</span>`;
 }
 
 /** Sides whose last free entry is kept. */
 function keptSentence() {
   const kept = cells.free.filter((item) => item.free === 1)
-    .map(({ row }) => `${escapeText(nameOf.router(Math.floor(row / 4)))} side ${row % 4}`);
+    .map(({ row }) => `${html.router(Math.floor(row / 4))} side ${row % 4}`);
   return kept.length === 0 ? "" : `<span class="kept">◯ last free entry kept: ${listed(kept, 5)}</span>`;
 }
 
@@ -51,5 +53,6 @@ function quietSentence() {
   const packets = shown.state.packets.size;
   const accepted = new Set(shown.state.owners.filter((_, entry) => shown.state.holds[entry] === "a")).size;
   if (packets > 0) return `<span>${count(packets, "packet")} under way, ${accepted} accepted</span>`;
-  return `<span class="quiet">The network is empty: the table is exactly that of ${count(accepted, "accepted connection")}.</span>`;
+  const whose = count(accepted, "accepted connection");
+  return `<span class="quiet">The network is empty: the table is exactly that of ${whose}.</span>`;
 }

@@ -24,12 +24,13 @@ function buildTables() {
   part("blocks").style.setProperty("--names", nameWidth() + "px");
   part("blocks").style.setProperty("--slots", run.plan.slots);
   cells.bySlot = Array.from({ length: run.plan.slots }, () => []);
-  for (const cell of part("blocks").querySelectorAll("td")) {
+  const all = (selector) => [...part("blocks").querySelectorAll(selector)];
+  for (const cell of all("td")) {
     cells.byEntry[Number(cell.dataset.entry)] = { cell, look: "" };
     cells.bySlot[Number(cell.dataset.entry) % run.plan.slots].push(cell);
   }
-  for (const head of part("blocks").querySelectorAll("th[data-slot]")) cells.bySlot[Number(head.dataset.slot)].push(head);
-  cells.free = [...part("blocks").querySelectorAll("th.free")].map((head) => ({ head, row: Number(head.dataset.row), free: -1 }));
+  for (const head of all("th[data-slot]")) cells.bySlot[Number(head.dataset.slot)].push(head);
+  cells.free = all("th.free").map((head) => ({ head, row: Number(head.dataset.row), free: -1 }));
   part("legend").innerHTML = legendHtml();
 }
 
@@ -54,24 +55,27 @@ function blockHtml(router, used) {
   const heads = Array.from({ length: slots }, (_, slot) => `<th data-slot="${slot}">${slot}</th>`).join("");
   const rows = joints[router].map(([kind], side) => (kind === JOINT.nothing ? "" : rowHtml(router, side, used)));
   const unused = joints[router].some((_, side) => used.has(router + "," + side)) ? "" : " unused";
-  const name = escapeText(nameOf.router(router));
-  return `<div class="block${unused}"><table><thead><tr><th class="name" title="${name}">${name}</th>${heads}<th></th></tr></thead>` +
-    `<tbody>${rows.join("")}</tbody></table></div>`;
+  const name = html.router(router);
+  const head = `<thead><tr><th class="name" title="${name}">${name}</th>${heads}<th></th></tr></thead>`;
+  return `<div class="block${unused}"><table>${head}<tbody>${rows.join("")}</tbody></table></div>`;
 }
 
 /** The row of a side. */
 function rowHtml(router, side, used) {
   const to = escapeText(jointName(router, side));
-  const entries = Array.from({ length: run.plan.slots }, (_, slot) => `<td data-entry="${entryNumber(router, side, slot)}"></td>`).join("");
-  return `<tr${used.has(router + "," + side) ? "" : ' class="unused"'}><th class="side-name" title="side ${side}, to ${to}">${side} → ${to}</th>` +
+  const cell = (_, slot) => `<td data-entry="${entryNumber(router, side, slot)}"></td>`;
+  const entries = Array.from({ length: run.plan.slots }, cell).join("");
+  const unused = used.has(router + "," + side) ? "" : ' class="unused"';
+  return `<tr${unused}><th class="side-name" title="side ${side}, to ${to}">${side} → ${to}</th>` +
     `${entries}<th class="free" data-row="${router * 4 + side}"></th></tr>`;
 }
 
 /** The legend of the cells. */
 function legendHtml() {
   const [colour, ink] = COLOURS[0];
-  const items = Object.values(HOLDS).filter((hold) => !hold.rare).map((hold) => `<span><i class="cell booked ${hold.style}" style="--c:${colour};--i:${ink}">${hold.sign}A</i>${hold.word}</span>`);
-  return items.join("") + '<span><i class="cell last"></i>last free, kept</span>';
+  const look = `style="--c:${colour};--i:${ink}"`;
+  const item = (hold) => `<span><i class="cell booked ${hold.style}" ${look}>${hold.sign}A</i>${hold.word}</span>`;
+  return Object.values(HOLDS).filter((hold) => !hold.rare).map(item).join("") + '<span><i class="cell last"></i>last free, kept</span>';
 }
 
 /** Draws the tables of a state. While the student is asked, every cell is hidden. */
@@ -96,10 +100,11 @@ function drawCell(state, entry, hidden) {
   const owner = booked ? ownerOf(state, entry) : -1;
   const look = hidden ? "hidden" : booked ? `${owner}${state.holds[entry]}` : "";
   if (item.look === look) return;
-  const kept = [...item.cell.classList].filter((name) => name === "current").join("");
+  const hold = HOLDS[state.holds[entry]] ?? { sign: "?", style: "" };
+  const current = item.cell.classList.contains("current") ? " current" : "";
   item.look = look;
-  item.cell.className = hidden ? "hidden " + kept : booked ? `booked ${owner < 0 ? "" : HOLDS[state.holds[entry]].style} ${kept}` : kept;
-  item.cell.textContent = booked ? (owner < 0 ? "?" : HOLDS[state.holds[entry]].sign + letterOf(owner)) : "";
+  item.cell.className = (hidden ? "hidden" : booked ? "booked " + hold.style : "") + current;
+  item.cell.textContent = booked ? hold.sign + (owner < 0 ? "" : letterOf(owner)) : "";
   item.cell.style.cssText = owner < 0 ? "" : `--c:${colourOf(owner)[0]};--i:${colourOf(owner)[1]}`;
   item.cell.title = booked && owner >= 0 ? cellTitle(state, entry, owner) : "";
 }

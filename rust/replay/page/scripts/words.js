@@ -52,6 +52,20 @@ function escapeText(text) {
   return String(text).replace(/[&<>"]/g, (sign) => signs[sign]);
 }
 
+/** The same names as HTML, and the two ends of a connection or a packet. */
+const html = {
+  router: (number) => escapeText(nameOf.router(number)),
+  active: (number) => escapeText(nameOf.active(number)),
+  passive: (number) => escapeText(nameOf.passive(number)),
+  place: (number) => escapeText(placeOf(number).name),
+  pair: ({ active, passive }) => `${html.active(active)} → ${html.passive(passive)}`,
+};
+
+/** The head of a table, as HTML. */
+function tableHead(...titles) {
+  return `<thead><tr>${titles.map((title) => `<th>${title}</th>`).join("")}</tr></thead>`;
+}
+
 /** The letter of a connection on its colour, as HTML. */
 function chip(connection) {
   const [colour, ink] = colourOf(connection);

@@ -60,10 +60,9 @@ fn run(args: &Args) -> Done {
 /// "t.plan: loads: 1 router, ..".
 fn loads(file: &PlanFile, plan: &Plan, paint: Paint) -> String {
     let served = plan.pairs().iter().filter(|pair| pair.served.is_ok()).count();
-    let mut text = format!(
-        "{}: {}: {}, {}, {}, {}; {} of {} served; a state has {} bytes\n",
-        file.name,
-        paint.text(Colour::Green, "loads"),
+    let mut text = format!("{}: {}: ", file.name, paint.text(Colour::Green, "loads"));
+    let counts = format!(
+        "{}, {}, {}, {}; {} of {} served; a state has {} bytes",
         count(plan.routers(), "router"),
         count(plan.actives(), "active"),
         count(plan.passives(), "passive"),
@@ -72,8 +71,9 @@ fn loads(file: &PlanFile, plan: &Plan, paint: Paint) -> String {
         count(plan.pairs().len(), "pair"),
         grouped(plan.loaded().state_size()),
     );
-    text += &unasked(file, plan);
-    text
+    text += &wrap(&counts, 4, file.name.chars().count() + 9);
+    text.push('\n');
+    text + &unasked(file, plan)
 }
 
 /// Pairs that come to be served without being asked for.
@@ -94,8 +94,13 @@ pub fn unasked(file: &PlanFile, plan: &Plan) -> String {
 
 /// "r2.plan: refused 2: ..".
 pub fn told(file: &PlanFile, refused: &Refused, paint: Paint) -> String {
-    let refusal = paint.text(Colour::Red, &format!("refused {}", refused.refusal.number()));
-    format!("{}: {refusal}: {}\n", file.name, refused.sentence)
+    let refusal = format!("refused {}", refused.refusal.number());
+    let head = format!("{}: {refusal}: ", file.name);
+    let (first, rest) = refused.sentence.split_once('\n').unwrap_or((&refused.sentence, ""));
+    let first = wrap(first, 4, head.chars().count());
+    let rest = if rest.is_empty() { String::new() } else { format!("{rest}\n") };
+    let refusal = paint.text(Colour::Red, &refusal);
+    format!("{}: {refusal}: {first}\n{rest}", file.name)
 }
 
 fn loaded_json(file: &PlanFile, plan: &Plan) -> Json {

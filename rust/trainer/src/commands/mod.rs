@@ -103,6 +103,11 @@ fn find(name: &str) -> Option<&'static Command> {
     COMMANDS.iter().find(|command| command.name == name)
 }
 
+/// A refused plan's message.
+pub fn told(file: &crate::plan::PlanFile, refused: &crate::plan::faults::Refused) -> String {
+    check::told(file, refused, crate::print::Paint::none())
+}
+
 /// The booked entries of a table with their owners.
 fn table_json(run: &trace::Run) -> crate::print::Json {
     use crate::print::Json;

@@ -66,7 +66,8 @@ fn of_field(plain: Refused, fault: Fault, draft: Option<&Draft>) -> Refused {
 
 /// Where a text gives the count or capacity of that bit.
 fn count_place(draft: &Draft, bit: usize) -> Option<At> {
-    let past = |places: &[At]| places.get(16).copied();
+    // The first that is too many; the end of the text where there is none.
+    let past = |places: &[At]| Some(places.get(16).copied().unwrap_or(draft.end));
     let homes = |homes: &[(Option<Port>, At)]| -> Vec<At> { homes.iter().map(|h| h.1).collect() };
     match bit {
         0 => past(&draft.routers),
@@ -98,7 +99,7 @@ fn of_joint(plain: Refused, fields: &Fields, names: &Names, draft: Option<&Draft
     });
     let Some((place, what, at)) = faults.chain(alone).next() else { return plain };
     let sentence = match at {
-        Some(at) => format!("line {}, {place}: {what}", at.line),
+        Some(at) => format!("line {}, column {}, {place}: {what}", at.line, at.column),
         None => format!("{place}: {what}"),
     };
     Refused { sentence, at, ..plain }

@@ -28,9 +28,11 @@ pub struct Draft {
     pub routes: Vec<(usize, Destination, Option<usize>, At)>,
     /// The bytes, instead of all others.
     pub bytes: Option<(Vec<u8>, At)>,
+    /// The last place of the text.
+    pub end: At,
     /// Which sides are taken, and where.
     taken: Vec<(Port, At)>,
-    /// The first statement, and the last place of the text.
+    /// The first statement.
     first: Option<At>,
 }
 
@@ -59,7 +61,8 @@ impl Draft {
             }
             separator(&mut cursor)?;
         }
-        draft.complete(cursor.peek().at)?;
+        draft.end = cursor.peek().at;
+        draft.complete()?;
         Ok(draft)
     }
 
@@ -272,19 +275,22 @@ impl Draft {
     }
 
     /// What every plan's text has.
-    fn complete(&mut self, end: At) -> Result<(), Mistake> {
+    fn complete(&self) -> Result<(), Mistake> {
         if self.bytes.is_some() {
             return Ok(());
         }
         if self.slots.is_none() {
-            return Err(Mistake::new(end, "the slots are not given: write 'slots' and a number"));
+            return Err(Mistake::new(
+                self.end,
+                "the slots are not given: write 'slots' and a number",
+            ));
         }
         let counts = [(&self.names.routers, "router"), (&self.names.actives, "active")];
         let passives = (&self.names.passives, "passive");
         for (names, kind) in counts.into_iter().chain([passives]) {
             if names.len() > 31 {
                 let message = format!("{} {kind}s: a plan has at most 16", names.len());
-                return Err(Mistake::new(end, message));
+                return Err(Mistake::new(self.end, message));
             }
         }
         Ok(())

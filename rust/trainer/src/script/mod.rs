@@ -154,10 +154,8 @@ pub fn of_text(source: Source, finder: Finder) -> Result<Script, Broken> {
     let shown = |mistake: Mistake| Broken::Unread(mistake.show(&source));
     let (file, rest) = parse::plan_of(&source.text, finder)
         .map_err(|unread| Broken::Unread(unread.show(&source)))?;
-    let plan = faults::find(&file).map_err(|refused| {
-        let (number, sentence) = (refused.refusal.number(), &refused.sentence);
-        Broken::Refused(format!("{}: refused {number}: {sentence}\n", file.name))
-    })?;
+    let plan = faults::find(&file)
+        .map_err(|refused| Broken::Refused(crate::commands::told(&file, &refused)))?;
     let statements = parse(&source.text, rest, &plan).map_err(shown)?;
     Ok(Script { source, file, plan, statements })
 }

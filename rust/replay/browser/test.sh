@@ -25,4 +25,4 @@ pages=$(mktemp -d) || exit 2
 trap 'rm -rf "$pages"' EXIT
 (cd ../.. && cargo run --release --quiet -p replay --example pages -- "$pages") ||
     give_up "The pages could not be made."
-python3 tests.py "$pages" "$@"
+python3 -B tests.py "$pages" "$@"

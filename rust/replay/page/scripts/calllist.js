@@ -29,7 +29,7 @@ function callRow(call, number) {
   if (number === shown.position - 1) classes.push("current");
   if (number >= shown.position) classes.push("later");
   if (call.refusal) classes.push("refused");
-  else if (CALLS[call.letter].turn) classes.push("turn");
+  else if (CALLS[call.letter].turn && call.did.length === 0) classes.push("turn");
   return `<div class="${classes.join(" ")}" data-call="${number}" style="top:${number * ROW}px" title="${line}">` +
     `<span>${number + 1}</span><span>round ${call.round}</span><span>${call.refusal ? "! " : ""}${line}</span></div>`;
 }

@@ -61,8 +61,9 @@ function answerText(call) {
   return answer ? answer(call.answer) : "accepted";
 }
 
-/** A call with what it said, in one line. */
+/** A call with what it said and did, in one line. */
 function callLine(call) {
   if (call.refusal) return `${callText(call)} — ${answerText(call)}`;
-  return CALLS[call.letter].answer ? `${callText(call)}: ${answerText(call)}` : callText(call);
+  if (CALLS[call.letter].answer) return `${callText(call)}: ${answerText(call)}`;
+  return call.did.length > 0 ? `${callText(call)}: ${listed(call.did, 2)}` : callText(call);
 }

@@ -11,7 +11,7 @@ const SIZE = {
   gap: 22, // the wires between a box and an interface
   upright: [76, 24], // an interface above or below a router
   lying: [44, 66], // an interface beside a router
-  name: 16, // room for an interface's name
+  name: 18, // room for an interface's name
   beside: 30, // room for what a name is wider than an interface beside a router
   between: 44, // between two boxes
   margin: 8, // around the drawing

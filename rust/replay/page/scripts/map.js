@@ -106,7 +106,7 @@ function drawInterface(kind, number, joined, layer) {
   const name = nameOf[kind](number);
   const look = { rx: kind === "active" ? 2 : 13, class: `interface ${kind}` };
   svgElement("title", {}, svgBox([x, y], [width, height], look, layer), `${kind} ${number}, ${name}`);
-  const [above, below] = [y - height / 2 - 5, y + height / 2 + 13];
+  const [above, below] = [y - height / 2 - 6, y + height / 2 + 15];
   const label = (at, text) => svgElement("text", { x, y: at, class: "interface-name" }, layer, text);
   const written = label(edge === 1 ? below : above, shortName(name, 11));
   if (kind === "passive") return;

@@ -2,7 +2,7 @@
 // the declined set-up; then the page shows them and compares.
 
 /** What was answered so far: by call and packet whether it was right, null where it was skipped. */
-const predictions = { on: false, answers: new Map() };
+const predictions = { on: false, answers: new Map(), marked: [] };
 
 /** The name of a question: the call that declined, and the packet. */
 function questionKey(number, id) {
@@ -67,9 +67,13 @@ function questionHtml({ packet, clicked }) {
 /** A click on a cell while the student is asked. */
 function clickEntry(entry) {
   const { clicked } = shown.question;
-  if (clicked.has(entry)) clicked.delete(entry);
-  else clicked.add(entry);
-  cells.byEntry[entry].cell.classList.toggle("guess", clicked.has(entry));
+  if (clicked.has(entry)) {
+    clicked.delete(entry);
+    cells.byEntry[entry].cell.classList.remove("guess");
+  } else {
+    clicked.add(entry);
+    markCell(entry, "guess");
+  }
   drawQuestion();
 }
 
@@ -141,9 +145,16 @@ function scoreText() {
 /** Marks the cells of a comparison: right, missed, not. */
 function markComparison() {
   const marks = ["guess", "right", "missed", "wrong"];
-  for (const cell of part("blocks").querySelectorAll("." + marks.join(",."))) cell.classList.remove(...marks);
-  if (!shown.comparison) return;
-  for (const mark of marks.slice(1)) {
-    for (const entry of shown.comparison[mark]) cells.byEntry[entry].cell.classList.add(mark);
+  for (const cell of predictions.marked) cell.classList.remove(...marks);
+  predictions.marked = [];
+  for (const mark of shown.comparison ? marks.slice(1) : []) {
+    for (const entry of shown.comparison[mark]) markCell(entry, mark);
   }
+}
+
+/** Marks a cell, and remembers it. */
+function markCell(entry, mark) {
+  const { cell } = cells.byEntry[entry];
+  cell.classList.add(mark);
+  predictions.marked.push(cell);
 }

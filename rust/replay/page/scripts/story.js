@@ -56,6 +56,7 @@ function tellCall(state, number) {
   const events = [];
   applyCall(state, number, events);
   for (const event of events) tellEvent(event, number);
+  call.did = events.map(shortSentence).filter(Boolean);
   for (const lane of LANES) if (lane.when(call, events)) run.lanes[lane.id].push(number);
   const declined = events.filter(isDecline).map((event) => event.packet);
   if (declined.length > 0) run.declines.set(number, declined);
@@ -70,6 +71,20 @@ function tellEvent(event, number) {
   if (event.what === "made") startJourney(event);
   const { id, place, kind, slot, hub } = event.packet;
   run.journeys.get(id).steps.push({ call: number, place, kind, slot, hub, word: stepWord(event) });
+}
+
+/** What an event did to the slot table or for it, in a few words for the list of calls. */
+function shortSentence({ what, packet, before }) {
+  if (!packet || what === "moved") return "";
+  const letter = letterOf(packet.connection);
+  if (what === "made") return packet.kind === "T" ? `tear-down ${letter} is made` : "";
+  const was = before ?? packet;
+  const hop = hopAt(was);
+  const entry = hop ? `${nameOf.router(hop.router)}.${hop.side} slot ${was.slot}` : "";
+  if (what === "ended") return packet.kind === "T" ? `${letter} frees ${entry} and ends` : "";
+  if (was.kind === "S" && packet.kind === "N") return hop ? `${nameOf.router(hop.router)} declines ${letter}` : "";
+  if (packet.kind === "T") return `${letter} frees ${entry}`;
+  return packet.kind === "S" ? `${letter} books ${entry}` : "";
 }
 
 /** The journey of a packet that was made; a tear-down and the NACK it answers name each other. */

@@ -1,7 +1,7 @@
 // The slot tables: one block a router, one row a side, one cell a slot, with the owner of each booked entry.
 
 /** What the tables keep of the elements they change. */
-const cells = { byEntry: [], bySlot: [], free: [] };
+const cells = { byEntry: [], bySlot: [], free: [], fresh: [] };
 
 /** What a side is joined to, by name. */
 function jointName(router, side) {
@@ -75,7 +75,8 @@ function legendHtml() {
   const [colour, ink] = COLOURS[0];
   const look = `style="--c:${colour};--i:${ink}"`;
   const item = (hold) => `<span><i class="cell booked ${hold.style}" ${look}>${hold.sign}A</i>${hold.word}</span>`;
-  return Object.values(HOLDS).filter((hold) => !hold.rare).map(item).join("") + '<span><i class="cell last"></i>last free, kept</span>';
+  const last = '<span><i class="cell last"></i>last free, kept</span>';
+  return Object.values(HOLDS).filter((hold) => !hold.rare).map(item).join("") + last;
 }
 
 /** Draws the tables of a state. While the student is asked, every cell is hidden. */
@@ -91,6 +92,14 @@ function drawTables() {
   }
   for (const item of cells.free) drawFree(state, item, hidden ? -2 : free.get(item.row) ?? 0);
   drawCurrentSlot(state.slot);
+  drawFresh(hidden ? [] : shown.events.filter((event) => event.what === "entry"));
+}
+
+/** Frames the entries that the last call booked or freed. */
+function drawFresh(events) {
+  for (const cell of cells.fresh) cell.classList.remove("fresh");
+  cells.fresh = events.map(({ entry }) => cells.byEntry[entry]?.cell).filter(Boolean);
+  for (const cell of cells.fresh) cell.classList.add("fresh");
 }
 
 /** One cell: sign and letter of its owner, pattern by how it is held. */

@@ -135,6 +135,10 @@ def panes(browser, tally):
     browser.click('[data-pane="calls"]')
     tally.equal("the current row", browser.run('document.querySelector(".row.current").dataset.call'), "72")
     browser.run("showPosition(20)")
+    tally.equal("the list follows", browser.run('document.querySelector(".row.current").dataset.call'), "19")
+    browser.run('part("calls").scrollTop = 40 * 24; new Promise((done) => setTimeout(done, 100))')
+    tally.check("scrolled by hand", browser.run('document.querySelector(\'.row[data-call="42"]\') !== null'))
+    browser.run("showPosition(20)")
     browser.click('.row[data-call="24"]')
     tally.equal("a row of the list", browser.run(POSITION), 25)
 
@@ -184,6 +188,7 @@ def address(browser, pages, tally):
     browser.open(pages / "declined.html", "48&theme=dark&view=table")
     tally.equal("the address", browser.run('[shown.position, document.documentElement.dataset.theme, document.body.dataset.view]'), [48, "dark", "table"])
     press(browser, "ArrowRight")
+    browser.run("new Promise((done) => setTimeout(done, 300))")
     tally.equal("the address follows", browser.run("location.hash"), "#49")
 
 

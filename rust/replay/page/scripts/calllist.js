@@ -3,23 +3,37 @@
 /** The height of a row. */
 const ROW = 24;
 
+/** The list's height and how far it is scrolled, measured only when they change: measuring is slow. */
+const list = { height: 300, top: 0 };
+
+/** Measures the list. */
+function measureList() {
+  part("calls-rows").style.height = callCount() * ROW + "px";
+  list.height = part("calls").clientHeight || 300;
+  list.top = part("calls").scrollTop;
+}
+
 /** Draws the rows in view; `follow` brings the current call into view first. */
 function drawCallList(follow) {
-  const pane = part("calls");
-  const rows = part("calls-rows");
-  rows.style.height = callCount() * ROW + "px";
-  const height = pane.clientHeight || 300;
-  if (follow) followCall(pane, height);
-  const first = Math.max(0, Math.floor(pane.scrollTop / ROW) - 2);
-  const last = Math.min(callCount(), first + Math.ceil(height / ROW) + 5);
-  rows.innerHTML = run.calls.slice(first, last).map((call, at) => callRow(call, first + at)).join("");
+  if (follow) followCall();
+  const first = Math.max(0, Math.floor(list.top / ROW) - 2);
+  const last = Math.min(callCount(), first + Math.ceil(list.height / ROW) + 5);
+  part("calls-rows").innerHTML = run.calls.slice(first, last).map((call, at) => callRow(call, first + at)).join("");
 }
 
 /** Scrolls to the current call where it is out of view. */
-function followCall(pane, height) {
+function followCall() {
   const y = (shown.position - 1) * ROW;
-  const inView = y >= pane.scrollTop + ROW && y <= pane.scrollTop + height - 3 * ROW;
-  if (!inView) pane.scrollTop = Math.max(0, Math.floor((y - height / 2) / ROW) * ROW);
+  if (y >= list.top + ROW && y <= list.top + list.height - 3 * ROW) return;
+  const most = Math.max(0, callCount() * ROW - list.height);
+  list.top = Math.min(most, Math.max(0, Math.floor((y - list.height / 2) / ROW) * ROW));
+  part("calls").scrollTop = list.top;
+}
+
+/** The list was scrolled by hand. */
+function onListScroll() {
+  list.top = part("calls").scrollTop;
+  drawCallList(false);
 }
 
 /** The row of a call: number, when, and what. */

@@ -119,11 +119,12 @@ function watchInput() {
   document.addEventListener("keydown", onKey);
   document.addEventListener("click", onClick);
   watchTimeline();
-  part("calls").addEventListener("scroll", () => drawCallList(false));
+  part("calls").addEventListener("scroll", onListScroll);
   const allSides = part("all-sides");
   allSides.addEventListener("change", () => part("blocks").classList.toggle("all-sides", allSides.checked));
-  addEventListener("resize", () => { fitMap(); drawTimeline(); drawCursor(); drawPane(); });
+  addEventListener("resize", () => { drawTimeline(); drawCursor(); });
   new ResizeObserver(fitMap).observe(part("map-scroll"));
+  new ResizeObserver(() => { measureList(); drawPane(); }).observe(part("calls"));
 }
 
 /** Keys, as HTML. */

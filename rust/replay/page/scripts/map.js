@@ -261,14 +261,14 @@ function fitMap() {
   drawing.style.width = run.map.width * shown.scale + "px";
   drawing.style.height = run.map.height * shown.scale + "px";
   drawing.classList.toggle("small", shown.scale < 0.98);
+  shown.overflows = run.map.width * shown.scale > width + 1 || run.map.height * shown.scale > height + 1;
 }
 
 /** Brings the packets that a call is about into view, where the map is larger than its room. */
 function followMap(events) {
-  const room = part("map-scroll");
-  if (room.scrollWidth <= room.clientWidth + 1 && room.scrollHeight <= room.clientHeight + 1) return;
   const packets = events.filter((event) => event.packet && event.what !== "moved").map((event) => event.packet);
-  if (packets.length === 0) return;
+  if (!shown.overflows || packets.length === 0) return;
+  const room = part("map-scroll");
   const [x, y] = run.points[packets[0].place].map((value) => value * shown.scale);
   const [left, top] = [x - room.scrollLeft, y - room.scrollTop];
   if (left > 40 && top > 40 && left < room.clientWidth - 40 && top < room.clientHeight - 40) return;

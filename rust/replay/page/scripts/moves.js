@@ -6,7 +6,7 @@ const NARROW = 820;
 /** What is shown now. */
 const shown = {
   position: -1, state: null, before: null, events: [], packet: null, router: null, pane: "calls", zoom: 0, scale: 1,
-  question: null, comparison: null, timer: 0,
+  question: null, comparison: null, timer: 0, address: 0, overflows: false,
 };
 
 /** Goes to the state after `position` calls and shows it. */
@@ -19,7 +19,8 @@ function showPosition(position) {
   askHere();
   redraw();
   followMap(shown.events);
-  history.replaceState(null, "", "#" + target);
+  clearTimeout(shown.address);
+  shown.address = setTimeout(() => history.replaceState(null, "", "#" + shown.position), 200);
 }
 
 /** Works out the state of a position, the one before it, and the events between them. */
@@ -159,6 +160,7 @@ function showPane(name) {
   shown.pane = name;
   for (const button of part("panes").children) button.setAttribute("aria-pressed", button.dataset.pane === name);
   for (const pane of document.querySelectorAll(".pane")) pane.classList.toggle("open", pane.id === name);
+  measureList();
   drawPane();
 }
 
@@ -174,6 +176,7 @@ function showTab(tab) {
   document.body.dataset.tab = tab;
   for (const button of part("tabs").children) button.setAttribute("aria-pressed", button.dataset.tab === tab);
   fitMap();
+  measureList();
   drawPane();
 }
 

@@ -10,7 +10,7 @@ use super::{Args, Command, Done, FINE, REFUSED, UNREAD};
 use crate::play::deals::{sample, Deals};
 use crate::play::{Deal, Played, Player, Silent};
 use crate::print::progress::Progress;
-use crate::print::{columns, grouped, Colour, Json, Paint};
+use crate::print::{columns, grouped, wrap, Colour, Json, Paint};
 use crate::script::{self, Script};
 
 /// Orders that are played without sampling, and lines that are printed without `--all`.
@@ -204,7 +204,9 @@ impl Sheet<'_> {
         } else {
             String::new()
         };
-        format!("{name}: {calls}, {orders}{with}, {} between{sampled}\n", gaps.join(", then "))
+        let gaps = gaps.join(", then ");
+        let line = format!("{name}: {calls}, {orders}{with}, {gaps} between{sampled}");
+        format!("{}\n", wrap(&line, 4, 0))
     }
 
     fn calls(&self) -> Vec<(&str, trace::Call)> {
@@ -262,7 +264,8 @@ impl Sheet<'_> {
             };
             let shown = codes.iter().take(8).copied().collect::<Vec<_>>().join(" ");
             let more = if codes.len() > 8 { " .." } else { "" };
-            text += &format!("    {number} {verb} with {who} accepted: {shown}{more}\n");
+            let line = format!("{number} {verb} with {who} accepted: {shown}{more}");
+            text += &format!("    {}\n", wrap(&line, 8, 4));
         }
         let left = self.rows.iter().filter(|row| row.packets > 0).count();
         text += &match left {
@@ -324,7 +327,7 @@ fn told(names: &Names, result: Played) -> String {
         Played::Accepted => "accepted".to_string(),
         Played::DeclinedAt(router, false) => format!("declined: {}", names.router(router)),
         Played::DeclinedAt(router, true) => format!("declined: {}!", names.router(router)),
-        Played::Declined => "declined".to_string(),
+        Played::DeclinedBy(passive) => format!("declined: {}", names.passive(passive)),
         Played::UnderWay => "under way".to_string(),
         Played::Replied => "replied".to_string(),
         Played::Refused(number) => format!("refused {number}"),

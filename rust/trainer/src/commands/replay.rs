@@ -41,7 +41,7 @@ fn run(args: &Args) -> Done {
     let proved = Proved::new(&script.plan);
     let mut player = Player::new(&script, &proved);
     let title = args.value("--title").map_or_else(|| title(&script), str::to_string);
-    let mut recorder = Recorder(Recording::start(&player.run, &title, &script.source.name));
+    let mut recorder = Recorder(Recording::start(&player.run, &title, &script::short(name)));
     if let Err(mistake) = player.play(&deals, &mut recorder) {
         return Done::error(mistake.show(&script.source), UNREAD);
     }

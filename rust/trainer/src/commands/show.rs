@@ -46,9 +46,8 @@ fn run(args: &Args) -> Done {
 }
 
 fn text(file: &PlanFile, plan: &Plan, all: bool, paint: Paint) -> String {
-    let mut text = format!(
-        "{}: {}, {}, {}, {}; {} plan bytes; a state has {} bytes\n",
-        paint.text(Colour::Bold, &file.name),
+    let counts = format!(
+        "{}, {}, {}, {}; {} plan bytes; a state has {} bytes",
         count(plan.routers(), "router"),
         count(plan.actives(), "active"),
         count(plan.passives(), "passive"),
@@ -56,6 +55,8 @@ fn text(file: &PlanFile, plan: &Plan, all: bool, paint: Paint) -> String {
         plan.bytes().len(),
         grouped(plan.loaded().state_size()),
     );
+    let counts = wrap(&counts, 4, file.name.chars().count() + 2);
+    let mut text = format!("{}: {counts}\n", paint.text(Colour::Bold, &file.name));
     if all || plan.bytes().len() <= 32 {
         text += &format!("    {}\n", wrap(&decode::hex(plan.bytes()), 4, 4));
     }

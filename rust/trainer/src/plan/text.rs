@@ -70,26 +70,33 @@ impl Draft {
     fn name_all(&mut self, text: &str) -> Result<(), Mistake> {
         let mut cursor = Cursor::new(text);
         while !cursor.is_done() {
-            let word = cursor.take();
-            match word.text {
-                "router" => self.name_routers(&mut cursor)?,
-                "active" | "passive" => {
-                    let name = self.new_name(&mut cursor)?;
-                    let active = word.text == "active";
-                    let (names, places) = match active {
-                        true => (&mut self.names.actives, &mut self.actives),
-                        false => (&mut self.names.passives, &mut self.passives),
-                    };
-                    names.push(name.text.to_string());
-                    places.push((None, name.at));
-                }
-                _ => {}
+            if !cursor.ends() {
+                let word = cursor.take();
+                self.name(word.text, &mut cursor)?;
             }
-            while !cursor.is_done() && !cursor.ends() {
+            while !cursor.ends() {
                 cursor.take();
             }
             cursor.take();
         }
+        Ok(())
+    }
+
+    /// The names that a statement gives.
+    fn name(&mut self, statement: &str, cursor: &mut Cursor) -> Result<(), Mistake> {
+        let active = match statement {
+            "router" => return self.name_routers(cursor),
+            "active" => true,
+            "passive" => false,
+            _ => return Ok(()),
+        };
+        let name = self.new_name(cursor)?;
+        let (names, places) = match active {
+            true => (&mut self.names.actives, &mut self.actives),
+            false => (&mut self.names.passives, &mut self.passives),
+        };
+        names.push(name.text.to_string());
+        places.push((None, name.at));
         Ok(())
     }
 

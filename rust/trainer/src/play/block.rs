@@ -2,7 +2,7 @@
 
 use trace::net::Phase;
 use trace::run::{letter, Decline, Hold, Why};
-use trace::{Call, Connection, Queue, Refusal, Run};
+use trace::{Call, Connection, Refusal, Run};
 
 use super::{Player, Teller};
 use crate::script::Block;
@@ -45,8 +45,8 @@ pub enum Result {
     Accepted,
     /// Declined by a router; whether by an entry that a declined set-up had left behind.
     DeclinedAt(usize, bool),
-    /// Declined by the passive.
-    Declined,
+    /// Declined by that passive.
+    DeclinedBy(usize),
     /// Not answered yet.
     UnderWay,
     /// A reply was made.
@@ -66,7 +66,9 @@ impl Outcome {
         let launch = &run.book().launches[number];
         match launch.declined {
             _ if launch.hold == Hold::Accepted => Result::Accepted,
-            Some(Decline::Passive) => Result::Declined,
+            Some(Decline::Passive) => {
+                Result::DeclinedBy(run.book().connections[launch.connection].passive)
+            }
             Some(Decline::Router(router, why)) => {
                 let left = |hold| !matches!(hold, Hold::UnderWay | Hold::Accepted);
                 let leftover = matches!(why, Why::Booked(Some(owner)) if left(owner.hold));
@@ -148,10 +150,5 @@ impl Player<'_> {
             }
             self.next_phase(teller);
         }
-    }
-
-    /// Whether a passive's in-queue holds a packet.
-    pub fn waits_at(&self, passive: usize) -> bool {
-        !self.run.net().row(self.run.plan(), Queue::PassiveIn(passive)).packets.is_empty()
     }
 }

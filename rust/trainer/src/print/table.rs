@@ -1,8 +1,7 @@
 //! The slot table as a grid, each entry with its owner's letter and sign.
 
-use trace::place::SIDES;
 use trace::run::{letter, Hold, Owner};
-use trace::{words, Entry, Joint, Names, Plan, Port, Run};
+use trace::{words, Entry, Joint, Plan, Port, Run};
 
 use super::{Colour, Paint, WIDTH};
 
@@ -12,6 +11,9 @@ const INDENT: usize = 5;
 const LABEL: usize = 26;
 /// From so many rows on, those with nothing booked are left out.
 const MANY: usize = 12;
+
+/// What stands behind a row with one free entry.
+const KEPT: &str = "  last free: kept";
 
 const LEGEND: &str = "     A accepted   +A under way   !xA! declined, STILL BOOKED   \
                       !-A! tear-down on its way   . free";
@@ -63,7 +65,9 @@ fn grid(run: &Run, rows: &[Port], paint: Paint) -> String {
     let cells: Vec<Vec<Shown>> = rows.iter().map(|&port| row(run, port)).collect();
     let longest = cells.iter().flatten().map(|(text, _)| text.chars().count()).max().unwrap_or(0);
     let width = longest.max(4) + 1;
-    let fit = ((WIDTH - left - 17) / width).max(1);
+    let kept = rows.iter().any(|&port| run.net().free_entries(port) == 1);
+    let end = if kept { KEPT.len() } else { 0 };
+    let fit = ((WIDTH - left - end) / width).max(1);
     let mut text = String::new();
     let slots: Vec<usize> = (0..plan.slots()).collect();
     for (part, slots) in slots.chunks(fit).enumerate() {
@@ -75,7 +79,7 @@ fn grid(run: &Run, rows: &[Port], paint: Paint) -> String {
                 line += &cell(&cells[slot], width, paint);
             }
             let kept = part == 0 && run.net().free_entries(port) == 1;
-            let end = if kept { "  last free: kept" } else { "" };
+            let end = if kept { KEPT } else { "" };
             text += &format!("{}{end}\n", line.trim_end());
         }
     }
@@ -162,10 +166,4 @@ pub fn left_behind(run: &Run, paint: Paint) -> String {
         }
     }
     text
-}
-
-/// Every side of a plan, as `r0.1`.
-pub fn all_sides(plan: &Plan, names: &Names) -> Vec<String> {
-    let sides = (0..plan.routers()).flat_map(|router| (0..SIDES).map(move |side| (router, side)));
-    sides.map(|(router, side)| names.port(Port { router, side })).collect()
 }

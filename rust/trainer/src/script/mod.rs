@@ -120,7 +120,7 @@ pub fn open(name: &str) -> Result<Script, Broken> {
     let text = String::from_utf8(contents)
         .map_err(|_| Broken::Unread(format!("{name}: cannot be read: it is not a text\n")))?;
     let folder = Path::new(name).parent().map(Path::to_path_buf).unwrap_or_default();
-    let source = Source { name: short(name), text };
+    let source = Source { name: name.to_string(), text };
     of_text(source, &|file| open_plan(&folder, file))
 }
 
@@ -132,8 +132,8 @@ pub fn short(name: &str) -> String {
 
 fn open_plan(folder: &Path, file: &str) -> Result<PlanFile, Unread> {
     let path: PathBuf = folder.join(file);
-    let contents = crate::plan::read(&path.to_string_lossy())?;
-    PlanFile::of_contents(&short(file), contents)
+    let name = path.to_string_lossy();
+    PlanFile::of_contents(&name, crate::plan::read(&name)?)
 }
 
 impl Script {

@@ -65,7 +65,8 @@ class Chromium:
 
     def size(self, width, height, phone=False):
         """Sets the size of the page."""
-        self.send("Emulation.setDeviceMetricsOverride", width=width, height=height, deviceScaleFactor=1, mobile=phone)
+        self.send("Emulation.setDeviceMetricsOverride", width=width, height=height, deviceScaleFactor=1,
+                  mobile=phone)
 
     def open(self, path, wish=""):
         """Opens a page from disk and waits until it is loaded."""

@@ -72,11 +72,13 @@ def lanes(browser, tally):
 def decline_is_told(browser, tally):
     browser.run("showPosition(48)")
     text = browser.run(NOW)
-    tally.check("who declines and why", "The unit of r1 declines B: side 1, slot 0 is booked by A (accepted)" in text, text)
+    why = "The unit of r1 declines B: side 1, slot 0 is booked by A (accepted)"
+    tally.check("who declines and why", why in text, text)
     tally.equal("nothing was booked or freed", browser.run('document.querySelectorAll("td.fresh").length'), 0)
     tally.check("what stays", "1 router stays booked until a tear-down has followed" in text, text)
     tally.check("left behind", "B was declined, still booked: r0 side 1 slot 3. No tear-down" in browser.run(STRIP))
-    tally.equal("cells", browser.run('["leftover", "accepted"].map((name) => document.querySelectorAll("td." + name).length)'), [1, 1])
+    cells = '["leftover", "accepted"].map((name) => document.querySelectorAll("td." + name).length)'
+    tally.equal("cells", browser.run(cells), [1, 1])
     press(browser, "t")
     tally.check("the tear-down is made", "exactly 1 router (r0)" in browser.run(NOW))
     tally.check("it is on its way", "The tear-down is on its way" in browser.run(STRIP))
@@ -93,8 +95,10 @@ def journey(browser, tally):
     browser.run("showPosition(48)")
     browser.click(".packet")
     text = browser.run(DETAILS)
-    tally.check("a packet's journey", "Journey of this packet" in text and "declined" in text and "Q of r1" in text, text)
-    tally.equal("the current step", browser.run('document.querySelector("#details tr.current td:nth-child(2)").textContent'), "✕ declined")
+    told = all(words in text for words in ["Journey of this packet", "declined", "Q of r1"])
+    tally.check("a packet's journey", told, text)
+    step = 'document.querySelector("#details tr.current td:nth-child(2)").textContent'
+    tally.equal("the current step", browser.run(step), "✕ declined")
     tally.check("its wires", browser.run('document.querySelectorAll(".on-journey").length') >= 4)
     browser.click("#details tr.go")
     tally.equal("a step of the journey", browser.run(POSITION), 28)
@@ -116,9 +120,10 @@ def router_and_cells(browser, tally):
     tally.check("the owner of a cell", "force → drive, start slot 0" in browser.run(DETAILS))
     browser.click("td.leftover")
     tally.check("the owner of what was left", "camera → drive, start slot 3" in browser.run(DETAILS))
-    before = browser.run('[...document.querySelectorAll("#blocks tr")].filter((row) => row.offsetHeight > 0).length')
+    rows = '[...document.querySelectorAll("#blocks tr")].filter((row) => row.offsetHeight > 0).length'
+    before = browser.run(rows)
     browser.click("#all-sides")
-    after = browser.run('[...document.querySelectorAll("#blocks tr")].filter((row) => row.offsetHeight > 0).length')
+    after = browser.run(rows)
     tally.equal("rows with and without sides that no walk leaves by", [before, after], [4, 7])
     browser.click("#all-sides")
     browser.run("document.activeElement.blur()")
@@ -161,7 +166,8 @@ def views(browser, tally):
     press(browser, "0")
     tally.check("larger and fit", larger > fit * 1.2 and abs(browser.run(width) - fit) < 1)
     press(browser, "?")
-    tally.check("keys and signs", browser.run('part("dialog").open && part("dialog").textContent.includes("predict first")'))
+    told = 'part("dialog").open && part("dialog").textContent.includes("predict first")'
+    tally.check("keys and signs", browser.run(told))
     browser.click("#close")
     tally.check("closed again", browser.run('!part("dialog").open'))
 
@@ -179,14 +185,16 @@ def playing(browser, tally):
 
 
 def timeline(browser, tally):
-    box = browser.run('(() => { const box = part("timeline").getBoundingClientRect(); return [box.x, box.y, box.width]; })()')
-    browser.click_at(box[0] + 92 + (box[2] - 92) / 2, box[1] + 30)
+    box = 'part("timeline").getBoundingClientRect()'
+    x, y, width = (browser.run(f"{box}.{name}") for name in ["x", "y", "width"])
+    browser.click_at(x + 92 + (width - 92) / 2, y + 30)
     tally.check("a click on the timeline", abs(browser.run(POSITION) - 36) <= 1, browser.run(POSITION))
 
 
 def address(browser, pages, tally):
     browser.open(pages / "declined.html", "48&theme=dark&view=table")
-    tally.equal("the address", browser.run('[shown.position, document.documentElement.dataset.theme, document.body.dataset.view]'), [48, "dark", "table"])
+    found = "[shown.position, document.documentElement.dataset.theme, document.body.dataset.view]"
+    tally.equal("the address", browser.run(found), [48, "dark", "table"])
     press(browser, "ArrowRight")
     browser.run("new Promise((done) => setTimeout(done, 300))")
     tally.equal("the address follows", browser.run("location.hash"), "#49")
@@ -195,7 +203,8 @@ def address(browser, pages, tally):
 def odd_signs(browser, pages, tally):
     browser.open(pages / "star.html")
     title = 'Four routers in a "star" <b>&amp;</b></script>'
-    tally.equal("a title with odd signs", browser.run('[part("title").textContent, document.title]'), [title, title + " – Pandabrass"])
+    found = browser.run('[part("title").textContent, document.title]')
+    tally.equal("a title with odd signs", found, [title, title + " – Pandabrass"])
 
 
 def refusals(browser, pages, tally):
@@ -205,11 +214,14 @@ def refusals(browser, pages, tally):
     tally.check("a refusal", browser.run(POSITION) == 2 and "refused 11: camera's allowance is spent" in text, text)
     tally.check("a refusal alters no byte", "a refusal alters no byte" in text)
     press(browser, "a")
-    tally.check("accepted in round 7", "is accepted" in browser.run(NOW) and browser.run("run.calls[shown.position - 1].round") == 7)
+    tally.check("accepted", "is accepted" in browser.run(NOW))
+    tally.equal("in round 7", browser.run("run.calls[shown.position - 1].round"), 7)
     press(browser, "d")
-    tally.check("the last free entry is kept", "last free entry of side 1, which is kept" in browser.run(NOW) and "last free entry kept" in browser.run(STRIP))
+    tally.check("why the last free entry is not booked", "last free entry of side 1, which is kept" in browser.run(NOW))
+    tally.check("the last free entry is kept", "last free entry kept" in browser.run(STRIP))
     press(browser, "End")
-    tally.check("an entry's answer", "booked, came in by side 0" in browser.run('callLine(run.calls[45])') and "free" in browser.run(NOW))
+    tally.check("a booked entry", "booked, came in by side 0" in browser.run("callLine(run.calls[45])"))
+    tally.check("a free entry", "free" in browser.run(NOW))
 
 
 def phone(browser, pages, tally):
@@ -218,6 +230,6 @@ def phone(browser, pages, tally):
     for tab, visible in [("table", "tables"), ("calls", "now"), ("map", "map")]:
         browser.click(f'#tabs [data-tab="{tab}"]')
         tally.check(f"tab {tab}", browser.run(f'part("{visible}").getBoundingClientRect().height') > 40)
-    small = browser.run('[...document.querySelectorAll("#controls button")].filter((one) => one.offsetHeight > 0 && one.offsetHeight < 44).length')
-    tally.equal("buttons for fingers", small, 0)
+    heights = browser.run('[...document.querySelectorAll("#controls button")].map((one) => one.offsetHeight)')
+    tally.check("buttons for fingers", all(height == 0 or height >= 44 for height in heights), heights)
     tally.check("nothing is wider than the page", browser.run("document.documentElement.scrollWidth <= 390"))

@@ -34,12 +34,14 @@ COLOURS = """COLOURS.map(([colour, ink]) => {
 })"""
 
 CUT = """[...document.querySelectorAll("#clock, #controls, #views, #panes")]
-    .filter((element) => element.offsetHeight > 0 && element.scrollWidth > element.clientWidth + 1).map((element) => element.id)"""
+    .filter((element) => element.offsetHeight > 0 && element.scrollWidth > element.clientWidth + 1)
+    .map((element) => element.id)"""
 
 WITHOUT_COLOURS = """(() => {
     const look = (cell) => {
         const style = getComputedStyle(cell);
-        return [cell.textContent.replace(/[A-Z]/g, ""), style.outlineStyle, style.backgroundImage.split("(")[0], style.backgroundSize].join(" ");
+        const sign = cell.textContent.replace(/[A-Z]/g, "");
+        return [sign, style.outlineStyle, style.backgroundImage.split("(")[0], style.backgroundSize].join(" ");
     };
     return [...document.querySelectorAll("#legend i.booked")].map(look);
 })()"""
@@ -57,12 +59,11 @@ def test(browser, pages, tally):
     tally.check("letters on their colours", min(browser.run(COLOURS)) >= 4.5, browser.run(COLOURS))
     looks = browser.run(WITHOUT_COLOURS)
     tally.check("cells differ without colours", len(set(looks)) == 4, looks)
-    for width, height, phone in [(1280, 800, False), (1600, 900, False), (1024, 700, False), (390, 844, True), (360, 640, True)]:
-        browser.size(width, height, phone)
+    for width, height in [(1280, 800), (1600, 900), (1024, 700), (390, 844), (360, 640)]:
+        browser.size(width, height, width < 820)
         browser.open(pages / "arm.html", "200")
         tally.equal(f"nothing is cut at {width}", browser.run(CUT), [])
         tally.check(f"nothing is wider than {width}", browser.run(f"document.documentElement.scrollWidth <= {width}"))
     browser.size(1280, 800)
     browser.open(pages / "largest.html", "400")
-    fits = browser.run('part("map-scroll").scrollHeight <= part("map-scroll").clientHeight + 1 && part("map-scroll").scrollWidth <= part("map-scroll").clientWidth + 1')
-    tally.check("the largest plan fits the map at 1280 by 800", fits)
+    tally.check("the largest plan fits the map at 1280 by 800", not browser.run("shown.overflows"))

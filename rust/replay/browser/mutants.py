@@ -25,24 +25,40 @@ DATA = [
     ("another check sum", "X ade8bb18", "X ade8bb19"),
 ]
 
-# Changes of the page's scripts.
+# Changes of the page's scripts and styles.
 DRAWING = [
-    ("tear-downs left out", "for (const id of state.held[number]) drawPacket", 'for (const id of state.held[number]) if (state.packets.get(id).kind !== "T") drawPacket'),
-    ("packets in another place", "const [x, y] = run.points[number];\n  const offset", "const [x, y] = run.points[(number + 3) % run.points.length];\n  const offset"),
-    ("sides turned the other way", "return [[x, y], [-y, x], [-x, -y], [y, -x]][edge];\n}\n\n/** A point of a side's frame in", "return [[x, y], [-y, x], [-x, -y], [y, -x]][(edge + run.turns++) % 4];\n}\nvar turns;\n/** A point of a side's frame in"),
+    ("tear-downs left out",
+     "for (const id of state.held[number]) drawPacket",
+     'for (const id of state.held[number]) if (state.packets.get(id).kind !== "T") drawPacket'),
+    ("packets in another place",
+     "const [x, y] = run.points[number];\n  const offset",
+     "const [x, y] = run.points[(number + 3) % run.points.length];\n  const offset"),
+    ("sides turned the other way",
+     "const [dx, dy] = turned(edge, x, y);",
+     "const [dx, dy] = turned((edge + (run.asked = (run.asked ?? 0) + 1)) % 4, x, y);"),
     ("NACKs drawn as ACKs", 'sign: "✕", onward: false', 'sign: "✓", onward: false'),
-    ("packets pointing the other way", "kind.onward ? OUTLINES.onward : OUTLINES.back", "kind.onward ? OUTLINES.back : OUTLINES.onward"),
+    ("packets pointing the other way",
+     "kind.onward ? OUTLINES.onward : OUTLINES.back",
+     "kind.onward ? OUTLINES.back : OUTLINES.onward"),
     ("picked packets not marked", '+ (picked ? " picked" : "")', ""),
     ("old packets left on the map", "entry.group.remove();", ""),
     ("what is left behind drawn as accepted", 'sign: "✕", style: "leftover"', 'sign: "", style: "accepted"'),
-    ("letters of another connection", "hold.sign + (owner < 0 ? \"\" : letterOf(owner))", "hold.sign + letterOf(0)"),
+    ("letters of another connection", 'hold.sign + (owner < 0 ? "" : letterOf(owner))', "hold.sign + letterOf(0)"),
     ("freed cells stay drawn", "if (item.look === look) return;", 'if (item.look === look || look === "") return;'),
-    ("the current slot one late", "for (const cell of cells.bySlot[slot])", "for (const cell of cells.bySlot[(slot + 1) % run.plan.slots])"),
+    ("the current slot one late",
+     "for (const cell of cells.bySlot[slot])",
+     "for (const cell of cells.bySlot[(slot + 1) % run.plan.slots])"),
     ("a ring at the wrong entry", "free === 1 && !isBooked(state, entry)", "free === 1 && isBooked(state, entry)"),
     ("free entries counted wrong", "(free.get(row) ?? 0) + 1", "(free.get(row) ?? 0) + 2"),
-    ("the round one late", 'part("clock-round").textContent = roundAt(position)', 'part("clock-round").textContent = roundAt(position) + 1'),
-    ("another phase", 'classList.toggle("on", phase === state.phase)', 'classList.toggle("on", phase !== state.phase)'),
-    ("jumps one call short", "number < position; number += 1) applyCall", "number < position - 1; number += 1) applyCall"),
+    ("the round one late",
+     'part("clock-round").textContent = roundAt(position)',
+     'part("clock-round").textContent = roundAt(position) + 1'),
+    ("another phase",
+     'classList.toggle("on", phase === state.phase)',
+     'classList.toggle("on", phase !== state.phase)'),
+    ("jumps one call short",
+     "number < position; number += 1) applyCall",
+     "number < position - 1; number += 1) applyCall"),
     ("states that share their places", "held: state.held.slice(),", "held: state.held,"),
     ("states that share their packets", "[id, { ...packet }]", "[id, packet]"),
     ("credits without flags", " - state.flags[number]", ""),
@@ -54,7 +70,11 @@ DRAWING = [
 ]
 
 REPORT = 'document.getElementById("selftest")?.textContent ?? "no report"'
-BASE = {"a ring at the wrong entry": "t", "refusals left out": "t", "free entries counted wrong": "t", "names over one another": "mesh", "a question about all that is booked": "mesh", "letters too small": "largest"}
+# The pages on which a change shows, where it does not on the declined run.
+BASE = {
+    "a ring at the wrong entry": "t", "refusals left out": "t", "free entries counted wrong": "t",
+    "names over one another": "mesh", "a question about all that is booked": "mesh", "letters too small": "largest",
+}
 
 
 def test(browser, pages, tally):

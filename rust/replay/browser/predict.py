@@ -17,12 +17,14 @@ def test(browser, pages, tally):
 
 def asked_on_the_way(browser, tally):
     browser.key("p")
-    tally.equal("predicting is on", browser.run('[predictions.on, part("predict").getAttribute("aria-pressed")]'), [True, "true"])
+    found = browser.run('[predictions.on, part("predict").getAttribute("aria-pressed")]')
+    tally.equal("predicting is on", found, [True, "true"])
     browser.run("showPosition(46)")
     browser.key("ArrowDown")
     tally.equal("a round on stops at the decline", browser.run("shown.position"), 48)
     text = browser.run(QUESTION)
-    tally.check("the question", "B was declined. Which entries stay booked for it?" in text and "slot 0, hub 1" in text, text)
+    tally.check("the question", "B was declined. Which entries stay booked for it?" in text, text)
+    tally.check("what is known", "slot 0, hub 1" in text, text)
     tally.equal("every cell is hidden", browser.run('document.querySelectorAll("td.booked").length'), 0)
     tally.check("the strip does not tell", "still booked" not in browser.run(STRIP))
     tally.check("the card does not tell", "stays booked" not in browser.run('part("now").textContent'))
@@ -38,10 +40,14 @@ def right(browser, tally):
     browser.click(f'td[data-entry="{entry}"]')
     browser.key("Enter")
     text = browser.run(QUESTION)
-    tally.check("right", text.startswith("Right. Hub 1: the first 1 router of its walk stays booked, from slot 3 on.") and "1 of 1 right" in text, text)
-    tally.equal("shown and compared", browser.run('[document.querySelectorAll("td.booked").length, document.querySelectorAll("td.right").length]'), [2, 1])
+    rule = "Right. Hub 1: the first 1 router of its walk stays booked, from slot 3 on."
+    tally.check("right", text.startswith(rule), text)
+    tally.check("the score", "1 of 1 right" in text, text)
+    cells = '["booked", "right"].map((name) => document.querySelectorAll("td." + name).length)'
+    tally.equal("shown and compared", browser.run(cells), [2, 1])
     browser.click("#go-on")
-    tally.equal("on", browser.run('[shown.position, part("question").hidden, document.querySelectorAll("td.right").length]'), [49, True, 0])
+    tally.equal("on", browser.run('[shown.position, part("question").hidden]'), [49, True])
+    tally.equal("the marks are gone", browser.run('document.querySelectorAll("td.right").length'), 0)
     browser.run("showPosition(48)")
     tally.equal("not asked twice", browser.run(QUESTION), "")
 

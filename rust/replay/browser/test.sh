@@ -15,7 +15,7 @@ if ! command -v chromium >/dev/null; then
     if [ "$(id -u)" -eq 0 ] && command -v apt-get >/dev/null; then
         echo "Installing Chromium for the page's tests: apt-get install chromium"
         { apt-get update && DEBIAN_FRONTEND=noninteractive apt-get install -y --no-install-recommends \
-            chromium fonts-dejavu-core; } >/dev/null 2>&1
+            chromium fonts-dejavu-core fonts-liberation; } >/dev/null 2>&1
     fi
     command -v chromium >/dev/null ||
         give_up "The page's tests need Chromium. As root: apt-get update && apt-get install chromium"

@@ -23,7 +23,8 @@ def test(browser, pages, tally):
         figures.append(f"{view} {step:.0f} ms (slowest {worst:.0f})")
     jump, worst = browser.run(timed("", "showPosition((shown.position * 7919 + 13) % callCount())", 20))
     tally.check("a jump within 100 ms", jump < 2 * STEP, jump)
-    print(f"page, 5,000 calls on the largest plan: {size} bytes, shown after {shown} ms; a step: {', '.join(figures)}; a jump {jump:.0f} ms")
+    print(f"page, 5,000 calls on the largest plan: {size} bytes, shown after {shown} ms;",
+          f"a step: {', '.join(figures)}; a jump {jump:.0f} ms")
 
 
 def load(browser, page):

@@ -10,7 +10,7 @@ function wishes() {
 
 /** Title, note and the buttons of the lanes. */
 function fillFrame() {
-  part("title").textContent = run.title || "Replay";
+  part("title").textContent = part("title").title = run.title || "Replay";
   part("note").textContent = part("note").title = run.note;
   part("clock-slots").textContent = `of ${run.plan.slots}`;
   document.title = `${run.title || "Replay"} – Pandabrass`;

@@ -58,7 +58,7 @@ function answerText(call) {
     return `refused ${call.refusal}` + (sentence ? ": " + sentence(call) : "");
   }
   const { answer } = CALLS[call.letter];
-  return answer ? answer(call.answer) : "accepted";
+  return answer ? answer(call.answer) : "call accepted";
 }
 
 /** A call with what it said and did, in one line. */

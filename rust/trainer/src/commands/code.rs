@@ -14,6 +14,19 @@ pub const ENCODE: Command = Command {
 PLAN is a file with plan text, hex digits or bytes, or - for the standard input. Hex digits are
 printed; with --bytes the bytes themselves; with -o they go into FILE. A plan that the library
 refuses is encoded all the same; then the refusal is told and the exit status is 1.
+
+Plan text has a statement a line, in any order; # begins a comment:
+  slots N                                   2 to 32
+  capacity KIND N, ..                       1 to 7; KIND: all, active-out, active-in, U, Q, F, K,
+                                            passive-in, passive-out; 1 where none is given
+  router NAME, ..                           numbered in order, from 0
+  active NAME at ROUTER.SIDE                passive NAME at ROUTER.SIDE
+  joint ROUTER.SIDE -- ROUTER.SIDE          both ends, once
+  serve all | ACTIVE -> PASSIVE, ..         all where nothing is said
+  route ROUTER to NAME by SIDE | none       wins over the shortest way
+  bytes HEX ..                              instead of all others
+Routes that are left out are given for the pairs to be served only: the fewest routers, then the
+lowest side. Since routes go by destination, other pairs may come to be served: check names them.
 ",
     flags: &["--bytes", "--json"],
     options: &["-o"],

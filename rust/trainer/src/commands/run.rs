@@ -6,7 +6,7 @@ use trace::{words, Proved, Run, Step};
 use super::{Args, Command, Done, FINE, REFUSED, UNREAD};
 use crate::play::{Player, Teller};
 use crate::print::lines::Lines;
-use crate::print::{Colour, Json, Paint};
+use crate::print::{wrap, Colour, Json, Paint};
 use crate::script::{self, Broken, Script, Statement};
 use crate::text::Source;
 
@@ -103,7 +103,7 @@ fn summary(player: &Player, script: &Script, paint: Paint) -> String {
         line += &format!(", {} not expected", count(player.surprises, "refusal"));
     }
     let colour = if player.is_fine() { Colour::Green } else { Colour::Red };
-    format!("{}\n", paint.text(colour, &line))
+    format!("{}\n", paint.text(colour, &wrap(&line, 4, 0)))
 }
 
 /// Without arguments: the first starred run on T.
@@ -173,5 +173,23 @@ impl Teller for JsonLines {
 
     fn table(&mut self, run: &Run) {
         self.push(vec![("table", super::table_json(run))]);
+    }
+
+    fn whereabouts(&mut self, run: &Run) {
+        let names = run.plan().names();
+        let packets = Json::list(run.packets(), |seated| {
+            Json::Object(vec![
+                ("connection", Json::text(run.letter(seated.id))),
+                ("kind", Json::text(words::kind(seated.packet.kind))),
+                ("slot", Json::Number(seated.packet.slot.into())),
+                ("hub", Json::Number(seated.packet.hub.into())),
+                ("place", Json::text(names.place(seated.place))),
+            ])
+        });
+        self.push(vec![("where", packets)]);
+    }
+
+    fn note(&mut self, text: &str) {
+        self.push(vec![("note", Json::text(text))]);
     }
 }

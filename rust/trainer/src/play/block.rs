@@ -38,13 +38,24 @@ pub enum Outcome {
     Refused(Refusal),
 }
 
+/// What stopped a set-up at a router.
+#[derive(Clone, Copy, Debug, PartialEq, Eq, Hash)]
+pub enum Stopper {
+    /// An entry of this connection; whether a declined set-up had left it behind.
+    Connection(usize, bool),
+    /// The entry was its side's last free one.
+    LastFree,
+    /// An entry whose owner is not known.
+    Unknown,
+}
+
 /// What became of a launch at the end.
 #[derive(Clone, Copy, Debug, PartialEq, Eq, Hash)]
 pub enum Result {
     /// Accepted.
     Accepted,
-    /// Declined by a router; whether by an entry that a declined set-up had left behind.
-    DeclinedAt(usize, bool),
+    /// Declined by a router, and what stopped it there.
+    DeclinedAt(usize, Stopper),
     /// Declined by that passive.
     DeclinedBy(usize),
     /// Not answered yet.
@@ -69,12 +80,19 @@ impl Outcome {
             Some(Decline::Passive) => {
                 Result::DeclinedBy(run.book().connections[launch.connection].passive)
             }
-            Some(Decline::Router(router, why)) => {
-                let left = |hold| !matches!(hold, Hold::UnderWay | Hold::Accepted);
-                let leftover = matches!(why, Why::Booked(Some(owner)) if left(owner.hold));
-                Result::DeclinedAt(router, leftover)
-            }
+            Some(Decline::Router(router, why)) => Result::DeclinedAt(router, stopper(why)),
             None => Result::UnderWay,
+        }
+    }
+}
+
+fn stopper(why: Why) -> Stopper {
+    match why {
+        Why::LastFree => Stopper::LastFree,
+        Why::Booked(None) => Stopper::Unknown,
+        Why::Booked(Some(owner)) => {
+            let left = !matches!(owner.hold, Hold::UnderWay | Hold::Accepted);
+            Stopper::Connection(owner.connection, left)
         }
     }
 }

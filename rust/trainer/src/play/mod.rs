@@ -3,35 +3,17 @@
 mod block;
 pub mod deals;
 mod expect;
+mod standing;
+mod teller;
 
-pub use block::{Deal, Outcome, Result as Played};
+pub use block::{Deal, Outcome, Result as Played, Stopper};
+pub use teller::{Silent, Teller};
 
 use trace::net::Phase;
-use trace::{Call, Calls, Entry, Kind, Queue, Refusal, Run, Step};
+use trace::{Call, Calls, Entry, Run, Step};
 
 use crate::script::{Deed, Expected, Script, Statement};
 use crate::text::Mistake;
-
-/// Who is told what happens.
-pub trait Teller {
-    /// A call was made.
-    fn step(&mut self, _run: &Run, _step: &Step) {}
-    /// Something was expected: what was found instead, if it is not so.
-    fn expected(&mut self, _script: &Script, _statement: &Statement, _found: Option<&str>) {}
-    /// A refusal that nothing expects.
-    fn surprise(&mut self, _script: &Script, _statement: &Statement, _refusal: Refusal) {}
-    /// The slot table is to be shown.
-    fn table(&mut self, _run: &Run) {}
-    /// Where everything is is to be shown.
-    fn whereabouts(&mut self, _run: &Run) {}
-    /// Something to be said of the run.
-    fn note(&mut self, _text: &str) {}
-}
-
-/// Tells nobody.
-pub struct Silent;
-
-impl Teller for Silent {}
 
 /// A script that is being played. A clone goes on by itself.
 #[derive(Clone)]
@@ -127,8 +109,8 @@ impl<'s> Player<'s> {
                     self.next_phase(teller);
                 }
             }
-            Deed::Passive(who, does) => stand(&mut self.passives, *who, *does),
-            Deed::Active(who, does) => stand(&mut self.actives, *who, *does),
+            Deed::Passive(who, does) => standing::set(&mut self.passives, *who, *does),
+            Deed::Active(who, does) => standing::set(&mut self.actives, *who, *does),
             Deed::AnyOrder(_) => {}
             Deed::ShowTable => teller.table(&self.run),
             Deed::ShowWhere => teller.whereabouts(&self.run),
@@ -205,37 +187,6 @@ impl<'s> Player<'s> {
         };
     }
 
-    /// Standing passives and then actives act where a call would be accepted.
-    fn act(&mut self, teller: &mut dyn Teller) {
-        for passive in 0..self.passives.len() {
-            if let (Some(choice), true) = (self.passives[passive], self.may_reply(passive)) {
-                self.call(Call::Reply { passive: passive as u32, choice }, teller);
-            }
-        }
-        for active in 0..self.actives.len() {
-            if self.actives[active] && self.may_consume(active) {
-                self.call(Call::Consume { active: active as u32 }, teller);
-            }
-        }
-    }
-
-    /// Whether a Reply would be accepted.
-    fn may_reply(&self, passive: usize) -> bool {
-        let (plan, net) = (self.run.plan(), self.run.net());
-        let (into, out) = (Queue::PassiveIn(passive), Queue::PassiveOut(passive));
-        let row = net.row(plan, into);
-        let room = net.row(plan, out).packets.len() < plan.capacity(out);
-        !row.flag && !row.packets.is_empty() && room
-    }
-
-    /// Whether a Consume would be accepted.
-    fn may_consume(&self, active: usize) -> bool {
-        let row = self.run.net().row(self.run.plan(), Queue::ActiveIn(active));
-        let ready =
-            row.packets.first().is_some_and(|head| head.kind != Kind::Nack || head.hub == 0);
-        !row.flag && ready
-    }
-
     fn until_round(
         &mut self,
         statement: &Statement,
@@ -284,13 +235,6 @@ impl<'s> Player<'s> {
 /// Whether a packet changed its place or itself.
 fn moves(event: &trace::Event) -> bool {
     !matches!(event, trace::Event::Waits { .. })
-}
-
-fn stand<T: Copy>(all: &mut [T], who: Option<usize>, does: T) {
-    match who {
-        Some(number) => all[number] = does,
-        None => all.fill(does),
-    }
 }
 
 /// An entry in words.

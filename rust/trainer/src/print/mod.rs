@@ -14,6 +14,13 @@ pub use paint::{Colour, Paint};
 /// The widest line.
 pub const WIDTH: usize = 100;
 
+/// What is shown, and when it is so: round, phase, slot.
+fn heading(what: &str, run: &trace::Run, paint: Paint) -> String {
+    let (what, net) = (paint.text(Colour::Bold, what), run.net());
+    let (round, phase, slot) = (run.round(), net.phase.name(), net.slot);
+    format!("     {what}   round {round}, {phase}, slot {slot}\n")
+}
+
 /// Breaks a text into lines that fit behind an indent; the first may begin further right.
 pub fn wrap(text: &str, indent: usize, first: usize) -> String {
     let mut wrapped = String::new();

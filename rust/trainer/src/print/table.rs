@@ -24,13 +24,7 @@ type Shown = (String, Option<Colour>);
 /// The table with heading, legend and what is left behind.
 pub fn text(run: &Run, paint: Paint) -> String {
     let (plan, net) = (run.plan(), run.net());
-    let mut text = format!(
-        "     {}   round {}, {}, slot {}\n",
-        paint.text(Colour::Bold, "slot table"),
-        run.round(),
-        net.phase.name(),
-        net.slot
-    );
+    let mut text = super::heading("slot table", run, paint);
     let sides = sides(plan);
     let booked = |port: &Port| net.free_entries(*port) < plan.slots();
     let rows: Vec<Port> =

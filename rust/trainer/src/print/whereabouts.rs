@@ -1,54 +1,44 @@
 //! Where every packet is, what is left of the allowances, and which connections are accepted.
 
-use trace::run::{letter, Connection};
+use trace::run::{letter, Connection, Seated};
 use trace::{words, Names, Run};
 
-use super::{columns, wrap, Colour, Paint};
+use super::{columns, wrap, Paint};
 
 /// All of it.
 pub fn text(run: &Run, paint: Paint) -> String {
-    let (plan, net, names) = (run.plan(), run.net(), run.plan().names());
-    let mut text = format!(
-        "     {}   round {}, {}, slot {}\n",
-        paint.text(Colour::Bold, "where is everything"),
-        run.round(),
-        net.phase.name(),
-        net.slot
-    );
-    let rows: Vec<Vec<String>> = run
-        .packets()
-        .iter()
-        .map(|seated| {
-            let connection = run.book().connections[run.book().connection_of(seated.id)];
-            vec![
-                run.letter(seated.id),
-                words::kind(seated.packet.kind).to_string(),
-                format!("slot {}", seated.packet.slot),
-                format!("hub {}", seated.packet.hub),
-                names.place_words(seated.place),
-                told(names, connection),
-            ]
-        })
-        .collect();
-    let none = if rows.is_empty() { "       every queue and wire is empty\n" } else { "" };
-    text += none;
+    let (net, names) = (run.net(), run.plan().names());
+    let mut text = super::heading("where is everything", run, paint);
+    let rows: Vec<Vec<String>> = run.packets().iter().map(|seated| row(run, seated)).collect();
+    if rows.is_empty() {
+        text += "       every queue and wire is empty\n";
+    }
     for line in columns(&rows) {
         text += &format!("       {line}\n");
     }
-    let most = plan.start_allowance();
+    let most = run.plan().start_allowance();
     let allowance =
         |(active, left): (usize, &usize)| format!("{} {left} of {most}", names.active(active));
     let allowances: Vec<String> = net.allowances.iter().enumerate().map(allowance).collect();
-    text += &listed("allowance", &allowances);
-    let accepted: Vec<String> = run
-        .book()
-        .accepted
-        .iter()
-        .map(|&number| {
-            format!("{} {}", letter(number), told(names, run.book().connections[number]))
-        })
-        .collect();
-    text + &listed("accepted", &accepted)
+    let connections = &run.book().connections;
+    let accepted =
+        |&number: &usize| format!("{} {}", letter(number), told(names, connections[number]));
+    let accepted: Vec<String> = run.book().accepted.iter().map(accepted).collect();
+    text + &listed("allowance", &allowances) + &listed("accepted", &accepted)
+}
+
+/// A packet: letter, kind, slot, hub, place, connection.
+fn row(run: &Run, seated: &Seated) -> Vec<String> {
+    let names = run.plan().names();
+    let connection = run.book().connections[run.book().connection_of(seated.id)];
+    vec![
+        run.letter(seated.id),
+        words::kind(seated.packet.kind).to_string(),
+        format!("slot {}", seated.packet.slot),
+        format!("hub {}", seated.packet.hub),
+        names.place_words(seated.place),
+        told(names, connection),
+    ]
 }
 
 /// "camera -> drive from 3".

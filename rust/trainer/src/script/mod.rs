@@ -1,7 +1,9 @@
 //! Scripts: calls, rounds, standing behaviour and expectations, as they are written.
 
+mod blocks;
 mod expects;
 mod parse;
+mod plans;
 
 pub use parse::parse;
 
@@ -152,7 +154,7 @@ pub type Finder<'f> = &'f dyn Fn(&str) -> Result<PlanFile, Unread>;
 /// Reads a script's text.
 pub fn of_text(source: Source, finder: Finder) -> Result<Script, Broken> {
     let shown = |mistake: Mistake| Broken::Unread(mistake.show(&source));
-    let (file, rest) = parse::plan_of(&source.text, finder)
+    let (file, rest) = plans::plan_of(&source.text, finder)
         .map_err(|unread| Broken::Unread(unread.show(&source)))?;
     let plan = faults::find(&file)
         .map_err(|refused| Broken::Refused(crate::commands::told(&file, &refused)))?;

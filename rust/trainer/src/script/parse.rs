@@ -3,14 +3,11 @@
 use trace::net::Phase;
 use trace::{Call, Names, Plan};
 
-use super::{expects, Block, Deed, Finder, Statement};
-use crate::plan::text::{hex, unknown};
-use crate::plan::{PlanFile, Unread};
+use super::{expects, Deed, Statement};
+use crate::plan::text::unknown;
 use crate::text::words::number;
-use crate::text::{quoted, At, Cursor, Mistake, Source};
+use crate::text::{quoted, Cursor, Mistake};
 
-/// The most calls that a block may hold.
-const BLOCK: usize = 6;
 /// The most rounds that a script may ask for.
 const ROUNDS: u32 = 100_000;
 /// Rounds that `until quiet` waits if it says nothing.
@@ -19,57 +16,6 @@ const QUIET: usize = 1_000;
 /// The statements.
 const STATEMENTS: &str = "launch, reply, consume, entry, read, execute, write, round, until, to, \
                           passive, active, any, show, expect";
-
-/// What is wrong with a script's plan.
-pub enum PlanMistake {
-    /// In the script.
-    Here(Mistake),
-    /// In the plan's file.
-    There(Unread),
-}
-
-impl PlanMistake {
-    /// The message.
-    pub fn show(&self, source: &Source) -> String {
-        match self {
-            PlanMistake::Here(mistake) => mistake.show(source),
-            PlanMistake::There(unread) => unread.show(),
-        }
-    }
-}
-
-/// The plan of a script, which its first statement names, and the words that were taken.
-pub fn plan_of(text: &str, finder: Finder) -> Result<(PlanFile, usize), PlanMistake> {
-    let mut cursor = Cursor::new(text);
-    while !cursor.is_done() && matches!(cursor.peek().text, "\n" | ";") {
-        cursor.take();
-    }
-    if !cursor.takes("plan") {
-        let mistake = cursor.expected("'plan' and a file, first");
-        return Err(PlanMistake::Here(mistake));
-    }
-    if cursor.takes("bytes") {
-        let bytes = plan_bytes(&mut cursor).map_err(PlanMistake::Here)?;
-        return Ok((PlanFile::of_bytes("the plan", bytes), cursor.position()));
-    }
-    let word = cursor.raw("a plan's file, or 'bytes'").map_err(PlanMistake::Here)?;
-    match finder(word.text) {
-        Ok(plan) => Ok((plan, cursor.position())),
-        Err(Unread::File(message)) => {
-            let message = message.trim_end().to_string();
-            Err(PlanMistake::Here(Mistake::new(word.at, message)))
-        }
-        Err(unread) => Err(PlanMistake::There(unread)),
-    }
-}
-
-fn plan_bytes(cursor: &mut Cursor) -> Result<Vec<u8>, Mistake> {
-    let mut bytes = Vec::new();
-    while !cursor.ends() {
-        bytes.extend(hex(&cursor.word("bytes, two hex digits each")?)?);
-    }
-    Ok(bytes)
-}
 
 /// The statements after the plan.
 pub fn parse(text: &str, from: usize, plan: &Plan) -> Result<Vec<Statement>, Mistake> {
@@ -139,7 +85,7 @@ impl Parser<'_, '_> {
     }
 
     /// A call after its first word.
-    fn call(&mut self, name: &str) -> Result<Call, Mistake> {
+    pub(super) fn call(&mut self, name: &str) -> Result<Call, Mistake> {
         Ok(match name {
             "read" => Call::Read,
             "execute" => Call::Execute,
@@ -229,50 +175,5 @@ impl Parser<'_, '_> {
         let named = names.iter().position(|name| name == word.text);
         let numbered = || number(word.text).map(|n| n as usize).filter(|&n| n < names.len());
         named.or_else(numbered).map(Some).ok_or_else(|| unknown(&word, wanted, names))
-    }
-
-    /// "any order" and what follows.
-    fn block(&mut self, at: At) -> Result<Block, Mistake> {
-        self.cursor.keyword("order")?;
-        let gaps = if self.cursor.takes("spaced") { self.gaps()? } else { (0, 0) };
-        self.cursor.keyword("{")?;
-        let mut items = Vec::new();
-        loop {
-            while !self.cursor.is_done() && matches!(self.cursor.peek().text, "\n" | ";") {
-                self.cursor.take();
-            }
-            if self.cursor.is_done() {
-                return Err(Mistake::new(at, "this block has no end: '}' is missing"));
-            }
-            if self.cursor.takes("}") {
-                break;
-            }
-            let word = self.cursor.take();
-            if !matches!(word.text, "launch" | "reply") {
-                let message =
-                    format!("expected 'launch', 'reply' or '}}', found {}", quoted(word.text));
-                return Err(Mistake::new(word.at, message));
-            }
-            items.push((self.call(word.text)?, word.at));
-        }
-        if items.is_empty() || items.len() > BLOCK {
-            let message = format!("a block has 1 to {BLOCK} calls, this one has {}", items.len());
-            return Err(Mistake::new(at, message));
-        }
-        Ok(Block { gaps, items })
-    }
-
-    /// `3` or `0..3`.
-    fn gaps(&mut self) -> Result<(usize, usize), Mistake> {
-        let word = self.cursor.word("rounds between, as in 3 or 0..3")?;
-        let ends = word.text.split_once("..").unwrap_or((word.text, word.text));
-        let gap = |text: &str| number(text).filter(|&gap| gap <= 1_000).map(|gap| gap as usize);
-        match (gap(ends.0), gap(ends.1)) {
-            (Some(least), Some(most)) if least <= most => Ok((least, most)),
-            _ => Err(Mistake::new(
-                word.at,
-                format!("expected rounds between, as in 3 or 0..3, found {}", quoted(word.text)),
-            )),
-        }
     }
 }

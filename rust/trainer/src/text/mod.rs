@@ -58,7 +58,8 @@ impl Mistake {
     /// File, place and message, the line with a mark under the place, the note.
     pub fn show(&self, source: &Source) -> String {
         let Mistake { at, message, note } = self;
-        let mut text = format!("{}:{at}: {message}\n", source.name);
+        let head = format!("{}:{at}: {message}", source.name);
+        let mut text = format!("{}\n", crate::print::wrap(&head, 4, 0));
         if let Some(line) = source.text.lines().nth(at.line.saturating_sub(1)) {
             let (line, before) = excerpt(line, at.column);
             text += &format!("    {line}\n    {:before$}^\n", "");

@@ -91,6 +91,7 @@ fn outputs_are_as_stored() {
     for (name, args) in &cases {
         let words: Vec<&str> = args.iter().map(String::as_str).collect();
         let (out, err, status) = run(&words);
+        check_width(name, &format!("{out}{err}"));
         let command = words.join(" ");
         let found =
             format!("$ pandabrass {command}\n{out}---- errors\n{err}---- status {status}\n");
@@ -106,15 +107,14 @@ fn outputs_are_as_stored() {
     assert_eq!(stored, cases.len(), "every stored file belongs to a case");
 }
 
-/// Lines fit 100 columns, but for JSON and bytes as one line.
-#[test]
-fn lines_fit_100_columns() {
-    for (name, _) in cases().iter().filter(|(name, _)| !name.contains("json")) {
-        let file = format!("rust/trainer/tests/expected/{name}.txt");
-        for line in common::text(&file).lines().skip(1) {
-            let alone = !line.contains(' ') || name.starts_with("encode");
-            assert!(line.chars().count() <= 100 || alone, "{name}: {line}");
-        }
+/// The lines of an output fit 100 columns, but for JSON and bytes, which are one line.
+fn check_width(name: &str, output: &str) {
+    if name.contains("json") || name.starts_with("encode") {
+        return;
+    }
+    for line in output.lines() {
+        let alone = !line.contains(' ');
+        assert!(line.chars().count() <= 100 || alone, "{name}: {line}");
     }
 }
 

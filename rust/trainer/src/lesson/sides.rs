@@ -5,7 +5,7 @@ use trace::run::Cell;
 use trace::{words, Event, Net, Plan, Port, Step};
 
 use super::notes::{Note, Notes};
-use crate::print::{table, Colour, Paint};
+use crate::print::{lines, table, Colour, Paint};
 
 /// The widths of the first column and of the two others.
 const WHEN: usize = 12;
@@ -90,24 +90,19 @@ fn facts(plan: &Plan, net: &Net) -> Vec<String> {
 /// The calls that both have, in brief.
 fn common(notes: &[Note], paint: Paint) -> String {
     let mut text = String::new();
-    let mut skipped = 0;
-    let flush = |skipped: &mut usize, text: &mut String| {
-        if *skipped > 0 {
-            let calls = trace::plan::count(*skipped, "call");
-            *text += &paint.text(Colour::Dim, &format!("      ..  {calls}: packets only move"));
-            text.push('\n');
-        }
-        *skipped = 0;
-    };
-    for note in notes {
-        if words::is_notable(&note.step) {
-            flush(&mut skipped, &mut text);
+    let quiet = |note: &Note| !words::is_notable(&note.step);
+    let mut rest = notes;
+    while let Some(note) = rest.first() {
+        let skipped = rest.iter().take_while(|note| quiet(note)).count();
+        if skipped == 0 {
             text += &note.line;
-        } else {
-            skipped += 1;
+            rest = &rest[1..];
+            continue;
         }
+        let moved = rest[..skipped].iter().any(|note| !note.step.events.is_empty());
+        text += &lines::skipped(skipped, moved, paint);
+        rest = &rest[skipped..];
     }
-    flush(&mut skipped, &mut text);
     text
 }
 

@@ -29,13 +29,17 @@ impl Lines {
     /// Says how many calls were left out.
     pub fn flush(&mut self) {
         if self.skipped > 0 {
-            let what = if self.moved { "packets only move" } else { "nothing happens" };
-            let calls = trace::plan::count(self.skipped, "call");
-            let line = format!("      ..  {calls}: {what}");
-            self.text += &format!("{}\n", self.paint.text(Colour::Dim, &line));
+            self.text += &skipped(self.skipped, self.moved, self.paint);
             (self.skipped, self.moved) = (0, false);
         }
     }
+}
+
+/// How many calls are left out, and whether packets moved in them.
+pub fn skipped(calls: usize, moved: bool, paint: Paint) -> String {
+    let what = if moved { "packets only move" } else { "nothing happens" };
+    let line = format!("      ..  {}: {what}", trace::plan::count(calls, "call"));
+    format!("{}\n", paint.text(Colour::Dim, &line))
 }
 
 /// One call's line.

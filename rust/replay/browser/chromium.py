@@ -36,6 +36,9 @@ class Chromium:
         self.session = self.send("Target.attachToTarget", targetId=target, flatten=True)["sessionId"]
         for domain in ["Page", "Runtime", "Network"]:
             self.send(domain + ".enable")
+        # Packets do not glide, so that they stand where they are clicked.
+        still = [{"name": "prefers-reduced-motion", "value": "reduce"}]
+        self.send("Emulation.setEmulatedMedia", features=still)
 
     def send(self, method, **params):
         """Sends a command and gives its result."""
@@ -82,6 +85,15 @@ class Chromium:
             details = answer["exceptionDetails"]
             raise PageError(details.get("exception", {}).get("description", details["text"]))
         return answer["result"].get("value")
+
+    def until(self, script, seconds=10):
+        """Waits until a script's value is true; whether it came to be so."""
+        end = time.monotonic() + seconds
+        while not self.run(script):
+            if time.monotonic() > end:
+                return False
+            time.sleep(0.02)
+        return True
 
     def key(self, key, shift=False):
         """Presses and lets go of a key."""

@@ -141,8 +141,8 @@ def panes(browser, tally):
     tally.equal("the current row", browser.run('document.querySelector(".row.current").dataset.call'), "72")
     browser.run("showPosition(20)")
     tally.equal("the list follows", browser.run('document.querySelector(".row.current").dataset.call'), "19")
-    browser.run('part("calls").scrollTop = 40 * 24; new Promise((done) => setTimeout(done, 100))')
-    tally.check("scrolled by hand", browser.run('document.querySelector(\'.row[data-call="42"]\') !== null'))
+    browser.run('part("calls").scrollTop = 40 * 24')
+    tally.check("scrolled by hand", browser.until('document.querySelector(\'.row[data-call="42"]\') !== null'))
     browser.run("showPosition(20)")
     browser.click('.row[data-call="24"]')
     tally.equal("a row of the list", browser.run(POSITION), 25)
@@ -176,8 +176,8 @@ def playing(browser, tally):
     press(browser, "Home")
     browser.run('part("speed").value = "40"')
     press(browser, " ")
-    browser.run("new Promise((done) => setTimeout(done, 900))")
-    tally.check("play", browser.run(POSITION) >= 3 and browser.run('part("play").textContent') == "Pause")
+    tally.check("play", browser.until("shown.position >= 3"))
+    tally.equal("the button of play", browser.run('part("play").textContent'), "Pause")
     browser.click("#play")
     at = browser.run(POSITION)
     browser.run("new Promise((done) => setTimeout(done, 300))")
@@ -196,8 +196,7 @@ def address(browser, pages, tally):
     found = "[shown.position, document.documentElement.dataset.theme, document.body.dataset.view]"
     tally.equal("the address", browser.run(found), [48, "dark", "table"])
     press(browser, "ArrowRight")
-    browser.run("new Promise((done) => setTimeout(done, 300))")
-    tally.equal("the address follows", browser.run("location.hash"), "#49")
+    tally.check("the address follows", browser.until('location.hash === "#49"'))
 
 
 def odd_signs(browser, pages, tally):

@@ -30,9 +30,18 @@ function followCall() {
   part("calls").scrollTop = list.top;
 }
 
-/** The list was scrolled by hand. */
+/** The list got another size. Other panes are left as they are: somebody may be clicking there. */
+function onListResize() {
+  const before = list.height;
+  measureList();
+  if (shown.pane === "calls" && list.height !== before) drawCallList(false);
+}
+
+/** The list was scrolled by hand; where the page scrolled it, the rows are there already. */
 function onListScroll() {
-  list.top = part("calls").scrollTop;
+  const top = part("calls").scrollTop;
+  if (top === list.top) return;
+  list.top = top;
   drawCallList(false);
 }
 

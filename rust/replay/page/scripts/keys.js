@@ -124,7 +124,7 @@ function watchInput() {
   allSides.addEventListener("change", () => part("blocks").classList.toggle("all-sides", allSides.checked));
   addEventListener("resize", () => { drawTimeline(); drawCursor(); });
   new ResizeObserver(fitMap).observe(part("map-scroll"));
-  new ResizeObserver(() => { measureList(); drawPane(); }).observe(part("calls"));
+  new ResizeObserver(onListResize).observe(part("calls"));
 }
 
 /** Keys, as HTML. */

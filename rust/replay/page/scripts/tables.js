@@ -54,10 +54,11 @@ function blockHtml(router, used) {
   const { slots, joints } = run.plan;
   const heads = Array.from({ length: slots }, (_, slot) => `<th data-slot="${slot}">${slot}</th>`).join("");
   const rows = joints[router].map(([kind], side) => (kind === JOINT.nothing ? "" : rowHtml(router, side, used)));
-  const unused = joints[router].some((_, side) => used.has(router + "," + side)) ? "" : " unused";
+  const shownRows = joints[router].filter((_, side) => used.has(router + "," + side)).length;
+  const unused = shownRows > 0 ? "" : " unused";
   const name = html.router(router);
   const head = `<thead><tr><th class="name" title="${name}">${name}</th>${heads}<th></th></tr></thead>`;
-  return `<div class="block${unused}"><table>${head}<tbody>${rows.join("")}</tbody></table></div>`;
+  return `<div class="block${unused}" style="--rows:${shownRows}"><table>${head}<tbody>${rows.join("")}</tbody></table></div>`;
 }
 
 /** The row of a side. */

@@ -1,4 +1,4 @@
-//! 50,000 mutated texts, plans and scripts: each is read or gets a message with a place in it, and
+//! 50,000 mutated texts, plans and scripts, and 12,500 files with changed bytes: each is read or gets a message with a place in it, and
 //! nothing crashes.
 
 mod common;
@@ -11,7 +11,7 @@ use trainer::play::{Player, Silent};
 use trainer::script::{self, Broken, Deed, Script};
 use trainer::text::Source;
 
-const TEXTS: usize = 50_000;
+const TEXTS: usize = 62_500;
 
 /// Signs that texts are made of, and some that they are not.
 const SIGNS: &[char] = &[
@@ -154,6 +154,30 @@ fn check_message(message: &str, text: &str) {
     assert!(message.lines().all(|line| line.chars().count() <= 200), "{message}");
 }
 
+/// The contents of a file with some bytes changed: text, hex digits or bytes, or none of them.
+fn try_contents(random: &mut Random, text: &str, tally: &mut Tally) {
+    let mut contents = match PlanFile::of_text("text", text) {
+        Ok(plan) if below(random, 2) == 0 => plan.bytes,
+        _ => text.as_bytes().to_vec(),
+    };
+    for _ in 0..1 + below(random, 3) {
+        let at = below(random, contents.len() + 1);
+        if at < contents.len() {
+            contents[at] = random.number() as u8;
+        }
+    }
+    match PlanFile::of_contents("text", contents) {
+        Err(unread) => {
+            assert!(unread.show().starts_with("text:"), "{}", unread.show());
+            tally.mistaken += 1;
+        }
+        Ok(plan) => match faults::find(&plan) {
+            Ok(_) => tally.read += 1,
+            Err(_) => tally.refused += 1,
+        },
+    }
+}
+
 /// What became of the texts: read, refused, with a mistake; scripts played.
 #[derive(Debug, Default)]
 struct Tally {
@@ -235,7 +259,10 @@ fn mutated_texts_do_no_harm() {
     let mut random = Random(30);
     let mut tally = Tally::default();
     for number in 0..TEXTS {
-        if number % 2 == 0 {
+        if number % 5 == 0 {
+            let (_, text) = &plans[below(&mut random, plans.len())];
+            try_contents(&mut random, text, &mut tally);
+        } else if number % 2 == 0 {
             let (_, text) = &plans[below(&mut random, plans.len())];
             try_plan(&mutated(&mut random, text), &mut tally);
         } else {

@@ -13,6 +13,7 @@ use trace::place::SIDES;
 use trace::plan::Interface;
 use trace::{Fields, Joint, Names, Plan, Port};
 
+pub use crate::text::Unread;
 use crate::text::{Mistake, Source};
 use text::{Destination, Draft};
 
@@ -50,25 +51,6 @@ pub struct PlanFile {
     pub unreached: Vec<(usize, usize)>,
 }
 
-/// Why a plan's file cannot be read.
-#[derive(Clone, Debug)]
-pub enum Unread {
-    /// The file itself.
-    File(String),
-    /// A mistake in its text.
-    Text(Source, Mistake),
-}
-
-impl Unread {
-    /// The message.
-    pub fn show(&self) -> String {
-        match self {
-            Unread::File(message) => format!("{message}\n"),
-            Unread::Text(source, mistake) => mistake.show(source),
-        }
-    }
-}
-
 impl PlanFile {
     /// Plan T.
     pub fn t() -> PlanFile {
@@ -87,13 +69,13 @@ impl PlanFile {
 
     /// The plan of a file's contents: hex digits, text or bytes.
     pub fn of_contents(name: &str, contents: Vec<u8>) -> Result<PlanFile, Unread> {
-        let plain = |sign: char| !sign.is_control() || matches!(sign, '\n' | '\r' | '\t');
-        match std::str::from_utf8(&contents).ok().filter(|text| text.chars().all(plain)) {
-            Some(text) => match hex_digits(text) {
-                Some(bytes) => Ok(PlanFile::of_bytes(name, bytes)),
-                None => PlanFile::of_text(name, text),
-            },
-            None => Ok(PlanFile::of_bytes(name, contents)),
+        if !is_text(&contents) {
+            return Ok(PlanFile::of_bytes(name, contents));
+        }
+        let text = crate::text::of_bytes(name, contents)?;
+        match hex_digits(&text) {
+            Some(bytes) => Ok(PlanFile::of_bytes(name, bytes)),
+            None => PlanFile::of_text(name, &text),
         }
     }
 
@@ -153,6 +135,16 @@ pub fn read(name: &str) -> Result<Vec<u8>, Unread> {
         Ok(()) => Ok(contents),
         Err(error) => Err(Unread::File(format!("{name}: cannot be read: {error}"))),
     }
+}
+
+/// Whether contents are a text: no control signs in them, or they begin as a plan's text does.
+fn is_text(contents: &[u8]) -> bool {
+    let plain = |sign: char| !sign.is_control() || matches!(sign, '\n' | '\r' | '\t');
+    let is_plain = std::str::from_utf8(contents).is_ok_and(|text| text.chars().all(plain));
+    let first = contents.trim_ascii_start();
+    is_plain
+        || first.starts_with(b"#")
+        || text::STATEMENTS.iter().any(|word| first.starts_with(word.as_bytes()))
 }
 
 /// The bytes of a text that is hex digits and blanks only.

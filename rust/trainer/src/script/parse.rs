@@ -59,7 +59,7 @@ impl Parser<'_, '_> {
                 Deed::Rounds(rounds)
             }
             "until" => self.until()?,
-            "to" => self.to_phase()?,
+            "to" => self.phase()?,
             "passive" => {
                 let who = self.who("a passive", &self.names.passives)?;
                 let does = self.cursor.one_of(&["accepts", "declines", "waits"])?;
@@ -160,7 +160,7 @@ impl Parser<'_, '_> {
         Ok(Deed::UntilQuiet(within))
     }
 
-    fn to_phase(&mut self) -> Result<Deed, Mistake> {
+    fn phase(&mut self) -> Result<Deed, Mistake> {
         let phases = [Phase::Read, Phase::Execute, Phase::Write];
         let names = phases.map(Phase::name);
         Ok(Deed::ToPhase(phases[self.cursor.one_of(&names)?]))

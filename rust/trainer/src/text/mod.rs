@@ -38,6 +38,25 @@ pub struct Mistake {
     pub note: Option<String>,
 }
 
+/// Why a file cannot be read.
+#[derive(Clone, Debug)]
+pub enum Unread {
+    /// The file itself.
+    File(String),
+    /// A mistake in its text.
+    Text(Source, Mistake),
+}
+
+impl Unread {
+    /// The message.
+    pub fn show(&self) -> String {
+        match self {
+            Unread::File(message) => format!("{message}\n"),
+            Unread::Text(source, mistake) => mistake.show(source),
+        }
+    }
+}
+
 impl fmt::Display for At {
     fn fmt(&self, f: &mut fmt::Formatter) -> fmt::Result {
         write!(f, "{}:{}", self.line, self.column)
@@ -69,6 +88,19 @@ impl Mistake {
         }
         text
     }
+}
+
+/// The text of a file's contents; where they are none, the place of the first wrong byte.
+pub fn of_bytes(name: &str, contents: Vec<u8>) -> Result<String, Unread> {
+    String::from_utf8(contents).map_err(|error| {
+        let valid = error.utf8_error().valid_up_to();
+        let text = String::from_utf8_lossy(error.as_bytes()).to_string();
+        let before = &text[..valid];
+        let line = before.matches('\n').count() + 1;
+        let column = before.rsplit('\n').next().unwrap_or("").chars().count() + 1;
+        let source = Source { name: name.to_string(), text };
+        Unread::Text(source, Mistake::new(At { line, column }, "a byte that is no sign of a text"))
+    })
 }
 
 /// The part of a line around a column, fit to print, and how many signs stand before the column.

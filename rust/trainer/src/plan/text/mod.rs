@@ -51,7 +51,7 @@ pub enum Destination {
 }
 
 /// The statements.
-const STATEMENTS: [&str; 9] =
+pub const STATEMENTS: [&str; 9] =
     ["slots", "capacity", "router", "active", "passive", "joint", "serve", "route", "bytes"];
 
 impl Draft {

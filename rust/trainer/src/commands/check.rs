@@ -3,7 +3,7 @@
 use trace::plan::count;
 use trace::Plan;
 
-use super::{Args, Command, Done, FINE, REFUSED, UNREAD};
+use super::{counts, Args, Command, Done, FINE, REFUSED, UNREAD};
 use crate::plan::faults::{find, Refused};
 use crate::plan::PlanFile;
 use crate::print::{grouped, wrap, Colour, Json, Paint};
@@ -62,11 +62,8 @@ fn loads(file: &PlanFile, plan: &Plan, paint: Paint) -> String {
     let served = plan.pairs().iter().filter(|pair| pair.served.is_ok()).count();
     let mut text = format!("{}: {}: ", file.name, paint.text(Colour::Green, "loads"));
     let counts = format!(
-        "{}, {}, {}, {}; {} of {} served; a state has {} bytes",
-        count(plan.routers(), "router"),
-        count(plan.actives(), "active"),
-        count(plan.passives(), "passive"),
-        count(plan.slots(), "slot"),
+        "{}; {} of {} served; a state has {} bytes",
+        counts(plan),
         served,
         count(plan.pairs().len(), "pair"),
         grouped(plan.loaded().state_size()),

@@ -4,7 +4,7 @@ use std::io::{IsTerminal, Write};
 
 use super::{Args, Command, Done, FINE, UNREAD};
 use crate::lesson::{self, Lesson, LESSONS};
-use crate::print::{wrap, Colour, Json, Paint};
+use crate::print::{map, wrap, Colour, Json, Paint};
 
 /// The command.
 pub const LESSON: Command = Command {
@@ -80,12 +80,15 @@ fn list_json() -> Json {
 fn question(lesson: &Lesson, paint: Paint) -> String {
     let title = paint.text(Colour::Bold, lesson.title);
     let mut text = format!("{title}\n\n");
-    for line in lesson.script.lines().filter(|line| !line.starts_with('#')) {
+    // Comments and expectations would tell the answer.
+    let statements = lesson.script.lines().filter_map(|line| line.split('#').next());
+    for line in statements.map(str::trim_end).filter(|line| !line.is_empty()) {
         if !line.starts_with("expect") {
             text += &format!("    {line}\n");
         }
     }
-    text + &format!("\n{}\n\n", wrap(lesson.question, 0, 0))
+    let map = map::text(&lesson::script(lesson).plan);
+    text + &format!("\n{map}\n{}\n\n", wrap(lesson.question, 0, 0))
 }
 
 fn answer(lesson: &Lesson, paint: Paint) -> String {

@@ -103,6 +103,17 @@ fn find(name: &str) -> Option<&'static Command> {
     COMMANDS.iter().find(|command| command.name == name)
 }
 
+/// "1 router, 1 active, 1 passive, 2 slots".
+fn counts(plan: &trace::Plan) -> String {
+    let counts = [
+        (plan.routers(), "router"),
+        (plan.actives(), "active"),
+        (plan.passives(), "passive"),
+        (plan.slots(), "slot"),
+    ];
+    counts.map(|(number, name)| trace::plan::count(number, name)).join(", ")
+}
+
 /// A refused plan's message.
 pub fn told(file: &crate::plan::PlanFile, refused: &crate::plan::faults::Refused) -> String {
     check::told(file, refused, crate::print::Paint::none())

@@ -3,8 +3,9 @@
 use replay::Recording;
 use trace::{Proved, Run, Step};
 
+use super::orders::dealt;
 use super::run::unplayed;
-use super::{orders, Args, Command, Done, FINE, REFUSED, UNREAD};
+use super::{Args, Command, Done, FINE, REFUSED, UNREAD};
 use crate::play::{Player, Teller};
 use crate::print::grouped;
 use crate::script::{self, Script};
@@ -33,10 +34,9 @@ fn run(args: &Args) -> Done {
         Ok(script) => script,
         Err(broken) => return unplayed(broken),
     };
-    let deals = match args.value("--order").map(|order| orders::read(&script, order)) {
-        None => Vec::new(),
-        Some(Ok(deals)) => deals,
-        Some(Err(message)) => return Done::error(format!("{message}\n"), UNREAD),
+    let deals = match dealt(&script, args) {
+        Ok(deals) => deals,
+        Err(done) => return done,
     };
     let proved = Proved::new(&script.plan);
     let mut player = Player::new(&script, &proved);

@@ -3,6 +3,7 @@
 use trace::plan::count;
 use trace::{words, Proved, Run, Step};
 
+use super::orders::dealt;
 use super::{Args, Command, Done, FINE, REFUSED, UNREAD};
 use crate::play::{Player, Teller};
 use crate::print::lines::Lines;
@@ -65,10 +66,9 @@ pub fn unplayed(broken: Broken) -> Done {
 }
 
 fn play(script: &Script, args: &Args) -> Done {
-    let deals = match args.value("--order").map(|order| super::orders::read(script, order)) {
-        None => Vec::new(),
-        Some(Ok(deals)) => deals,
-        Some(Err(message)) => return Done::error(format!("{message}\n"), UNREAD),
+    let deals = match dealt(script, args) {
+        Ok(deals) => deals,
+        Err(done) => return done,
     };
     let proved = Proved::new(&script.plan);
     let mut player = Player::new(script, &proved);

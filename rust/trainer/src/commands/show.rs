@@ -4,7 +4,7 @@ use trace::plan::{count, Interface, Stop, Unserved, CAPACITIES};
 use trace::{Joint, Names, Pair, Plan, Port, Served};
 
 use super::check::{told, unasked};
-use super::{Args, Command, Done, FINE, REFUSED, UNREAD};
+use super::{counts, Args, Command, Done, FINE, REFUSED, UNREAD};
 use crate::plan::{decode, faults, PlanFile};
 use crate::print::{columns, grouped, map, wrap, Colour, Json, Paint};
 
@@ -47,11 +47,8 @@ fn run(args: &Args) -> Done {
 
 fn text(file: &PlanFile, plan: &Plan, all: bool, paint: Paint) -> String {
     let counts = format!(
-        "{}, {}, {}, {}; {} plan bytes; a state has {} bytes",
-        count(plan.routers(), "router"),
-        count(plan.actives(), "active"),
-        count(plan.passives(), "passive"),
-        count(plan.slots(), "slot"),
+        "{}; {} plan bytes; a state has {} bytes",
+        counts(plan),
         plan.bytes().len(),
         grouped(plan.loaded().state_size()),
     );
@@ -203,6 +200,27 @@ fn json(file: &PlanFile, plan: &Plan) -> Json {
         ("actives", list(&names.actives)),
         ("passives", list(&names.passives)),
         ("state_bytes", Json::Number(plan.loaded().state_size())),
+        ("joints", joints_json(plan)),
+        ("routes", routes_json(plan)),
         ("pairs", Json::list(plan.pairs(), pair)),
     ])
+}
+
+/// By router, by side: what it is joined to, by name.
+fn joints_json(plan: &Plan) -> Json {
+    let names = plan.names();
+    Json::list(&plan.fields().joints, |sides| {
+        Json::list(sides, |joint| match *joint {
+            Joint::Nothing => Json::Null,
+            Joint::Router(port) => Json::text(names.port(port)),
+            Joint::Active(number) => Json::text(names.active(number)),
+            Joint::Passive(number) => Json::text(names.passive(number)),
+        })
+    })
+}
+
+/// By router, by destination, actives first: the side.
+fn routes_json(plan: &Plan) -> Json {
+    let side = |side: &Option<usize>| Json::option(side.map(Json::Number));
+    Json::list(&plan.fields().routes, |row| Json::list(row, side))
 }

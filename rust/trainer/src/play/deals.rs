@@ -24,14 +24,15 @@ impl Deals {
         Deals { blocks: blocks.map(Part::new).collect() }
     }
 
-    /// How many there are.
+    /// How many there are; at most what the number can hold.
     pub fn count(&self) -> u128 {
-        self.blocks.iter().map(Part::count).product()
+        self.blocks.iter().map(Part::count).fold(1, u128::saturating_mul)
     }
 
     /// How many orders there are, whatever the gaps.
     pub fn orders(&self) -> u128 {
-        self.blocks.iter().map(|part| part.orders.len() as u128).product()
+        let orders = self.blocks.iter().map(|part| part.orders.len() as u128);
+        orders.fold(1, u128::saturating_mul)
     }
 
     /// The deal of a number: one for each block.
@@ -156,6 +157,16 @@ mod tests {
         let all: std::collections::HashSet<Vec<Deal>> =
             (0..deals.count()).map(|number| deals.deal(number)).collect();
         assert_eq!(all.len() as u128, deals.count());
+    }
+
+    #[test]
+    fn very_many_are_counted_and_dealt() {
+        let blocks = vec![block(&[0, 1, 2, 3, 4, 5], (0, 1_000)); 20];
+        let deals = Deals::new(blocks.iter());
+        assert_eq!(deals.count(), u128::MAX);
+        for number in sample(deals.count(), 100, 1) {
+            assert_eq!(deals.deal(number).len(), 20);
+        }
     }
 
     #[test]

@@ -56,7 +56,7 @@ pub fn columns(rows: &[Vec<String>]) -> Vec<String> {
 }
 
 /// A number with commas: 1,290.
-pub fn grouped(number: usize) -> String {
+pub fn grouped(number: impl ToString) -> String {
     let digits = number.to_string();
     let mut text = String::new();
     for (at, digit) in digits.chars().enumerate() {

@@ -3,6 +3,7 @@
 use trace::plan::count;
 use trace::Proved;
 
+use crate::commands::{Args, Done, UNREAD};
 use crate::play::{Deal, Player, Silent};
 use crate::script::Script;
 
@@ -23,8 +24,14 @@ pub fn write(script: &Script, labels: &[Vec<String>], deals: &[Deal]) -> String 
     blocks.collect::<Vec<_>>().join("+")
 }
 
+/// What `--order` gives; nothing where it is not given.
+pub fn dealt(script: &Script, args: &Args) -> Result<Vec<Deal>, Done> {
+    let Some(order) = args.value("--order") else { return Ok(Vec::new()) };
+    read(script, order).map_err(|message| Done::error(format!("{message}\n"), UNREAD))
+}
+
 /// The deals of an order that is written as [`write`] writes it.
-pub fn read(script: &Script, order: &str) -> Result<Vec<Deal>, String> {
+fn read(script: &Script, order: &str) -> Result<Vec<Deal>, String> {
     let proved = Proved::new(&script.plan);
     let mut player = Player::new(script, &proved);
     let played = player.play_to_block(&mut Silent);

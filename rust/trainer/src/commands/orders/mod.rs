@@ -3,7 +3,7 @@
 mod code;
 mod sheet;
 
-pub use code::read;
+pub use code::dealt;
 
 use trace::Proved;
 

@@ -62,9 +62,9 @@ impl Sheet<'_> {
         let calls = count(self.calls().len(), "call");
         let (total, played) = (self.deals.count(), self.rows.len());
         let gaps: Vec<String> = self.script.blocks().map(|block| gap_words(block.gaps)).collect();
-        let orders = format!("{} orders", grouped(self.deals.orders() as usize));
+        let orders = format!("{} orders", grouped(self.deals.orders()));
         let with = if total > self.deals.orders() {
-            format!(", {} with their gaps", grouped(total as usize))
+            format!(", {} with their gaps", grouped(total))
         } else {
             String::new()
         };

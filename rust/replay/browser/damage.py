@@ -57,6 +57,7 @@ def test(browser, pages, tally):
         tally.check(name, sentence in report, report)
     wrong_state(browser, pages, source, tally)
     later_places(browser, pages, source, tally)
+    no_calls(browser, pages, source, tally)
 
 
 def wrong_state(browser, pages, source, tally):
@@ -80,3 +81,12 @@ def later_places(browser, pages, source, tally):
     report = browser.run('document.getElementById("selftest").textContent')
     tally.check("places of a later program", report.startswith("PASS"), report)
     tally.equal("their trays", browser.run('document.querySelectorAll("[data-tray^=unit]").length'), 8)
+
+
+def no_calls(browser, pages, source, tally):
+    """A run without calls is shown too."""
+    page = pages / "damaged.html"
+    page.write_text(re.sub('"calls":"[^"]*"', '"calls":""', source), encoding="utf-8")
+    browser.open(page, "selftest")
+    report = browser.run('document.getElementById("selftest").textContent')
+    tally.check("a run without calls", report.startswith("PASS 0 calls"), report)

@@ -1,4 +1,4 @@
-"""The page's own test on six runs, on a wide and on a narrow page."""
+"""The page's own test on six runs, on a wide and on a narrow page, and on random plans."""
 
 RUNS = ["t", "declined", "arm", "mesh", "star", "largest"]
 SIZES = {"wide": (1280, 800, False), "phone": (390, 844, True)}
@@ -15,3 +15,7 @@ def test(browser, pages, tally):
             asked = [url for url in browser.requests() if not url.startswith("file:")]
             tally.equal(f"{name} needs nothing beside it", asked, [])
     browser.size(1280, 800)
+    for page in sorted(pages.glob("random-*.html")):
+        browser.open(page, "selftest")
+        report = browser.run(REPORT)
+        tally.check(f"self-test of {page.stem}", report.startswith("PASS "), report)

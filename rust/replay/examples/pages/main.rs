@@ -1,5 +1,5 @@
-//! Writes the pages that the browser tests open into a folder: six runs for the self-test, and one
-//! of 5,000 calls on the largest plan for the times.
+//! Writes the pages that the browser tests open into a folder: six runs and some on random plans for
+//! the self-test, and one of 5,000 calls on the largest plan for the times.
 //!
 //!     cargo run --release -p replay --example pages -- FOLDER
 
@@ -78,5 +78,9 @@ fn main() -> ExitCode {
     let note = "5,000 calls on the largest plan.";
     let mut eager = (Caller::new(7, 14), 5000);
     write(folder, "long", "A long run", note, &largest, &mut eager);
+    for (number, plan) in plans::random(10).iter().enumerate() {
+        let file = format!("random-{number}");
+        write(folder, &file, &file, "A random plan.", plan, &mut busy(number as u64, 120));
+    }
     ExitCode::SUCCESS
 }

@@ -1,6 +1,6 @@
 //! The plans of the pages.
 
-use model::generate::Draft;
+use model::generate::{good, Draft, Random};
 use model::named;
 use trace::{Names, Plan};
 
@@ -86,4 +86,16 @@ pub fn star() -> Plan {
 /// The largest plan.
 pub fn largest() -> Plan {
     named_plan(&named::largest(), &[], &[], &[])
+}
+
+/// Plans of all sizes and forms, the same each time.
+pub fn random(count: usize) -> Vec<Plan> {
+    let mut random = Random::new(77);
+    let plan = |_| {
+        let bytes = good::loadable(&mut random).encode();
+        let fields = trace::Fields::read(&bytes).expect("the plan can be read");
+        let names = Names::numbered(fields.joints.len(), fields.actives, fields.passives);
+        Plan::load(&bytes, names).expect("the plan loads")
+    };
+    (0..count).map(plan).collect()
 }

@@ -43,9 +43,21 @@ function gaps(layout, axis, size, least) {
     const upper = at.some((cell, router) => cell === line - 1 && interfaceOn(layout, router, after));
     const lower = at.some((cell, router) => cell === line && interfaceOn(layout, router, before));
     const outer = line === 0 || line === lines;
-    const inner = (upper + lower) * size + (upper && lower ? SIZE.margin : 0);
+    const inner = (upper + lower) * size + (upper && lower ? SIZE.margin : 0) + crowding(layout, axis, line);
     return outer ? Math.max(inner, axis === 0 ? SIZE.beside : SIZE.name) + SIZE.margin : Math.max(inner, least);
   });
+}
+
+/** More room where a wire to another router leaves towards an interface of the next router. */
+function crowding(layout, axis, line) {
+  const [after, before] = axis === 0 ? [0, 2] : [1, 3];
+  const kind = (router, edge) => run.plan.joints[router][layout.edges[router].indexOf(edge)][0];
+  const faces = layout.cells.some((cell, one) => layout.cells.some((next, other) => {
+    const meet = cell[axis] === line - 1 && next[axis] === line && cell[1 - axis] === next[1 - axis];
+    const kinds = meet ? [kind(one, after), kind(other, before)] : [];
+    return kinds.includes(JOINT.router) && kinds.some((found) => found >= JOINT.active);
+  }));
+  return faces ? SIZE.lane + SIZE.margin : 0;
 }
 
 /** The middles of the boxes along one axis, and the length of the drawing. */

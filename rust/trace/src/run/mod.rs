@@ -64,7 +64,7 @@ impl<'a> Run<'a> {
             }
             Err(_) => Vec::new(),
         };
-        debug_assert!(self.seats.fit(&self.net), "every packet is followed");
+        assert!(self.seats.fit(&self.net), "every packet is followed");
         if call == Call::Write && answer.is_ok() {
             self.round += 1;
         }

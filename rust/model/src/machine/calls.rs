@@ -85,7 +85,8 @@ impl Network {
         let head = self.waiting_head(state, Queue::ActiveIn(active))?;
         ensure(!head.is_unmarked_nack(), UNMARKED)?;
         self.take_head(state, Queue::ActiveIn(active));
-        state.allowances[active] += 1;
+        let returned = self.rules().allowance_at_the_mark && head.kind == Kind::Nack;
+        state.allowances[active] += usize::from(!returned);
         Ok(head)
     }
 
@@ -97,7 +98,7 @@ impl Network {
         side: usize,
         slot: usize,
     ) -> Result<u32, u32> {
-        ensure(self.is_state(state), NOT_A_STATE)?;
+        self.ensure_state(state)?;
         let in_range = router < self.plan().routers() && side < SIDES && slot < self.slots();
         ensure(in_range, RANGE)?;
         let entry = state.table.entry(router, side, Slot(slot));
@@ -106,8 +107,13 @@ impl Network {
 
     /// 7 not a state, then 8 another phase.
     fn ensure_phase(&self, state: &State, phase: Phase) -> Result<(), u32> {
-        ensure(self.is_state(state), NOT_A_STATE)?;
+        self.ensure_state(state)?;
         ensure(state.phase == phase, PHASE)
+    }
+
+    /// 7 not a state, where the rules are document 01's.
+    fn ensure_state(&self, state: &State) -> Result<(), u32> {
+        ensure(!self.rules().are_document_01s() || self.is_state(state), NOT_A_STATE)
     }
 
     /// 14 in-queue flag up, then 13 in-queue empty, else its head.

@@ -5,7 +5,7 @@
 //! * [`state`]: queues, wires, credits, flags, marks, choices, table, allowances.
 //! * [`phases`]: what READ, EXECUTE and WRITE do. [`calls`]: the calls with their refusals.
 //! * [`valid`]: what is a state (refusal 7), and [`places`], where a packet of a pair can be.
-//! * [`bytes`]: a state's bytes, by docs/STATE.md.
+//! * [`bytes`]: a state's bytes, by docs/STATE.md. [`rules`]: what students write instead.
 //! * [`list`]: calls as values. [`claims`]: demand 3, watched from outside by the calls and their
 //!   answers.
 
@@ -17,10 +17,12 @@ pub mod network;
 pub mod packet;
 pub mod phases;
 pub mod places;
+pub mod rules;
 pub mod state;
 pub mod valid;
 
 pub use list::{Answer, Call};
 pub use network::{Journey, Link, Network};
 pub use packet::{Hub, Kind, Packet, Slot};
+pub use rules::Rules;
 pub use state::{Credit, Phase, State, Table};

@@ -1,6 +1,7 @@
 //! A loaded plan with its journeys and links worked out once.
 
 use super::packet::Packet;
+use super::rules::Rules;
 use crate::feeding::Queue;
 use crate::fields::{Joint, SIDES};
 use crate::plan::{Plan, Port};
@@ -40,6 +41,7 @@ pub struct Network {
     journeys: Vec<Option<Journey>>,
     queues: Vec<Queue>,
     links: Vec<Link>,
+    rules: Rules,
 }
 
 impl Network {
@@ -52,7 +54,18 @@ impl Network {
     pub fn of(plan: Plan) -> Network {
         let pairs = (0..plan.actives()).flat_map(|a| (0..plan.passives()).map(move |p| (a, p)));
         let journeys = pairs.map(|(active, passive)| journey(&plan, active, passive)).collect();
-        Network { journeys, queues: queues(&plan), links: links(&plan), plan }
+        let (queues, links) = (queues(&plan), links(&plan));
+        Network { journeys, queues, links, plan, rules: Rules::default() }
+    }
+
+    /// The same network by other rules.
+    pub fn with_rules(self, rules: Rules) -> Network {
+        Network { rules, ..self }
+    }
+
+    /// The rules it runs by.
+    pub fn rules(&self) -> Rules {
+        self.rules
     }
 
     /// The plan.

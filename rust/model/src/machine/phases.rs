@@ -13,11 +13,15 @@ impl Network {
         for &link in self.links() {
             if let Some(packet) = state.wires[self.link_index(link)].take() {
                 let queue = self.next_queue(link, &packet).expect("its journey goes on");
-                state.queues[self.queue_index(queue)].push_back(packet);
+                let at = self.queue_index(queue);
+                state.queues[at].push_back(packet);
+                if self.rules().credit_at_the_arrival {
+                    state.credits[at] = Credit(state.credits[at].0 + 1);
+                }
             }
         }
         for (flag, credit) in state.flags.iter_mut().zip(&mut state.credits) {
-            if std::mem::take(flag) {
+            if std::mem::take(flag) && !self.rules().credit_at_the_arrival {
                 *credit = Credit(credit.0 + 1);
             }
         }
@@ -65,8 +69,9 @@ impl Network {
         match packet.kind {
             // "If entry (o, slot) is booked, or is the only free entry of o, the packet becomes a
             // NACK, slot and hub kept."
-            Kind::Setup if !may_book(table, router, hop.side, packet.slot) => {
-                Some(Packet { kind: Kind::Nack, ..packet })
+            Kind::Setup if !self.may_book(table, router, hop.side, packet.slot) => {
+                let hub = if self.rules().declined_leaves_nothing { Hub(0) } else { packet.hub };
+                Some(Packet { kind: Kind::Nack, hub, ..packet })
             }
             // "Else the entry is booked with the side the walk came in by; hub and slot each grow
             // by one, the slot modulo S."
@@ -106,10 +111,22 @@ impl Network {
         }
         let head = state.queues[self.queue_index(Queue::ActiveIn(active))].front_mut();
         let Some(nack) = head.filter(|head| head.is_unmarked_nack()) else { return };
-        let slot = nack.slot.minus(nack.hub, self.slots());
-        let tear_down = Packet { kind: Kind::Tdown, slot, ..*nack };
+        let tear_down = self.tear_down(*nack);
         nack.hub = Hub(0);
         state.queues[self.queue_index(out)].push_back(tear_down);
+        state.allowances[active] += usize::from(self.rules().allowance_at_the_mark);
+    }
+
+    /// The TDOWN of an unmarked NACK.
+    fn tear_down(&self, nack: Packet) -> Packet {
+        let rules = self.rules();
+        let slot = if rules.slot_minus_hub_unwrapped {
+            Slot(nack.slot.0.saturating_sub(nack.hub.0))
+        } else {
+            nack.slot.minus(nack.hub, self.slots())
+        };
+        let hub = if rules.tear_down_one_too_far { nack.hub.grown() } else { nack.hub };
+        Packet { kind: Kind::Tdown, slot, hub, ..nack }
     }
 
     /// "WRITE: each picked head enters its wire, its queue's flag rises (none for out-queues), the
@@ -138,9 +155,10 @@ impl Network {
         }
         state.queues[at].pop_front().expect("a candidate has a head")
     }
-}
 
-/// Whether the entry is free and not the only free one of its side.
-fn may_book(table: &Table, router: usize, side: usize, slot: Slot) -> bool {
-    table.entry(router, side, slot).is_none() && table.free_entries(router, side) > 1
+    /// Whether the entry is free and not the only free one of its side.
+    fn may_book(&self, table: &Table, router: usize, side: usize, slot: Slot) -> bool {
+        let kept = usize::from(!self.rules().last_free_booked);
+        table.entry(router, side, slot).is_none() && table.free_entries(router, side) > kept
+    }
 }

@@ -1,0 +1,113 @@
+//! The calls of the pages: two lists, and a caller that keeps a network busy.
+
+use model::generate::Random;
+use trace::net::Phase;
+use trace::{Call, Queue, Run};
+
+/// A number of whole rounds.
+fn rounds(count: usize) -> Vec<Call> {
+    [Call::Read, Call::Execute, Call::Write].repeat(count)
+}
+
+/// Document 01's first run: launched in round 0, accepted in round 4, consumed in round 7.
+pub fn first() -> Vec<Call> {
+    let launch = |slot| Call::Launch { active: 0, passive: 0, slot };
+    let mut calls = vec![launch(0), launch(1)];
+    calls.extend(rounds(4));
+    calls.extend([Call::Read, Call::Execute, Call::Reply { passive: 0, choice: 1 }, Call::Write]);
+    calls.extend(rounds(2));
+    calls.extend([Call::Read, Call::Execute, Call::Consume { active: 0 }, Call::Write]);
+    // The second set-up asks for the last free entry of the side.
+    calls.push(launch(1));
+    calls.extend(rounds(4));
+    calls.extend([Call::Read, Call::Execute, Call::Consume { active: 0 }, Call::Write]);
+    calls.extend([0, 1].map(|slot| Call::Entry { router: 0, side: 1, slot }));
+    calls
+}
+
+/// "S=4, two routers, start 3, second declines": the second active takes the entry first.
+pub fn declined() -> Vec<Call> {
+    let mut calls = vec![Call::Launch { active: 1, passive: 0, slot: 0 }];
+    calls.extend(rounds(4));
+    calls.extend([Call::Read, Call::Execute, Call::Reply { passive: 0, choice: 1 }, Call::Write]);
+    calls.extend(rounds(2));
+    calls.extend([Call::Read, Call::Execute, Call::Consume { active: 1 }, Call::Write]);
+    calls.push(Call::Launch { active: 0, passive: 0, slot: 3 });
+    calls.extend(rounds(9));
+    calls.extend([Call::Read, Call::Execute, Call::Consume { active: 0 }, Call::Write]);
+    calls.extend(rounds(4));
+    calls.extend([(0, 3), (1, 0)].map(|(router, slot)| Call::Entry { router, side: 1, slot }));
+    calls
+}
+
+/// Makes calls that keep a network busy, a few refused ones among them.
+#[derive(Clone, Debug)]
+pub struct Caller {
+    random: Random,
+    /// How often it goes on launching and answering, in parts of 16.
+    eager: usize,
+}
+
+impl Caller {
+    /// The caller of a seed.
+    pub fn new(seed: u64, eager: usize) -> Caller {
+        Caller { random: Random::new(seed), eager }
+    }
+
+    /// The next call, for the state as it is now.
+    pub fn next(&mut self, run: &Run) -> Call {
+        if self.random.chance(1, 30) {
+            return self.stray(run);
+        }
+        match run.net().phase {
+            Phase::Read => self.launch(run).unwrap_or(Call::Read),
+            Phase::Execute => Call::Execute,
+            Phase::Write => self.answer(run).unwrap_or(Call::Write),
+        }
+    }
+
+    /// A launch of a served pair whose active has allowance left.
+    fn launch(&mut self, run: &Run) -> Option<Call> {
+        let pairs = run.plan().pairs();
+        let served = pairs.iter().filter(|pair| pair.served.is_ok());
+        let can = served.filter(|pair| run.net().allowances[pair.active] > 0);
+        let pairs: Vec<(usize, usize)> = can.map(|pair| (pair.active, pair.passive)).collect();
+        let launches = self.random.chance(self.eager, 16);
+        let (active, passive) = self.random.pick(&pairs).filter(|_| launches)?;
+        let slot = self.random.below(run.plan().slots()) as u32;
+        Some(Call::Launch { active: active as u32, passive: passive as u32, slot })
+    }
+
+    /// A Reply or a Consume where something waits.
+    fn answer(&mut self, run: &Run) -> Option<Call> {
+        let waits = |queue| {
+            let row = run.net().row(run.plan(), queue);
+            !row.flag && !row.packets.is_empty()
+        };
+        let passives = (0..run.plan().passives()).filter(|&n| waits(Queue::PassiveIn(n)));
+        let actives = (0..run.plan().actives()).filter(|&n| waits(Queue::ActiveIn(n)));
+        let choice = u32::from(self.random.chance(12, 16));
+        let replies = passives.map(|n| Call::Reply { passive: n as u32, choice });
+        let consumes = actives.map(|n| Call::Consume { active: n as u32 });
+        let calls: Vec<Call> = replies.chain(consumes).collect();
+        let answers = self.random.chance(self.eager, 16);
+        self.random.pick(&calls).filter(|_| answers)
+    }
+
+    /// Any call, in any phase.
+    fn stray(&mut self, run: &Run) -> Call {
+        let plan = run.plan();
+        let mut below = |bound: usize| self.random.below(bound + 1) as u32;
+        let (active, passive) = (below(plan.actives()), below(plan.passives()));
+        let (router, side, slot) = (below(plan.routers()), below(4), below(plan.slots()));
+        match below(6) {
+            0 => Call::Read,
+            1 => Call::Execute,
+            2 => Call::Write,
+            3 => Call::Launch { active, passive, slot },
+            4 => Call::Reply { passive, choice: slot % 3 },
+            5 => Call::Consume { active },
+            _ => Call::Entry { router, side, slot },
+        }
+    }
+}

@@ -1,0 +1,60 @@
+// The self-test of owners: what the program tells must follow from the packets and the accepted
+// connections by document 01's rules, which are worked out here once more.
+
+/** Every booked entry has one owner, every free one none, and each is the one that follows. */
+function checkOwners(position) {
+  const { state } = shown;
+  const expected = ownersFromPackets(state, position);
+  state.table.forEach((side, entry) => {
+    const booked = side !== 4;
+    const told = state.owners[entry] >= 0;
+    must(booked === told, position, `${entryText(entry)} is ${booked ? "booked, nobody's" : "free, somebody's"}`);
+    const owners = expected.get(entry) ?? [];
+    must(owners.length === (booked ? 1 : 0), position, `${entryText(entry)} has ${owners.length} owners by the rules`);
+    const right = !booked || owners[0] === state.owners[entry] + state.holds[entry];
+    must(right, position, `${entryText(entry)} is told another owner than by the rules`);
+  });
+}
+
+/** By entry, the numbers of the set-ups that own it, each with how it is held. */
+function ownersFromPackets(state, position) {
+  const owners = new Map();
+  const own = (packet, id, from, slot, hold) => {
+    walkOf(packet).slice(from, from + packet.hub).forEach((hop, at) => {
+      const entry = entryNumber(hop.router, hop.side, slot + at);
+      owners.set(entry, [...(owners.get(entry) ?? []), id + hold]);
+    });
+  };
+  for (const [number, packet] of run.accepted) {
+    if (number < position) own(packet, packet.id, 0, packet.slot - packet.hub, "a");
+  }
+  for (const packet of state.packets.values()) {
+    const { parent } = run.journeys.get(packet.id);
+    if (packet.kind === "T") own(packet, parent, hopsBehind(state, packet), packet.slot, "d");
+    else own(packet, packet.id, 0, packet.slot - packet.hub, packet.kind === "N" ? "l" : "w");
+  }
+  return owners;
+}
+
+/** How many routers of its walk a tear-down has been handled by. */
+function hopsBehind(state, packet) {
+  const place = placeOf(packet.place);
+  if (place.spot === "active-out") return 0;
+  const at = walkOf(packet).findIndex((hop) => hop.router === place.router);
+  const handled = place.spot === "unit" && state.handled[packet.place] && state.held[packet.place][0] === packet.id;
+  return at + (handled || place.spot === "from-unit" || place.spot === "out" ? 1 : 0);
+}
+
+/** After each decline the question wants exactly the entries that its hub tells. */
+function checkQuestions() {
+  for (const [number, packets] of [...run.declines].slice(0, 40)) {
+    setState(number + 1);
+    const wanted = ownersFromPackets(shown.state, number + 1);
+    for (const packet of packets) {
+      const held = [...heldEntries(packet.id)];
+      const right = held.length === packet.hub && held.every((entry) => wanted.get(entry)?.[0] === packet.id + "l");
+      const question = `the question of ${letterOf(packet.connection)}`;
+      must(right, number + 1, `${question} has ${held.length} entries, its hub is ${packet.hub}`);
+    }
+  }
+}

@@ -1,0 +1,127 @@
+//! Recorded data of random runs: the proved library and the model give the same lines; and the lines
+//! of document 01's first run.
+
+use model::generate::{good, Random};
+use model::named;
+use replay::Recording;
+use trace::{Call, Calls, Modelled, Names, Plan, Proved, Run};
+
+/// A plan with numbers for names.
+fn plan(bytes: &[u8]) -> Plan {
+    let fields = trace::Fields::read(bytes).expect("the plan can be read");
+    let names = Names::numbered(fields.joints.len(), fields.actives, fields.passives);
+    Plan::load(bytes, names).expect("the plan loads")
+}
+
+/// Makes a list of calls and gives the lines and the page.
+fn record(plan: &Plan, calls: &dyn Calls, list: &[Call]) -> (Vec<String>, String) {
+    let mut run = Run::new(plan, calls);
+    let mut recording = Recording::start(&run, "a run", "");
+    for &call in list {
+        let step = run.call(call);
+        recording.push(&step, &run);
+    }
+    (recording.lines().to_vec(), replay::page(&recording))
+}
+
+/// Random calls that keep a network busy, chosen on the model's states.
+fn random_calls(random: &mut Random, plan: &Plan, count: usize) -> Vec<Call> {
+    let network = model::machine::Network::load(plan.bytes()).expect("the plan loads");
+    let mut state = network.start();
+    let mut caller = model::generate::calls::Caller::new(random, &network);
+    let mut list = Vec::new();
+    for _ in 0..count {
+        let call = caller.next(random, &network, &state);
+        // What the answer was does not matter here: both are asked again below.
+        let _ = network.call(&mut state, call);
+        list.push(same(call));
+    }
+    list
+}
+
+/// The model's call as the trace's.
+fn same(call: model::machine::Call) -> Call {
+    use model::machine::Call as Model;
+    let n = |number: usize| number as u32;
+    match call {
+        Model::Read => Call::Read,
+        Model::Execute => Call::Execute,
+        Model::Write => Call::Write,
+        Model::Launch { active, passive, slot } => {
+            Call::Launch { active: n(active), passive: n(passive), slot: n(slot) }
+        }
+        Model::Reply { passive, choice } => Call::Reply { passive: n(passive), choice: n(choice) },
+        Model::Consume { active } => Call::Consume { active: n(active) },
+        Model::Entry { router, side, slot } => {
+            Call::Entry { router: n(router), side: n(side), slot: n(slot) }
+        }
+    }
+}
+
+/// Both give the same lines, one after the other, and the same page.
+fn compare(random: &mut Random, plan: &Plan, count: usize) -> Vec<String> {
+    let list = random_calls(random, plan, count);
+    let (proved, modelled) = (Proved::new(plan), Modelled::new(plan, Default::default()));
+    let (lines, page) = record(plan, &proved, &list);
+    let (other, other_page) = record(plan, &modelled, &list);
+    for (number, (line, other)) in lines.iter().zip(&other).enumerate() {
+        assert_eq!(line, other, "line {} of a run on {:02x?}", number + 1, plan.bytes());
+    }
+    assert_eq!((lines.len(), page), (other.len(), other_page));
+    lines
+}
+
+#[test]
+fn random_runs_of_library_and_model_are_recorded_alike() {
+    let mut random = Random::new(10);
+    let mut signs = std::collections::BTreeSet::new();
+    for _ in 0..150 {
+        let plan = plan(&good::loadable(&mut random).encode());
+        for line in compare(&mut random, &plan, 300) {
+            signs.extend(line.split(' ').skip(2).filter_map(|token| token.chars().next()));
+        }
+    }
+    // Every token of the format was met.
+    let met: String = signs.into_iter().collect();
+    assert_eq!(met, "*+-=>^_ahopst");
+}
+
+#[test]
+fn a_run_on_the_largest_plan_is_recorded_alike() {
+    let plan = plan(&named::largest().encode());
+    compare(&mut Random::new(11), &plan, 600);
+}
+
+#[test]
+fn lines_of_the_first_run() {
+    let plan = plan(&named::T);
+    let proved = Proved::new(&plan);
+    let round = [Call::Read, Call::Execute, Call::Write];
+    let mut list = vec![Call::Launch { active: 0, passive: 0, slot: 0 }];
+    list.push(Call::Launch { active: 0, passive: 0, slot: 1 });
+    list.extend(round.repeat(3));
+    list.extend([Call::Entry { router: 0, side: 1, slot: 0 }, Call::Consume { active: 0 }]);
+    let (lines, _) = record(&plan, &proved, &list);
+    // A line without its check sum.
+    let told = |line: &String| {
+        let parts: Vec<&str> = line.split(' ').collect();
+        [&parts[..1], &parts[2..]].concat().join(" ")
+    };
+    let told: Vec<String> = lines.iter().map(told).collect();
+    let wanted = [
+        "L0,0,0 +0,S,0,0,0,0,0,0 a0,0",
+        "L0,0,1!11",
+        "R p1",
+        "X p2 *0",
+        "W p0 s1 >0,p,2 *",
+        "R p1 >0,2",
+        "X p2 *0",
+        "W p0 s0 >0,t,6 * ^2",
+        "R p1 >0,6 _",
+        "X p2 =0,S,1,1 *0 h6,1 t2,0 o2,0,w",
+        "W p0 s1 >0,u,b * ^6 h6,0",
+        "E0,1,0=0",
+        "C0!8",
+    ];
+    assert_eq!(told, wanted);
+}

@@ -1,0 +1,177 @@
+//! The calls as values, and who answers them.
+
+use model::machine::{self, Network, Rules};
+use pandabrass::{bytes, Entry, Packet, Refusal};
+
+use crate::net;
+use crate::plan::Plan;
+
+/// A call on a state. Numbers may be out of range: they are passed on, to be refused.
+#[derive(Clone, Copy, Debug, PartialEq, Eq)]
+pub enum Call {
+    /// Read.
+    Read,
+    /// Execute.
+    Execute,
+    /// Write.
+    Write,
+    /// Launch.
+    Launch {
+        /// The active that sends.
+        active: u32,
+        /// The passive that receives.
+        passive: u32,
+        /// The start slot.
+        slot: u32,
+    },
+    /// Reply.
+    Reply {
+        /// The passive that replies.
+        passive: u32,
+        /// 1 accept or 0 decline.
+        choice: u32,
+    },
+    /// Consume.
+    Consume {
+        /// The active that consumes.
+        active: u32,
+    },
+    /// Entry.
+    Entry {
+        /// The router asked.
+        router: u32,
+        /// Its side.
+        side: u32,
+        /// The slot.
+        slot: u32,
+    },
+}
+
+/// What an accepted call returns.
+#[derive(Clone, Copy, Debug, PartialEq, Eq)]
+pub enum Answer {
+    /// Nothing.
+    Done,
+    /// The packet that Consume took.
+    Packet(Packet),
+    /// The entry that was asked for.
+    Entry(Entry),
+}
+
+/// Somebody who answers the calls on one plan.
+pub trait Calls {
+    /// What Start leaves.
+    fn start(&self) -> Vec<u8>;
+
+    /// Makes one call on a state's bytes.
+    fn call(&self, state: &mut Vec<u8>, call: Call) -> Result<Answer, Refusal>;
+}
+
+/// The proved library.
+#[derive(Clone, Debug)]
+pub struct Proved {
+    plan: pandabrass::Plan,
+}
+
+impl Proved {
+    /// On a loaded plan.
+    pub fn new(plan: &Plan) -> Proved {
+        Proved { plan: plan.loaded().clone() }
+    }
+}
+
+impl Calls for Proved {
+    fn start(&self) -> Vec<u8> {
+        self.plan.start().into_bytes()
+    }
+
+    fn call(&self, state: &mut Vec<u8>, call: Call) -> Result<Answer, Refusal> {
+        let (plan, mut out) = (self.plan.bytes(), [0; 8]);
+        let answer = match call {
+            Call::Read => bytes::read(plan, state),
+            Call::Execute => bytes::execute(plan, state),
+            Call::Write => bytes::write(plan, state),
+            Call::Launch { active, passive, slot } => {
+                bytes::launch(plan, state, active, passive, slot)
+            }
+            Call::Reply { passive, choice } => bytes::reply(plan, state, passive, choice),
+            Call::Consume { active } => bytes::consume(plan, state, active, &mut out),
+            Call::Entry { router, side, slot } => {
+                bytes::entry(plan, state, router, side, slot, &mut out)
+            }
+        };
+        if let Some(refusal) = Refusal::of(answer) {
+            return Err(refusal);
+        }
+        Ok(match call {
+            Call::Consume { .. } => {
+                Answer::Packet(net::packet(&out[..5]).expect("the library returns a packet"))
+            }
+            Call::Entry { .. } => Answer::Entry(entry(out[0].into())),
+            _ => Answer::Done,
+        })
+    }
+}
+
+/// The model, by the rules of document 01 or by others.
+#[derive(Clone, Debug)]
+pub struct Modelled {
+    network: Network,
+}
+
+impl Modelled {
+    /// On a loaded plan.
+    pub fn new(plan: &Plan, rules: Rules) -> Modelled {
+        let network = Network::load(plan.bytes()).expect("the library loaded it");
+        Modelled { network: network.with_rules(rules) }
+    }
+}
+
+impl Calls for Modelled {
+    fn start(&self) -> Vec<u8> {
+        self.network.encode(&self.network.start())
+    }
+
+    fn call(&self, bytes: &mut Vec<u8>, call: Call) -> Result<Answer, Refusal> {
+        let mut state = self.network.decode(bytes).ok_or(Refusal::NotState)?;
+        let answer = self.network.call(&mut state, modelled(call));
+        let answer = answer.map_err(|number| Refusal::of(number).expect("a refusal's number"))?;
+        *bytes = self.network.encode(&state);
+        Ok(match answer {
+            machine::Answer::Done => Answer::Done,
+            machine::Answer::Packet(packet) => Answer::Packet(
+                net::packet(&machine::bytes::packet_bytes(&packet)).expect("a kind is a kind"),
+            ),
+            machine::Answer::Entry(number) => Answer::Entry(entry(number)),
+        })
+    }
+}
+
+/// "Else the entry, 4 for free."
+fn entry(number: u32) -> Entry {
+    if number == machine::calls::FREE {
+        Entry::Free
+    } else {
+        Entry::Booked(number as u8)
+    }
+}
+
+/// The same call of the model.
+fn modelled(call: Call) -> machine::Call {
+    let n = |number: u32| number as usize;
+    match call {
+        Call::Read => machine::Call::Read,
+        Call::Execute => machine::Call::Execute,
+        Call::Write => machine::Call::Write,
+        Call::Launch { active, passive, slot } => {
+            machine::Call::Launch { active: n(active), passive: n(passive), slot: n(slot) }
+        }
+        Call::Reply { passive, choice } => {
+            machine::Call::Reply { passive: n(passive), choice: n(choice) }
+        }
+        Call::Consume { active } => machine::Call::Consume { active: n(active) },
+        Call::Entry { router, side, slot } => {
+            machine::Call::Entry { router: n(router), side: n(side), slot: n(slot) }
+        }
+    }
+}

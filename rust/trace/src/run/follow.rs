@@ -1,0 +1,192 @@
+//! What a call did: the packets are followed from the state before to the state after.
+
+use pandabrass::{Entry, Kind, Packet};
+
+use super::event::{Cell, Event, Wait, Why};
+use super::{Connection, Decline, Run};
+use crate::calls::{Answer, Call};
+use crate::net::{Net, Phase};
+use crate::place::{Output, Place, Port, Queue};
+
+impl Run<'_> {
+    /// The events of an accepted call; `self.net` is already what it left.
+    pub(super) fn follow(&mut self, before: &Net, call: Call, answer: Answer) -> Vec<Event> {
+        let n = |number: u32| number as usize;
+        match call {
+            Call::Read => self.follow_read(before),
+            Call::Execute => self.follow_execute(before),
+            Call::Write => self.follow_write(before),
+            Call::Launch { active, passive, slot } => {
+                let (active, passive) = (n(active), n(passive));
+                vec![self.follow_launch(Connection { active, passive, start: n(slot) })]
+            }
+            Call::Reply { passive, choice } => vec![self.follow_reply(n(passive), choice == 1)],
+            Call::Consume { active } => {
+                self.follow_consume(n(active), answer).into_iter().collect()
+            }
+            Call::Entry { .. } => Vec::new(),
+        }
+    }
+
+    /// Each wire's packet joins its queue.
+    fn follow_read(&mut self, before: &Net) -> Vec<Event> {
+        let plan = self.plan;
+        let mut events = Vec::new();
+        for (output, out) in plan.outputs().zip(&before.outputs) {
+            let Some(packet) = &out.wire else { continue };
+            let queue = plan.next_queue(output, packet).expect("its journey goes on");
+            let id = self.seats.exit(plan, output).expect("every packet is followed");
+            self.seats.join(plan, queue, id);
+            events.push(Event::Moved { id, from: Place::On(output), to: Place::In(queue) });
+        }
+        events
+    }
+
+    /// Units, outputs, tear-downs.
+    fn follow_execute(&mut self, before: &Net) -> Vec<Event> {
+        let plan = self.plan;
+        let mut events = Vec::new();
+        for router in 0..plan.routers() {
+            events.extend(self.follow_unit(before, router));
+        }
+        for output in plan.outputs() {
+            self.follow_output(output, &mut events);
+        }
+        for active in 0..plan.actives() {
+            events.extend(self.follow_tear_down(before, active));
+        }
+        events
+    }
+
+    /// What a unit did with its head.
+    fn follow_unit(&mut self, before: &Net, router: usize) -> Option<Event> {
+        let plan = self.plan;
+        let row = before.row(plan, Queue::Q(router));
+        let packet = *row.packets.first().filter(|_| !row.handled)?;
+        let hop = plan.hop(packet.active.into(), packet.passive.into(), router)?;
+        let port = Port { router, side: hop.side };
+        let cell = Cell { port, slot: packet.slot.into() };
+        if packet.kind == Kind::Tdown {
+            return Some(self.follow_freeing(cell, packet));
+        }
+        let id = self.seats.head(plan, Queue::Q(router));
+        let now = self.net.row(plan, Queue::Q(router)).packets[0];
+        if now.kind == Kind::Setup {
+            self.book.book(id, cell);
+            return Some(Event::Booked { id, cell });
+        }
+        let why = match before.entry(port, cell.slot) {
+            Entry::Free => Why::LastFree,
+            Entry::Booked(_) => Why::Booked(self.book.owner(cell)),
+        };
+        self.book.decline(id, Decline::Router(router, why));
+        Some(Event::Declined { id, cell, why })
+    }
+
+    /// A tear-down frees an entry; "with hub 1 the packet ends".
+    fn follow_freeing(&mut self, cell: Cell, packet: Packet) -> Event {
+        let (plan, q) = (self.plan, Queue::Q(cell.port.router));
+        let owner = self.book.free(cell);
+        let ended = packet.hub == 1;
+        let id = if ended { self.seats.leave(plan, q) } else { self.seats.head(plan, q) };
+        if ended {
+            self.book.end(id);
+        }
+        Event::Freed { id, cell, owner, ended }
+    }
+
+    /// Whom an output picked, and why other heads wait.
+    fn follow_output(&self, output: Output, events: &mut Vec<Event>) {
+        let plan = self.plan;
+        let senders = plan.senders(output);
+        let choice = self.net.out(plan, output).choice;
+        let picked = choice.map(|rank| self.seats.head(plan, senders[rank]));
+        if let Some(id) = picked {
+            events.push(Event::Picked { id, output });
+        }
+        for (rank, &sender) in senders.iter().enumerate() {
+            let row = self.net.row(plan, sender);
+            // A tear-down that joined an out-queue after the picking has no seat yet.
+            let Some(&id) = self.seats.queue(plan, sender).front() else { continue };
+            let unhandled = matches!(sender, Queue::Q(_)) && !row.handled;
+            if choice == Some(rank) || unhandled {
+                continue;
+            }
+            let packet = &row.packets[0];
+            if let Some(wait) = self.wait(output, packet, picked) {
+                events.push(Event::Waits { id, output, wait });
+            }
+        }
+    }
+
+    /// Why a head was not picked.
+    fn wait(&self, output: Output, packet: &Packet, picked: Option<super::Id>) -> Option<Wait> {
+        debug_assert_eq!(self.net.phase, Phase::Write);
+        if let Output::Side(port) = output {
+            let slot = self.net.slot;
+            if self.net.entry(port, slot) != Entry::Free {
+                return Some(Wait::Booked(Cell { port, slot }));
+            }
+        }
+        let next = self.plan.next_queue(output, packet)?;
+        if self.net.row(self.plan, next).credit == 0 {
+            return Some(Wait::NoCredit(next));
+        }
+        picked.map(Wait::After)
+    }
+
+    /// A NACK that was marked, with the tear-down that joined the out-queue.
+    fn follow_tear_down(&mut self, before: &Net, active: usize) -> Option<Event> {
+        let plan = self.plan;
+        let (out, into) = (Queue::ActiveOut(active), Queue::ActiveIn(active));
+        let grown = self.net.row(plan, out).packets.len() > before.row(plan, out).packets.len();
+        if !grown {
+            return None;
+        }
+        let nack = self.seats.head(plan, into);
+        let tear_down = self.book.tear_down(nack);
+        self.seats.join(plan, out, tear_down);
+        Some(Event::TornDown { nack, tear_down })
+    }
+
+    /// Each picked head enters its wire.
+    fn follow_write(&mut self, before: &Net) -> Vec<Event> {
+        let plan = self.plan;
+        let mut events = Vec::new();
+        for (output, out) in plan.outputs().zip(&before.outputs) {
+            let Some(rank) = out.choice else { continue };
+            let queue = plan.senders(output)[rank];
+            let id = self.seats.leave(plan, queue);
+            self.seats.enter(plan, output, id);
+            events.push(Event::Moved { id, from: Place::In(queue), to: Place::On(output) });
+        }
+        events
+    }
+
+    fn follow_launch(&mut self, connection: Connection) -> Event {
+        let id = self.book.launch(connection);
+        self.seats.join(self.plan, Queue::ActiveOut(connection.active), id);
+        Event::Launched { id, allowance: self.net.allowances[connection.active] }
+    }
+
+    fn follow_reply(&mut self, passive: usize, accepts: bool) -> Event {
+        let id = self.seats.leave(self.plan, Queue::PassiveIn(passive));
+        self.seats.join(self.plan, Queue::PassiveOut(passive), id);
+        if !accepts {
+            self.book.decline(id, Decline::Passive);
+        }
+        Event::Answered { id }
+    }
+
+    fn follow_consume(&mut self, active: usize, answer: Answer) -> Option<Event> {
+        let Answer::Packet(packet) = answer else { return None };
+        let id = self.seats.leave(self.plan, Queue::ActiveIn(active));
+        let torn_down = self.book.packets.iter().any(|made| made.parent == Some(id));
+        if packet.kind == Kind::Ack {
+            self.book.accept(id);
+        } else if !torn_down {
+            self.book.end(id);
+        }
+        Some(Event::Consumed { id, packet, allowance: self.net.allowances[active] })
+    }
+}

@@ -1,0 +1,160 @@
+//! Random runs: every packet is followed, and every booked entry has exactly one owner, the one
+//! that the packets and the accepted connections tell.
+
+use std::collections::HashMap;
+
+use model::generate::{calls::Caller, good, Random};
+use model::machine::{self, Network, Rules};
+use trace::place::SIDES;
+use trace::run::{Cell, Seated};
+use trace::{words, Call, Calls, Entry, Hold, Kind, Modelled, Names, Plan, Port, Proved, Run};
+
+/// The same call of the crate `trace`.
+fn call(call: machine::Call) -> Call {
+    let n = |number: usize| number as u32;
+    match call {
+        machine::Call::Read => Call::Read,
+        machine::Call::Execute => Call::Execute,
+        machine::Call::Write => Call::Write,
+        machine::Call::Launch { active, passive, slot } => {
+            Call::Launch { active: n(active), passive: n(passive), slot: n(slot) }
+        }
+        machine::Call::Reply { passive, choice } => {
+            Call::Reply { passive: n(passive), choice: n(choice) }
+        }
+        machine::Call::Consume { active } => Call::Consume { active: n(active) },
+        machine::Call::Entry { router, side, slot } => {
+            Call::Entry { router: n(router), side: n(side), slot: n(slot) }
+        }
+    }
+}
+
+/// A random loadable plan, and the model's network of it.
+fn random_plan(random: &mut Random) -> (Plan, Network) {
+    let bytes = good::loadable(random).encode();
+    let network = Network::load(&bytes).unwrap();
+    let plan = network.plan();
+    let names = Names::numbered(plan.routers(), plan.actives(), plan.passives());
+    (Plan::load(&bytes, names).unwrap(), network)
+}
+
+/// The entries that a packet tells of: a SETUP, ACK or unmarked NACK of hub routers from slot minus
+/// hub on; a TDOWN of hub routers from the router it has not handled yet.
+fn told(run: &Run, seated: &Seated) -> Vec<Cell> {
+    let (plan, packet) = (run.plan(), seated.packet);
+    let walk = &plan.served(packet.active.into(), packet.passive.into()).unwrap().walk;
+    let (slots, hub, slot) = (plan.slots(), usize::from(packet.hub), usize::from(packet.slot));
+    let launch = run.book().launch_of(seated.id);
+    let start = run.book().connections[launch.connection].start;
+    // A tear-down's slot is start + n at the n-th router.
+    let first = (0..walk.len()).find(|n| (start + n) % slots == slot).unwrap_or(0);
+    let from = if packet.kind == Kind::Tdown { first } else { 0 };
+    let cell = |n: usize| {
+        let port = Port { router: walk[n].router, side: walk[n].side };
+        Cell { port, slot: (start + n) % slots }
+    };
+    (from..from + hub).map(cell).collect()
+}
+
+/// How a packet's launch holds what the packet tells of.
+fn hold(kind: Kind) -> Hold {
+    match kind {
+        Kind::Setup | Kind::Ack => Hold::UnderWay,
+        Kind::Nack => Hold::LeftBehind,
+        Kind::Tdown => Hold::TearingDown,
+    }
+}
+
+fn check_owners(run: &Run) {
+    let plan = run.plan();
+    let mut owners: HashMap<Cell, (usize, Hold)> = HashMap::new();
+    for seated in run.packets() {
+        let connection = run.book().connection_of(seated.id);
+        for cell in told(run, &seated) {
+            let other = owners.insert(cell, (connection, hold(seated.packet.kind)));
+            assert_eq!(other, None, "two packets own {cell:?}");
+        }
+    }
+    for &connection in &run.book().accepted {
+        for (cell, _) in Run::entries_of(plan, run.book().connections[connection]).unwrap() {
+            let other = owners.insert(cell, (connection, Hold::Accepted));
+            assert_eq!(other, None, "two own {cell:?}");
+        }
+    }
+    for router in 0..plan.routers() {
+        for (side, slot) in (0..SIDES).flat_map(|s| (0..plan.slots()).map(move |t| (s, t))) {
+            let port = Port { router, side };
+            let owner = run.owner(port, slot);
+            let found = owner.map(|owner| (owner.connection, owner.hold));
+            assert_eq!(found, owners.get(&Cell { port, slot }).copied());
+            assert_eq!(owner.is_some(), run.net().entry(port, slot) != Entry::Free);
+        }
+    }
+}
+
+#[test]
+fn random_runs_are_followed() {
+    let mut random = Random::new(10);
+    let (mut declined, mut left, mut accepted) = (0, 0, 0);
+    for _ in 0..150 {
+        let (plan, network) = random_plan(&mut random);
+        if plan.slots() <= plan.routers() {
+            // A walk may then use one slot twice, and the slot does not tell the router.
+            continue;
+        }
+        let proved = Proved::new(&plan);
+        let modelled = Modelled::new(&plan, Rules::default());
+        let mut run = Run::new(&plan, &proved);
+        let mut other = Run::new(&plan, &modelled);
+        let mut caller = Caller::new(&mut random, &network);
+        for _ in 0..400 {
+            let state = network.decode(run.bytes()).unwrap();
+            let next = call(caller.next(&mut random, &network, &state));
+            let (step, same) = (run.call(next), other.call(next));
+            assert_eq!((step.answer, &step.events), (same.answer, &same.events));
+            assert_eq!(run.bytes(), other.bytes());
+            assert!(!words::step(&run, &step).is_empty());
+            check_owners(&run);
+        }
+        let book = run.book();
+        accepted += book.accepted.len();
+        declined += book.launches.iter().filter(|launch| launch.declined.is_some()).count();
+        left += book.packets.iter().filter(|made| made.parent.is_some()).count();
+    }
+    assert!(accepted > 60 && declined > 400 && left > 50, "{accepted} {declined} {left}");
+}
+
+#[test]
+fn every_place_has_its_number() {
+    let mut random = Random::new(11);
+    for _ in 0..50 {
+        let (plan, _) = random_plan(&mut random);
+        for number in 0..plan.queue_count() {
+            assert_eq!(plan.queue_number(plan.queue(number)), number);
+            let name = plan.names().queue(plan.queue(number));
+            assert_eq!(plan.names().find_queue(&name), Some(plan.queue(number)));
+        }
+        for number in 0..plan.output_count() {
+            assert_eq!(plan.output_number(plan.output(number)), number);
+        }
+        assert_eq!(plan.fields().encode(), plan.bytes());
+    }
+}
+
+#[test]
+fn another_rule_is_followed_too() {
+    let bytes = model::named::two_routers().encode();
+    let plan = Plan::load(&bytes, Names::numbered(2, 1, 1)).unwrap();
+    let rules = Rules { tear_down_one_too_far: true, ..Rules::default() };
+    let modelled = Modelled::new(&plan, rules);
+    assert_eq!(modelled.start(), Proved::new(&plan).start());
+    let mut run = Run::new(&plan, &modelled);
+    run.call(Call::Launch { active: 0, passive: 0, slot: 0 });
+    for _ in 0..40 {
+        for call in [Call::Read, Call::Execute, Call::Reply { passive: 0, choice: 0 }, Call::Write]
+        {
+            run.call(call);
+        }
+    }
+    assert!(run.round() == 40);
+}

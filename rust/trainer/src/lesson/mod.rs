@@ -1,0 +1,202 @@
+//! The lessons: what students write instead, played beside the proved rule.
+
+mod notes;
+mod sides;
+
+use model::machine::Rules;
+use trace::{Modelled, Proved};
+
+use crate::plan::PlanFile;
+use crate::play::deals::Deals;
+use crate::play::{Deal, Player, Silent};
+use crate::print::Paint;
+use crate::script::{self, Script};
+use crate::text::Source;
+use notes::Notes;
+
+/// One point that students get wrong.
+pub struct Lesson {
+    /// The point as a question.
+    pub title: &'static str,
+    /// The script's file in scripts/lessons.
+    pub file: &'static str,
+    /// The script.
+    pub script: &'static str,
+    /// What is asked before the answer.
+    pub question: &'static str,
+    /// What students do instead.
+    pub mistake: Mistake,
+    /// What is to be learned.
+    pub answer: &'static str,
+}
+
+/// What students do instead.
+pub enum Mistake {
+    /// They write another rule, which has this name.
+    Rule(&'static str, fn(&mut Rules)),
+    /// They check one order.
+    OneOrder,
+}
+
+/// All lessons.
+pub const LESSONS: [Lesson; 7] = [
+    Lesson {
+        title: "A declined set-up leaves nothing behind?",
+        file: "1-declined.run",
+        script: include_str!("../../../../scripts/lessons/1-declined.run"),
+        question:
+            "r1 declines camera's set-up. Which entries are booked at that moment, and which \
+                   when the network is quiet again? Who sees to it?",
+        mistake: Mistake::Rule("a router that declines says hub 0", |rules| {
+            rules.declined_leaves_nothing = true;
+        }),
+        answer:
+            "The routers already passed stay booked until a tear-down has followed. The NACK's \
+                 hub count says how many they are, and the active answers it with a TDOWN. A NACK \
+                 that says 0 counts as marked: no TDOWN is made, and r0.1 slot 3 is lost for good.",
+    },
+    Lesson {
+        title: "The tear-down goes on to the router that declined?",
+        file: "2-too-far.run",
+        script: include_str!("../../../../scripts/lessons/2-too-far.run"),
+        question: "r1 declined, so nothing of camera's is booked there. How many routers must the \
+                   tear-down free, and whose entry does it free if it goes one router further?",
+        mistake: Mistake::Rule("the tear-down frees hub + 1 routers", |rules| {
+            rules.tear_down_one_too_far = true;
+        }),
+        answer:
+            "It frees exactly hub routers. The entry that made r1 decline is another sensor's: \
+                 force was accepted, its step list has the slot, and after a tear-down that goes \
+                 one router too far the table has not. There the arm reaches for an old position.",
+    },
+    Lesson {
+        title: "Every slot of an output may be booked?",
+        file: "3-every-slot.run",
+        script: include_str!("../../../../scripts/lessons/3-every-slot.run"),
+        question: "r0.1 has two slots and one is booked. What happens to the set-up that asks for \
+                   the other one, and what would happen to every later packet if it got it?",
+        mistake: Mistake::Rule("the last free entry is booked too", |rules| {
+            rules.last_free_booked = true;
+        }),
+        answer:
+            "A side sends set-ups, answers and tear-downs only in slots that are free. With none \
+                 free nobody leaves by it again: not the set-up that booked it, and no tear-down \
+                 that would free it. So the last free entry is kept, and the set-up gets a NACK.",
+    },
+    Lesson {
+        title: "One order of messages checked is enough?",
+        file: "4-one-order.run",
+        script: include_str!("../../../../scripts/lessons/4-one-order.run"),
+        question: "Three sensors want the same slot of the wrist's way to the drive. As written, \
+                   camera comes first and is accepted. Who is accepted if the cow steps in from \
+                   the other side? Can it be that camera comes last and is stopped by an entry \
+                   that nobody keeps?",
+        mistake: Mistake::OneOrder,
+        answer:
+            "Every order gives another table. In one of the six, camera is stopped by what a \
+                 declined set-up had left behind for a while. A plan's step list is checked in all \
+                 orders and gaps: pandabrass orders, with an expect line for what must always hold.",
+    },
+    Lesson {
+        title: "The tear-down's slot is slot minus hub, without the modulus?",
+        file: "5-modulus.run",
+        script: include_str!("../../../../scripts/lessons/5-modulus.run"),
+        question:
+            "The NACK says slot 0, hub 1, and there are 4 slots. At which slot did the set-up \
+                   start? Which slot does the tear-down carry?",
+        mistake: Mistake::Rule("slot minus hub, 0 where hub is greater", |rules| {
+            rules.slot_minus_hub_unwrapped = true;
+        }),
+        answer: "0 minus 1 modulo 4 is 3. Without the modulus the tear-down says 0 and frees r0.1 \
+                 slot 0, which belongs to camera's first connection, while slot 3 stays booked for \
+                 nobody: two entries wrong by one missing modulus.",
+    },
+    Lesson {
+        title: "The allowance comes back when the NACK is marked?",
+        file: "6-allowance.run",
+        script: include_str!("../../../../scripts/lessons/6-allowance.run"),
+        question:
+            "camera's NACK is marked and its tear-down has ended, but camera has not consumed \
+                   it. May camera launch again? Where would the next answer go?",
+        mistake: Mistake::Rule("the allowance grows at the mark", |rules| {
+            rules.allowance_at_the_mark = true;
+        }),
+        answer: "The marked NACK still takes a place in the in-queue. The allowance counts places \
+                 for answers, so it comes back when the NACK is consumed. Given back at the mark, \
+                 a second set-up goes out, its NACK sticks before the full in-queue, no tear-down \
+                 is made for it, and r0.1 slot 3 stays booked.",
+    },
+    Lesson {
+        title: "A credit comes back when the packet arrives?",
+        file: "7-credit.run",
+        script: include_str!("../../../../scripts/lessons/7-credit.run"),
+        question: "The drive's in-queue has room for one packet and holds one. camera's set-up \
+                   stands before it. What keeps it there?",
+        mistake: Mistake::Rule("a credit comes back at the arrival", |rules| {
+            rules.credit_at_the_arrival = true;
+        }),
+        answer: "A credit stands for a free place. The packet that has arrived takes its place \
+                 until it leaves; then the flag rises, and the next READ gives the credit back. \
+                 Given back at the arrival, a second packet is sent after the first, and the \
+                 queue holds more than its capacity: in the chip it is written over another.",
+    },
+];
+
+/// The script of a lesson; its plan is one of those in the repository.
+pub fn script(lesson: &Lesson) -> Script {
+    let source = Source { name: lesson.file.to_string(), text: lesson.script.to_string() };
+    let plan = |file: &str| match script::short(file).as_str() {
+        "two.plan" => PlanFile::of_text("two.plan", include_str!("../../../../plans/two.plan")),
+        "three.plan" => {
+            PlanFile::of_text("three.plan", include_str!("../../../../plans/three.plan"))
+        }
+        _ => Ok(PlanFile::t()),
+    };
+    match script::of_text(source, &plan) {
+        Ok(script) => script,
+        Err(broken) => panic!("a lesson's script is read: {broken:?}"),
+    }
+}
+
+/// Plays a lesson by both rules and tells where they part and what goes wrong then.
+pub fn play(lesson: &Lesson, paint: Paint) -> String {
+    let script = script(lesson);
+    let proved = Proved::new(&script.plan);
+    match lesson.mistake {
+        Mistake::Rule(name, set) => {
+            let mut rules = Rules::default();
+            set(&mut rules);
+            let modelled = Modelled::new(&script.plan, rules);
+            let right = notes::take(&script, &proved, &[]);
+            let wrong = notes::take(&script, &modelled, &[]);
+            let headings = ["the proved rule".to_string(), format!("a student's: {name}")];
+            sides::text(&right, &wrong, headings, paint)
+        }
+        Mistake::OneOrder => {
+            let right = notes::take(&script, &proved, &[]);
+            let (deal, wrong) = another_order(&script, &proved, &right);
+            let letters: Vec<String> = deal.order.iter().map(|&n| trace::run::letter(n)).collect();
+            let headings =
+                ["as written".to_string(), format!("in the order {}", letters.join(" "))];
+            sides::text(&right, &wrong, headings, paint)
+        }
+    }
+}
+
+/// The last of the orders whose table is another than that of the order as written.
+fn another_order<'s>(
+    script: &'s Script,
+    proved: &'s Proved,
+    written: &Notes<'s>,
+) -> (Deal, Notes<'s>) {
+    let deals = Deals::new(script.blocks());
+    let others = (0..deals.count()).rev().map(|number| deals.deal(number));
+    let differs = |deal: &Vec<Deal>| {
+        let mut player = Player::new(script, proved);
+        let played = player.play(deal, &mut Silent);
+        played.is_ok() && player.run.net().entries() != written.player.run.net().entries()
+    };
+    let deal = others.into_iter().find(differs).expect("some order gives another table");
+    let notes = notes::take(script, proved, &deal);
+    (deal[0].clone(), notes)
+}

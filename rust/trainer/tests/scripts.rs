@@ -1,0 +1,95 @@
+//! The scripts of the repository: document 01's runs and the lessons.
+
+mod common;
+
+use common::{files, root};
+use model::machine::Rules;
+use trace::{Modelled, Proved, Run, Step};
+use trainer::lesson::{self, Mistake, LESSONS};
+use trainer::play::{Player, Silent, Teller};
+use trainer::script::{self, Script};
+
+fn open(file: &str) -> Script {
+    match script::open(&root().join(file).to_string_lossy()) {
+        Ok(script) => script,
+        Err(broken) => panic!("{file}: {broken:?}"),
+    }
+}
+
+fn all() -> Vec<String> {
+    [files("scripts", ".run"), files("scripts/lessons", ".run")].concat()
+}
+
+/// The states after each call.
+#[derive(Default)]
+struct States(Vec<Vec<u8>>);
+
+impl Teller for States {
+    fn step(&mut self, run: &Run, _: &Step) {
+        self.0.push(run.bytes().to_vec());
+    }
+}
+
+#[test]
+fn all_is_as_expected() {
+    let mut expectations = 0;
+    for file in all() {
+        let script = open(&file);
+        let proved = Proved::new(&script.plan);
+        let mut player = Player::new(&script, &proved);
+        player.play(&[], &mut Silent).unwrap();
+        assert!(player.is_fine(), "{file}");
+        assert!(player.checked > 0, "{file} expects nothing");
+        expectations += player.checked;
+    }
+    assert!(expectations >= 60, "{expectations}");
+}
+
+#[test]
+fn the_model_gives_the_same_states() {
+    for file in all() {
+        let script = open(&file);
+        let (proved, modelled) =
+            (Proved::new(&script.plan), Modelled::new(&script.plan, Rules::default()));
+        let (mut one, mut other) = (States::default(), States::default());
+        Player::new(&script, &proved).play(&[], &mut one).unwrap();
+        Player::new(&script, &modelled).play(&[], &mut other).unwrap();
+        assert!(one.0 == other.0, "{file}");
+    }
+}
+
+#[test]
+fn every_wrong_rule_is_seen() {
+    for lesson in &LESSONS {
+        let Mistake::Rule(name, set) = lesson.mistake else { continue };
+        let script = lesson::script(lesson);
+        let mut rules = Rules::default();
+        set(&mut rules);
+        let modelled = Modelled::new(&script.plan, rules);
+        let mut player = Player::new(&script, &modelled);
+        player.play(&[], &mut Silent).unwrap();
+        assert!(player.failed > 0, "{}: nobody sees that {name}", lesson.file);
+    }
+}
+
+#[test]
+fn every_lesson_has_its_file() {
+    let stored = files("scripts/lessons", ".run");
+    assert_eq!(stored.len(), LESSONS.len());
+    for (file, lesson) in stored.iter().zip(&LESSONS) {
+        assert_eq!(file, &format!("scripts/lessons/{}", lesson.file));
+        assert_eq!(common::text(file), lesson.script);
+        let of_file = open(file);
+        assert_eq!(of_file.plan.bytes(), lesson::script(lesson).plan.bytes());
+    }
+}
+
+/// Without arguments the program shows the first run, the same as from its file.
+#[test]
+fn the_first_run_is_the_files() {
+    let alone = common::run(&[]);
+    let (out, _, status) = common::run(&["run", "scripts/first.run"]);
+    assert_eq!((alone.2, status), (0, 0));
+    let body = |text: &str| text.lines().take(30).collect::<Vec<_>>().join("\n");
+    assert_eq!(body(&alone.0), body(&out));
+}

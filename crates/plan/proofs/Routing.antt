@@ -22,7 +22,7 @@ use Rattle.plan.specs.Head.{destinations, routesAt}
 use Rattle.plan.specs.Plan.{noSide}
 use Rattle.plan.specs.Rules.{routeOk}
 use Rattle.plan.specs.Tables.{rowOf, routesOf, rowOk, routesOk}
-use Rattle.plan.specs.Marks.{sideAt, Row, NoRoutes, Routes}
+use Rattle.plan.specs.Marks.{sideAt, Empty, Row, NoRoutes, Routes}
 use Rattle.plan.proofs.Marks.{ltb-alike, same-or-not}
 
 -- ---- lists of one value
@@ -79,6 +79,10 @@ module _ (b : List ℕ) (n start : ℕ) where
     sides = λ x o d l. rw (f, le-ltb x 0 (omega arith)) (ap (λ (y : ℕ). has y d) (rows-else 16 4 0 x o) ∙ none-has d);
     fit = sym (all-none (λ x. allBelow n (λ d. routeOk (sideAt b (at x) d))));
   }
+
+  -- the sets of the next router
+  pub rows-next : (r : ℕ) {t by : List (List ℕ)} {ok : Bool} → r < 16 → Rows r t by ok → Empty (getD by r [])
+  rows-next r l w = record { four = w .four r l; none = λ o i m. w .sides r o i m ∙ rw (le-ltb r r (omega arith)) }
 
   pub rows-more : (r : ℕ) {t by : List (List ℕ)} {ok ok′ : Bool} {row sides : List ℕ} → r < 16 → Rows r t by ok
       → Row (sideAt b (at r)) (n) (getD t r []) row sides ok′

@@ -1,13 +1,13 @@
 -- How the code reads routes: row by row, into the table and into sets of columns by side.
 use mathlib.Core.Path.{_≡_}
-use mathlib.Core.Bool.{Bool, _&&_}
+use mathlib.Core.Bool.{Bool, false, _&&_}
 use mathlib.Core.List.{List, []}
-use Prim.Native.Nat.{ℕ, _+_, _*_, _<_}
+use Prim.Native.Nat.{ℕ, _+_, _*_, _/_, _%_, _^_, _<_}
 use lib.Dec.{eqb, ltb}
-use lib.ListN.{getD, length, replicate}
+use lib.ListN.{getD, set, length, replicate}
 use Rattle.basis.specs.Bounded.{allBelow}
 use Rattle.basis.specs.Fold.{upTo, fill}
-use Rattle.sets.specs.Sets.{has}
+use Rattle.sets.specs.Sets.{has, single, either}
 use Rattle.fields.specs.Bits.{fieldOf}
 use Rattle.plan.specs.declared.Head.{Head}
 use Rattle.plan.specs.Head.{destinations}
@@ -19,19 +19,39 @@ use Rattle.plan.specs.Tables.{routesOf, routesOk}
 unfoldable pub sideAt : List ℕ → ℕ → ℕ → ℕ
 sideAt b at d = fieldOf b (at + 3 * d) 3
 
--- whether no column of sets by side has the side 4, 5 or 6
-unfoldable pub fitsOf : List ℕ → Bool
-fitsOf s = (eqb (getD s 4 0) 0 && eqb (getD s 5 0) 0) && eqb (getD s 6 0) 0
-
 -- the columns below k whose side is o
 abbrev pub Side : (ℕ → ℕ) → ℕ → ℕ → ℕ → Type 0
 Side g k o s = (i : ℕ) → has s i ≡ (ltb i k && eqb (g i) o)
 
--- n columns are put into a row and into sets by side
-pub record Sorted (g : ℕ → ℕ) (n : ℕ) (row row′ s : List ℕ) : Type 0 where
-  pub long : length s ≡ 8
-  pub filled : row′ ≡ upTo (fill g) n row
-  pub sets : (o : ℕ) → o < 8 → Side g n o (getD s o 0)
+-- ---- up to eight columns at a time, in one word
+-- a column's side is put into a row at d + k, and into a word as member k of the side's lane
+abbrev pub Put : ℕ → ℕ → ℕ → List ℕ → List ℕ → ℕ → ℕ → Type 0
+Put side d k row row′ s s′ = (row′ ≡ set row (d + k) side) × (s′ ≡ either s (single (8 * side + k)))
+
+-- m columns from d on are put into a row that holds those below d, and into a word: member k of lane o is column d + k
+-- of side o
+pub record Group (g : ℕ → ℕ) (d m : ℕ) (row row′ : List ℕ) (s : ℕ) : Type 0 where
+  pub filled : (first : List ℕ) → row ≡ upTo (fill g) d first → row′ ≡ upTo (fill g) (d + m) first
+  pub lanes : (o k : ℕ) → k < 8 → has s (8 * o + k) ≡ (ltb k m && eqb (g (d + k)) o)
+
+-- lane o of a word, as a set of columns from d on
+unfoldable pub laneOf : ℕ → ℕ → ℕ → ℕ
+laneOf s o d = s / 2 ^ (8 * o) % 2 ^ 8 * 2 ^ d % 2 ^ 64 % 2 ^ 32
+
+-- a word's lanes are put into the sets of the four sides
+pub record Laid (s d : ℕ) (sides sides′ : List ℕ) : Type 0 where
+  pub four : length sides′ ≡ 4
+  pub sets : (o : ℕ) → o < 4 → getD sides′ o 0 ≡ either (getD sides o 0) (laneOf s o d)
+
+-- whether lanes 4, 5 and 6 of a word have no member
+unfoldable pub fitsOf : ℕ → Bool
+fitsOf s = eqb (s / 2 ^ 32 % 2 ^ 24) 0
+
+-- ---- a row
+-- four sets without members
+pub record Empty (sides : List ℕ) : Type 0 where
+  pub four : length sides ≡ 4
+  pub none : (o i : ℕ) → o < 4 → has (getD sides o 0) i ≡ false
 
 -- a row of n columns, its sets by side, and whether each column has a side or none
 pub record Row (g : ℕ → ℕ) (n : ℕ) (row row′ sides : List ℕ) (ok : Bool) : Type 0 where

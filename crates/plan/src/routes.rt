@@ -5,16 +5,31 @@ use crate::counts::JOINTS_AT;
 use crate::counts::ROUTE_BITS;
 use crate::counts::ROUTER_BITS;
 use sets::either;
+use sets::long;
+use sets::long::with;
 ghost use mathlib.Core.Path.{_≡_};
-ghost use Prim.Native.Nat.{_≤_, _<_, _+_, _*_, _/_};
-ghost use lib.ListN.{length, getD, set, replicate};
+ghost use Prim.Native.Nat.{ℕ, _≤_, _<_, _+_, _*_, _/_, _%_};
+ghost use lib.ListN.{length};
 ghost use Rattle.fields.specs.Bits.{fieldOf};
-ghost use Rattle.sets.specs.Sets.{either};
+ghost use Rattle.sets.specs.Sets.{either, single};
 ghost use Rattle.plan.specs.Head.{Counts, bitCount};
-ghost use Rattle.plan.specs.Marks.{sideAt, fitsOf, Sorted, Row, NoRoutes, Routes};
+ghost use Rattle.plan.specs.Marks.{sideAt, fitsOf, laneOf, Put, Group, Laid, Empty, Row, NoRoutes, Routes};
 
 // What the table holds where the plan gives no side.
 pub const NO_SIDE: u8 = 7;
+
+// The columns that a word holds: column d + k of side v is member 8 * v + k, so that each side has a lane of eight members.
+const GROUP: usize = 8;
+
+// What the members of a lane, and those of a set of columns, are below as numbers.
+const LANE: u64 = 256;
+
+const COLUMNS: u64 = 4294967296;
+
+// The first member of lanes 4, 5 and 6, and what they are below as a number.
+const ODD_AT: usize = 32;
+
+const ODD: u64 = 16777216;
 
 // The route at a position, from the byte in which it ends and the one before.
 fn route(plan: &[u8], p: usize) -> usize
@@ -27,51 +42,119 @@ fn route(plan: &[u8], p: usize) -> usize
     ((both >> (7 - last % 8)) % 8) as usize
 }
 
-// A route is put into its row, and its column, as a set, into the set of its side.
-fn put(row: &mut [u8; 32], s: &mut [u32; 8], d: usize, side: usize, column: u32)
-    requires { ⌜ (d < 32) × (side < 8) ⌝ }
-    ensures { λ u. ⌜ (now (row .exit) ≡ set (now (row .entry)) d side)
-        × (now (s .exit) ≡ set (now (s .entry)) side (either (getD (now (s .entry)) side 0) column)) ⌝ }
+// The route that begins c bits behind a byte's first bit, from the byte in which it ends and the one before.
+fn near(plan: &[u8], i: usize, c: usize) -> usize
+    requires { ⌜ (1 ≤ i) × (i < 20000) × (c < 24) × (i + (c + 2) / 8 < length (now plan)) ⌝ }
+    ensures { λ r. ⌜ r ≡ fieldOf (now (plan .entry)) (8 * i + c) 3 ⌝ }
 {
-    row[d] = side as u8;
-    s[side] = either(s[side], column);
+    let last = c + ROUTE_BITS - 1;
+    let j = i + last / 8;
+    let both = plan[j - 1] as u32 * 256 + plan[j] as u32;
+    ((both >> (7 - last % 8)) % 8) as usize
 }
 
-// Whether no route is 4, 5 or 6.
-fn fits(s: &[u32; 8]) -> bool
-    ensures { λ r. ⌜ r ≡ fitsOf (now (s .entry)) ⌝ }
+// A side is put into the row at column d + k, and into the word as a member of the side's lane.
+fn put(row: &mut [u8; 32], s: u64, d: usize, k: usize, side: usize) -> u64
+    requires { ⌜ (k < 8) × (d + k < 32) × (side < 8) ⌝ }
+    ensures { λ r. ⌜ Put side d k (now (row .entry)) (now (row .exit)) s r ⌝ }
 {
-    (s[4] == 0) & (s[5] == 0) & (s[6] == 0)
+    row[d + k] = side as u8;
+    with(s, GROUP * side + k)
 }
 
-// The n routes of a row.
-fn sorted(plan: &[u8], n: usize, at: usize, row: &mut [u8; 32], s: &mut [u32; 8])
-    requires { ⌜ (n ≤ 32) × (6 ≤ at) × (at < 100000) × (at + 3 * n ≤ 8 * length (now plan))
-        × (now s ≡ replicate 8 0) ⌝ }
-    ensures { λ u. ⌜ Sorted (sideAt (now (plan .entry)) at) n (now (row .entry)) (now (row .exit)) (now (s .exit)) ⌝ }
+// Column d + k, whose route begins 3 * k bits behind a byte's first bit, is put into the row and the word.
+fn one(plan: &[u8], i: usize, d: usize, k: usize, row: &mut [u8; 32], s: u64) -> u64
+    requires { ⌜ (1 ≤ i) × (i < 20000) × (k < 8) × (d + k < 32) × (i + (3 * k + 2) / 8 < length (now plan)) ⌝ }
+    ensures { λ r. ⌜ Put (fieldOf (now (plan .entry)) (8 * i + 3 * k) 3) d k (now (row .entry)) (now (row .exit)) s r ⌝ }
 {
-    let mut column = 1u32;
-    for d in 0..n {
-        let side = route(plan, at + ROUTE_BITS * d);
-        put(row, s, d, side, column);
-        column = column << 1;
+    let side = near(plan, i, ROUTE_BITS * k);
+    put(row, s, d, k, side)
+}
+
+// The eight columns from d on, the first of which begins at a byte's first bit.
+fn eight(plan: &[u8], at: usize, d: usize, row: &mut [u8; 32]) -> u64
+    requires { ⌜ (d + 8 ≤ 32) × (6 ≤ at) × (at < 100000) × (at + 3 * (d + 8) ≤ 8 * length (now plan))
+        × ((at + 3 * d) % 8 ≡ 0) ⌝ }
+    ensures { λ s. ⌜ Group (sideAt (now (plan .entry)) at) d 8 (now (row .entry)) (now (row .exit)) s ⌝ }
+{
+    let i = (at + ROUTE_BITS * d) / 8;
+    let s0 = one(plan, i, d, 0, row, 0);
+    let s1 = one(plan, i, d, 1, row, s0);
+    let s2 = one(plan, i, d, 2, row, s1);
+    let s3 = one(plan, i, d, 3, row, s2);
+    let s4 = one(plan, i, d, 4, row, s3);
+    let s5 = one(plan, i, d, 5, row, s4);
+    let s6 = one(plan, i, d, 6, row, s5);
+    one(plan, i, d, 7, row, s6)
+}
+
+// The m columns from d on, at most eight, wherever they begin.
+fn some(plan: &[u8], m: usize, at: usize, d: usize, row: &mut [u8; 32]) -> u64
+    requires { ⌜ (m ≤ 8) × (d + m ≤ 32) × (6 ≤ at) × (at < 100000) × (at + 3 * (d + m) ≤ 8 * length (now plan)) ⌝ }
+    ensures { λ s. ⌜ Group (sideAt (now (plan .entry)) at) d m (now (row .entry)) (now (row .exit)) s ⌝ }
+{
+    let mut s = 0u64;
+    for k in 0..m {
+        let side = route(plan, at + ROUTE_BITS * (d + k));
+        s = put(row, s, d, k, side);
     }
+    s
 }
 
-// The routes of one router, n of them, whose bits start at a position, into its row and into sets of columns by side; answers
-// whether each is a side or none.
+// A side's lane of a word, as a set of columns from d on.
+fn lane(s: u64, o: usize, d: usize) -> u32
+    requires { ⌜ (o < 8) × (d ≤ 32) ⌝ }
+    ensures { λ r. ⌜ r ≡ laneOf s o d ⌝ }
+{
+    ((((s >> (GROUP * o)) % LANE) << d) % COLUMNS) as u32
+}
+
+// The lanes of the four sides are put into their sets.
+fn lay(sides: &mut [u32; 4], s: u64, d: usize)
+    requires { ⌜ (d ≤ 32) × (length (now sides) ≡ 4) ⌝ }
+    ensures { λ u. ⌜ Laid s d (now (sides .entry)) (now (sides .exit)) ⌝ }
+{
+    sides[0] = either(sides[0], lane(s, 0, d));
+    sides[1] = either(sides[1], lane(s, 1, d));
+    sides[2] = either(sides[2], lane(s, 2, d));
+    sides[3] = either(sides[3], lane(s, 3, d));
+}
+
+// How many of n columns come before the first that begins at a byte's first bit.
+fn lead(at: usize, n: usize) -> usize
+    requires { ⌜ (at < 100000) × (n ≤ 32) ⌝ }
+    ensures { λ r. ⌜ (r ≤ n) × (r < 8) × (r < n → (at + 3 * r) % 8 ≡ 0) ⌝ }
+{
+    let k = 5 * (at % 8) % 8;
+    if k < n { k } else { n }
+}
+
+// Whether the lanes of 4, 5 and 6, which are no sides, are empty.
+fn fits(s: u64) -> bool
+    ensures { λ r. ⌜ r ≡ fitsOf s ⌝ }
+{
+    (s >> ODD_AT) % ODD == 0
+}
+
+// The routes of one router, n of them, whose bits start at a position, into its row and into sets of columns by side, which are empty
+// before; answers whether each is a side or none.
 fn read_row(plan: &[u8], n: usize, at: usize, row: &mut [u8; 32], sides: &mut [u32; 4]) -> bool
-    requires { ⌜ (n ≤ 32) × (6 ≤ at) × (at < 100000) × (at + 3 * n ≤ 8 * length (now plan))
-        × (length (now sides) ≡ 4) ⌝ }
+    requires { ⌜ (n ≤ 32) × (6 ≤ at) × (at < 100000) × (at + 3 * n ≤ 8 * length (now plan)) × Empty (now sides) ⌝ }
     ensures { λ ok. ⌜ Row (sideAt (now (plan .entry)) at) n (now (row .entry)) (now (row .exit)) (now (sides .exit)) ok ⌝ }
 {
-    let mut s = [0u32; 8];
-    sorted(plan, n, at, row, &mut s);
-    sides[0] = s[0];
-    sides[1] = s[1];
-    sides[2] = s[2];
-    sides[3] = s[3];
-    fits(&s)
+    let f = lead(at, n);
+    let mut all = some(plan, f, at, 0, row);
+    lay(sides, all, 0);
+    let g = (n - f) / GROUP;
+    for j in 0..g {
+        let s = eight(plan, at, f + GROUP * j, row);
+        lay(sides, s, f + GROUP * j);
+        all = long::either(all, s);
+    }
+    let d = f + GROUP * g;
+    let s = some(plan, n - d, at, d, row);
+    lay(sides, s, d);
+    fits(long::either(all, s))
 }
 
 // The routes of all routers, into the table and into sets of destinations by router and side; answers whether each is a side

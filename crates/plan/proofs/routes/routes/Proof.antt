@@ -4,7 +4,7 @@ use Prim.Native.Nat.{_+_, _-_, _≤_, _*_}
 use borrow.Author.Needs.{needs}
 use native.Mathlib.Omega.{arith}
 use native.Mathlib.Nat.{mul-le-mul-right}
-use Rattle.plan.proofs.Routing.{Rows, rows-none, rows-more, rows-done}
+use Rattle.plan.proofs.Routing.{Rows, rows-none, rows-next, rows-more, rows-done}
 use Rattle.plan.proofs.routes.routes.Statement.{statement}
 use Rattle.plan.proofs.routes.routes.Tie as tie
 use Rattle.plan.proofs.routes.routes.Reads as reads
@@ -79,7 +79,7 @@ read-row-requires c κs =
     let inside = row-inside (c5 .before .before .args .h .actives + c5 .before .before .args .h .passives) (c .before
     .before .before .loop .r) (c5 .before .before .args .h .routers) (omega arith) in
     let long = c5 .before .before .pre .1 in
-    (omega arith, omega arith, omega arith, omega arith, c .before .before .before .loop .inv .1 .four _ (omega arith))
+    (omega arith, omega arith, omega arith, omega arith, rows-next _ _ _ _ (omega arith) (c .before .before .before .loop .inv .1))
 
 -- src/routes.rt:152:9
 add-r : tie.Need-add-r Inv-loop μ-loop

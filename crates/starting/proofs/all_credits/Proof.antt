@@ -19,8 +19,8 @@ returns : tie.Need-returns
 returns c =
     let c5 = c .before .before .before .before .before in
     let c10 = c5 .before .before .before .before .before in
-    all-groups _ (c10 .before .before .before .pre .0) _ (c10 .out-credits .ensures) (c5 .before .inner-credits .ensures)
-    (c .before .before .in-credits .ensures)
+    all-groups _ (c10 .before .before .before .pre .0) _ (c10 .out-credits .ensures)
+    (c5 .before .inner-credits .ensures) (c .before .before .in-credits .ensures)
 
 pub all-credits-spec : {M : Type 1} → statement M
 all-credits-spec =

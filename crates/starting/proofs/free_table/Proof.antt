@@ -36,7 +36,9 @@ add-lay c =
     omega arith
 
 slice-aggregate-lay : tie.Need-slice-aggregate-lay Inv-loop μ-loop
-slice-aggregate-lay c = sym (ap length (c .before .before .before .before .before .free-entries .ensures) ∙ length-free)
+slice-aggregate-lay c =
+    let c5 = c .before .before .before .before .before in
+    sym (ap length (c5 .free-entries .ensures) ∙ length-free)
 
 lay-requires : tie.Need-lay-requires Inv-loop μ-loop
 lay-requires c κs =
@@ -46,7 +48,11 @@ lay-requires c κs =
     (omega arith, omega arith)
 
 add-r : tie.Need-add-r Inv-loop μ-loop
-add-r c = let r = c .before .before .before .before .before .before .before .before .before .before .pre .0 .0 in omega arith
+add-r c =
+    let c5 = c .before .before .before .before .before in
+    let c10 = c5 .before .before .before .before .before in
+    let r = c10 .pre .0 .0 in
+    omega arith
 
 loop-less : tie.Need-loop-less Inv-loop μ-loop
 loop-less c = omega arith
@@ -54,13 +60,16 @@ loop-less c = omega arith
 loop-again : tie.Need-loop-again Inv-loop μ-loop
 loop-again c =
     let l = c .before .before .before .before .before .before .loop in
-    (omega arith, up-more _ _ _ (l .inv .1) (c .before .before .lay .ensures), c .before .before .lay .kept .0 ∙ l .inv .2)
+    let y = c .before .before .lay in
+    (omega arith, up-more _ _ _ (l .inv .1) (y .ensures), y .kept .0 ∙ l .inv .2)
 
 same-length : tie.Need-same-length Inv-loop μ-loop
 same-length c = c .before .loop .inv .2
 
 returns : tie.Need-returns Inv-loop μ-loop
-returns c = freed-as _ _ (c .before .before .table-row .ensures) (c .before .before .before .free-entries .ensures) (c .before .loop .inv .1) (omega arith)
+returns c =
+    freed-as _ _ (c .before .before .table-row .ensures) (c .before .before .before .free-entries .ensures)
+    (c .before .loop .inv .1) (omega arith)
 
 pub free-table-spec : {M : Type 1} → statement M
 free-table-spec =

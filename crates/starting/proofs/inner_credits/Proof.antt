@@ -11,7 +11,9 @@ use Rattle.starting.proofs.inner_credits.Statement.{statement}
 use Rattle.starting.proofs.inner_credits.Tie as tie
 
 abbrev Inv-loop : tie.InvT-loop
-Inv-loop s₀ t from n r₀ s r = (r ≤ n) × (s ≡ upTo (λ k x. credits (from + 21 * k) t 21 x) r s₀) × (length s ≡ length s₀)
+Inv-loop s₀ t from n r₀ s r =
+    (r ≤ n) × (s ≡ upTo (λ k x. credits (from + 21 * k) t 21 x) r s₀)
+    × (length s ≡ length s₀)
 
 abbrev μ-loop : tie.MeasureT-loop
 μ-loop s₀ t from n r₀ s r = n - r
@@ -39,7 +41,9 @@ add-lay-credits c =
     omega arith
 
 slice-aggregate-lay-credits : tie.Need-slice-aggregate-lay-credits Inv-loop μ-loop
-slice-aggregate-lay-credits c = sym (ap length (c .before .before .before .before .before .router-credits .ensures) ∙ length-router-credits _)
+slice-aggregate-lay-credits c =
+    let c5 = c .before .before .before .before .before in
+    sym (ap length (c5 .router-credits .ensures) ∙ length-router-credits _)
 
 lay-credits-requires : tie.Need-lay-credits-requires Inv-loop μ-loop
 lay-credits-requires c κs =
@@ -51,7 +55,11 @@ lay-credits-requires c κs =
     (omega arith, omega arith, omega arith)
 
 add-r : tie.Need-add-r Inv-loop μ-loop
-add-r c = let r = c .before .before .before .before .before .before .before .before .before .before .pre .0 .0 in omega arith
+add-r c =
+    let c5 = c .before .before .before .before .before in
+    let c10 = c5 .before .before .before .before .before in
+    let r = c10 .pre .0 .0 in
+    omega arith
 
 loop-less : tie.Need-loop-less Inv-loop μ-loop
 loop-less c = omega arith
@@ -59,7 +67,8 @@ loop-less c = omega arith
 loop-again : tie.Need-loop-again Inv-loop μ-loop
 loop-again c =
     let l = c .before .before .before .before .before .before .loop in
-    (omega arith, up-more _ _ _ (l .inv .1) (c .before .before .lay-credits .ensures), c .before .before .lay-credits .kept .0 ∙ l .inv .2)
+    let y = c .before .before .lay-credits in
+    (omega arith, up-more _ _ _ (l .inv .1) (y .ensures), y .kept .0 ∙ l .inv .2)
 
 same-length : tie.Need-same-length Inv-loop μ-loop
 same-length c = c .before .loop .inv .2

@@ -37,18 +37,20 @@ full-requires c κs =
     let pre = c .before .before .before .before .before .before .pre in
     let n = c .before .before .before .before .output-count .ensures in
     let at = c .before .before .before .output-row .ensures in
-    let w = wire-within (tablePlan _ _ _) (table-head _ _ _) (c .before .before .loop .m)
-    (c .before .before .before .output-row .result + 7 * c .before .before .loop .m) (omega arith) (omega arith)
-    (delivers-at (table-head _ _ _) (pre .0 .range) (pre .0 .wired) (omega arith) (c .before .before .loop .inv .1) (pre .1)) in
+    let l = c .before .before .loop in
+    let w = wire-within (tablePlan _ _ _) (table-head _ _ _) (l .m)
+    (c .before .before .before .output-row .result + 7 * l .m) (omega arith) (omega arith)
+    (delivers-at (table-head _ _ _) (pre .0 .range) (pre .0 .wired) (omega arith) (l .inv .1) (pre .1)) in
     omega arith
 
 deliver-requires : tie.Need-deliver-requires Inv-loop μ-loop
 deliver-requires c κs =
     let pre = c .before .before .before .before .before .before .before .before .before .pre in
-    let n = c .before .before .before .before .before .before .before .output-count .ensures in (
+    let n = c .before .before .before .before .before .before .before .output-count .ensures in
+    let l = c .before .before .before .before .before .loop in (
       pre .0,
       omega arith,
-      delivers-at (table-head _ _ _) (pre .0 .range) (pre .0 .wired) (omega arith) (c .before .before .before .before .before .loop .inv .1) (pre .1),
+      delivers-at (table-head _ _ _) (pre .0 .range) (pre .0 .wired) (omega arith) (l .inv .1) (pre .1),
     )
 
 add-m : tie.Need-add-m Inv-loop μ-loop
@@ -62,21 +64,22 @@ loop-again c =
     let pre = c .before .before .before .before .before .before .before .before .pre in
     let n = c .before .before .before .before .before .before .output-count .ensures in
     let at = c .before .before .before .before .before .output-row .ensures in
-    let inv = c .before .before .before .before .loop .inv in
+    let l = c .before .before .before .before .loop in
     ⊎-elim
     (λ w. (
       omega arith,
-      delivers-more (table-head _ _ _) (pre .0 .range) (pre .0 .wired) (omega arith) (inv .1) (w .2 .ensures) (w .5),
-      ap length (w .5) ∙ w .2 .kept .1 .1 .1 .1 .0 ∙ inv .2,
+      delivers-more (table-head _ _ _) (pre .0 .range) (pre .0 .wired) (omega arith) (l .inv .1)
+          (w .2 .ensures) (w .5),
+      ap length (w .5) ∙ w .2 .kept .1 .1 .1 .1 .0 ∙ l .inv .2,
     ))
     (λ w. (
       omega arith,
-      delivers-more (table-head _ _ _) (pre .0 .range) (pre .0 .wired) (omega arith) (inv .1)
-          (deliver-idle (tablePlan _ _ _) (table-head _ _ _) (c .before .before .before .before .loop .m)
-          (c .before .before .before .before .before .output-row .result + 7 * c .before .before .before .before .loop .m)
-          (omega arith) (omega arith) _ (c .before .full .ensures)
-          (w .0 .left)) (w .1),
-      ap length (w .1) ∙ inv .2,
+      delivers-more (table-head _ _ _) (pre .0 .range) (pre .0 .wired) (omega arith) (l .inv .1)
+          (deliver-idle (tablePlan _ _ _) (table-head _ _ _) (l .m)
+          (c .before .before .before .before .before .output-row .result + 7 * l .m) (omega arith) (omega arith) _
+          (c .before .full .ensures) (w .0 .left))
+          (w .1),
+      ap length (w .1) ∙ l .inv .2,
     ))
     (c .if1 .came)
 
@@ -84,7 +87,9 @@ same-length : tie.Need-same-length Inv-loop μ-loop
 same-length c = c .before .loop .inv .2
 
 returns : tie.Need-returns Inv-loop μ-loop
-returns c = let n = c .before .before .before .output-count .ensures in steps-done _ _ (c .before .loop .inv .1) (omega arith)
+returns c =
+    let n = c .before .before .before .output-count .ensures in
+    steps-done _ _ (c .before .loop .inv .1) (omega arith)
 
 pub deliver-all-spec : {M : Type 1} → statement M
 deliver-all-spec =

@@ -37,18 +37,20 @@ picked-requires c κs =
     let pre = c .before .before .before .before .before .before .pre in
     let n = c .before .before .before .before .output-count .ensures in
     let at = c .before .before .before .output-row .ensures in
-    let w = choice-within (tablePlan _ _ _) (table-head _ _ _) (c .before .before .loop .m)
-    (c .before .before .before .output-row .result + 7 * c .before .before .loop .m) (omega arith) (omega arith)
-    (sends-at (table-head _ _ _) (pre .0 .range) (pre .0 .wired) (omega arith) (c .before .before .loop .inv .1) (pre .1)) in
+    let l = c .before .before .loop in
+    let w = choice-within (tablePlan _ _ _) (table-head _ _ _) (l .m)
+    (c .before .before .before .output-row .result + 7 * l .m) (omega arith) (omega arith)
+    (sends-at (table-head _ _ _) (pre .0 .range) (pre .0 .wired) (omega arith) (l .inv .1) (pre .1)) in
     omega arith
 
 send-requires : tie.Need-send-requires Inv-loop μ-loop
 send-requires c κs =
     let pre = c .before .before .before .before .before .before .before .before .before .pre in
-    let n = c .before .before .before .before .before .before .before .output-count .ensures in (
+    let n = c .before .before .before .before .before .before .before .output-count .ensures in
+    let l = c .before .before .before .before .before .loop in (
       pre .0,
       omega arith,
-      sends-at (table-head _ _ _) (pre .0 .range) (pre .0 .wired) (omega arith) (c .before .before .before .before .before .loop .inv .1) (pre .1),
+      sends-at (table-head _ _ _) (pre .0 .range) (pre .0 .wired) (omega arith) (l .inv .1) (pre .1),
     )
 
 add-m : tie.Need-add-m Inv-loop μ-loop
@@ -62,19 +64,22 @@ loop-again c =
     let pre = c .before .before .before .before .before .before .before .before .pre in
     let n = c .before .before .before .before .before .before .output-count .ensures in
     let at = c .before .before .before .before .before .output-row .ensures in
-    let inv = c .before .before .before .before .loop .inv in
+    let l = c .before .before .before .before .loop in
     ⊎-elim
     (λ w. (
       omega arith,
-      sends-more (table-head _ _ _) (pre .0 .range) (pre .0 .wired) (omega arith) (inv .1) (w .2 .ensures) (w .5),
-      ap length (w .5) ∙ w .2 .kept .1 .1 .1 .1 .0 ∙ inv .2,
+      sends-more (table-head _ _ _) (pre .0 .range) (pre .0 .wired) (omega arith) (l .inv .1)
+          (w .2 .ensures) (w .5),
+      ap length (w .5) ∙ w .2 .kept .1 .1 .1 .1 .0 ∙ l .inv .2,
     ))
     (λ w. (
       omega arith,
-      sends-more (table-head _ _ _) (pre .0 .range) (pre .0 .wired) (omega arith) (inv .1)
-          (send-none (tablePlan _ _ _) (table-head _ _ _) (c .before .before .before .before .loop .m) (c .before .before .before .before .before .output-row .result + 7 * c .before .before .before .before .loop .m)
-          (omega arith) (omega arith) _ (eqb-true _ _ (not-false _ (sym (c .before .picked .ensures) ∙ w .0 .left)))) (w .1),
-      ap length (w .1) ∙ inv .2,
+      sends-more (table-head _ _ _) (pre .0 .range) (pre .0 .wired) (omega arith) (l .inv .1)
+          (send-none (tablePlan _ _ _) (table-head _ _ _) (l .m)
+          (c .before .before .before .before .before .output-row .result + 7 * l .m) (omega arith) (omega arith) _
+          (eqb-true _ _ (not-false _ (sym (c .before .picked .ensures) ∙ w .0 .left))))
+          (w .1),
+      ap length (w .1) ∙ l .inv .2,
     ))
     (c .if1 .came)
 
@@ -82,7 +87,9 @@ same-length : tie.Need-same-length Inv-loop μ-loop
 same-length c = c .before .loop .inv .2
 
 returns : tie.Need-returns Inv-loop μ-loop
-returns c = let n = c .before .before .before .output-count .ensures in steps-done _ _ (c .before .loop .inv .1) (omega arith)
+returns c =
+    let n = c .before .before .before .output-count .ensures in
+    steps-done _ _ (c .before .loop .inv .1) (omega arith)
 
 pub send-all-spec : {M : Type 1} → statement M
 send-all-spec =

@@ -18,7 +18,7 @@ use Rattle.plan.specs.Head.{destinations}
 use Rattle.acts.specs.Counts.{outputCount, outputsFrom}
 use Rattle.states.specs.Forms.{zeros}
 use Rattle.states.proofs.Bytes.{zeros-byte}
-use Rattle.forms.specs.Bytes.{wordAt, IdleRow, IdleRows, IdleSide, IdleRouter, QuietBytes}
+use Rattle.forms.specs.Bytes.{fourAt, wordAt, IdleRow, IdleRows, IdleSide, IdleRouter, QuietBytes}
 
 -- ---- the digits of two words together
 pub or-none : (a b : ℕ) → bitOr a b ≡ 0 → (a ≡ 0) × (b ≡ 0)
@@ -62,44 +62,53 @@ zeros-two i n j m t b e f h l q = all-of t _ (λ k g. at k g (lt-or-ge k n))
     at k g (inl a) = eq-eqb (getD b (i + k) 0) 0 (zeros-byte i n (i + k) b e (omega arith) (omega arith))
     at k g (inr a) = eq-eqb (getD b (i + k) 0) 0 (zeros-byte j m (i + k) b f (omega arith) (omega arith))
 
--- ---- a word of zero bytes, and a word that is a byte
+-- ---- four zero bytes; and four bytes that make a byte's number
 byte-none : (b : List ℕ) (i : ℕ) → getD b i 0 ≡ 0 → eqb (getD b i 0) 0 ≡ true
 byte-none b i e = eq-eqb (getD b i 0) 0 e
 
-pub word-none : (i : ℕ) (b : List ℕ) → wordAt i b ≡ 0 → zeros i 8 b ≡ true
-unfolding wordAt zeros
-word-none i b e = all-of 8 _ at
+four-none : (i : ℕ) (b : List ℕ) → fourAt i b ≡ 0 → zeros i 4 b ≡ true
+unfolding fourAt zeros
+four-none i b e = all-of 4 _ at
   where
-    at : (k : ℕ) → k < 8 → eqb (getD b (i + k) 0) 0 ≡ true
+    at : (k : ℕ) → k < 4 → eqb (getD b (i + k) 0) 0 ≡ true
     at zero l = rw (add-zero i) (byte-none b i (omega arith))
     at (suc zero) l = byte-none b (i + 1) (omega arith)
     at (suc (suc zero)) l = byte-none b (i + 2) (omega arith)
     at (suc (suc (suc zero))) l = byte-none b (i + 3) (omega arith)
-    at (suc (suc (suc (suc zero)))) l = byte-none b (i + 4) (omega arith)
-    at (suc (suc (suc (suc (suc zero))))) l = byte-none b (i + 5) (omega arith)
-    at (suc (suc (suc (suc (suc (suc zero)))))) l = byte-none b (i + 6) (omega arith)
-    at (suc (suc (suc (suc (suc (suc (suc zero))))))) l = byte-none b (i + 7) (omega arith)
-    at (suc (suc (suc (suc (suc (suc (suc (suc k)))))))) l = absurd (omega arith)
+    at (suc (suc (suc (suc k)))) l = absurd (omega arith)
 
-pub word-byte : (i cap : ℕ) (b : List ℕ) → cap < 256 → wordAt i b ≡ cap
-    → (getD b i 0 ≡ cap) × (zeros (i + 1) 7 b ≡ true)
-unfolding wordAt zeros
-word-byte i cap b h e = (omega arith, all-of 7 _ at)
+four-byte : (i cap : ℕ) (b : List ℕ) → cap < 256 → fourAt i b ≡ cap
+    → (getD b i 0 ≡ cap) × (zeros (i + 1) 3 b ≡ true)
+unfolding fourAt zeros
+four-byte i cap b h e = (omega arith, all-of 3 _ at)
   where
     after : (k : ℕ) → getD b (i + suc k) 0 ≡ 0 → eqb (getD b (i + 1 + k) 0) 0 ≡ true
     after k z =
         let q : i + 1 + k ≡ i + suc k = omega arith in
-        eq-eqb (getD b (i + 1 + k) 0) 0 (ap (λ j. getD b j 0) q ∙ z)
+        byte-none b (i + 1 + k) (ap (λ j. getD b j 0) q ∙ z)
 
-    at : (k : ℕ) → k < 7 → eqb (getD b (i + 1 + k) 0) 0 ≡ true
+    at : (k : ℕ) → k < 3 → eqb (getD b (i + 1 + k) 0) 0 ≡ true
     at zero l = after 0 (omega arith)
     at (suc zero) l = after 1 (omega arith)
     at (suc (suc zero)) l = after 2 (omega arith)
-    at (suc (suc (suc zero))) l = after 3 (omega arith)
-    at (suc (suc (suc (suc zero)))) l = after 4 (omega arith)
-    at (suc (suc (suc (suc (suc zero))))) l = after 5 (omega arith)
-    at (suc (suc (suc (suc (suc (suc zero)))))) l = after 6 (omega arith)
-    at (suc (suc (suc (suc (suc (suc (suc k))))))) l = absurd (omega arith)
+    at (suc (suc (suc k))) l = absurd (omega arith)
+
+-- ---- a word of zero bytes, and a word that is a byte
+word-none : (i : ℕ) (b : List ℕ) → wordAt i b ≡ 0 → zeros i 8 b ≡ true
+unfolding wordAt
+word-none i b e =
+    zeros-two i 4 (i + 4) 4 8 b (four-none i b (omega arith)) (four-none (i + 4) b (omega arith)) (omega arith)
+    (omega arith) (omega arith)
+
+word-byte : (i cap : ℕ) (b : List ℕ) → cap < 256 → wordAt i b ≡ cap
+    → (getD b i 0 ≡ cap) × (zeros (i + 1) 7 b ≡ true)
+unfolding wordAt
+word-byte i cap b h e =
+    let first = four-byte i cap b h (omega arith) in (
+      first .0,
+      zeros-two (i + 1) 3 (i + 4) 4 7 b (first .1) (four-none (i + 4) b (omega arith)) (omega arith)
+          (omega arith) (omega arith),
+    )
 
 -- ---- a row of 39 bytes by its five words, of which the last begins within the fourth
 pub row-idle : (i cap : ℕ) (b : List ℕ) → cap < 256 → wordAt i b ≡ cap

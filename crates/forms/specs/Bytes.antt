@@ -12,12 +12,12 @@ use Rattle.plan.specs.Head.{destinations}
 use Rattle.acts.specs.Counts.{outputCount, outputsFrom}
 use Rattle.states.specs.Forms.{zeros}
 
--- eight bytes from i on as a number, the first the lowest
+-- four bytes from i on as a number, the first the lowest; and eight
+unfoldable pub fourAt : ℕ → List ℕ → ℕ
+fourAt i b = getD b i 0 + 256 * getD b (i + 1) 0 + 65536 * getD b (i + 2) 0 + 16777216 * getD b (i + 3) 0
+
 unfoldable pub wordAt : ℕ → List ℕ → ℕ
-wordAt i b =
-    getD b i 0 + 256 * getD b (i + 1) 0 + 65536 * getD b (i + 2) 0 + 16777216 * getD b (i + 3) 0
-    + 4294967296 * getD b (i + 4) 0 + 1099511627776 * getD b (i + 5) 0 + 281474976710656 * getD b (i + 6) 0
-    + 72057594037927936 * getD b (i + 7) 0
+wordAt i b = fourAt i b + 4294967296 * fourAt (i + 4) b
 
 -- a queue's row at i with no packet, no flag, no mark and all its credit
 pub record IdleRow (b : List ℕ) (i cap : ℕ) : Type 0 where

@@ -9,9 +9,16 @@ ghost use Rattle.basis.specs.Choice.{also};
 ghost use Rattle.plan.specs.Head.{InRange, destinations};
 ghost use Rattle.acts.specs.Counts.{stateSize};
 ghost use Rattle.states.specs.Forms.{zeros};
-ghost use Rattle.forms.specs.Bytes.{wordAt, IdleRow, IdleRows, IdleSide, IdleRouter, QuietBytes};
+ghost use Rattle.forms.specs.Bytes.{fourAt, wordAt, IdleRow, IdleRows, IdleSide, IdleRouter, QuietBytes};
 
 pub mod sides;
+
+// A byte as a number.
+fn low(x: u8) -> u32
+    ensures { λ v. ⌜ (v ≡ x) × (v < 256) ⌝ }
+{
+    x as u32
+}
 
 // A byte as a word.
 fn wide(x: u8) -> u64
@@ -39,19 +46,27 @@ pub fn zeros(s: &[u8], i: usize, n: usize) -> bool
     any == 0
 }
 
-// Eight bytes as a word.
+// Four bytes as a number, the first the lowest.
+pub fn four(s: &[u8], i: usize) -> u32
+    requires { ⌜ i + 4 ≤ length (now s) ⌝ }
+    ensures { λ v. ⌜ v ≡ fourAt i (now (s .entry)) ⌝ }
+{
+    low(s[i]) + 256 * low(s[i + 1]) + 65536 * low(s[i + 2]) + 16777216 * low(s[i + 3])
+}
+
+// Four bytes' number as a word.
+fn half(x: u32) -> u64
+    ensures { λ v. ⌜ (v ≡ x) × (v < 4294967296) ⌝ }
+{
+    x as u64
+}
+
+// Eight bytes as a word, four and four.
 fn word(s: &[u8], i: usize) -> u64
     requires { ⌜ i + 8 ≤ length (now s) ⌝ }
     ensures { λ v. ⌜ v ≡ wordAt i (now (s .entry)) ⌝ }
 {
-    wide(s[i])
-        + 256 * wide(s[i + 1])
-        + 65536 * wide(s[i + 2])
-        + 16777216 * wide(s[i + 3])
-        + 4294967296 * wide(s[i + 4])
-        + 1099511627776 * wide(s[i + 5])
-        + 281474976710656 * wide(s[i + 6])
-        + 72057594037927936 * wide(s[i + 7])
+    half(four(s, i)) + 4294967296 * half(four(s, i + 4))
 }
 
 // Whether a queue's row is idle: all its credit, and else zero bytes.

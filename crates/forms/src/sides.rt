@@ -124,20 +124,13 @@ pub fn sides_ok(s: &[u8], i: usize, n: usize, slots: usize) -> bool
     sides_from(s, i, m, n, slots)
 }
 
-// A byte as a number.
-fn low(x: u8) -> u32
-    ensures { λ v. ⌜ (v ≡ x) × (v < 256) ⌝ }
-{
-    x as u32
-}
-
 // Whether each active's allowance and what it has spent make the whole.
 pub fn allowances_ok(s: &[u8], i: usize, n: usize, full: u8, spent: &[u8; 16]) -> bool
     requires { ⌜ (i + n ≤ length (now s)) × (n ≤ 16) ⌝ }
     ensures { λ r. ⌜ r ≡ allowancesFit i n full (now (spent .entry)) (now (s .entry)) ⌝ }
 {
     for a in 0..n {
-        if low(s[i + a]) + low(spent[a]) != low(full) {
+        if super::low(s[i + a]) + super::low(spent[a]) != super::low(full) {
             return false;
         }
     }

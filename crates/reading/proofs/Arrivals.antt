@@ -1,12 +1,16 @@
 -- Deliveries: along READ every packet on a wire finds a place in its next queue, and what the code stores is what the
 -- rule makes of the state.
-use mathlib.Core.Path.{_≡_, sym, ap, _∙_}
+use mathlib.Core.Path.{_≡_, refl, sym, ap, _∙_}
+use mathlib.Core.Bool.{Bool, false, not}
 use mathlib.Core.List.{List}
 use mathlib.Core.Option.{Option, some}
 use Prim.Native.Nat.{ℕ, _+_, _*_, _≤_, _<_}
+use native.Mathlib.Nat.{add-zero}
 use native.Mathlib.Omega.{arith}
-use lib.ListN.{length}
+use lib.Dec.{eqb}
+use lib.ListN.{length, getD}
 use lib.Seq.{sets}
+use borrow.Author.Tests.{not-false, eqb-true}
 use Rattle.basis.specs.Fold.{upTo, up-keeps}
 use Rattle.packets.specs.declared.Packet.{Packet}
 use Rattle.packets.specs.declared.Wire.{Wire}
@@ -29,9 +33,11 @@ use Rattle.theory.proofs.Ground.Sums.{sum-term}
 use Rattle.theory.proofs.Places.Lines.{belongs-exists}
 use Rattle.theory.proofs.Account.Paid.{next-fed}
 use Rattle.theory.proofs.Keeps.{deliver-core}
-use Rattle.layout.specs.Offsets.{places, queueRow, outputRow}
+use Rattle.layout.specs.Offsets.{places, queueRow, outputRow, wireByte, wirePacket}
+use Rattle.layout.specs.Codes.{flagOf}
+use Rattle.layout.specs.Places.{packetAt}
 use Rattle.layout.specs.Encode.{encode, wireBytes}
-use Rattle.layout.specs.Decode.{wireAt, lengthAt, capacity-most}
+use Rattle.layout.specs.Decode.{wireFrom, wireAt, lengthAt, capacity-most}
 use Rattle.layout.specs.Updates.{pushAt}
 use Rattle.layout.proofs.Readings.{wire-at, length-at}
 use Rattle.layout.proofs.Updates.{put-wire, push-queue}
@@ -125,6 +131,14 @@ module _ (pl : Plan) {h : Head} (e : pl .head ≡ h) (m i : ℕ) (below : m < ou
         done = λ s rest a f.
             f ∙ ap (λ (u : Wire). encode pl (arrive pl (outputAt pl m) u s) rest) (sym (wire-is s rest b w f g ∙ z));
       }
+
+  -- the same by the wire's first byte
+  pub deliver-idle : (b : List ℕ) {r : Bool} → r ≡ not (eqb (getD b i 0) 0) → r ≡ false
+      → Steps pl (Arriving pl m) (delivery pl m) b b
+  deliver-idle b g z =
+      let none : getD b (i + wireByte) 0 ≡ 0 =
+      ap (λ (k : ℕ). getD b k 0) (add-zero i) ∙ eqb-true _ _ (not-false _ (sym g ∙ z)) in
+      deliver-none b (sym (ap (λ (v : ℕ). wireFrom (flagOf v) (packetAt (i + wirePacket) b)) none)) refl
 
   -- a packet on the wire
   module _ {b : List ℕ} {w : Wire} {x : Packet} (g : w ≡ wireAt i b) (full : w ≡ Full x) where

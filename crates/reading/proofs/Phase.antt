@@ -39,9 +39,10 @@ module _ {pl : Plan} {h : Head} (e : pl .head ≡ h) (range : InRange h) (wired 
     delivers-at g = holds-then pl g x core-then
 
     -- a turn
-    pub delivers-more : {d : List ℕ} → Steps pl (Arriving pl m) (delivery pl m) c d
-        → Steps pl (Core pl) (upTo (delivery pl) (m + 1)) b d
-    delivers-more y = steps-more pl (delivery pl) m x core-then y
+    pub delivers-more : {d u : List ℕ} → Steps pl (Arriving pl m) (delivery pl m) c d → u ≡ d
+        → Steps pl (Core pl) (upTo (delivery pl) (m + 1)) b u
+    delivers-more y q =
+        steps-more pl (delivery pl) m x core-then (record { done = λ s rest a f. q ∙ y .done s rest a f })
 
   -- ---- the phase
   -- a state in a phase is whole

@@ -13,7 +13,11 @@ use rows::phase_code;
 use rows::push;
 use rows::put_wire;
 use rows::wire_at;
-ghost use Prim.Native.Nat.{_≤_, _<_};
+ghost use mathlib.Core.Path.{_≡_};
+ghost use mathlib.Core.Bool.{not};
+ghost use Prim.Native.Nat.{_+_, _*_, _≤_, _<_};
+ghost use lib.Dec.{eqb};
+ghost use lib.ListN.{getD, length};
 ghost use Rattle.basis.specs.Fold.{upTo};
 ghost use Rattle.packets.specs.declared.Phase.the-variants.{Read};
 ghost use Rattle.plan.specs.Head.{Counts};
@@ -29,6 +33,11 @@ ghost use Rattle.reading.specs.Reading.{delivery, Arriving, Flagged, Set
 const PHASE_BYTE: usize = 0;
 
 const FLAG_BYTE: usize = 1;
+
+// The bytes of an output's row, and which of them is the wire's first.
+const OUTPUT_BYTES: usize = 7;
+
+const WIRE_BYTE: usize = 0;
 
 // The wire of output m: a packet on it joins its next queue, and the wire empties.
 fn deliver(
@@ -56,6 +65,14 @@ fn deliver(
     push(s, queue_row(n), x);
 }
 
+// Whether a packet is on the wire of output m; the outputs' rows begin at `from`.
+fn full(s: &[u8], from: usize, m: usize) -> bool
+    requires { ⌜ from + 7 * m < length (now s) ⌝ }
+    ensures { λ r. ⌜ r ≡ not (eqb (getD (now (s .entry)) (from + 7 * m) 0) 0) ⌝ }
+{
+    s[from + OUTPUT_BYTES * m + WIRE_BYTE] != 0
+}
+
 // Every wire's packet joins its queue.
 fn deliver_all(h: Head, routes: &[[u8; 32]; 16], joints: &[u8; 64], homes: &[u8; 32], s: &mut [u8])
     requires { ⌜ Wiring h (now routes) (now joints) (now homes)
@@ -66,8 +83,11 @@ fn deliver_all(h: Head, routes: &[[u8; 32]; 16], joints: &[u8; 64], homes: &[u8;
         (now (s .entry)) (now (s .exit)) ⌝ }
 {
     let count = output_count(h);
+    let from = output_row(h, 0);
     for m in 0..count {
-        deliver(h, routes, joints, homes, s, m);
+        if full(s, from, m) {
+            deliver(h, routes, joints, homes, s, m);
+        }
     }
 }
 

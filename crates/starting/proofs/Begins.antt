@@ -17,13 +17,13 @@ use Rattle.layout.specs.Offsets.{size, entries, allowancesAt}
 use Rattle.layout.specs.Places.{placeBytes}
 use Rattle.layout.specs.Encode.{queueBytes, outputBytes, encode}
 use Rattle.acts.specs.Counts.{queueCount, allowancesFrom, tableFrom, stateSize, queues-by, size-by, allowances-at}
-use Rattle.starting.specs.Starting.{Started, zeros, cleared, laid, credits, freeEntries, sixteen, routerCredits}
-use Rattle.starting.specs.Starting.{creditOf, credited, allowanceOf}
-use Rattle.starting.proofs.Zeros.{length-zeros, zeros-split, zeros-rows, laid-zero}
+use Rattle.starting.specs.Starting.{Started, zeros, cleared, laid, credits, freeEntries, freed, sixteen}
+use Rattle.starting.specs.Starting.{routerCredits, innerCredits, creditOf, credited, allowanceOf}
+use Rattle.starting.proofs.Zeros.{length-zeros, zeros-split, zeros-rows, freed-zero}
 use Rattle.starting.proofs.Fills.{filled}
 use Rattle.starting.proofs.Credits.{sixteen-at, free-at, credit-of, active-out-credit, passive-out-credit}
-use Rattle.starting.proofs.Credits.{router-part, active-in-credit, passive-in-credit, router-credits-at}
-use Rattle.starting.proofs.Credits.{credited-none, credited-more}
+use Rattle.starting.proofs.Credits.{active-in-credit, passive-in-credit, credited-none, credited-more}
+use Rattle.starting.proofs.Credits.{credited-inner}
 
 module _ (pl : Plan) (rest : List ℕ) where
   -- ---- the parts of a state's bytes: the header, the queues' rows, the outputs' rows, the allowances, the table
@@ -146,6 +146,22 @@ pub laid-as : (n : ℕ) (b : List ℕ) {at from : ℕ} {t u d : List ℕ} → at
     → d ≡ laid from u n b
 laid-as n b e f g = g ∙ ap₂ (λ (i : ℕ) (x : List ℕ). laid i x n b) e f
 
+-- the entries of the routers one after the other
+pub freed-as : (n : ℕ) (b : List ℕ) {at from i : ℕ} {t d : List ℕ} → at ≡ from → t ≡ freeEntries
+    → d ≡ upTo (λ r x. laid (at + 256 * r) t 256 x) i b → i ≡ n → d ≡ freed from n b
+unfolding freed
+freed-as n b {at} {from} {i} {t} e f g q =
+    g ∙ ap (λ (k : ℕ). upTo (λ r x. laid (at + 256 * r) t 256 x) k b) q
+    ∙ ap₂ (λ (a : ℕ) (u : List ℕ). upTo (λ r x. laid (a + 256 * r) u 256 x) n b) e f
+
+-- and the credits of their queues
+pub inner-as : (h : Head) (n : ℕ) (b : List ℕ) {i : ℕ} {t d : List ℕ} → t ≡ routerCredits h
+    → d ≡ upTo (λ r x. credits (destinations h + 21 * r) t 21 x) i b → i ≡ n → d ≡ innerCredits h n b
+unfolding innerCredits
+inner-as h n b {i} {t} f g q =
+    g ∙ ap (λ (k : ℕ). upTo (λ r x. credits (destinations h + 21 * r) t 21 x) k b) q
+    ∙ ap (λ (u : List ℕ). upTo (λ r x. credits (destinations h + 21 * r) u 21 x) n b) f
+
 -- two groups of queues, one after the other
 pub two-groups : (m k n l : ℕ) (b : List ℕ) {t u v w c d : List ℕ} → t ≡ v → c ≡ credits m t k b → u ≡ w
     → d ≡ credits n u l c → d ≡ credits n w l (credits m v k b)
@@ -153,14 +169,14 @@ two-groups m k n l b e f g i =
     i ∙ ap₂ (λ (x y : List ℕ). credits n x l y) g (f ∙ ap (λ (x : List ℕ). credits m x k b) e)
 
 -- out-queues, routers' queues, in-queues
-pub all-groups : (h : Head) → Counts h → (b : List ℕ) {c d e t : List ℕ}
+pub all-groups : (h : Head) → Counts h → (b : List ℕ) {c d e : List ℕ}
     → c ≡ credits (h .actives) (sixteen (h .pout .0)) (h .passives)
     (credits 0 (sixteen (h .aout .0)) (h .actives) b)
-    → t ≡ routerCredits h → d ≡ credits (destinations h) t (21 * h .routers) c
+    → d ≡ innerCredits h (h .routers) c
     → e ≡ credits (destinations h + 21 * h .routers + h .actives) (sixteen (h .pin .0)) (h .passives)
     (credits (destinations h + 21 * h .routers) (sixteen (h .ain .0)) (h .actives) d)
     → e ≡ credited h (queueCount h) b
-all-groups h few b {c} p q r i =
+all-groups h few b {c} p r i =
     let fa = few .1 in
     let fp = few .2 in
     let one = credited-more h b 0 (h .actives) (sixteen (h .aout .0))
@@ -172,9 +188,7 @@ all-groups h few b {c} p q r i =
     (credits 0 (sixteen (h .aout .0)) (h .actives) b)) (sym (zero-add (h .actives)))) in
     let known : c ≡ credited h (destinations h) b =
     two ∙ ap (λ (n : ℕ). credited h (n + h .passives) b) (zero-add (h .actives)) in
-    let three = credited-more h b (destinations h) (21 * h .routers) (routerCredits h)
-    (λ j l. router-credits-at h few j l ∙ sym (router-part h j l)) known
-    (r ∙ ap (λ (x : List ℕ). credits (destinations h) x (21 * h .routers) c) q) in
+    let three = credited-inner h b (h .routers) (omega arith) known r in
     let four = credited-more h b (destinations h + 21 * h .routers) (h .actives) (sixteen (h .ain .0))
     (λ i l. sixteen-at (h .ain .0) i (omega arith) ∙ sym (active-in-credit h i l)) three refl in
     let five = credited-more h b (destinations h + 21 * h .routers + h .actives) (h .passives) (sixteen (h .pin .0))
@@ -184,17 +198,15 @@ all-groups h few b {c} p q r i =
 
 -- all of Start
 pub start-made : {h : Head} → InRange h → {at : ℕ} {b c d e f : List ℕ} → stateSize h ≤ length b → at ≡ tableFrom h
-    → c ≡ cleared at b → d ≡ laid (tableFrom h) freeEntries (256 * h .routers) c → e ≡ credited h (queueCount h) d
+    → c ≡ cleared at b → d ≡ freed (tableFrom h) (h .routers) c → e ≡ credited h (queueCount h) d
     → f ≡ laid (allowancesFrom h) (sixteen (allowanceOf h)) (h .actives) e → Started h b f
 start-made {h} range {at} {b} long i p q r s =
-    let few = range .routers .1 in
-    let zero-table : laid (tableFrom h) freeEntries (256 * h .routers) (cleared (tableFrom h) b)
-    ≡ cleared (stateSize h) b =
-    laid-zero (tableFrom h) freeEntries (256 * h .routers) b (λ i l. free-at i (omega arith)) long in
+    let zero-table : freed (tableFrom h) (h .routers) (cleared (tableFrom h) b) ≡ cleared (stateSize h) b =
+    freed-zero (tableFrom h) (h .routers) b free-at long in
     started range
     (s ∙ ap (laid (allowancesFrom h) (sixteen (allowanceOf h)) (h .actives))
     (r ∙ ap (credited h (queueCount h))
-    (q ∙ ap (laid (tableFrom h) freeEntries (256 * h .routers)) (p ∙ ap (λ (n : ℕ). cleared n b) i) ∙ zero-table)))
+    (q ∙ ap (freed (tableFrom h) (h .routers)) (p ∙ ap (λ (n : ℕ). cleared n b) i) ∙ zero-table)))
 
 -- what the steps ask: counts that are few, and a length that stays
 pub few-counts : {h : Head} → InRange h → Counts h

@@ -1,22 +1,22 @@
 -- The credit of each queue by its number is its capacity; and the arrays that are stored hold these credits.
 use mathlib.Core.Path.{_≡_, refl, sym, ap, ap₂, _∙_}
 use mathlib.Core.List.{List}
-use Prim.Native.Nat.{ℕ, zero, suc, _+_, _*_, _-_, _/_, _%_, _<_}
+use Prim.Native.Nat.{ℕ, zero, suc, _+_, _*_, _-_, _/_, _%_, _≤_, _<_}
 use native.Mathlib.Nat.{add-zero, add-suc}
 use native.Mathlib.Omega.{arith}
 use lib.Dec.{eqb, ltb}
 use lib.ListN.{length, getD, set, replicate, length-replicate}
 use borrow.Author.Tests.{lt-ltb, le-ltb, ne-eqb}
 use Rattle.basis.specs.Choice.{pick, pick-out}
-use Rattle.basis.specs.Fold.{upTo, fill-at, length-fill}
+use Rattle.basis.specs.Fold.{upTo, up-keeps-at, fill-at, length-fill}
 use Rattle.plan.specs.declared.Head.{Head}
 use Rattle.plan.specs.Head.{Counts, destinations}
 use Rattle.plan.specs.Plan.{Plan, A}
 use Rattle.feeding.specs.Queue.{Queue, activeOut, activeIn, passiveIn, passiveOut, U, Q, outs, inBase, senderAt}
 use Rattle.feeding.specs.Queue.{inRouter, queueAt}
 use Rattle.machine.specs.Capacity.{capacity}
-use Rattle.starting.specs.Starting.{credits, freeEntries, sixteen, routerCredit, routerCredits, creditOf}
-use Rattle.starting.specs.Starting.{credited}
+use Rattle.starting.specs.Starting.{credits, freeEntries, sixteen, routerCredit, routerCredits, innerCredits}
+use Rattle.starting.specs.Starting.{creditOf, credited}
 
 -- ---- equal bytes
 same-at : (n : ℕ) (v i : ℕ) → i < n → getD (replicate n v) i 0 ≡ v
@@ -32,13 +32,13 @@ pub length-sixteen : (v : ℕ) → length (sixteen v) ≡ 16
 unfolding sixteen
 length-sixteen v = length-replicate 16 v
 
-pub free-at : (i : ℕ) → i < 4096 → getD freeEntries i 0 ≡ 0
+pub free-at : (i : ℕ) → i < 256 → getD freeEntries i 0 ≡ 0
 unfolding freeEntries
-free-at i l = same-at 4096 0 i l
+free-at i l = same-at 256 0 i l
 
-pub length-free : length freeEntries ≡ 4096
+pub length-free : length freeEntries ≡ 256
 unfolding freeEntries
-length-free = length-replicate {A = ℕ} 4096 0
+length-free = length-replicate {A = ℕ} 256 0
 
 -- ---- capacities by number
 module _ (h : Head) where
@@ -84,14 +84,15 @@ module _ (h : Head) (i : ℕ) where
   passive-out-credit l =
       rw (le-ltb (h .actives + i) (h .actives) (omega arith), lt-ltb (h .actives + i) (destinations h) (omega arith))
 
-  pub router-part : i < 21 * h .routers → creditOf h (destinations h + i) ≡ routerCredit h (i % 21)
+  pub router-part : (r : ℕ) → r < h .routers → i < 21 → creditOf h (destinations h + 21 * r + i) ≡ routerCredit h i
   unfolding creditOf
-  router-part l =
-      let e : destinations h + i - destinations h ≡ i = omega arith in
+  router-part r g l =
+      let n : ℕ = destinations h + 21 * r + i in
+      let e : (n - destinations h) % 21 ≡ i = omega arith in
       rw (
-        le-ltb (destinations h + i) (h .actives) (omega arith),
-        le-ltb (destinations h + i) (destinations h) (omega arith),
-        lt-ltb (destinations h + i) (destinations h + 21 * h .routers) (omega arith),
+        le-ltb n (h .actives) (omega arith),
+        le-ltb n (destinations h) (omega arith),
+        lt-ltb n (destinations h + 21 * h .routers) (omega arith),
         e,
       )
 
@@ -118,20 +119,16 @@ module _ (h : Head) (i : ℕ) where
         le-ltb n (destinations h + 21 * h .routers + h .actives) (omega arith),
       )
 
--- the array of all routers' credits
-pub router-credits-at : (h : Head) → Counts h → (j : ℕ) → j < 21 * h .routers
-    → getD (routerCredits h) j 0 ≡ routerCredit h (j % 21)
+-- the array of a router's credits
+pub router-credits-at : (h : Head) (i : ℕ) → i < 21 → getD (routerCredits h) i 0 ≡ routerCredit h i
 unfolding routerCredits
-router-credits-at h few j l =
-    let m = few .0 in
-    fill-at (λ j. routerCredit h (j % 21)) (21 * h .routers) (replicate 336 (h .k .0)) j 0 l
-    (rw length-replicate (omega arith))
+router-credits-at h i l =
+    fill-at (routerCredit h) 21 (replicate 21 (h .k .0)) i 0 l (rw length-replicate (omega arith))
 
-pub length-router-credits : (h : Head) → length (routerCredits h) ≡ 336
+pub length-router-credits : (h : Head) → length (routerCredits h) ≡ 21
 unfolding routerCredits
 length-router-credits h =
-    length-fill (λ j. routerCredit h (j % 21)) (21 * h .routers) (replicate 336 (h .k .0))
-    ∙ length-replicate 336 (h .k .0)
+    length-fill (routerCredit h) 21 (replicate 21 (h .k .0)) ∙ length-replicate 21 (h .k .0)
 
 -- ---- stored
 module _ (h : Head) (b : List ℕ) where
@@ -152,3 +149,17 @@ module _ (h : Head) (b : List ℕ) where
   pub credited-more : (m k : ℕ) (t : List ℕ) {c d : List ℕ} → ((i : ℕ) → i < k → getD t i 0 ≡ creditOf h (m + i))
       → c ≡ credited h m b → d ≡ credits m t k c → d ≡ credited h (m + k) b
   credited-more m k t same e f = f ∙ ap (credits m t k) e ∙ more m k t same
+
+  -- the queues of n routers, behind the out-queues
+  pub credited-inner : (n : ℕ) → n ≤ h .routers → {c d : List ℕ} → c ≡ credited h (destinations h) b
+      → d ≡ innerCredits h n c → d ≡ credited h (destinations h + 21 * n) b
+  unfolding innerCredits
+  credited-inner n few {c} e f =
+      f ∙ up-keeps-at (λ r x. x ≡ credited h (destinations h + 21 * r) b)
+      (λ r x. credits (destinations h + 21 * r) (routerCredits h) 21 x) n c
+      (λ r x l q.
+      let k : destinations h + 21 * r + 21 ≡ destinations h + 21 * suc r = omega arith in
+      credited-more (destinations h + 21 * r) 21 (routerCredits h)
+      (λ i g. router-credits-at h i g ∙ sym (router-part h i r (omega arith) g)) q refl
+      ∙ ap (λ (m : ℕ). credited h m b) k)
+      (e ∙ ap (λ (m : ℕ). credited h m b) (sym (add-zero (destinations h))))

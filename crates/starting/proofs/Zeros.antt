@@ -7,10 +7,10 @@ use native.Mathlib.Numerals.{add-one}
 use native.Mathlib.Omega.{arith}
 use lib.ListN.{length, getD, set, drop, length-replicate}
 use lib.Seq.{drop-cons}
-use Rattle.basis.specs.Fold.{upTo}
+use Rattle.basis.specs.Fold.{upTo, up-keeps-at}
 use Rattle.layout.specs.Rows.{rows, past}
 use Rattle.layout.proofs.Lines.{set-behind}
-use Rattle.starting.specs.Starting.{zeros, cleared, laid}
+use Rattle.starting.specs.Starting.{zeros, cleared, laid, freeEntries, freed}
 
 pub length-zeros : (n : ℕ) → length (zeros n) ≡ n
 unfolding zeros
@@ -67,3 +67,15 @@ laid-zero at t (suc n) b z l =
     ap (λ (c : List ℕ). set c (at + n) (getD t n 0)) (laid-zero at t n b (λ i k. z i (omega arith)) (omega arith))
     ∙ ap (λ (v : ℕ). set (cleared (at + n) b) (at + n) v) (z n (omega arith))
     ∙ cleared-more (at + n) b (omega arith) ∙ ap (λ (k : ℕ). cleared k b) e
+
+-- a router's entries after the other's
+pub freed-zero : (at n : ℕ) (b : List ℕ) → ((i : ℕ) → i < 256 → getD freeEntries i 0 ≡ 0) → at + 256 * n ≤ length b
+    → freed at n (cleared at b) ≡ cleared (at + 256 * n) b
+unfolding freed
+freed-zero at n b z l =
+    up-keeps-at (λ r x. x ≡ cleared (at + 256 * r) b) (λ r x. laid (at + 256 * r) freeEntries 256 x) n (cleared at b)
+    (λ r x g q.
+    let k : at + 256 * r + 256 ≡ at + 256 * suc r = omega arith in
+    ap (laid (at + 256 * r) freeEntries 256) q ∙ laid-zero (at + 256 * r) freeEntries 256 b z (omega arith)
+    ∙ ap (λ (m : ℕ). cleared m b) k)
+    (ap (λ (m : ℕ). cleared m b) (sym (add-zero at)))

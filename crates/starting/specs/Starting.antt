@@ -36,9 +36,12 @@ unfoldable pub credits : ℕ → List ℕ → ℕ → List ℕ → List ℕ
 credits from t n b = upTo (λ i c. set c (2 + 39 * (from + i)) (getD t i 0)) n b
 
 -- ---- the arrays
--- 'table empty': two bytes for each of 32 slots on four sides of 16 routers
+-- 'table empty': two bytes for each of 32 slots on four sides of a router; and for each of n routers from an offset on
 unfoldable pub freeEntries : List ℕ
-freeEntries = replicate 4096 0
+freeEntries = replicate 256 0
+
+unfoldable pub freed : ℕ → ℕ → List ℕ → List ℕ
+freed at n b = upTo (λ r c. laid (at + 256 * r) freeEntries 256 c) n b
 
 -- one value for each of 16 interfaces
 unfoldable pub sixteen : ℕ → List ℕ
@@ -49,9 +52,12 @@ abbrev pub routerCredit : Head → ℕ → ℕ
 routerCredit h k =
     pick (ltb k 4) (h .u .0) (pick (eqb k 4) (h .q .0) (pick (eqb ((k - 5) % 4) 0) (h .f .0) (h .k .0)))
 
--- of the queues of all routers, router by router
+-- of a router's queues; and stored for each of n routers
 unfoldable pub routerCredits : Head → List ℕ
-routerCredits h = upTo (fill (λ j. routerCredit h (j % 21))) (21 * h .routers) (replicate 336 (h .k .0))
+routerCredits h = upTo (fill (routerCredit h)) 21 (replicate 21 (h .k .0))
+
+unfoldable pub innerCredits : Head → ℕ → List ℕ → List ℕ
+innerCredits h n b = upTo (λ r c. credits (destinations h + 21 * r) (routerCredits h) 21 c) n b
 
 -- and of every queue by its number
 unfoldable pub creditOf : Head → ℕ → ℕ

@@ -6,8 +6,8 @@ ghost use Prim.Native.Nat.{_+_, _*_, _≤_, _<_, min};
 ghost use lib.ListN.{length};
 ghost use Rattle.plan.specs.Head.{InRange, Counts, destinations};
 ghost use Rattle.acts.specs.Counts.{queueCount, allowancesFrom, tableFrom, stateSize};
-ghost use Rattle.starting.specs.Starting.{Started, cleared, laid, credits, freeEntries, sixteen};
-ghost use Rattle.starting.specs.Starting.{routerCredit, routerCredits, credited, allowanceOf};
+ghost use Rattle.starting.specs.Starting.{Started, cleared, laid, credits, freeEntries, freed, sixteen};
+ghost use Rattle.starting.specs.Starting.{routerCredits, innerCredits, credited, allowanceOf};
 
 // A free entry's byte.
 const FREE: u8 = 0;
@@ -42,11 +42,11 @@ fn lay_credits(s: &mut [u8], from: usize, t: &[u8], n: usize)
     }
 }
 
-// 'table empty': the entries of 16 routers.
-fn free_entries() -> [u8; 4096]
+// 'table empty': the entries of a router.
+fn free_entries() -> [u8; 256]
     ensures { λ t. ⌜ t ≡ freeEntries ⌝ }
 {
-    [FREE; 4096]
+    [FREE; 256]
 }
 
 // One value for each of 16 interfaces.
@@ -56,43 +56,34 @@ fn same(v: u8) -> [u8; 16]
     [v; 16]
 }
 
-// 'credit of each queue fed by a wire = its capacity': of a router's k-th queue.
-fn router_credit(h: Head, k: usize) -> u8
-    ensures { λ v. ⌜ v ≡ routerCredit h k ⌝ }
-{
-    if k < 4 {
-        return h.u.0;
-    }
-    if k == 4 {
-        return h.q.0;
-    }
-    if (k - 5) % 4 == 0 {
-        return h.f.0;
-    }
-    h.k.0
-}
-
-// The credits of all routers' queues, router by router.
-fn router_credits(h: Head) -> [u8; 336]
-    requires { ⌜ Counts h ⌝ }
+// 'credit of each queue fed by a wire = its capacity': of a router's queues, U, Q, and on each side F and three K.
+fn router_credits(h: Head) -> [u8; 21]
     ensures { λ t. ⌜ t ≡ routerCredits h ⌝ }
 {
-    let n = 21 * h.routers;
-    let mut t = [h.k.0; 336];
-    for j in 0..n {
-        t[j] = router_credit(h, j % 21);
-    }
+    let mut t = [h.k.0; 21];
+    t[0] = h.u.0;
+    t[1] = h.u.0;
+    t[2] = h.u.0;
+    t[3] = h.u.0;
+    t[4] = h.q.0;
+    t[5] = h.f.0;
+    t[9] = h.f.0;
+    t[13] = h.f.0;
+    t[17] = h.f.0;
     t
 }
 
-// 'table empty'
+// 'table empty', router by router.
 fn free_table(h: Head, s: &mut [u8])
     requires { ⌜ Counts h × (stateSize h ≤ length (now s)) ⌝ }
-    ensures { λ _. ⌜ now (s .exit) ≡ laid (tableFrom h) freeEntries (256 * h .routers) (now (s .entry)) ⌝ }
+    ensures { λ _. ⌜ now (s .exit) ≡ freed (tableFrom h) (h .routers) (now (s .entry)) ⌝ }
 {
     let t = free_entries();
     let at = acts::table_row(h);
-    lay(s, at, &t, 256 * h.routers);
+    let n = h.routers;
+    for r in 0..n {
+        lay(s, at + 256 * r, &t, 256);
+    }
 }
 
 // The smaller of two capacities.
@@ -139,14 +130,26 @@ fn in_credits(h: Head, s: &mut [u8])
     lay_credits(s, n + h.actives, &p, h.passives);
 }
 
+// The credits of the routers' queues, router by router.
+fn inner_credits(h: Head, s: &mut [u8])
+    requires { ⌜ Counts h × (stateSize h ≤ length (now s)) ⌝ }
+    ensures { λ _. ⌜ now (s .exit) ≡ innerCredits h (h .routers) (now (s .entry)) ⌝ }
+{
+    let t = router_credits(h);
+    let from = h.actives + h.passives;
+    let n = h.routers;
+    for r in 0..n {
+        lay_credits(s, from + 21 * r, &t, 21);
+    }
+}
+
 // 'credit of each queue fed by a wire = its capacity'
 fn all_credits(h: Head, s: &mut [u8])
     requires { ⌜ Counts h × (stateSize h ≤ length (now s)) ⌝ }
     ensures { λ _. ⌜ now (s .exit) ≡ credited h (queueCount h) (now (s .entry)) ⌝ }
 {
     out_credits(h, s);
-    let t = router_credits(h);
-    lay_credits(s, h.actives + h.passives, &t, 21 * h.routers);
+    inner_credits(h, s);
     in_credits(h, s);
 }
 

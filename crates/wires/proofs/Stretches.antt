@@ -13,7 +13,8 @@ use Rattle.basis.specs.Choice.{refuted}
 use Rattle.basis.specs.Bounded.{all-of, lt-or-ge}
 use Rattle.states.specs.Forms.{zeros}
 use Rattle.states.proofs.Bytes.{zeros-byte}
-use Rattle.wires.specs.Outputs.{fourAt, fullAt}
+use Rattle.forms.specs.Bytes.{fourAt}
+use Rattle.wires.specs.Outputs.{fullAt}
 
 -- bytes that are zero
 pub zeros-of : (i n : ℕ) (b : List ℕ) → ((k : ℕ) → k < n → getD b (i + k) 0 ≡ 0) → zeros i n b ≡ true

@@ -17,10 +17,6 @@ use Rattle.layout.specs.Decode.{decode}
 use Rattle.states.specs.Check.{outputRowTest, outputsPart}
 use Rattle.lines.specs.Tally.{Tallied}
 
--- four bytes from i on as one number
-unfoldable pub fourAt : ℕ → List ℕ → ℕ
-fourAt i b = getD b i 0 + 256 * getD b (i + 1) 0 + 65536 * getD b (i + 2) 0 + 16777216 * getD b (i + 3) 0
-
 -- the row at i has a full wire, with a packet of one of four kinds, and nobody is picked
 unfoldable pub fullAt : ℕ → List ℕ → Bool
 fullAt i b = also (eqb (getD b (i + 6) 0) 0) (also (eqb (getD b i 0) 1) (leb (getD b (i + 1) 0) 3))

@@ -1,5 +1,6 @@
 // The outputs' rows of a state: whether each wire's packet belongs where it goes, how many packets are on the way to
 // each queue, and what the packets on wires have spent; and whether each output picked one that it may pick.
+use forms::four;
 use packets::Packet;
 use plan::Head;
 ghost use mathlib.Core.Path.{_≡_};
@@ -13,24 +14,9 @@ ghost use Rattle.acts.specs.Counts.{stateSize, outputCount, outputsFrom};
 ghost use Rattle.states.specs.Forms.{zeros};
 ghost use Rattle.states.specs.Check.{outputsPart};
 ghost use Rattle.lines.specs.Ready.{Ready};
-ghost use Rattle.wires.specs.Outputs.{fourAt, fullAt, UpTo, Carried, OutputChecked, OutputsChecked};
+ghost use Rattle.wires.specs.Outputs.{fullAt, UpTo, Carried, OutputChecked, OutputsChecked};
 
 pub mod picks;
-
-// A byte as a word.
-fn wide(x: u8) -> u32
-    ensures { λ v. ⌜ (v ≡ x) × (v < 256) ⌝ }
-{
-    x as u32
-}
-
-// Four bytes as a word.
-fn four(s: &[u8], i: usize) -> u32
-    requires { ⌜ i + 4 ≤ length (now s) ⌝ }
-    ensures { λ v. ⌜ v ≡ fourAt i (now (s .entry)) ⌝ }
-{
-    wide(s[i]) + 256 * wide(s[i + 1]) + 65536 * wide(s[i + 2]) + 16777216 * wide(s[i + 3])
-}
 
 // Whether 4 + k bytes from i on are zero, k at most 4.
 fn blank(s: &[u8], i: usize, k: usize) -> bool

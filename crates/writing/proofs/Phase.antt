@@ -62,9 +62,10 @@ module _ {pl : Plan} {h : Head} (e : pl .head ≡ h) (range : InRange h) (wired 
     sends-at g = holds-then pl g x picked-then
 
     -- a turn
-    pub sends-more : {d : List ℕ} → Steps pl (Picking pl m) (sending pl m) c d
-        → Steps pl (Picked pl) (upTo (sending pl) (m + 1)) b d
-    sends-more y = steps-more pl (sending pl) m x picked-then y
+    pub sends-more : {d u : List ℕ} → Steps pl (Picking pl m) (sending pl m) c d → u ≡ d
+        → Steps pl (Picked pl) (upTo (sending pl) (m + 1)) b u
+    sends-more y q =
+        steps-more pl (sending pl) m x picked-then (record { done = λ s rest a f. q ∙ y .done s rest a f })
 
   -- ---- the phase
   picked-of : (s : State) → In pl Write s → Picked pl s

@@ -18,7 +18,9 @@ use rows::phase_code;
 use rows::pop;
 use rows::put_wire;
 ghost use mathlib.Core.Path.{_≡_};
+ghost use mathlib.Core.Bool.{not};
 ghost use Prim.Native.Nat.{suc, _+_, _*_, _≤_, _<_};
+ghost use lib.Dec.{eqb};
 ghost use lib.ListN.{getD, length};
 ghost use Rattle.basis.specs.Fold.{upTo};
 ghost use Rattle.packets.specs.declared.Phase.the-variants.{Write};
@@ -44,6 +46,9 @@ const MARK_BYTE: usize = 2;
 const FIRST_PLACE: usize = 4;
 
 const CHOICE_BYTE: usize = 6;
+
+// The bytes of an output's row.
+const OUTPUT_BYTES: usize = 7;
 
 // A rank as a number.
 fn rank(k: u8) -> usize
@@ -140,6 +145,14 @@ fn send(
     enter(s, i, next(h, routes, joints, homes, m, x), x);
 }
 
+// Whether output m picked somebody; the outputs' rows begin at `from`.
+fn picked(s: &[u8], from: usize, m: usize) -> bool
+    requires { ⌜ from + 7 * m + 6 < length (now s) ⌝ }
+    ensures { λ r. ⌜ r ≡ not (eqb (getD (now (s .entry)) (from + 7 * m + 6) 0) 0) ⌝ }
+{
+    s[from + OUTPUT_BYTES * m + CHOICE_BYTE] != 0
+}
+
 // Every output has its turn.
 fn send_all(h: Head, routes: &[[u8; 32]; 16], joints: &[u8; 64], homes: &[u8; 32], s: &mut [u8])
     requires { ⌜ Wiring h (now routes) (now joints) (now homes)
@@ -150,8 +163,11 @@ fn send_all(h: Head, routes: &[[u8; 32]; 16], joints: &[u8; 64], homes: &[u8; 32
         (now (s .entry)) (now (s .exit)) ⌝ }
 {
     let count = output_count(h);
+    let from = output_row(h, 0);
     for m in 0..count {
-        send(h, routes, joints, homes, s, m);
+        if picked(s, from, m) {
+            send(h, routes, joints, homes, s, m);
+        }
     }
 }
 

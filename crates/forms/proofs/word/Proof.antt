@@ -1,200 +1,47 @@
-use native.Mathlib.Omega.{arith}
 use borrow.Author.Needs.{needs}
 use Rattle.forms.proofs.word.Statement.{statement}
 use Rattle.forms.proofs.word.Tie as tie
 
--- src/lib.rt:46:10
-shared-slice-read-wide : tie.Need-shared-slice-read-wide
-shared-slice-read-wide c = search needs
+four-requires : tie.Need-four-requires
+four-requires c κs = search needs
 
--- src/lib.rt:46:5
-wide-requires : tie.Need-wide-requires
-wide-requires c κs = search needs
+half-requires : tie.Need-half-requires
+half-requires c κs = search needs
 
--- src/lib.rt:46:31
-add-wide : tie.Need-add-wide
-add-wide c = search needs
+add-four : tie.Need-add-four
+add-four c = search needs
 
--- src/lib.rt:46:29
-shared-slice-read-wide-2 : tie.Need-shared-slice-read-wide-2
-shared-slice-read-wide-2 c = search needs
+four-requires-2 : tie.Need-four-requires-2
+four-requires-2 c κs = search needs
 
--- src/lib.rt:46:24
-wide-requires-2 : tie.Need-wide-requires-2
-wide-requires-2 c κs = search needs
+half-requires-2 : tie.Need-half-requires-2
+half-requires-2 c κs = search needs
 
--- src/lib.rt:46:18
 mul-result : tie.Need-mul-result
 mul-result c = search needs
 
--- src/lib.rt:46:5
 add-result : tie.Need-add-result
 add-result c = search needs
 
--- src/lib.rt:46:56
-add-wide-2 : tie.Need-add-wide-2
-add-wide-2 c = search needs
-
--- src/lib.rt:46:54
-shared-slice-read-wide-3 : tie.Need-shared-slice-read-wide-3
-shared-slice-read-wide-3 c = search needs
-
--- src/lib.rt:46:49
-wide-requires-3 : tie.Need-wide-requires-3
-wide-requires-3 c κs = search needs
-
--- src/lib.rt:46:41
-mul-result-2 : tie.Need-mul-result-2
-mul-result-2 c = search needs
-
--- src/lib.rt:46:5
-add-result-2 : tie.Need-add-result-2
-add-result-2 c = search needs
-
--- src/lib.rt:46:84
-add-wide-3 : tie.Need-add-wide-3
-add-wide-3 c = search needs
-
--- src/lib.rt:46:82
-shared-slice-read-wide-4 : tie.Need-shared-slice-read-wide-4
-shared-slice-read-wide-4 c = search needs
-
--- src/lib.rt:46:77
-wide-requires-4 : tie.Need-wide-requires-4
-wide-requires-4 c κs = search needs
-
--- src/lib.rt:46:66
-mul-result-3 : tie.Need-mul-result-3
-mul-result-3 c = search needs
-
--- src/lib.rt:46:5
-add-result-3 : tie.Need-add-result-3
-add-result-3 c = search needs
-
--- src/lib.rt:47:31
-add-wide-4 : tie.Need-add-wide-4
-add-wide-4 c = search needs
-
--- src/lib.rt:47:29
-shared-slice-read-wide-5 : tie.Need-shared-slice-read-wide-5
-shared-slice-read-wide-5 c = search needs
-
--- src/lib.rt:47:24
-wide-requires-5 : tie.Need-wide-requires-5
-wide-requires-5 c κs = search needs
-
--- src/lib.rt:47:11
-mul-result-4 : tie.Need-mul-result-4
-mul-result-4 c = search needs
-
--- src/lib.rt:46:5
-add-result-4 : tie.Need-add-result-4
-add-result-4 c = search needs
-
--- src/lib.rt:47:64
-add-wide-5 : tie.Need-add-wide-5
-add-wide-5 c = search needs
-
--- src/lib.rt:47:62
-shared-slice-read-wide-6 : tie.Need-shared-slice-read-wide-6
-shared-slice-read-wide-6 c = search needs
-
--- src/lib.rt:47:57
-wide-requires-6 : tie.Need-wide-requires-6
-wide-requires-6 c κs = search needs
-
--- src/lib.rt:47:41
-mul-result-5 : tie.Need-mul-result-5
-mul-result-5 c = search needs
-
--- src/lib.rt:46:5
-add-result-5 : tie.Need-add-result-5
-add-result-5 c = search needs
-
--- src/lib.rt:47:99
-add-wide-6 : tie.Need-add-wide-6
-add-wide-6 c = search needs
-
--- src/lib.rt:47:97
-shared-slice-read-wide-7 : tie.Need-shared-slice-read-wide-7
-shared-slice-read-wide-7 c = search needs
-
--- src/lib.rt:47:92
-wide-requires-7 : tie.Need-wide-requires-7
-wide-requires-7 c κs = search needs
-
--- src/lib.rt:47:74
-mul-result-6 : tie.Need-mul-result-6
-mul-result-6 c = search needs
-
--- src/lib.rt:46:5
-add-result-6 : tie.Need-add-result-6
-add-result-6 c = search needs
-
--- src/lib.rt:48:38
-add-wide-7 : tie.Need-add-wide-7
-add-wide-7 c = search needs
-
--- src/lib.rt:48:36
-shared-slice-read-wide-8 : tie.Need-shared-slice-read-wide-8
-shared-slice-read-wide-8 c = search needs
-
--- src/lib.rt:48:31
-wide-requires-8 : tie.Need-wide-requires-8
-wide-requires-8 c κs = search needs
-
--- src/lib.rt:48:11
-mul-result-7 : tie.Need-mul-result-7
-mul-result-7 c = search needs
-
--- src/lib.rt:46:5
-add-result-7 : tie.Need-add-result-7
-add-result-7 c = search needs
-
--- src/lib.rt:42:1
 returns : tie.Need-returns
 unfolding Rattle.forms.specs.Bytes.wordAt
-returns c = omega arith
+returns c =
+    simp (
+      c .before .before .half .ensures .0,
+      c .before .before .before .four .ensures,
+      c .half2 .ensures .0,
+      c .before .four2 .ensures,
+    )
 
 pub word-spec : {M : Type 1} → statement M
 word-spec =
     tie.close
     (tie.spec
-    shared-slice-read-wide
-    wide-requires
-    add-wide
-    shared-slice-read-wide-2
-    wide-requires-2
+    four-requires
+    half-requires
+    add-four
+    four-requires-2
+    half-requires-2
     mul-result
     add-result
-    add-wide-2
-    shared-slice-read-wide-3
-    wide-requires-3
-    mul-result-2
-    add-result-2
-    add-wide-3
-    shared-slice-read-wide-4
-    wide-requires-4
-    mul-result-3
-    add-result-3
-    add-wide-4
-    shared-slice-read-wide-5
-    wide-requires-5
-    mul-result-4
-    add-result-4
-    add-wide-5
-    shared-slice-read-wide-6
-    wide-requires-6
-    mul-result-5
-    add-result-5
-    add-wide-6
-    shared-slice-read-wide-7
-    wide-requires-7
-    mul-result-6
-    add-result-6
-    add-wide-7
-    shared-slice-read-wide-8
-    wide-requires-8
-    mul-result-7
-    add-result-7
     returns)

@@ -14,9 +14,10 @@ use Rattle.basis.specs.Choice.{pick, test, refuted, affirmed, not-both}
 use Rattle.basis.specs.Bounded.{Found, find, below-suc, or-cases, or-right}
 use Rattle.basis.specs.Fold.{up-keeps, up-keeps-at}
 use Rattle.basis.specs.Ring.{Ring, Leads, follow, ringTest, ring-of-test, test-of-ring}
-use Rattle.sets.specs.Sets.{has, single, both, either, less}
-use Rattle.sets.specs.Laws.{has-both, has-either, has-less, has-single, no-member, less-le}
-use Rattle.peel.specs.Words.{leadsTo, stayOf, upOf, downOf, someOf, firstOf}
+use Rattle.sets.specs.Sets.{has, single, both, either, less, lowest, rest}
+use Rattle.sets.specs.Laws.{has-both, has-either, has-less, has-single, has-rest, no-member, less-le}
+use Rattle.sets.specs.Laws.{lowest-is, rest-less}
+use Rattle.peel.specs.Words.{leadsTo, stayOf, downOf, someOf, firstOf, Left, Swept}
 use Rattle.peel.proofs.Laws.{not-empty}
 
 -- ---- a set that is not empty has a member
@@ -32,13 +33,8 @@ member s h = by (find s (has s))
     by (inr none) = absurd (h (no-member s s (under-pow s) none))
 
 module _ (succ : List ℕ) (n : ℕ) where
-  -- ---- what is left in the rounds: all nodes of rings, and no others than the n
-  pub record Left (left : ℕ) : Type 0 where
-    pub keeps : (r : Ring (Leads n (leadsTo succ))) (i : ℕ) → i ≤ r .size → has left (r .node i) ≡ true
-    pub within : (x : ℕ) → has left x ≡ true → x < n
-
-  -- a node of a ring leads to one that is left
-  leads-on : (left : ℕ) → Left left → (r : Ring (Leads n (leadsTo succ))) (i : ℕ) → i ≤ r .size
+  -- ---- a node of a ring leads to one that is left
+  leads-on : (left : ℕ) → Left succ n left → (r : Ring (Leads n (leadsTo succ))) (i : ℕ) → i ≤ r .size
       → both (getD succ (r .node i) 0) left ≢ 0
   leads-on left k r i b = by (below-suc {n = r .size} (omega arith))
     where
@@ -57,12 +53,12 @@ module _ (succ : List ℕ) (n : ℕ) where
   abbrev goesFrom : ℕ → ℕ → Bool
   goesFrom x left = has left x && eqb (both (getD succ x 0) left) 0
 
-  left-stay : (x left : ℕ) → Left left → Left (stayOf succ x left)
+  left-stay : (x left : ℕ) → Left succ n left → Left succ n (stayOf succ x left)
   unfolding stayOf
   left-stay x left k = by (test (goesFrom x left))
     where
       by : (goesFrom x left ≡ true) ⊎ (goesFrom x left ≡ false)
-          → Left (pick (goesFrom x left) (less left (single x)) left)
+          → Left succ n (pick (goesFrom x left) (less left (single x)) left)
       by (inr e) = rw e k
       by (inl e) = rw e (record { keeps = stays; within = λ y t. k .within y (was y t) })
         where
@@ -83,14 +79,10 @@ module _ (succ : List ℕ) (n : ℕ) where
                 k .keeps r i b,
               )
 
-  pub left-down : {left after : ℕ} → after ≡ downOf succ n left → Left left → Left after
+  pub left-down : {left after : ℕ} → after ≡ downOf succ n left → Left succ n left → Left succ n after
   unfolding downOf
   left-down {left} e k =
-      rw e (up-keeps Left (λ i. stayOf succ (n - 1 - i)) n left (λ i t h q. left-stay (n - 1 - i) t q) k)
-
-  pub left-up : {left after : ℕ} → after ≡ upOf succ n left → Left left → Left after
-  unfolding upOf
-  left-up {left} e k = rw e (up-keeps Left (stayOf succ) n left (λ i t h q. left-stay i t q) k)
+      rw e (up-keeps (Left succ n) (λ i. stayOf succ (n - 1 - i)) n left (λ i t h q. left-stay (n - 1 - i) t q) k)
 
   -- ---- at the start
   some-has : (x s y : ℕ) → has s y ≡ true → has (someOf succ x s) y ≡ true
@@ -140,7 +132,7 @@ module _ (succ : List ℕ) (n : ℕ) where
           at y k (inl l) = some-has i s y (b .complete y l k)
           at y k (inr e) = rw e (some-new i s (rw e at k))
 
-  pub left-first : {left : ℕ} → left ≡ firstOf succ n → Left left
+  pub left-first : {left : ℕ} → left ≡ firstOf succ n → Left succ n left
   left-first e =
       rw e (record { keeps = λ r i b. by r i (below-suc {n = r .size} (omega arith)); within = begun .sound })
     where
@@ -155,7 +147,7 @@ module _ (succ : List ℕ) (n : ℕ) where
       by r i (inr q) = rw (q, r .closed) (at r 0 (r .some))
 
   -- ---- the ends
-  pub ends-none : {left : ℕ} → left ≡ 0 → Left left → false ≡ ringTest n (leadsTo succ)
+  pub ends-none : {left : ℕ} → left ≡ 0 → Left succ n left → false ≡ ringTest n (leadsTo succ)
   ends-none {left} e k = sym (refuted (ringTest n (leadsTo succ)) (λ t. some (ring-of-test n (leadsTo succ) t)))
     where
       some : Ring (Leads n (leadsTo succ)) → ⊥
@@ -175,52 +167,87 @@ module _ (succ : List ℕ) (n : ℕ) where
       rw e (up-keeps (λ v. v ≤ left) (λ i. stayOf succ (n - 1 - i)) n left (λ i v h q. let a = stay-le (n - 1 - i) v in
       omega arith) (omega arith))
 
-  -- the first i nodes judged: where none went, each that is left leads to one that is left
-  record Judged (left i now : ℕ) : Type 0 where
-    pub fewer : now ≤ left
-    pub leads : now ≡ left → (x : ℕ) → x < i → has left x ≡ true → both (getD succ x 0) left ≢ 0
-
   stay-same : (x left : ℕ) → stayOf succ x left ≡ left → has left x ≡ true → both (getD succ x 0) left ≢ 0
   unfolding stayOf
   stay-same x left e t q =
       let s : less left (single x) ≡ left = rw (t, eq-eqb (both (getD succ x 0) left) 0 q) at e in
       not-both (ap (λ (v : ℕ). has v x) s ∙ t) (has-less left (single x) x ∙ rw (has-single x x, eq-eqb x x refl, t))
 
-  judged : (left : ℕ) → Judged left n (upOf succ n left)
-  unfolding upOf
-  judged left =
-      up-keeps-at (Judged left) (stayOf succ) n left more
-      (record { fewer = omega arith; leads = λ e x l. absurd (omega arith) })
-    where
-      more : (i now : ℕ) → i < n → Judged left i now → Judged left (suc i) (stayOf succ i now)
-      more i now h j = record { fewer = omega (arith, stay-le i now, j .fewer); leads = λ e x l. at e x (below-suc l) }
-        where
-          at : stayOf succ i now ≡ left → (x : ℕ) → (x < i) ⊎ (x ≡ i) → has left x ≡ true
-              → both (getD succ x 0) left ≢ 0
-          at e x (inl l) =
-              let s : now ≡ left = omega (arith, stay-le i now, j .fewer) in
-              j .leads s x l
-          at e x (inr q) =
-              let s : now ≡ left = omega (arith, stay-le i now, j .fewer) in
-              rw q (stay-same i left (rw s at e))
+  -- ---- a sweep up, with the nodes of todo still to be judged
+  pub record Going (left todo now : ℕ) : Type 0 where
+    pub small : todo < 2 ^ 64
+    pub fewer : now ≤ left
+    pub among : (x : ℕ) → has todo x ≡ true → has left x ≡ true
+    pub whole : Left succ n left → Left succ n now
+    pub leads : now ≡ left → (x : ℕ) → has left x ≡ true → has todo x ≡ false → both (getD succ x 0) left ≢ 0
 
-  pub up-le : {left after : ℕ} → after ≡ upOf succ n left → after ≤ left
-  up-le {left} e = rw e (judged left .fewer)
+  pub going-none : (left : ℕ) → left < 2 ^ 64 → Going left left left
+  going-none left l = record {
+    small = l;
+    fewer = omega arith;
+    among = λ x t. t;
+    whole = λ k. k;
+    leads = λ e x t f. absurd (not-both t f);
+  }
+
+  -- the lowest of them is left
+  pub going-next : (left todo now : ℕ) {x : ℕ} → 0 < todo → Going left todo now → x ≡ lowest todo → has left x ≡ true
+  going-next left todo now p g e = rw e (g .among (lowest todo) (lowest-is todo p (g .small) .there))
+
+  pub going-more : (left todo now : ℕ) {x later after : ℕ} → 0 < todo → Going left todo now
+      → x ≡ lowest todo → later ≡ rest todo → after ≡ stayOf succ x now → Going left later after
+  going-more left todo now {x} {later} {after} p g ex el ea = record {
+    small = let a = rest-less todo p in let b = g .small in rw el (omega arith);
+    fewer = omega (arith, le, g .fewer);
+    among = λ y t. g .among y (was y t);
+    whole = λ k. rw ea (left-stay x now (g .whole k));
+    leads = λ e y t f. by e y t (test (has todo y)) f;
+  }
+    where
+      le : after ≤ now
+      le = rw ea (stay-le x now)
+
+      later-has : (y : ℕ) → has later y ≡ (has todo y && not (eqb y x))
+      later-has y = rw (el, ex) (has-rest todo y p (g .small))
+
+      was : (y : ℕ) → has later y ≡ true → has todo y ≡ true
+      was y t = and-eq-true-iff (has todo y) (not (eqb y x)) .0 (sym (later-has y) ∙ t) .0
+
+      still : after ≡ left → now ≡ left
+      still e = omega (arith, le, g .fewer)
+
+      by : after ≡ left → (y : ℕ) → has left y ≡ true → (has todo y ≡ true) ⊎ (has todo y ≡ false)
+          → has later y ≡ false → both (getD succ y 0) left ≢ 0
+      by e y t (inr u) f = g .leads (still e) y t u
+      by e y t (inl u) f = at (test (eqb y x))
+        where
+          at : (eqb y x ≡ true) ⊎ (eqb y x ≡ false) → both (getD succ y 0) left ≢ 0
+          at (inl q) =
+              rw (eqb-true y x q)
+              (stay-same x left (rw (still e) at (sym ea ∙ e)) (rw (eqb-true y x q) at t))
+          at (inr q) = absurd (not-both (later-has y ∙ rw (u, q)) f)
+
+  pub going-done : (left todo now : ℕ) → todo ≡ 0 → Going left todo now → Swept succ n left now
+  going-done left todo now e g = record {
+    fewer = g .fewer;
+    whole = g .whole;
+    leads = λ s x t. g .leads s x t (refuted (has todo x) (λ u. not-empty todo x u e));
+  }
 
   -- a round in which none goes
-  pub ends-still : {left down up : ℕ} → left ≢ 0 → Left left → down ≡ downOf succ n left → up ≡ upOf succ n down
-      → up ≡ left → true ≡ ringTest n (leadsTo succ)
+  pub ends-still : {left down up : ℕ} → left ≢ 0 → Left succ n left → down ≡ downOf succ n left
+      → Swept succ n down up → up ≡ left → true ≡ ringTest n (leadsTo succ)
   ends-still {left} {down} {up} h k d u s =
       sym (affirmed (ringTest n (leadsTo succ)) (λ f. none f (member left h)))
     where
       same : down ≡ left
-      same = let a = down-le d in let b = up-le u in omega arith
+      same = let a = down-le d in let b = u .fewer in omega arith
 
-      still : upOf succ n left ≡ left
-      still = ap (upOf succ n) (sym same) ∙ sym u ∙ s
+      judged : (x : ℕ) → has left x ≡ true → both (getD succ x 0) left ≢ 0
+      judged = rw same at (u .leads (s ∙ sym same))
 
       step : (x : ℕ) → has left x ≡ true → ((y : ℕ) × (has left y ≡ true) × (leadsTo succ x y ≡ true)) ⊎ ⊥
-      step x t = by (member (both (getD succ x 0) left) (judged left .leads still x (k .within x t) t))
+      step x t = by (member (both (getD succ x 0) left) (judged x t))
         where
           by : (d : ℕ) × (has (both (getD succ x 0) left) d ≡ true)
               → ((y : ℕ) × (has left y ≡ true) × (leadsTo succ x y ≡ true)) ⊎ ⊥
@@ -234,5 +261,5 @@ module _ (succ : List ℕ) (n : ℕ) where
           (λ r. not-both (test-of-ring n (leadsTo succ) r) f) x t
 
   -- the round's measure
-  pub round-less : {left down up : ℕ} → down ≡ downOf succ n left → up ≡ upOf succ n down → up ≢ left → up < left
-  round-less d u h = let a = down-le d in let b = up-le u in omega arith
+  pub round-less : {left down up : ℕ} → down ≡ downOf succ n left → Swept succ n down up → up ≢ left → up < left
+  round-less d u h = let a = down-le d in let b = u .fewer in omega arith

@@ -2,13 +2,17 @@
 // Nodes that lead to none that is left are taken away until none is left or none goes.
 use sets::long::both;
 use sets::long::has;
+use sets::long::lowest;
+use sets::long::rest;
 use sets::long::with;
 use sets::long::without;
 ghost use mathlib.Core.Path.{_≡_};
-ghost use Prim.Native.Nat.{_≤_, _<_};
+ghost use mathlib.Core.Bool.{true};
+ghost use Prim.Native.Nat.{ℕ, _≤_, _<_};
 ghost use lib.ListN.{length};
 ghost use Rattle.basis.specs.Ring.{ringTest};
-ghost use Rattle.peel.specs.Words.{leadsTo, stayOf, upOf, downOf, someOf, firstOf};
+ghost use Rattle.sets.specs.Sets.{has};
+ghost use Rattle.peel.specs.Words.{leadsTo, stayOf, downOf, someOf, firstOf, Swept};
 
 // What is left, without node x if it is left and leads to none of that.
 fn stay(follow: &[u64], left: u64, x: usize) -> u64
@@ -23,13 +27,16 @@ fn stay(follow: &[u64], left: u64, x: usize) -> u64
     left
 }
 
-// A sweep up the nodes.
+// A sweep up the nodes that are left.
 fn sweep_up(follow: &[u64], n: usize, left: u64) -> u64
-    requires { ⌜ (n ≤ 64) × (n ≤ length (now follow)) ⌝ }
-    ensures { λ r. ⌜ r ≡ upOf (now (follow .entry)) n left ⌝ }
+    requires { ⌜ (n ≤ 64) × (n ≤ length (now follow)) × ((x : ℕ) → has left x ≡ true → x < n) ⌝ }
+    ensures { λ r. ⌜ Swept (now (follow .entry)) n left r ⌝ }
 {
     let mut now = left;
-    for x in 0..n {
+    let mut todo = left;
+    while todo != 0 {
+        let x = lowest(todo);
+        todo = rest(todo);
         now = stay(follow, now, x);
     }
     now

@@ -1,4 +1,5 @@
-use Rattle.peel.proofs.Going.{Left, left-first, left-down, left-up, ends-none, ends-still, round-less}
+use Rattle.peel.specs.Words.{Left}
+use Rattle.peel.proofs.Going.{left-first, left-down, ends-none, ends-still, round-less}
 use Rattle.peel.proofs.words.has_ring.Statement.{statement}
 use Rattle.peel.proofs.words.has_ring.Tie as tie
 use Rattle.peel.proofs.words.has_ring.Reads as reads
@@ -35,6 +36,7 @@ sweep-up-requires : tie.Need-sweep-up-requires Inv-loop μ-loop
 sweep-up-requires c κs = (
   c .before .before .before .before .before .before .pre .0,
   c .before .before .before .before .before .before .pre .1,
+  left-down _ _ (c .before .sweep-down .ensures) (c .before .before .before .loop .inv) .within,
 )
 
 -- src/words.rt:83:13
@@ -50,7 +52,7 @@ loop-less c =
 
 -- src/words.rt:76:5
 loop-again : tie.Need-loop-again Inv-loop μ-loop
-loop-again c = left-up _ _ (c .before .sweep-up .ensures) (left-down _ _
+loop-again c = c .before .sweep-up .ensures .whole (left-down _ _
     (c .before .before .before .sweep-down .ensures) (c .before .before .before .before .before .loop .inv))
 
 -- src/words.rt:71:1

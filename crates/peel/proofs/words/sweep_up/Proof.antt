@@ -1,46 +1,63 @@
-use Rattle.basis.specs.Fold.{upTo, up-none, up-more, up-done}
-use Rattle.peel.specs.Words.{stayOf, upOf}
-use Prim.Native.Nat.{_-_, _≤_}
-use mathlib.Core.Path.{_≡_}
 use native.Mathlib.Omega.{arith}
+use Rattle.peel.proofs.Going.{Going, going-none, going-next, going-more, going-done}
 use Rattle.peel.proofs.words.sweep_up.Statement.{statement}
 use Rattle.peel.proofs.words.sweep_up.Tie as tie
 use Rattle.peel.proofs.words.sweep_up.Reads as reads
 use Rattle.peel.proofs.words.sweep_up.Lts as lts
 use Rattle.peel.proofs.words.stay.Reads as stay-reads
+use Rattle.sets.proofs.long.lowest.Reads as lowest-reads
+use Rattle.sets.proofs.long.rest.Reads as rest-reads
 
 abbrev Inv-loop : tie.InvT-loop
-Inv-loop follow n left now₀ x₀ now x = (x ≤ n) × (now ≡ upTo (stayOf follow) x left)
+Inv-loop follow n left now₀ todo₀ now todo = Going follow n left todo now
 
 abbrev μ-loop : tie.MeasureT-loop
-μ-loop follow n left now₀ x₀ now x = n - x
+μ-loop follow n left now₀ todo₀ now todo = todo
 
--- src/words.rt:29:5
+-- src/words.rt:37:5
 loop-holds : tie.Need-loop-holds Inv-loop μ-loop
-loop-holds c = (omega arith, up-none _ _)
+loop-holds c = going-none _ _ _ (omega arith)
 
--- src/words.rt:30:9
+-- src/words.rt:38:13
+lowest-requires : tie.Need-lowest-requires Inv-loop μ-loop
+lowest-requires c κs = omega arith
+
+-- src/words.rt:39:9
+rest-requires : tie.Need-rest-requires Inv-loop μ-loop
+rest-requires c κs = omega arith
+
+-- src/words.rt:40:9
 stay-requires : tie.Need-stay-requires Inv-loop μ-loop
-stay-requires c κs = (omega arith, omega arith)
+stay-requires c κs =
+    let pre = c .before .before .before .before .before .pre in
+    let last = pre .2 _ (going-next _ _ _ _ _ (omega arith) (c .before .before .before .loop .inv)
+    (c .before .lowest .ensures .0)) in
+    (omega (arith, last, pre .1), c .before .lowest .ensures .1)
 
--- src/words.rt:29:9
-add-x : tie.Need-add-x Inv-loop μ-loop
-add-x c = record { fits = omega arith }
-
--- src/words.rt:29:5
+-- src/words.rt:37:5
 loop-less : tie.Need-loop-less Inv-loop μ-loop
-loop-less c = omega arith
+loop-less c = omega (arith, c .before .rest .ensures .1)
 
--- src/words.rt:29:5
+-- src/words.rt:37:5
 loop-again : tie.Need-loop-again Inv-loop μ-loop
-loop-again c = (omega arith, up-more _ _ _ (c .before .before .loop .inv .1) (c .stay .ensures))
+loop-again c =
+    going-more _ _ _ _ _ (omega arith) (c .before .before .before .before .loop .inv)
+    (c .before .before .lowest .ensures .0) (c .before .rest .ensures .0) (c .stay .ensures)
 
--- src/words.rt:24:1
+-- src/words.rt:31:1
 returns : tie.Need-returns Inv-loop μ-loop
-unfolding upOf
-returns c = up-done _ _ (c .before .loop .inv .1) (omega arith)
+returns c = going-done _ _ _ _ _ (c .loop-test .left) (c .before .loop .inv)
 
 pub sweep-up-spec : {M : Type 1} → statement M
 sweep-up-spec =
     tie.close
-    (tie.spec Inv-loop μ-loop loop-holds stay-requires add-x loop-less loop-again returns)
+    (tie.spec
+    Inv-loop
+    μ-loop
+    loop-holds
+    lowest-requires
+    rest-requires
+    stay-requires
+    loop-less
+    loop-again
+    returns)

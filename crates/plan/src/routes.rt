@@ -18,18 +18,18 @@ ghost use Rattle.plan.specs.Marks.{sideAt, fitsOf, laneOf, Put, Group, L
 // What the table holds where the plan gives no side.
 pub const NO_SIDE: u8 = 7;
 
-// The columns that a word holds: column d + k of side v is member 8 * v + k, so that each side has a lane of eight members.
+// How many columns a word holds: column d + k of side v is member 8 * v + k, so each side has a lane of eight members.
 const GROUP: usize = 8;
 
-// What the members of a lane, and those of a set of columns, are below as numbers.
+// What a lane, and a set of columns, is below as a number.
 const LANE: u64 = 256;
 
 const COLUMNS: u64 = 4294967296;
 
-// The first member of lanes 4, 5 and 6, and what they are below as a number.
-const ODD_AT: usize = 32;
+// Where the lanes of 4, 5 and 6, which are no sides, begin, and what the three are below as one number.
+const UNFIT_AT: usize = 32;
 
-const ODD: u64 = 16777216;
+const UNFIT: u64 = 16777216;
 
 // The route at a position, from the byte in which it ends and the one before.
 fn route(plan: &[u8], p: usize) -> usize
@@ -42,7 +42,7 @@ fn route(plan: &[u8], p: usize) -> usize
     ((both >> (7 - last % 8)) % 8) as usize
 }
 
-// The route that begins c bits behind a byte's first bit, from the byte in which it ends and the one before.
+// The route that begins c bits after the first bit of byte i, from the byte in which it ends and the one before.
 fn near(plan: &[u8], i: usize, c: usize) -> usize
     requires { ⌜ (1 ≤ i) × (i < 20000) × (c < 24) × (i + (c + 2) / 8 < length (now plan)) ⌝ }
     ensures { λ r. ⌜ r ≡ fieldOf (now (plan .entry)) (8 * i + c) 3 ⌝ }
@@ -53,7 +53,7 @@ fn near(plan: &[u8], i: usize, c: usize) -> usize
     ((both >> (7 - last % 8)) % 8) as usize
 }
 
-// A side is put into the row at column d + k, and into the word as a member of the side's lane.
+// The side of column d + k is put into the row, and the column into the side's lane of the word.
 fn put(row: &mut [u8; 32], s: u64, d: usize, k: usize, side: usize) -> u64
     requires { ⌜ (k < 8) × (d + k < 32) × (side < 8) ⌝ }
     ensures { λ r. ⌜ Put side d k (now (row .entry)) (now (row .exit)) s r ⌝ }
@@ -62,16 +62,17 @@ fn put(row: &mut [u8; 32], s: u64, d: usize, k: usize, side: usize) -> u64
     with(s, GROUP * side + k)
 }
 
-// Column d + k, whose route begins 3 * k bits behind a byte's first bit, is put into the row and the word.
+// The route of column d + k, which begins 3 * k bits after the first bit of byte i, is put into the row and the word.
 fn one(plan: &[u8], i: usize, d: usize, k: usize, row: &mut [u8; 32], s: u64) -> u64
     requires { ⌜ (1 ≤ i) × (i < 20000) × (k < 8) × (d + k < 32) × (i + (3 * k + 2) / 8 < length (now plan)) ⌝ }
-    ensures { λ r. ⌜ Put (fieldOf (now (plan .entry)) (8 * i + 3 * k) 3) d k (now (row .entry)) (now (row .exit)) s r ⌝ }
+    ensures { λ r. ⌜ Put (fieldOf (now (plan .entry)) (8 * i + 3 * k) 3) d k (now (row .entry)) (now (row .exit))
+        s r ⌝ }
 {
     let side = near(plan, i, ROUTE_BITS * k);
     put(row, s, d, k, side)
 }
 
-// The eight columns from d on, the first of which begins at a byte's first bit.
+// The routes of the eight columns from d on, the first of which begins at a byte's first bit.
 fn eight(plan: &[u8], at: usize, d: usize, row: &mut [u8; 32]) -> u64
     requires { ⌜ (d + 8 ≤ 32) × (6 ≤ at) × (at < 100000) × (at + 3 * (d + 8) ≤ 8 * length (now plan))
         × ((at + 3 * d) % 8 ≡ 0) ⌝ }
@@ -88,7 +89,7 @@ fn eight(plan: &[u8], at: usize, d: usize, row: &mut [u8; 32]) -> u64
     one(plan, i, d, 7, row, s6)
 }
 
-// The m columns from d on, at most eight, wherever they begin.
+// The routes of the m columns from d on, at most eight, wherever they begin.
 fn some(plan: &[u8], m: usize, at: usize, d: usize, row: &mut [u8; 32]) -> u64
     requires { ⌜ (m ≤ 8) × (d + m ≤ 32) × (6 ≤ at) × (at < 100000) × (at + 3 * (d + m) ≤ 8 * length (now plan)) ⌝ }
     ensures { λ s. ⌜ Group (sideAt (now (plan .entry)) at) d m (now (row .entry)) (now (row .exit)) s ⌝ }
@@ -101,7 +102,7 @@ fn some(plan: &[u8], m: usize, at: usize, d: usize, row: &mut [u8; 32]) -> u64
     s
 }
 
-// A side's lane of a word, as a set of columns from d on.
+// Lane o of a word, as a set of columns from d on.
 fn lane(s: u64, o: usize, d: usize) -> u32
     requires { ⌜ (o < 8) × (d ≤ 32) ⌝ }
     ensures { λ r. ⌜ r ≡ laneOf s o d ⌝ }
@@ -109,7 +110,7 @@ fn lane(s: u64, o: usize, d: usize) -> u32
     ((((s >> (GROUP * o)) % LANE) << d) % COLUMNS) as u32
 }
 
-// The lanes of the four sides are put into their sets.
+// A word's columns from d on are put into the sets of the four sides.
 fn lay(sides: &mut [u32; 4], s: u64, d: usize)
     requires { ⌜ (d ≤ 32) × (length (now sides) ≡ 4) ⌝ }
     ensures { λ u. ⌜ Laid s d (now (sides .entry)) (now (sides .exit)) ⌝ }
@@ -129,18 +130,19 @@ fn lead(at: usize, n: usize) -> usize
     if k < n { k } else { n }
 }
 
-// Whether the lanes of 4, 5 and 6, which are no sides, are empty.
+// Whether the lanes of 4, 5 and 6 are empty.
 fn fits(s: u64) -> bool
     ensures { λ r. ⌜ r ≡ fitsOf s ⌝ }
 {
-    (s >> ODD_AT) % ODD == 0
+    (s >> UNFIT_AT) % UNFIT == 0
 }
 
-// The routes of one router, n of them, whose bits start at a position, into its row and into sets of columns by side, which are empty
-// before; answers whether each is a side or none.
+// The routes of one router, n of them, whose bits start at a position, into its row and into its sets of columns by side,
+// which are empty before; answers whether each is a side or none.
 fn read_row(plan: &[u8], n: usize, at: usize, row: &mut [u8; 32], sides: &mut [u32; 4]) -> bool
     requires { ⌜ (n ≤ 32) × (6 ≤ at) × (at < 100000) × (at + 3 * n ≤ 8 * length (now plan)) × Empty (now sides) ⌝ }
-    ensures { λ ok. ⌜ Row (sideAt (now (plan .entry)) at) n (now (row .entry)) (now (row .exit)) (now (sides .exit)) ok ⌝ }
+    ensures { λ ok. ⌜ Row (sideAt (now (plan .entry)) at) n (now (row .entry)) (now (row .exit)) (now (sides .exit))
+        ok ⌝ }
 {
     let f = lead(at, n);
     let mut all = some(plan, f, at, 0, row);

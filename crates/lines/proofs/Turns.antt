@@ -23,6 +23,8 @@ use Rattle.machine.specs.Valid.{PacketOk, sum, spends}
 use Rattle.valid.specs.Test.{packetTest, fitsTest, belongsTest}
 use Rattle.layout.specs.Offsets.{packetWidth}
 use Rattle.layout.specs.Places.{packetAt}
+use Rattle.places.specs.Asked.{Asked}
+use Rattle.lines.specs.Ready.{Ready}
 use Rattle.lines.specs.Tally.{tallied, Tallied}
 use Rattle.lines.specs.Lines.{ofHead, placeTest, placesTest, PlaceChecked, PlacesChecked, RowChecked, RowsChecked}
 use Rattle.lines.specs.Lines.{spentIn}
@@ -59,9 +61,22 @@ numbers-ok pl x more e =
       hub = leb-true (x .hub .0) 16 (s .1);
     }
 
-pub served-ok : (pl : Plan) (x : Packet) → also (packetTest pl x) (served pl (x .active) (x .passive)) ≡ true
-    → served pl (x .active) (x .passive) ≡ true
-served-ok pl x e = also-true {a = packetTest pl x} {b = served pl (x .active) (x .passive)} e .1
+-- what the place test is asked with, for a packet that passes
+pub asking : {h : Head} {routes : List (List ℕ)} {joints homes : List ℕ} {lengths by up : List (List ℕ)}
+    → Ready h routes joints homes lengths by up → (x : Packet)
+    → also (packetTest (tablePlan h routes joints) x) (served (tablePlan h routes joints) (x .active) (x .passive)) ≡ true
+    → Asked h (h .actives) (h .actives + h .passives) (21 * h .routers) routes joints homes lengths by up (x .active)
+    (x .passive)
+asking {h} {routes} {joints} r x e =
+    let ok = numbers-ok (tablePlan h routes joints) x _ e in
+    record {
+      lent = r .lent;
+      tracks = r .tracks;
+      counts = (refl, refl, refl);
+      active = ok .active;
+      passive = ok .passive;
+      serves = also-true {a = packetTest (tablePlan h routes joints) x} {b = _} e .1;
+    }
 
 -- ---- one place
 module _ (pl : Plan) (q : Queue) (done : Bool) (i : ℕ) (b : List ℕ) (k : ℕ) (t u : List ℕ) where

@@ -101,7 +101,24 @@ fn place_ok(
         return false;
     }
     let first = frame::of_head(done, k);
-    if !places::fits(h, routes, joints, homes, lengths, by, up, n, first, x) {
+    let kind = x.kind;
+    if !places::fits(
+        h.actives,
+        h.actives + h.passives,
+        21 * h.routers,
+        routes,
+        joints,
+        homes,
+        lengths,
+        by,
+        up,
+        n,
+        first,
+        kind,
+        x.active,
+        x.passive,
+        x.hub.0,
+    ) {
         return false;
     }
     tally(spent, x);

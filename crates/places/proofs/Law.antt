@@ -67,7 +67,8 @@ module _ {h : Head} {actives outs inner : ℕ} {routes : List (List ℕ)} {joint
   unfolding tablePlan
   routed r d l m = same-default (getD routes r []) d 7 0 (rw (asked .lent .tables .rows r l) m)
 
-  pub trips : {t : Trip} → t ≡ tripOf actives homes lengths x → Trips (tablePlan h routes joints) (x .active) (x .passive) t
+  pub trips : {t : Trip} → t ≡ tripOf actives homes lengths x
+      → Trips (tablePlan h routes joints) (x .active) (x .passive) t
   unfolding tripOf tablePlan pairWalk
   trips {t} e =
       rw e (record {

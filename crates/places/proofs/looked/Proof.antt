@@ -22,7 +22,9 @@ at-router-requires c κs = search needs
 
 -- src/lib.rt:487:9
 returns-2 : tie.Need-returns-2
-returns-2 c = fits-router _ _ _ _ _ _ _ _ _ _ _ _ (c .before .before .if1 .left) (c .before .if2 .taken) (c .at-router .ensures)
+returns-2 c =
+    fits-router _ _ _ _ _ _ _ _ _ _ _ _ (c .before .before .if1 .left) (c .before .if2 .taken)
+    (c .at-router .ensures)
 
 -- src/lib.rt:489:5
 received-requires : tie.Need-received-requires
@@ -30,7 +32,8 @@ received-requires c κs = search needs
 
 -- src/lib.rt:465:1
 returns-3 : tie.Need-returns-3
-returns-3 c = fits-in _ _ _ _ _ _ _ _ _ _ _ _ (c .before .before .if1 .left) (c .before .if2 .left) (c .received .ensures)
+returns-3 c =
+    fits-in _ _ _ _ _ _ _ _ _ _ _ _ (c .before .before .if1 .left) (c .before .if2 .left) (c .received .ensures)
 
 pub looked-spec : {M : Type 1} → statement M
 looked-spec =

@@ -23,9 +23,11 @@ use Rattle.machine.specs.Valid.{PacketOk, sum, spends}
 use Rattle.valid.specs.Test.{packetTest, fitsTest, belongsTest}
 use Rattle.layout.specs.Offsets.{packetWidth}
 use Rattle.layout.specs.Places.{packetAt}
+use Rattle.places.specs.Asked.{Asked}
+use Rattle.lines.specs.Ready.{Ready}
 use Rattle.lines.specs.Tally.{tallied, Tallied}
 use Rattle.lines.specs.Lines.{ofHead, placeTest, placesTest, PlaceChecked, PlacesChecked, RowChecked, RowsChecked}
-use Rattle.lines.specs.Lines.{spentIn}
+use Rattle.lines.specs.Lines.{spentIn, Rests, Skipped, Coming}
 use Rattle.feeding.specs.Role.{isUnit}
 use Rattle.machine.specs.Capacity.{capacity}
 use Rattle.machine.specs.Valid.{fed, onWires, inAll}
@@ -59,9 +61,23 @@ numbers-ok pl x more e =
       hub = leb-true (x .hub .0) 16 (s .1);
     }
 
-pub served-ok : (pl : Plan) (x : Packet) → also (packetTest pl x) (served pl (x .active) (x .passive)) ≡ true
-    → served pl (x .active) (x .passive) ≡ true
-served-ok pl x e = also-true {a = packetTest pl x} {b = served pl (x .active) (x .passive)} e .1
+-- what the place test is asked with, for a packet that passes
+pub asking : {h : Head} {routes : List (List ℕ)} {joints homes : List ℕ} {lengths by up : List (List ℕ)}
+    → Ready h routes joints homes lengths by up → (x : Packet)
+    → also (packetTest (tablePlan h routes joints) x) (served (tablePlan h routes joints) (x .active) (x .passive))
+    ≡ true
+    → Asked h (h .actives) (h .actives + h .passives) (21 * h .routers) routes joints homes lengths by up (x .active)
+    (x .passive)
+asking {h} {routes} {joints} r x e =
+    let ok = numbers-ok (tablePlan h routes joints) x _ e in
+    record {
+      lent = r .lent;
+      tracks = r .tracks;
+      counts = (refl, refl, refl);
+      active = ok .active;
+      passive = ok .passive;
+      serves = also-true {a = packetTest (tablePlan h routes joints) x} {b = _} e .1;
+    }
 
 -- ---- one place
 module _ (pl : Plan) (q : Queue) (done : Bool) (i : ℕ) (b : List ℕ) (k : ℕ) (t u : List ℕ) where
@@ -196,6 +212,33 @@ module _ (pl : Plan) (b : List ℕ) (from : ℕ) (t : List ℕ) where
       → RowsChecked pl b from n true t u
   rows-done n s e = rw (← e) s
 
+  -- d rows that leave the count as it is
+  pub rows-rest : (k d : ℕ) {u : List ℕ} → RowsChecked pl b from k true t u
+      → ((i : ℕ) → k ≤ i → i < k + d → RowChecked pl b (from + i) true u u) → RowsChecked pl b from (k + d) true t u
+  rows-rest k zero s f = rows-done (k + 0) s (omega arith)
+  rows-rest k (suc d) s f =
+      rows-done (k + suc d) (rows-more (k + d) (rows-rest k d s (λ i l m. f i l (omega arith)))
+      (f (k + d) (omega arith) (omega arith)) refl) (omega arith)
+
+-- ---- rows that rest, as the code finds them
+module _ (b coming caps : List ℕ) (from k m : ℕ) where
+  pub skip-none : {j : ℕ} → j ≡ k → k ≤ m → Skipped b coming caps from k m j
+  skip-none e l =
+      record { first = omega arith; last = omega arith; rest = λ i x y. absurd (omega arith) }
+
+  pub skip-more : (j : ℕ) → j < m → Skipped b coming caps from k m j
+      → Rests b (from + j) (getD caps j 0) (getD coming (from + j) 0) → Skipped b coming caps from k m (j + 1)
+  skip-more j l s r =
+      record { first = omega (arith, s .first); last = omega arith; rest = λ i x y. by i x (lt-or-ge i j) y }
+    where
+      by : (i : ℕ) → k ≤ i → (i < j) ⊎ (j ≤ i) → i < j + 1
+          → Rests b (from + i) (getD caps i 0) (getD coming (from + i) 0)
+      by i x (inl z) y = s .rest i x z
+      by i x (inr z) y = let e : i ≡ j = omega arith in rw e r
+
+  pub skip-done : {j : ℕ} → Skipped b coming caps from k m j → j ≡ m → Skipped b coming caps from k m m
+  skip-done s e = rw e at s
+
 -- ---- two stretches, one behind the other
 all-split : (f : ℕ → Bool) (m n : ℕ) → allBelow m f ≡ true → allBelow (m + n) f ≡ allBelow n (λ k. f (m + k))
 all-split f m n e =
@@ -326,6 +369,14 @@ plan-head : (h : Head) (routes : List (List ℕ)) (joints : List ℕ) → tableP
 unfolding tablePlan
 plan-head h routes joints = refl
 
+-- a plan has at most 400 queues
+pub queues-few : {h : Head} → InRange h → queueCount h ≤ 400
+queues-few range =
+    let r = range .routers .1 in
+    let a = range .actives .1 in
+    let p = range .passives .1 in
+    omega arith
+
 module _ (h : Head) (routes : List (List ℕ)) (joints : List ℕ) where
   pub queue-in : (n : ℕ) → n < queueCount h → n < queues (tablePlan h routes joints)
   unfolding tablePlan queues
@@ -394,20 +445,32 @@ module _ (h : Head) (routes : List (List ℕ)) (joints : List ℕ) where
         (frame-is b n j room w e f g known) v (rw (k, e) at z) c (rw (o, k, e) at s)
 
   -- and of one that is
-  pub idle-of : InRange h → (b : List ℕ) (n : ℕ) → n < queueCount h → (t : List ℕ) (j room w : ℕ) → j ≡ 2 + 39 * n
+  pub idle-of : InRange h → (b : List ℕ) (n : ℕ) → n < queueCount h → (t : List ℕ) (room w : ℕ)
       → room ≡ capacity h (queueAt (tablePlan h routes joints) n)
       → w ≡ onWires (tablePlan h routes joints) (queueAt (tablePlan h routes joints) n)
-      (decode (tablePlan h routes joints) b) → w ≡ 0 → IdleRow b j room
-      → RowChecked (tablePlan h routes joints) b n true t t
-  idle-of range b n l t j room w e f g z s =
-      row-idle (tablePlan h routes joints) (head-range range) b n (queue-in n l) t t g z (held s)
+      (decode (tablePlan h routes joints) b) → Rests b n room w → RowChecked (tablePlan h routes joints) b n true t t
+  idle-of range b n l t room w f g s =
+      row-idle (tablePlan h routes joints) (head-range range) b n (queue-in n l) t t g (s .0)
+      (record {
+        credit =
+            s .1 .credit ∙ f
+            ∙ ap (λ (z : Head). capacity z (queueAt (tablePlan h routes joints) n)) (sym (plan-head h routes joints));
+        rest = s .1 .rest;
+      })
+
+  -- rows that the code skips are checked
+  pub skipped : InRange h → (b coming caps : List ℕ) (from k m j : ℕ) → from + m ≤ queueCount h
+      → ((i : ℕ) → i < m → getD caps i 0 ≡ capacity h (queueAt (tablePlan h routes joints) (from + i)))
+      → Coming (tablePlan h routes joints) b coming → (t u : List ℕ)
+      → RowsChecked (tablePlan h routes joints) b from k true t u → Skipped b coming caps from k m j
+      → RowsChecked (tablePlan h routes joints) b from j true t u
+  skipped range b coming caps from k m j few room come t u s p =
+      rows-done (tablePlan h routes joints) b from t j
+      (rows-rest (tablePlan h routes joints) b from t k (j - k) s (λ i l n. resting i l (omega (arith, p .first))))
+      (omega (arith, p .first))
     where
-      held : IdleRow b j room
-          → IdleRow b (2 + 39 * n) (capacity (tablePlan h routes joints .head) (queueAt (tablePlan h routes joints) n))
-      held x =
-          record {
-            credit =
-                ap (λ (k : ℕ). getD b k 0) (sym e) ∙ x .credit ∙ f
-                ∙ ap (λ (z : Head). capacity z (queueAt (tablePlan h routes joints) n)) (sym (plan-head h routes joints));
-            rest = ap (λ (k : ℕ). zeros (k + 1) 38 b) (sym e) ∙ x .rest;
-          }
+      resting : (i : ℕ) → k ≤ i → i < j → RowChecked (tablePlan h routes joints) b (from + i) true u u
+      resting i l n =
+          let inside : from + i < queueCount h = omega (arith, p .last) in
+          idle-of range b (from + i) inside u (getD caps i 0) (getD coming (from + i) 0)
+          (room i (omega (arith, p .last))) (come (from + i) (queue-in (from + i) inside)) (p .rest i l n)

@@ -19,6 +19,7 @@ use Rattle.layout.specs.Offsets.{packetKind, packetWidth}
 use Rattle.layout.specs.Places.{packetAt, packetsAt}
 use Rattle.layout.specs.Decode.{decode}
 use Rattle.states.specs.Check.{queueRowTest, queuesPart}
+use Rattle.forms.specs.Bytes.{IdleRow}
 use Rattle.lines.specs.Tally.{Tallied}
 
 -- only the head of a queue can have been handled
@@ -65,6 +66,16 @@ pub record RowsChecked (pl : Plan) (b : List ℕ) (from m : ℕ) (r : Bool) (t u
 abbrev pub Coming : Plan → List ℕ → List ℕ → Type 0
 Coming pl b coming =
     (n : ℕ) → n < queues pl → getD coming n 0 ≡ onWires pl (queueAt pl n) (decode pl b)
+
+-- the row of queue n is idle, and w, what is on the way to it, is nothing
+abbrev pub Rests : List ℕ → ℕ → ℕ → ℕ → Type 0
+Rests b n cap w = (w ≡ 0) × IdleRow b (2 + 39 * n) cap
+
+-- of m queues from `from` on, those from the k-th to before the j-th rest
+pub record Skipped (b coming caps : List ℕ) (from k m j : ℕ) : Type 0 where
+  pub first : k ≤ j
+  pub last : j ≤ m
+  pub rest : (i : ℕ) → k ≤ i → i < j → Rests b (from + i) (getD caps i 0) (getD coming (from + i) 0)
 
 -- the capacities of a router's queues: U, Q, and for each side F and three K
 unfoldable pub capIn : Head → ℕ → ℕ

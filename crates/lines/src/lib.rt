@@ -24,7 +24,7 @@ ghost use Rattle.lines.specs.Ready.{Ready};
 ghost use Rattle.lines.specs.Tally.{tallied, Tallied};
 ghost use Rattle.lines.specs.Frame.{frameOf, fedInRouter, fedOf, unitOf};
 ghost use Rattle.lines.specs.Lines.{PlaceChecked, PlacesChecked, RowChecked, RowsChecked, Coming, LinesChecked};
-ghost use Rattle.lines.specs.Lines.{capIn, routerCaps, sameCaps};
+ghost use Rattle.lines.specs.Lines.{capIn, routerCaps, sameCaps, Rests, Skipped};
 
 pub mod frame;
 
@@ -101,7 +101,24 @@ fn place_ok(
         return false;
     }
     let first = frame::of_head(done, k);
-    if !places::fits(h, routes, joints, homes, lengths, by, up, n, first, x) {
+    let kind = x.kind;
+    if !places::fits(
+        h.actives,
+        h.actives + h.passives,
+        21 * h.routers,
+        routes,
+        joints,
+        homes,
+        lengths,
+        by,
+        up,
+        n,
+        first,
+        kind,
+        x.active,
+        x.passive,
+        x.hub.0,
+    ) {
         return false;
     }
     tally(spent, x);
@@ -224,51 +241,32 @@ fn row_busy(
     )
 }
 
-// The same; an idle row that nothing is on the way to costs a few comparisons.
-fn row_ok(
-    h: Head,
-    routes: &[[u8; 32]; 16],
-    joints: &[u8; 64],
-    homes: &[u8; 32],
-    lengths: &[[u8; 16]; 16],
-    by: &[[u32; 4]; 16],
-    up: &[[u32; 32]; 17],
-    s: &[u8],
-    n: usize,
-    cap: u8,
-    w: u8,
-    spent: &mut [u8; 16],
-) -> bool
-    requires { ⌜ Ready h (now routes) (now joints) (now homes) (now lengths) (now by) (now up) × (n < queueCount h)
-        × (stateSize h ≤ length (now s))
-        × (cap ≡ capacity h (queueAt (tablePlan h (now routes) (now joints)) n))
-        × (w ≡ onWires (tablePlan h (now routes) (now joints)) (queueAt (tablePlan h (now routes) (now joints)) n)
-        (decode (tablePlan h (now routes) (now joints)) (now s))) ⌝ }
-    ensures { λ r. ⌜ RowChecked (tablePlan h (now (routes .entry)) (now (joints .entry))) (now (s .entry)) n r
-        (now (spent .entry)) (now (spent .exit)) ⌝ }
+// Whether the row of queue n is idle and nothing is on the way to it.
+fn rests(s: &[u8], n: usize, cap: u8, w: u8) -> bool
+    requires { ⌜ (n < 400) × (41 + 39 * n ≤ length (now s)) ⌝ }
+    ensures { λ r. ⌜ (r ≡ true → Rests (now (s .entry)) n cap w) ⌝ }
 {
-    if w == 0 {
-        if forms::idle(s, acts::queue_row(n), cap) {
-            return true;
-        }
+    if w != 0 {
+        return false;
     }
-    row_busy(
-        h,
-        routes,
-        joints,
-        homes,
-        lengths,
-        by,
-        up,
-        s,
-        n,
-        cap,
-        w,
-        spent,
-    )
+    forms::idle(s, acts::queue_row(n), cap)
 }
 
-// The rows of m queues from `from` on, their capacities in caps; coming says of each queue how many packets are on the way.
+// The first row from k on that does not rest, or m.
+fn skip(s: &[u8], coming: &[u8; 400], caps: &[u8; 21], from: usize, k: usize, m: usize) -> usize
+    requires { ⌜ (k ≤ m) × (m ≤ 21) × (from + m ≤ 400) × (2 + 39 * (from + m) ≤ length (now s)) ⌝ }
+    ensures { λ j. ⌜ Skipped (now (s .entry)) (now (coming .entry)) (now (caps .entry)) from k m j ⌝ }
+{
+    for j in k..m {
+        if !rests(s, from + j, caps[j], coming[from + j]) {
+            return j;
+        }
+    }
+    m
+}
+
+// The rows of m queues from `from` on, their capacities in caps; coming says of each queue how many packets are on the
+// way. It goes from one row that does not rest to the next.
 fn rows_ok(
     h: Head,
     routes: &[[u8; 32]; 16],
@@ -291,8 +289,13 @@ fn rows_ok(
     ensures { λ r. ⌜ RowsChecked (tablePlan h (now (routes .entry)) (now (joints .entry))) (now (s .entry)) from m r
         (now (spent .entry)) (now (spent .exit)) ⌝ }
 {
-    for k in 0..m {
-        if !row_ok(
+    let mut k = 0;
+    while k < m {
+        let j = skip(s, coming, caps, from, k, m);
+        if m <= j {
+            return true;
+        }
+        if !row_busy(
             h,
             routes,
             joints,
@@ -301,13 +304,14 @@ fn rows_ok(
             by,
             up,
             s,
-            from + k,
-            caps[k],
-            coming[from + k],
+            from + j,
+            caps[j],
+            coming[from + j],
             spent,
         ) {
             return false;
         }
+        k = j + 1;
     }
     true
 }

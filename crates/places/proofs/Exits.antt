@@ -13,7 +13,6 @@ use Rattle.sets.specs.Sets.{has}
 use Rattle.packets.specs.declared.Kind.{Kind}
 use Rattle.packets.specs.declared.Kind.the-variants.{Setup, Tdown, Ack, Nack}
 use Rattle.packets.specs.declared.Packet.{Packet}
-use Rattle.plan.specs.declared.Head.{Head}
 use Rattle.places.specs.declared.Trip.{Trip}
 use Rattle.places.specs.declared.Standing.{Standing}
 use Rattle.places.specs.Look.{trackAt, trackOf, tripOf, standingOf, freesUpTo, coming, leaving, unitBy, nextBy}
@@ -22,11 +21,11 @@ use Rattle.places.specs.Look.{activeOutAs, passiveOutAs, activeInAs, pas
 use Rattle.places.specs.Look.{routerBy, fitsBy, Marked, Led}
 
 -- ---- a pair's walk
-pub trip-is : (h : Head) (homes : List ℕ) (lengths : List (List ℕ)) (x : Packet) {a p k n : ℕ} → a ≡ x .active
+pub trip-is : (actives : ℕ) (homes : List ℕ) (lengths : List (List ℕ)) (x : Packet) {a p k n : ℕ} → a ≡ x .active
     → p ≡ x .passive → k ≡ getD homes a 0 → n ≡ getD (getD lengths a []) p 0
-    → record { home = k; column = h .actives + p; length = n } ≡ tripOf h homes lengths x
+    → record { home = k; column = actives + p; length = n } ≡ tripOf actives homes lengths x
 unfolding tripOf
-trip-is h homes lengths x e f g l = rw (g, l, e, f)
+trip-is actives homes lengths x e f g l = rw (g, l, e, f)
 
 -- ---- a tear-down's hub
 pub frees-none : (hub n : ℕ) → hub ≡ 0 → false ≡ freesUpTo hub n
@@ -388,24 +387,20 @@ module _ (routes : List (List ℕ)) (joints homes : List ℕ) (by up : List (Lis
     unfolding routerBy
     router-sender l e f = rw (le-ltb k 4 l, ne-eqb k 4 e) f
 
-  module _ (h : Head) (n : ℕ) (done : Bool) where
-    pub fits-out : n < h .actives + h .passives → {b : Bool} → b ≡ sentBy (h .actives) (t .length) n x
-        → b ≡ fitsBy routes joints homes by up t x h n done
+  module _ (actives outs inner n : ℕ) (done : Bool) where
+    pub fits-out : n < outs → {b : Bool} → b ≡ sentBy actives (t .length) n x
+        → b ≡ fitsBy routes joints homes by up t x actives outs inner n done
     unfolding fitsBy
-    fits-out l f = rw (lt-ltb n (h .actives + h .passives) l) f
+    fits-out l f = rw (lt-ltb n outs l) f
 
-    module _ (l : h .actives + h .passives ≤ n) where
-      pub fits-router : n - (h .actives + h .passives) < 21 * h .routers → {b : Bool}
-          → b ≡ routerBy routes joints homes by up t x ((n - (h .actives + h .passives)) / 21)
-          ((n - (h .actives + h .passives)) % 21) done
-          → b ≡ fitsBy routes joints homes by up t x h n done
+    module _ (l : outs ≤ n) where
+      pub fits-router : n - outs < inner → {b : Bool}
+          → b ≡ routerBy routes joints homes by up t x ((n - outs) / 21) ((n - outs) % 21) done
+          → b ≡ fitsBy routes joints homes by up t x actives outs inner n done
       unfolding fitsBy
-      fits-router m f =
-          rw (le-ltb n (h .actives + h .passives) l, lt-ltb (n - (h .actives + h .passives)) (21 * h .routers) m) f
+      fits-router m f = rw (le-ltb n outs l, lt-ltb (n - outs) inner m) f
 
-      pub fits-in : 21 * h .routers ≤ n - (h .actives + h .passives) → {b : Bool}
-          → b ≡ receivedBy (h .actives) (t .length) (n - (h .actives + h .passives) - 21 * h .routers) x
-          → b ≡ fitsBy routes joints homes by up t x h n done
+      pub fits-in : inner ≤ n - outs → {b : Bool} → b ≡ receivedBy actives (t .length) (n - outs - inner) x
+          → b ≡ fitsBy routes joints homes by up t x actives outs inner n done
       unfolding fitsBy
-      fits-in m f =
-          rw (le-ltb n (h .actives + h .passives) l, le-ltb (n - (h .actives + h .passives)) (21 * h .routers) m) f
+      fits-in m f = rw (le-ltb n outs l, le-ltb (n - outs) inner m) f

@@ -13,11 +13,10 @@ use Rattle.basis.specs.Bounded.{lt-or-ge}
 use Rattle.sets.specs.Sets.{has}
 use Rattle.packets.specs.declared.Packet.{Packet}
 use Rattle.plan.specs.declared.Head.{Head}
-use Rattle.plan.specs.Head.{Counts}
 use Rattle.plan.specs.Plan.{active, R, A, P}
 use Rattle.plan.specs.Rules.{home}
 use Rattle.plan.specs.Tables.{tablePlan}
-use Rattle.paths.specs.Served.{Served, served}
+use Rattle.paths.specs.Served.{Served}
 use Rattle.paths.proofs.Through.{same-default}
 use Rattle.feeding.specs.Queue.{Queue, activeOut, activeIn, passiveIn, passiveOut, U, Q, F, K}
 use Rattle.feeding.specs.Queue.{senderAt, inRouter, queueAt}
@@ -25,15 +24,13 @@ use Rattle.feeding.specs.Feeds.{Place, inQueue, Fits, headPlace}
 use Rattle.journeys.proofs.Walks.{served-of}
 use Rattle.arrivals.specs.Pairs.{pairWalk}
 use Rattle.arrivals.specs.Charted.{Charting}
-use Rattle.arrivals.specs.Tracks.{Tracks}
 use Rattle.load.specs.Lent.{length-at}
-use Rattle.machine.specs.Valid.{PacketOk}
 use Rattle.theory.proofs.Places.Closure.{span-short}
 use Rattle.valid.specs.Test.{fitsTest}
 use Rattle.valid.proofs.Decides.{Decides}
 use Rattle.valid.proofs.Fitting.{fits-decides}
-use Rattle.moves.specs.Lent.{Lent}
 use Rattle.places.specs.declared.Trip.{Trip}
+use Rattle.places.specs.Asked.{Asked}
 use Rattle.places.specs.Look.{trackAt, trackOf, tripOf, outBy, crossBy, Marked, Led}
 use Rattle.places.specs.Look.{sentBy, receivedBy, senderBy}
 use Rattle.places.specs.Look.{routerBy, fitsBy}
@@ -47,56 +44,47 @@ decided-same : {s t : Bool} {X : Type 0} → Decides s X → Decides t X → s �
 decided-same {s} {t} d e = same-test s t (λ q. e .passes (d .holds q)) (λ q. d .passes (e .holds q))
 
 -- ---- what a packet of a served pair brings
-pub record Asked (h : Head) (routes : List (List ℕ)) (joints homes : List ℕ) (lengths by up : List (List ℕ)) (x :
-    Packet)
-    : Type 0 where
-  pub lent : Lent h routes joints homes lengths by
-  pub tracks : Tracks (tablePlan h routes joints) up
-  pub packet : PacketOk (tablePlan h routes joints) x
-  pub serves : served (tablePlan h routes joints) (x .active) (x .passive) ≡ true
+-- its numbers are inside the tables
+pub in-range : {h : Head} {actives outs inner : ℕ} {routes : List (List ℕ)} {joints homes : List ℕ}
+    {lengths by up : List (List ℕ)} {a p : ℕ} → Asked h actives outs inner routes joints homes lengths by up a p
+    → (actives ≤ 16) × (a < 16) × (p < 16)
+unfolding tablePlan
+in-range asked =
+    let a = asked .lent .range .actives .1 in
+    let p = asked .lent .range .passives .1 in
+    (omega (arith, asked .counts .0), omega (arith, asked .active), omega (arith, asked .passive))
 
-pub ask : {h : Head} {routes : List (List ℕ)} {joints homes : List ℕ} {lengths by up : List (List ℕ)} {x : Packet}
-    → Lent h routes joints homes lengths by → Tracks (tablePlan h routes joints) up
-    → PacketOk (tablePlan h routes joints) x
-    → served (tablePlan h routes joints) (x .active) (x .passive) ≡ true → Asked h routes joints homes lengths by up x
-ask l u k v = record { lent = l; tracks = u; packet = k; serves = v }
-
-module _ {h : Head} {routes : List (List ℕ)} {joints homes : List ℕ} {lengths by up : List (List ℕ)} {x : Packet}
-    (asked : Asked h routes joints homes lengths by up x) where
+module _ {h : Head} {actives outs inner : ℕ} {routes : List (List ℕ)} {joints homes : List ℕ}
+    {lengths by up : List (List ℕ)} (x : Packet)
+    (asked : Asked h actives outs inner routes joints homes lengths by up (x .active) (x .passive)) where
   chart : Charting (tablePlan h routes joints) by joints homes
   chart = asked .lent .tables .chart
 
   pair : Served (tablePlan h routes joints) (x .active) (x .passive)
-  pair = served-of (chart .wired) (x .active) (x .passive) (asked .packet .active) (asked .serves)
+  pair = served-of (chart .wired) (x .active) (x .passive) (asked .active) (asked .serves)
 
   routed : (r d : ℕ) → r < 16 → d < 32 → tablePlan h routes joints .route r d ≡ getD (getD routes r []) d 0
   unfolding tablePlan
   routed r d l m = same-default (getD routes r []) d 7 0 (rw (asked .lent .tables .rows r l) m)
 
-  pub trips : {t : Trip} → t ≡ tripOf h homes lengths x → Trips (tablePlan h routes joints) (x .active) (x .passive) t
+  pub trips : {t : Trip} → t ≡ tripOf actives homes lengths x
+      → Trips (tablePlan h routes joints) (x .active) (x .passive) t
   unfolding tripOf tablePlan pairWalk
   trips {t} e =
       rw e (record {
         from =
-            home-at chart (active (x .active)) (x .active) (omega (arith, asked .packet .active))
-            (active-at (tablePlan h routes joints) (x .active) (asked .packet .active));
-        column = refl;
+            home-at chart (active (x .active)) (x .active) (omega (arith, asked .active))
+            (active-at (tablePlan h routes joints) (x .active) (asked .active));
+        column = ap (λ (k : ℕ). k + x .passive) (asked .counts .0);
         size =
             ap (λ (z : List (List ℕ)). getD (getD z (x .active) []) (x .passive) 0) (asked .lent .sizes)
             ∙ length-at (tablePlan h routes joints) (x .active) (x .passive) (asked .lent .range .actives .1)
-            (asked .lent .range .passives .1) (asked .packet .active) (asked .packet .passive)
+            (asked .lent .range .passives .1) (asked .active) (asked .passive)
             ∙ rw (asked .serves);
       })
 
   -- ---- every index is inside the tables
-  pub in-range : (h .actives ≤ 16) × (x .active < 16) × (x .passive < 16)
-  unfolding tablePlan
-  in-range =
-      let a = asked .lent .range .actives .1 in
-      let p = asked .lent .range .passives .1 in
-      (a, omega (arith, asked .packet .active), omega (arith, asked .packet .passive))
-
-  module _ {t : Trip} (e : t ≡ tripOf h homes lengths x) where
+  module _ {t : Trip} (e : t ≡ tripOf actives homes lengths x) where
     trip : Trips (tablePlan h routes joints) (x .active) (x .passive) t
     trip = trips e
 
@@ -112,11 +100,11 @@ module _ {h : Head} {routes : List (List ℕ)} {joints homes : List ℕ} {length
         let few = chart .few in
         let column = trip .column in
         record {
-          home = rw e (asked .lent .ports (x .active) (omega (arith, asked .packet .active, inside .0)));
-          column = omega (arith, asked .packet .passive);
+          home = rw e (asked .lent .ports (x .active) (omega (arith, asked .active, inside .0)));
+          column = omega (arith, asked .passive);
           long =
-              let short = span-short (chart .wired) (x .active) (x .passive) (asked .packet .active)
-              (asked .packet .passive) pair in
+              let short = span-short (chart .wired) (x .active) (x .passive) (asked .active)
+              (asked .passive) pair in
               let size = trip .size in
               omega (arith, chart .routers);
           most = most′;
@@ -124,28 +112,28 @@ module _ {h : Head} {routes : List (List ℕ)} {joints homes : List ℕ} {length
       where
         most′ : (r : ℕ) → r < 16 → has (trackOf up t) r ≡ true → trackAt up r (t .column) / 65536 ≤ t .length
         most′ r l q =
-            let m = on-track (chart .wired) up (asked .tracks) (x .active) (x .passive) (asked .packet .active)
-            (asked .packet .passive) pair t trip r l .holds q in
-            let f = rest-is (chart .wired) up (asked .tracks) (x .active) (x .passive) (asked .packet .active)
-            (asked .packet .passive) pair t trip (m .1 .steps) (record { router = r; side = m .0 }) (m .1 .here) .0 in
+            let m = on-track (chart .wired) up (asked .tracks) (x .active) (x .passive) (asked .active)
+            (asked .passive) pair t trip r l .holds q in
+            let f = rest-is (chart .wired) up (asked .tracks) (x .active) (x .passive) (asked .active)
+            (asked .passive) pair t trip (m .1 .steps) (record { router = r; side = m .0 }) (m .1 .here) .0 in
             let long = trip .size in
             omega arith
 
     far-inside : getD homes (t .column) 0 < 64
     far-inside =
         let column = trip .column in
-        asked .lent .ports (t .column) (omega (arith, asked .packet .passive, inside .0, inside .1))
+        asked .lent .ports (t .column) (omega (arith, asked .passive, inside .0, inside .1))
 
     led : Led routes joints t
     led n l =
         let long = trip .size in
-        nth-inside chart (x .active) (x .passive) (asked .packet .active) (asked .packet .passive) pair t trip routes
+        nth-inside chart (x .active) (x .passive) (asked .active) (asked .passive) pair t trip routes
         routed n (omega arith) .1
 
-    pub ready : Counts h × Marked up t × Led routes joints t × (getD homes (t .column) 0 < 64) × (x .active < 16)
+    pub ready : (inner ≤ 336) × Marked up t × Led routes joints t × (getD homes (t .column) 0 < 64) × (x .active < 16)
     ready =
-        let range = asked .lent .range in
-        ((range .routers .1, range .actives .1, range .passives .1), marked, led, far-inside, in-range .1)
+        let few = asked .lent .range .routers .1 in
+        (omega (arith, asked .counts .2), marked, led, far-inside, in-range asked .1)
 
     -- ---- every queue
     -- a place whose test decides Fits
@@ -153,8 +141,8 @@ module _ {h : Head} {routes : List (List ℕ)} {joints homes : List ℕ} {length
         → Decides b (Fits (tablePlan h routes joints) (x .kind) (x .active) (x .passive) (x .hub .0) at)
         → b ≡ fitsTest (tablePlan h routes joints) (x .kind) (x .active) (x .passive) (x .hub .0) at
     as-tested at d =
-        decided-same d (fits-decides (chart .wired) (x .active) (x .passive) (asked .packet .active)
-        (asked .packet .passive) pair (x .kind) (x .hub .0) at)
+        decided-same d (fits-decides (chart .wired) (x .active) (x .passive) (asked .active)
+        (asked .passive) pair (x .kind) (x .hub .0) at)
 
     abbrev Tested : Place → Bool → Type 0
     Tested at b = b ≡ fitsTest (tablePlan h routes joints) (x .kind) (x .active) (x .passive) (x .hub .0) at
@@ -162,16 +150,15 @@ module _ {h : Head} {routes : List (List ℕ)} {joints homes : List ℕ} {length
     out-is : (r o : ℕ) → r < 16
         → Tested (inQueue (F r o)) (outBy routes up t r o (x .active) (x .kind) (x .hub .0))
     out-is r o l =
-        as-tested (inQueue (F r o)) (out-decides chart up (asked .tracks) (x .active) (x .passive) (asked .packet
-        .active)
-        (asked .packet .passive) pair t trip r l (x .kind) (x .hub .0) routes o (λ d m. routed r d l m))
+        as-tested (inQueue (F r o)) (out-decides chart up (asked .tracks) (x .active) (x .passive) (asked .active)
+        (asked .passive) pair t trip r l (x .kind) (x .hub .0) routes o (λ d m. routed r d l m))
 
     cross-is : (r i o : ℕ) → r < 16 → i < 4
         → Tested (inQueue (K r i o)) (crossBy routes joints homes by up t (x .active) (4 * r + i) o (x .kind) (x .hub
         .0))
     cross-is r i o l m =
-        as-tested (inQueue (K r i o)) (cross-decides chart (x .active) (x .passive) (asked .packet .active)
-        (asked .packet .passive) pair t trip routes routed up (asked .tracks) (record { router = r; side = i }) l m
+        as-tested (inQueue (K r i o)) (cross-decides chart (x .active) (x .passive) (asked .active)
+        (asked .passive) pair t trip routes routed up (asked .tracks) (record { router = r; side = i }) l m
         (x .hub .0) o (x .kind))
 
     sender-is : (done : Bool) (r o j : ℕ) → r < 16 → o < 4 → j < 4
@@ -197,10 +184,10 @@ module _ {h : Head} {routes : List (List ℕ)} {joints homes : List ℕ} {length
             → Tested (headPlace done (inRouter r k)) (routerBy routes joints homes by up t x r k done)
         by′ (inl q) z =
             rw q (as-tested (inQueue (U r k)) (side-decides chart up (asked .tracks) (x .active) (x .passive)
-            (asked .packet .active) (asked .packet .passive) pair t trip r l (x .kind) (x .hub .0) k (ltb-true k 4 q)))
+            (asked .active) (asked .passive) pair t trip r l (x .kind) (x .hub .0) k (ltb-true k 4 q)))
         by′ (inr q) (inl z) =
             rw (q, z) (as-tested (headPlace done (Q r)) (unit-decides chart up (asked .tracks) (x .active) (x .passive)
-            (asked .packet .active) (asked .packet .passive) pair t trip r l (x .kind) (x .hub .0) done))
+            (asked .active) (asked .passive) pair t trip r l (x .kind) (x .hub .0) done))
         by′ (inr q) (inr z) =
             let low = ltb-false k 4 q in
             let off = eqb-false k 4 z in
@@ -217,11 +204,11 @@ module _ {h : Head} {routes : List (List ℕ)} {joints homes : List ℕ} {length
             (sentBy (h .actives) (t .length) n x)
         by′ (inl q) =
             rw q (as-tested (inQueue (activeOut n)) (active-out (chart .wired) (x .active) (x .passive)
-            (asked .packet .active) (asked .packet .passive) pair (t .length) (trip .size) n (x .hub .0) (x .kind)))
+            (asked .active) (asked .passive) pair (t .length) (trip .size) n (x .hub .0) (x .kind)))
         by′ (inr q) =
             rw q (as-tested (inQueue (passiveOut (n - h .actives))) (passive-out (chart .wired) (x .active) (x
             .passive)
-            (asked .packet .active) (asked .packet .passive) pair (t .length) (trip .size) (n - h .actives) (x .hub .0)
+            (asked .active) (asked .passive) pair (t .length) (trip .size) (n - h .actives) (x .hub .0)
             (x .kind)))
 
     received-is : (n : ℕ)
@@ -235,10 +222,10 @@ module _ {h : Head} {routes : List (List ℕ)} {joints homes : List ℕ} {length
             (receivedBy (h .actives) (t .length) n x)
         by′ (inl q) =
             rw q (as-tested (inQueue (activeIn n)) (active-in (chart .wired) (x .active) (x .passive)
-            (asked .packet .active) (asked .packet .passive) pair (t .length) (trip .size) n (x .hub .0) (x .kind)))
+            (asked .active) (asked .passive) pair (t .length) (trip .size) n (x .hub .0) (x .kind)))
         by′ (inr q) =
             rw q (as-tested (inQueue (passiveIn (n - h .actives))) (passive-in (chart .wired) (x .active) (x .passive)
-            (asked .packet .active) (asked .packet .passive) pair (t .length) (trip .size) (n - h .actives) (x .hub .0)
+            (asked .active) (asked .passive) pair (t .length) (trip .size) (n - h .actives) (x .hub .0)
             (x .kind)))
 
     -- ---- the queue of a number: out-queues, routers' queues, in-queues
@@ -296,7 +283,7 @@ module _ {h : Head} {routes : List (List ℕ)} {joints homes : List ℕ} {length
 
     -- what is looked up is what is meant
     looked-is : (n : ℕ) (done : Bool)
-        → fitsBy routes joints homes by up t x h n done
+        → fitsBy routes joints homes by up t x (h .actives) (h .actives + h .passives) (21 * h .routers) n done
         ≡ fitsTest (tablePlan h routes joints) (x .kind) (x .active) (x .passive) (x .hub .0)
         (headPlace done (queueAt (tablePlan h routes joints) n))
     unfolding fitsBy
@@ -310,8 +297,8 @@ module _ {h : Head} {routes : List (List ℕ)} {joints homes : List ℕ} {length
 
         by′ : (n < h .actives + h .passives) ⊎ (h .actives + h .passives ≤ n)
             → (n - (h .actives + h .passives) < 21 * h .routers) ⊎ (21 * h .routers ≤ n - (h .actives + h .passives))
-            → Tested (headPlace done (queueAt (tablePlan h routes joints) n)) (fitsBy routes joints homes by up t x h n
-            done)
+            → Tested (headPlace done (queueAt (tablePlan h routes joints) n)) (fitsBy routes joints homes by up t x (h .actives)
+            (h .actives + h .passives) (21 * h .routers) n done)
         by′ (inl l) m =
             rw (lt-ltb n (h .actives + h .passives) l, queue-out n l)
             (rw (plain (ltb n (h .actives)) (activeOut n) (passiveOut (n - h .actives)) refl refl) (sent-is n l))
@@ -334,7 +321,8 @@ module _ {h : Head} {routes : List (List ℕ)} {joints homes : List ℕ} {length
             (passiveIn (n - (h .actives + h .passives) - 21 * h .routers - h .actives)) refl refl)
             (received-is (n - (h .actives + h .passives) - 21 * h .routers)))
 
-    pub fits-is : (n : ℕ) (done : Bool) {b : Bool} → b ≡ fitsBy routes joints homes by up t x h n done
+    pub fits-is : (n : ℕ) (done : Bool) {b : Bool} → b ≡ fitsBy routes joints homes by up t x actives outs inner n done
         → b ≡ fitsTest (tablePlan h routes joints) (x .kind) (x .active) (x .passive) (x .hub .0)
         (headPlace done (queueAt (tablePlan h routes joints) n))
-    fits-is n done e = e ∙ looked-is n done
+    fits-is n done e =
+        rw (asked .counts .0, asked .counts .1, asked .counts .2) at e ∙ looked-is n done

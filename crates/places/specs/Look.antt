@@ -11,7 +11,6 @@ use Rattle.sets.specs.Sets.{has}
 use Rattle.packets.specs.declared.Kind.{Kind}
 use Rattle.packets.specs.declared.Kind.the-variants.{Setup, Tdown, Ack, Nack}
 use Rattle.packets.specs.declared.Packet.{Packet}
-use Rattle.plan.specs.declared.Head.{Head}
 use Rattle.places.specs.declared.Trip.{Trip}
 use Rattle.places.specs.declared.Standing.{Standing}
 
@@ -20,11 +19,11 @@ use Rattle.places.specs.declared.Standing.{Standing}
 abbrev pub trackAt : List (List ℕ) → ℕ → ℕ → ℕ
 trackAt up r d = getD (getD up r []) d 0
 
-unfoldable pub tripOf : Head → List ℕ → List (List ℕ) → Packet → Trip
-tripOf h homes lengths x =
+unfoldable pub tripOf : ℕ → List ℕ → List (List ℕ) → Packet → Trip
+tripOf actives homes lengths x =
     record {
       home = getD homes (x .active) 0;
-      column = h .actives + x .passive;
+      column = actives + x .passive;
       length = getD (getD lengths (x .active) []) (x .passive) 0;
     }
 
@@ -191,10 +190,9 @@ module _ (routes : List (List ℕ)) (joints homes : List ℕ) (by up : List (Lis
       pick (ltb k 4) (sideBy joints by up t (4 * r + k) (x .kind) (x .hub .0))
       (pick (eqb k 4) (unitBy up t r done (x .kind) (x .hub .0)) (senderBy r ((k - 5) / 4) ((k - 5) % 4)))
 
-  -- the n-th queue
-  unfoldable pub fitsBy : Head → ℕ → Bool → Bool
-  fitsBy h n done =
-      pick (ltb n (h .actives + h .passives)) (sentBy (h .actives) (t .length) n x)
-      (pick (ltb (n - (h .actives + h .passives)) (21 * h .routers))
-      (routerBy ((n - (h .actives + h .passives)) / 21) ((n - (h .actives + h .passives)) % 21) done)
-      (receivedBy (h .actives) (t .length) (n - (h .actives + h .passives) - 21 * h .routers) x))
+  -- the n-th queue: out-queues, then inner ones of the routers, then in-queues
+  unfoldable pub fitsBy : ℕ → ℕ → ℕ → ℕ → Bool → Bool
+  fitsBy actives outs inner n done =
+      pick (ltb n outs) (sentBy actives (t .length) n x)
+      (pick (ltb (n - outs) inner) (routerBy ((n - outs) / 21) ((n - outs) % 21) done)
+      (receivedBy actives (t .length) (n - outs - inner) x))

@@ -1,8 +1,9 @@
 // May a packet stand in a queue? Looked up in tables: which routers each walk meets and how many, what joins each
 // port.
+use kinds::Hub;
+use kinds::Slot;
 use packets::Kind;
 use packets::Packet;
-use plan::Head;
 use sets::has;
 ghost use mathlib.Core.Path.{_≡_};
 ghost use mathlib.Core.Bool.{true};
@@ -10,15 +11,12 @@ ghost use mathlib.Core.List.{[]};
 ghost use Prim.Native.Nat.{_+_, _*_, _/_, _≤_, _<_};
 ghost use lib.ListN.{getD};
 ghost use Rattle.sets.specs.Sets.{has};
-ghost use Rattle.plan.specs.Head.{Counts};
+ghost use Rattle.plan.specs.declared.Head.{Head};
 ghost use Rattle.plan.specs.Tables.{tablePlan};
-ghost use Rattle.paths.specs.Served.{served};
-ghost use Rattle.feeding.specs.Queue.{queues, queueAt};
+ghost use Rattle.feeding.specs.Queue.{queueAt};
 ghost use Rattle.feeding.specs.Feeds.{headPlace};
-ghost use Rattle.arrivals.specs.Tracks.{Tracks};
-ghost use Rattle.machine.specs.Valid.{PacketOk};
 ghost use Rattle.valid.specs.Test.{fitsTest};
-ghost use Rattle.moves.specs.Lent.{Lent};
+ghost use Rattle.places.specs.Asked.{Asked};
 ghost use Rattle.places.specs.Look.{tripOf, standingOf, onwardOf, nthOf, freesUpTo, coming};
 ghost use Rattle.places.specs.Look.{leaving, unitBy, nextBy, comesBy, sideBy};
 ghost use Rattle.places.specs.Look.{columnOf, outBy, nackBy, answerBy, crossBy, Marked};
@@ -47,9 +45,9 @@ fn wide(x: u8) -> usize
 }
 
 // The walk of a packet's pair.
-fn trip_of(h: Head, homes: &[u8; 32], lengths: &[[u8; 16]; 16], x: Packet) -> Trip
-    requires { ⌜ (h .actives ≤ 16) × (x .active < 16) × (x .passive < 16) ⌝ }
-    ensures { λ t. ⌜ t ≡ tripOf h (now (homes .entry)) (now (lengths .entry)) x ⌝ }
+fn trip_of(actives: usize, homes: &[u8; 32], lengths: &[[u8; 16]; 16], x: Packet) -> Trip
+    requires { ⌜ (actives ≤ 16) × (x .active < 16) × (x .passive < 16) ⌝ }
+    ensures { λ t. ⌜ t ≡ tripOf actives (now (homes .entry)) (now (lengths .entry)) x ⌝ }
 {
     let a = wide(x.active);
     let p = wide(x.passive);
@@ -57,7 +55,7 @@ fn trip_of(h: Head, homes: &[u8; 32], lengths: &[[u8; 16]; 16], x: Packet) -> Tr
     let length = wide(lengths[a][p]);
     Trip {
         home: home,
-        column: h.actives + p,
+        column: actives + p,
         length: length,
     }
 }
@@ -514,9 +512,11 @@ fn received(actives: usize, length: usize, n: usize, x: Packet) -> bool
     passive_in(length, x)
 }
 
-// In the n-th queue: out-queues first, then each router's, then the in-queues.
+// In the n-th queue: out-queues first, then inner ones of the routers, then the in-queues.
 fn looked(
-    h: Head,
+    actives: usize,
+    outs: usize,
+    inner: usize,
     routes: &[[u8; 32]; 16],
     joints: &[u8; 64],
     homes: &[u8; 32],
@@ -527,26 +527,27 @@ fn looked(
     done: bool,
     x: Packet,
 ) -> bool
-    requires { ⌜ Counts h × Marked (now up) t × Led (now routes) (now joints) t
+    requires { ⌜ (inner ≤ 336) × Marked (now up) t × Led (now routes) (now joints) t
         × (getD (now homes) (t .column) 0 < 64) × (x .active < 16) ⌝ }
     ensures { λ b. ⌜ b ≡ fitsBy (now (routes .entry)) (now (joints .entry)) (now (homes .entry)) (now (by .entry))
-        (now (up .entry)) t x h n done ⌝ }
+        (now (up .entry)) t x actives outs inner n done ⌝ }
 {
-    let outs = h.actives + h.passives;
     if n < outs {
-        return sent(h.actives, t.length, n, x);
+        return sent(actives, t.length, n, x);
     }
     let m = n - outs;
-    let inner = 21 * h.routers;
     if m < inner {
         return at_router(routes, joints, homes, by, up, t, m / 21, m % 21, done, x);
     }
-    received(h.actives, t.length, m - inner, x)
+    received(actives, t.length, m - inner, x)
 }
 
-// May a packet of a served pair stand in the n-th queue, or at its unit if the queue's head has been handled?
+// May a packet of a served pair stand in the n-th queue, or at its unit if the queue's head has been handled? Numbers
+// in place of a head and a packet, which a call would have to store.
 pub fn fits(
-    h: Head,
+    actives: usize,
+    outs: usize,
+    inner: usize,
     routes: &[[u8; 32]; 16],
     joints: &[u8; 64],
     homes: &[u8; 32],
@@ -555,17 +556,38 @@ pub fn fits(
     up: &[[u32; 32]; 17],
     n: usize,
     done: bool,
-    x: Packet,
+    k: Kind,
+    a: u8,
+    p: u8,
+    hub: u8,
 ) -> bool
-    requires { ⌜ Lent h (now routes) (now joints) (now homes) (now lengths) (now by)
-        × Tracks (tablePlan h (now routes) (now joints)) (now up)
-        × (n < queues (tablePlan h (now routes) (now joints)))
-        × PacketOk (tablePlan h (now routes) (now joints)) x
-        × (served (tablePlan h (now routes) (now joints)) (x .active) (x .passive) ≡ true) ⌝ }
-    ensures { λ r. ⌜ r ≡ fitsTest (tablePlan h (now (routes .entry))
-        (now (joints .entry))) (x .kind) (x .active) (x .passive) (x .hub .0)
-        (headPlace done (queueAt (tablePlan h (now (routes .entry)) (now (joints .entry))) n)) ⌝ }
+    requires { ⌜ ((h : Head) × Asked h actives outs inner (now routes) (now joints) (now homes) (now lengths) (now by)
+        (now up) a p) ⌝ }
+    ensures { λ r. ⌜ ((h : Head) → Asked h actives outs inner (now (routes .entry)) (now (joints .entry))
+        (now (homes .entry)) (now (lengths .entry)) (now (by .entry)) (now (up .entry)) a p
+        → r ≡ fitsTest (tablePlan h (now (routes .entry)) (now (joints .entry))) k a p hub
+        (headPlace done (queueAt (tablePlan h (now (routes .entry)) (now (joints .entry))) n))) ⌝ }
 {
-    let t = trip_of(h, homes, lengths, x);
-    looked(h, routes, joints, homes, by, up, t, n, done, x)
+    let x = Packet {
+        kind: k,
+        active: a,
+        passive: p,
+        slot: Slot(0),
+        hub: Hub(hub),
+    };
+    let t = trip_of(actives, homes, lengths, x);
+    looked(
+        actives,
+        outs,
+        inner,
+        routes,
+        joints,
+        homes,
+        by,
+        up,
+        t,
+        n,
+        done,
+        x,
+    )
 }

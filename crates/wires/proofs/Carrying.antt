@@ -4,28 +4,28 @@ use mathlib.Core.Logic.{_≢_}
 use mathlib.Core.Bool.{Bool, true, false, false≢true}
 use mathlib.Core.List.{List}
 use mathlib.Core.Option.{Option, none, some}
-use Prim.Native.Nat.{ℕ, _+_, _<_}
+use Prim.Native.Nat.{ℕ, _+_, _*_, _<_}
 use native.Mathlib.Omega.{arith}
 use lib.ListN.{getD, set}
-use borrow.Author.Tests.{ltb-true, leb-true}
 use Rattle.basis.specs.Choice.{also, also-true, refuted}
 use Rattle.packets.specs.declared.Packet.{Packet}
 use Rattle.plan.specs.declared.Head.{Head}
 use Rattle.plan.specs.Head.{Counts}
-use Rattle.plan.specs.Plan.{Plan, A, P, S}
+use Rattle.plan.specs.Plan.{Plan}
 use Rattle.plan.specs.Tables.{tablePlan}
 use Rattle.paths.specs.Served.{served}
 use Rattle.feeding.specs.Queue.{Queue, queues, queueAt}
 use Rattle.feeding.specs.Feeds.{Output, inQueue, headPlace}
 use Rattle.machine.specs.Outputs.{nextBy, outputAt}
-use Rattle.machine.specs.Valid.{PacketOk}
 use Rattle.theory.proofs.Places.Lines.{belongs-exists, head-unhandled}
 use Rattle.valid.specs.Test.{packetTest, fitsTest, belongsTest, boundTest}
 use Rattle.valid.proofs.Packets.{belongs-decides}
 use Rattle.acts.specs.Counts.{queues-by}
+use Rattle.places.specs.Asked.{Asked}
 use Rattle.lines.specs.Ready.{Ready}
 use Rattle.lines.specs.Tally.{tallied}
 use Rattle.lines.proofs.Tallies.{tallied-one}
+use Rattle.lines.proofs.Turns.{asking}
 use Rattle.moves.specs.Wiring.{Wiring}
 use Rattle.moves.specs.Next.{noQueue, numberOr}
 use Rattle.wires.specs.Outputs.{Carried}
@@ -84,25 +84,13 @@ module _ {h : Head} {routes : List (List ℕ)} {joints homes : List ℕ} {length
       tested : (packetTest net x ≡ true) × (served net (x .active) (x .passive) ≡ true)
       tested = also-true {a = packetTest net x} {b = served net (x .active) (x .passive)} (sym e ∙ f)
 
-      pub ranges : PacketOk net x
-      unfolding packetTest
-      ranges =
-          let a = also-true (tested .0) in
-          let b = also-true (a .1) in
-          let c = also-true (b .1) in
-          record {
-            active = ltb-true (x .active) (A net) (a .0);
-            passive = ltb-true (x .passive) (P net) (b .0);
-            slot = ltb-true (x .slot .0) (S net) (c .0);
-            hub = leb-true (x .hub .0) 16 (c .1);
-          }
-
-      pub serves : served net (x .active) (x .passive) ≡ true
-      serves = tested .1
+      pub asked : Asked h (h .actives) (h .actives + h .passives) (21 * h .routers) routes joints homes lengths by up
+          (x .active) (x .passive)
+      asked = asking ready x (sym e ∙ f)
 
       pub numbers : (x .active < h .actives) × (x .passive < h .passives)
       unfolding tablePlan
-      numbers = (ranges .active, ranges .passive)
+      numbers = (asked .active, asked .passive)
 
       pub active-few : x .active < 16
       active-few = let a = ready .lent .range .actives .1 in let b = numbers .0 in omega arith

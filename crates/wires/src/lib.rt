@@ -69,7 +69,24 @@ fn joins(
     if n == moves::NO_QUEUE {
         return false;
     }
-    if !places::fits(h, routes, joints, homes, lengths, by, up, n, false, x) {
+    let k = x.kind;
+    if !places::fits(
+        h.actives,
+        h.actives + h.passives,
+        21 * h.routers,
+        routes,
+        joints,
+        homes,
+        lengths,
+        by,
+        up,
+        n,
+        false,
+        k,
+        x.active,
+        x.passive,
+        x.hub.0,
+    ) {
         return false;
     }
     coming[n] += 1;

@@ -1,6 +1,8 @@
+use native.Mathlib.Omega.{arith}
 use mathlib.Core.Path.{sym, _∙_}
 use borrow.Author.Tests.{not-true, not-false}
-use Rattle.lines.proofs.Turns.{place-kind, place-numbers, place-misfit, place-done, numbers-ok, served-ok, queue-in, active-few}
+use Rattle.lines.proofs.Turns.{place-kind, place-numbers, place-misfit, place-done}
+use Rattle.lines.proofs.Turns.{numbers-ok, asking, active-few, queues-few}
 use borrow.Author.Needs.{needs}
 use Rattle.lines.proofs.place_ok.Statement.{statement}
 use Rattle.lines.proofs.place_ok.Tie as tie
@@ -38,27 +40,79 @@ packet-ok-requires c κs = search needs
 
 -- src/lib.rt:99:9
 returns-2 : tie.Need-returns-2
-returns-2 c = place-numbers _ _ _ _ _ _ _ _ (c .before .before .before .if1 .left) (rw (c .before .before .packet-at .ensures) at (c .before .packet-ok .ensures _ _ _ _ (c .before .before .before .before .before .before .pre .0 .lent))) (not-true _ (c .if2 .taken))
+returns-2 c =
+    place-numbers _ _ _ _ _ _ _ _ (c .before .before .before .if1 .left)
+    (rw (c .before .before .packet-at .ensures) at
+    (c .before .packet-ok .ensures _ _ _ _ (c .before .before .before .before .before .before .pre .0 .lent)))
+    (not-true _ (c .if2 .taken))
 
 -- src/lib.rt:101:9
 of-head-requires : tie.Need-of-head-requires
 of-head-requires c κs = search needs
 
+add-fits : tie.Need-add-fits
+add-fits c =
+    let f = queues-few (c .before .before .before .before .before .before .before .before .pre .0 .lent .range) in
+    omega arith
+
+mul-fits : tie.Need-mul-fits
+mul-fits c =
+    let f = queues-few (c .before .before .before .before .before .before .before .before .before .pre .0 .lent .range) in
+    omega arith
+
 -- src/lib.rt:102:9
 fits-requires : tie.Need-fits-requires
-fits-requires c κs = let r = c .before .before .before .before .before .before .before .pre .0 in let e = sym (c .before .before .packet-ok .ensures _ _ _ _ (r .lent)) ∙ not-false _ (c .before .if2 .left) in (r .lent, r .tracks, queue-in _ _ _ _ (c .before .before .before .before .before .before .before .pre .1), numbers-ok _ _ _ e, served-ok _ _ e)
+fits-requires c κs =
+    let r = c .before .before .before .before .before .before .before .before .before .pre .0 in
+    let e = sym (c .before .before .before .before .packet-ok .ensures _ _ _ _ (r .lent)) ∙ not-false _
+    (c .before .before .before .if2 .left) in
+    (_, asking r _ e)
 
 -- src/lib.rt:103:9
 returns-3 : tie.Need-returns-3
-returns-3 c = place-misfit _ _ _ _ _ _ _ _ (c .before .before .before .before .before .before .if1 .left) (rw (c .before .before .before .before .before .packet-at .ensures) at (c .before .before .before .before .packet-ok .ensures _ _ _ _ (c .before .before .before .before .before .before .before .before .before .pre .0 .lent))) (not-false _ (c .before .before .before .if2 .left)) (rw (c .before .before .of-head .ensures, c .before .before .before .before .before .packet-at .ensures) at (c .before .fits2 .ensures)) (not-true _ (c .if3 .taken))
+returns-3 c =
+    let r = c .before .before .before .before .before .before .before .before .before .before .before .pre .0 in
+    let e = sym (c .before .before .before .before .before .before .packet-ok .ensures _ _ _ _
+    (r .lent)) ∙ not-false _ (c .before .before .before .before .before .if2 .left) in
+    place-misfit _ _ _ _ _ _ _ _ (c .before .before .before .before .before .before .before .before .if1 .left)
+    (rw (c .before .before .before .before .before .before .before .packet-at .ensures) at
+    (c .before .before .before .before .before .before .packet-ok .ensures _ _ _ _ (r .lent)))
+    (not-false _ (c .before .before .before .before .before .if2 .left))
+    (rw (
+      c .before .before .before .before .of-head .ensures,
+      c .before .before .before .before .before .before .before .packet-at .ensures,
+    ) at
+    (c .before .fits2 .ensures _ (asking r _ e))) (not-true _ (c .if3 .taken))
 
 -- src/lib.rt:105:5
 tally-requires : tie.Need-tally-requires
-tally-requires c κs = let r = c .before .before .before .before .before .before .before .before .before .before .pre .0 in let e = sym (c .before .before .before .before .before .packet-ok .ensures _ _ _ _ (r .lent)) ∙ not-false _ (c .before .before .before .before .if2 .left) in active-few _ _ _ (r .lent .range) _ (numbers-ok _ _ _ e)
+tally-requires c κs =
+    let r = c .before .before .before .before .before .before .before .before .before .before .before .before .pre .0 in
+    let e = sym (c .before .before .before .before .before .before .before .packet-ok .ensures _ _ _ _
+    (r .lent)) ∙ not-false _ (c .before .before .before .before .before .before .if2 .left) in
+    active-few _ _ _ (r .lent .range) _ (numbers-ok _ _ _ e)
 
 -- src/lib.rt:72:1
 returns-4 : tie.Need-returns-4
-returns-4 c = let r = c .before .before .before .before .before .before .before .before .before .before .before .pre .0 in let e = sym (c .before .before .before .before .before .before .packet-ok .ensures _ _ _ _ (r .lent)) ∙ not-false _ (c .before .before .before .before .before .if2 .left) in place-done _ _ _ _ _ _ _ _ (c .before .before .before .before .before .before .before .before .if1 .left) (rw (c .before .before .before .before .before .before .before .packet-at .ensures) at (c .before .before .before .before .before .before .packet-ok .ensures _ _ _ _ (r .lent))) (not-false _ (c .before .before .before .before .before .if2 .left)) (rw (c .before .before .before .before .of-head .ensures, c .before .before .before .before .before .before .before .packet-at .ensures) at (c .before .before .before .fits2 .ensures)) (not-false _ (c .before .before .if3 .left)) (rw (c .before .before .before .before .before .before .before .packet-at .ensures) at (active-few _ _ _ (r .lent .range) _ (numbers-ok _ _ _ e))) (rw (c .before .before .before .before .before .before .before .packet-at .ensures) at (c .tally .ensures))
+returns-4 c =
+    let r = c .before .before .before .before .before .before .before .before .before
+    .before .before .before .before .pre .0 in
+    let e = sym (c .before .before .before .before .before .before .before .before .packet-ok .ensures _ _ _ _
+    (r .lent)) ∙ not-false _ (c .before .before .before .before .before .before .before .if2 .left) in
+    place-done _ _ _ _ _ _ _ _
+    (c .before .before .before .before .before .before .before .before .before .before .if1 .left)
+    (rw (c .before .before .before .before .before .before .before .before .before .packet-at .ensures) at
+    (c .before .before .before .before .before .before .before .before .packet-ok .ensures _ _ _ _ (r .lent)))
+    (not-false _ (c .before .before .before .before .before .before .before .if2 .left))
+    (rw (
+      c .before .before .before .before .before .before .of-head .ensures,
+      c .before .before .before .before .before .before .before .before .before .packet-at .ensures,
+    ) at
+    (c .before .before .before .fits2 .ensures _ (asking r _ e))) (not-false _ (c .before .before .if3 .left))
+    (rw (c .before .before .before .before .before .before .before .before .before .packet-at .ensures) at
+    (active-few _ _ _ (r .lent .range) _ (numbers-ok _ _ _ e)))
+    (rw (c .before .before .before .before .before .before .before .before .before .packet-at .ensures) at
+    (c .tally .ensures))
 
 pub place-ok-spec : {M : Type 1} → statement M
 place-ok-spec =
@@ -72,6 +126,8 @@ place-ok-spec =
     packet-ok-requires
     returns-2
     of-head-requires
+    add-fits
+    mul-fits
     fits-requires
     returns-3
     tally-requires

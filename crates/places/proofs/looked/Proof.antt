@@ -8,21 +8,13 @@ use Rattle.places.proofs.at_router.Reads as at-router-reads
 use Rattle.places.proofs.received.Reads as received-reads
 use Rattle.places.proofs.sent.Reads as sent-reads
 
--- src/lib.rt:480:16
-add-outs : tie.Need-add-outs
-add-outs c = search needs
-
 -- src/lib.rt:482:9
 sent-requires : tie.Need-sent-requires
 sent-requires c κs = search needs
 
 -- src/lib.rt:482:9
 returns : tie.Need-returns
-returns c = fits-out _ _ _ _ _ _ _ _ _ _ (c .before .if1 .taken) (c .sent .ensures)
-
--- src/lib.rt:485:17
-mul-inner : tie.Need-mul-inner
-mul-inner c = search needs
+returns c = fits-out _ _ _ _ _ _ _ _ _ _ _ _ (c .before .if1 .taken) (c .sent .ensures)
 
 -- src/lib.rt:487:9
 at-router-requires : tie.Need-at-router-requires
@@ -31,8 +23,8 @@ at-router-requires c κs = search needs
 -- src/lib.rt:487:9
 returns-2 : tie.Need-returns-2
 returns-2 c =
-    fits-router _ _ _ _ _ _ _ _ _ _ (c .before .before .before .if1 .left) (c .before .if2 .taken) (c .at-router
-    .ensures)
+    fits-router _ _ _ _ _ _ _ _ _ _ _ _ (c .before .before .if1 .left) (c .before .if2 .taken)
+    (c .at-router .ensures)
 
 -- src/lib.rt:489:5
 received-requires : tie.Need-received-requires
@@ -41,16 +33,14 @@ received-requires c κs = search needs
 -- src/lib.rt:465:1
 returns-3 : tie.Need-returns-3
 returns-3 c =
-    fits-in _ _ _ _ _ _ _ _ _ _ (c .before .before .before .if1 .left) (c .before .if2 .left) (c .received .ensures)
+    fits-in _ _ _ _ _ _ _ _ _ _ _ _ (c .before .before .if1 .left) (c .before .if2 .left) (c .received .ensures)
 
 pub looked-spec : {M : Type 1} → statement M
 looked-spec =
     tie.close
     (tie.spec
-    add-outs
     sent-requires
     returns
-    mul-inner
     at-router-requires
     returns-2
     received-requires

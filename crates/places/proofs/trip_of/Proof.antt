@@ -45,8 +45,9 @@ add-t12 c = search needs
 -- src/lib.rt:45:1
 returns : tie.Need-returns
 returns c =
-    trip-is _ _ _ _ (c .before .before .before .before .before .before .wide .ensures .0) (c .before .before .before
-    .before .before .wide2 .ensures .0) (c .before .before .before .wide3 .ensures .0) (c .before .wide4 .ensures .0)
+    trip-is _ _ _ _ (c .before .before .before .before .before .wide .ensures .0)
+    (c .before .before .before .before .wide2 .ensures .0) (c .before .before .wide3 .ensures .0)
+    (c .wide4 .ensures .0)
 
 pub trip-of-spec : {M : Type 1} → statement M
 trip-of-spec =

@@ -1,4 +1,5 @@
-use Rattle.wires.proofs.Carrying.{not-carried, ready-wiring, unfit, ranges, serves, numbers, active-few}
+use Rattle.lines.proofs.Turns.{queues-few}
+use Rattle.wires.proofs.Carrying.{not-carried, ready-wiring, unfit, asked, numbers, active-few}
 use Rattle.wires.proofs.Carrying.{nowhere, in-queues, in-table, misfit, carried}
 use native.Mathlib.Omega.{arith}
 use borrow.Author.Tests.{not-true, not-false}
@@ -26,40 +27,49 @@ returns-2 c =
     not-carried _ _ _ _ _ _ _ (nowhere (p .0) _ (c .before .before .before .packet-ok .ensures _ _ _ _ (p .0 .lent))
     (not-false _ (c .before .before .if1 .left)) _ _ (c .before .next .ensures) (c .if2 .taken))
 
+add-fits : tie.Need-add-fits
+add-fits c =
+    let f = queues-few (c .before .before .before .before .before .pre .0 .lent .range) in
+    omega arith
+
+mul-fits : tie.Need-mul-fits
+mul-fits c =
+    let f = queues-few (c .before .before .before .before .before .before .pre .0 .lent .range) in
+    omega arith
+
 fits-requires : tie.Need-fits-requires
 fits-requires c κs =
-    let p = c .before .before .before .before .pre in
-    let e = c .before .before .before .packet-ok .ensures _ _ _ _ (p .0 .lent) in
-    let f = not-false _ (c .before .before .if1 .left) in (
-      p .0 .lent,
-      p .0 .tracks,
-      in-queues (p .0) _ e f _ _ (c .before .next .ensures) (c .if2 .left),
-      ranges (p .0)
-          _ e f,
-      serves (p .0) _ e f,
-    )
+    let p = c .before .before .before .before .before .before .pre in
+    let e = c .before .before .before .before .before .packet-ok .ensures _ _ _ _ (p .0 .lent) in
+    let f = not-false _ (c .before .before .before .before .if1 .left) in
+    (_, asked (p .0) _ e f)
 
 returns-3 : tie.Need-returns-3
 returns-3 c =
-    let p = c .before .before .before .before .before .before .pre in
-    not-carried _ _ _ _ _ _ _ (misfit (p .0) _ (c .before .before .before .before .before .packet-ok .ensures _ _ _ _
-    (p .0 .lent)) (not-false _ (c .before .before .before .before .if1 .left)) _ _
-    (c .before .before .before .next .ensures) (c .before .before .if2 .left) (c .before .fits2 .ensures) (not-true _
-    (c .if3 .taken)))
+    let p = c .before .before .before .before .before .before .before .before .pre in
+    let e = c .before .before .before .before .before .before .before .packet-ok .ensures _ _ _ _ (p .0 .lent) in
+    let f = not-false _ (c .before .before .before .before .before .before .if1 .left) in
+    not-carried _ _ _ _ _ _ _
+    (misfit (p .0) _ e f _ _ (c .before .before .before .before .before .next .ensures)
+    (c .before .before .before .before .if2 .left) (c .before .fits2 .ensures _ (asked (p .0) _ e f))
+    (not-true _ (c .if3 .taken)))
 
 element-copy-out-coming : tie.Need-element-copy-out-coming
 element-copy-out-coming c =
-    let p = c .before .before .before .before .before .before .pre in
-    in-table (p .0) _ (c .before .before .before .before .before .packet-ok .ensures _ _ _ _ (p .0 .lent)) (not-false
-    _ (c .before .before .before .before .if1 .left)) _ _ (c .before .before .before .next .ensures)
-    (c .before .before .if2 .left)
+    let p = c .before .before .before .before .before .before .before .before .pre in
+    let e = c .before .before .before .before .before .before .before .packet-ok .ensures _ _ _ _ (p .0 .lent) in
+    let f = not-false _ (c .before .before .before .before .before .before .if1 .left) in
+    in-table (p .0) _ e f _ _ (c .before .before .before .before .before .next .ensures)
+    (c .before .before .before .before .if2 .left)
 
 add-coming : tie.Need-add-coming
 add-coming c =
-    let p = c .before .before .before .before .before .before .before .pre in
-    let l = in-queues (p .0) _ (c .before .before .before .before .before .before .packet-ok .ensures _ _ _ _
-    (p .0 .lent)) (not-false _ (c .before .before .before .before .before .if1 .left)) _ _
-    (c .before .before .before .before .next .ensures) (c .before .before .before .if2 .left) in
+    let p = c .before .before .before .before .before .before .before .before .before .pre in
+    let e = c .before .before .before .before .before .before .before .before .packet-ok .ensures _ _ _ _
+    (p .0 .lent) in
+    let f = not-false _ (c .before .before .before .before .before .before .before .if1 .left) in
+    let l = in-queues (p .0) _ e f _ _ (c .before .before .before .before .before .before .next .ensures)
+    (c .before .before .before .before .before .if2 .left) in
     let k = p .2 _ l in
     let m = p .1 in
     let r = p .0 .lent .range in
@@ -70,24 +80,30 @@ add-coming c =
 
 element-write-coming : tie.Need-element-write-coming
 element-write-coming c =
-    let p = c .before .before .before .before .before .before .before .pre in
-    in-table (p .0) _ (c .before .before .before .before .before .before .packet-ok .ensures _ _ _ _ (p .0 .lent))
-    (not-false _ (c .before .before .before .before .before .if1 .left)) _ _
-    (c .before .before .before .before .next .ensures) (c .before .before .before .if2 .left)
+    let p = c .before .before .before .before .before .before .before .before .before .pre in
+    let e = c .before .before .before .before .before .before .before .before .packet-ok .ensures _ _ _ _
+    (p .0 .lent) in
+    let f = not-false _ (c .before .before .before .before .before .before .before .if1 .left) in
+    in-table (p .0) _ e f _ _ (c .before .before .before .before .before .before .next .ensures)
+    (c .before .before .before .before .before .if2 .left)
 
 tally-requires : tie.Need-tally-requires
 tally-requires c κs =
-    let p = c .before .before .before .before .before .before .before .before .pre in
-    active-few (p .0) _ (c .before .before .before .before .before .before .before .packet-ok .ensures _ _ _ _
-    (p .0 .lent)) (not-false _ (c .before .before .before .before .before .before .if1 .left))
+    let p = c .before .before .before .before .before .before .before .before .before .before .pre in
+    let e = c .before .before .before .before .before .before .before .before .before .packet-ok .ensures _ _ _ _
+    (p .0 .lent) in
+    let f = not-false _ (c .before .before .before .before .before .before .before .before .if1 .left) in
+    active-few (p .0) _ e f
 
 returns-4 : tie.Need-returns-4
 returns-4 c =
-    let p = c .before .before .before .before .before .before .before .before .before .pre in
-    carried (p .0) _ (c .before .before .before .before .before .before .before .before .packet-ok .ensures _ _ _ _
-    (p .0 .lent)) (not-false _ (c .before .before .before .before .before .before .before .if1 .left)) _ _
-    (c .before .before .before .before .before .before .next .ensures)
-    (c .before .before .before .before .before .if2 .left) (c .before .before .before .before .fits2 .ensures)
+    let p = c .before .before .before .before .before .before .before .before .before .before .before .pre in
+    let e = c .before .before .before .before .before .before .before .before .before .before .packet-ok .ensures
+    _ _ _ _ (p .0 .lent) in
+    let f = not-false _ (c .before .before .before .before .before .before .before .before .before .if1 .left) in
+    carried (p .0) _ e f _ _ (c .before .before .before .before .before .before .before .before .next .ensures)
+    (c .before .before .before .before .before .before .before .if2 .left)
+    (c .before .before .before .before .fits2 .ensures _ (asked (p .0) _ e f))
     (not-false _ (c .before .before .before .if3 .left)) _ _ (c .tally .ensures)
 
 pub joins-spec : {M : Type 1} → statement M
@@ -98,6 +114,8 @@ joins-spec =
     returns
     next-requires
     returns-2
+    add-fits
+    mul-fits
     fits-requires
     returns-3
     element-copy-out-coming

@@ -1,0 +1,101 @@
+// Each call on lent bytes, written with its answer; and whether the answer is the one that is expected.
+use super::words::say;
+use packets::Answer;
+use packets::Entry;
+use packets::Packet;
+use packets::Wire;
+
+// The byte of a queue's row that says how many packets it has, the first packet's, and the row's bytes.
+const LENGTH_BYTE: usize = 3;
+
+const FIRST_PLACE: usize = 4;
+
+const ROW_BYTES: usize = 39;
+
+// Writes an answer, and says whether it is the one that is expected.
+fn answered(x: Answer, want: Answer) -> bool {
+    super::words::say_answer(x);
+    super::same::same(x, want)
+}
+
+// Start.
+pub fn start(plan: &[u8], s: &mut [u8]) -> bool {
+    say(b"  Start");
+    let ok = answered(calls::start(plan, s), Answer::Done);
+    say(b"\n");
+    ok
+}
+
+// Read.
+pub fn read(plan: &[u8], s: &mut [u8]) -> bool {
+    say(b" Read");
+    answered(calls::read(plan, s), Answer::Done)
+}
+
+// Execute.
+pub fn execute(plan: &[u8], s: &mut [u8]) -> bool {
+    say(b" Execute");
+    answered(calls::execute(plan, s), Answer::Done)
+}
+
+// Write, with which the round ends.
+pub fn write(plan: &[u8], s: &mut [u8]) -> bool {
+    say(b" Write");
+    let ok = answered(calls::write(plan, s), Answer::Done);
+    say(b"\n");
+    ok
+}
+
+// Launch.
+pub fn launch(plan: &[u8], s: &mut [u8], a: usize, p: usize, t: usize, want: Answer) -> bool {
+    super::words::say_three(b" Launch", a, p, t);
+    answered(calls::launch(plan, s, a, p, t), want)
+}
+
+// Reply: 1 accepts, 0 declines.
+pub fn reply(plan: &[u8], s: &mut [u8], p: usize, choice: usize, want: Answer) -> bool {
+    super::words::say_two(b" Reply", p, choice);
+    answered(calls::reply(plan, s, p, choice), want)
+}
+
+// Consume.
+pub fn consume(plan: &[u8], s: &mut [u8], a: usize, want: Answer) -> bool {
+    super::words::say_number(b" Consume (", a);
+    say(b")");
+    answered(calls::consume(plan, s, a), want)
+}
+
+// Entry.
+pub fn entry(plan: &[u8], s: &[u8], r: usize, o: usize, t: usize, want: Entry) -> bool {
+    super::words::say_three(b" Entry", r, o, t);
+    answered(calls::entry(plan, s, r, o, t), Answer::Holds(want))
+}
+
+// The first packet of queue n, read from the state's bytes by their layout.
+fn first_in(s: &[u8], n: usize) -> Wire {
+    if 400 <= n {
+        return Wire::Empty;
+    }
+    let i = acts::queue_row(n);
+    if s.len() < i + ROW_BYTES {
+        return Wire::Empty;
+    }
+    if s[i + LENGTH_BYTE] == 0 {
+        return Wire::Empty;
+    }
+    Wire::Full(rows::packet_at(s, i + FIRST_PLACE))
+}
+
+// Looks at queue n, which has a name, and says whether its first packet is the one that is expected.
+pub fn look(s: &[u8], name: &[u8], n: usize, want: Packet) -> bool {
+    say(name);
+    let w = first_in(s, n);
+    let Wire::Full(x) = w else {
+        say(b" has no packet.");
+        return false;
+    };
+    say(b" has ");
+    super::words::say_packet(x);
+    say(b".");
+    super::same::same_packet(x, want)
+}

@@ -57,7 +57,20 @@ returns-2 c =
 
 -- src/lib.rt:171:5
 entry-requires : tie.Need-entry-requires
-entry-requires c κs = (tables-lent (c .before .before .before .before .before .before .before .before .before .before .before .fill .ensures) (c .before .before .before .before .before .before .before .before .before .l .given .1) .range, record { plan = _; head = table-head _ _ _; held = state-held _ _ (c .before .before .before .before .before .before .before .before .before .before .before .fill .ensures .answer) _ (c .before .before .before .before .before .before .before .before .before .l .given .1) _ (tables-plan (c .before .before .before .before .before .before .before .before .before .before .before .fill .ensures) (c .before .before .before .before .before .before .before .before .before .l .given .1)) (checked-true _ (c .before .before .inspect .ensures) (c .enum-told2 .given .1)) })
+entry-requires c κs =
+    let c5 = c .before .before .before .before .before in
+    let c10 = c5 .before .before .before .before .before in (
+      tables-lent (c10 .before .fill .ensures)
+          (c5 .before .before .before .before .l .given .1) .range,
+      record {
+        plan = _;
+        head = table-head _ _ _;
+        held =
+            state-held _ _ (c10 .before .fill .ensures .answer) _ (c5 .before .before .before .before .l .given .1) _
+            (tables-plan (c10 .before .fill .ensures) (c5 .before .before .before .before .l .given .1)) (checked-true _
+            (c .before .before .inspect .ensures) (c .enum-told2 .given .1));
+      },
+    )
 
 -- src/lib.rt:155:1
 returns-3 : tie.Need-returns-3

@@ -22,15 +22,21 @@ none-spent-requires c κs = search needs
 
 -- src/lib.rt:135:9
 places-ok-requires : tie.Need-places-ok-requires
-places-ok-requires c κs = let p = c .before .before .before .pre in (p .0, p .1, phase-few _ _ (p .2), c .before .none-spent .ensures)
+places-ok-requires c κs =
+    let p = c .before .before .before .pre in
+    (p .0, p .1, phase-few _ _ (p .2), c .before .none-spent .ensures)
 
 -- src/lib.rt:136:9
 returns : tie.Need-returns
-returns c = let p = c .before .before .before .before .before .pre in body-places _ _ _ (p .0 .range) _ (p .1) (p .2) (c .before .places-ok .ensures) (not-true _ (c .if1 .taken))
+returns c =
+    let p = c .before .before .before .before .before .pre in
+    body-places _ _ _ (p .0 .range) _ (p .1) (p .2) (c .before .places-ok .ensures) (not-true _ (c .if1 .taken))
 
 -- src/lib.rt:138:40
 allowance-row-requires : tie.Need-allowance-row-requires
-allowance-row-requires c κs = let r = c .before .before .before .before .before .pre .0 .range in ((r .routers .1, r .actives .1, r .passives .1), omega arith)
+allowance-row-requires c κs =
+    let r = c .before .before .before .before .before .pre .0 .range in
+    ((r .routers .1, r .actives .1, r .passives .1), omega arith)
 
 -- src/lib.rt:138:78
 whole-requires : tie.Need-whole-requires
@@ -38,19 +44,42 @@ whole-requires c κs = search needs
 
 -- src/lib.rt:138:9
 allowances-ok-requires : tie.Need-allowances-ok-requires
-allowances-ok-requires c κs = let p = c .before .before .before .before .before .before .before .before .pre in let r = p .0 .range .actives .1 in let l = p .1 in let i = c .before .before .allowance-row .ensures in (omega arith, omega arith)
+allowances-ok-requires c κs =
+    let c5 = c .before .before .before .before .before in
+    let p = c5 .before .before .before .pre in
+    let r = p .0 .range .actives .1 in
+    let l = p .1 in
+    let i = c .before .before .allowance-row .ensures in
+    (omega arith, omega arith)
 
 -- src/lib.rt:139:9
 returns-2 : tie.Need-returns-2
-returns-2 c = let p = c .before .before .before .before .before .before .before .before .before .before .pre in body-allowances _ _ _ (p .0 .range) _ (p .1) (p .2) (c .before .before .before .before .before .before .places-ok .ensures) (not-false _ (c .before .before .before .before .before .if1 .left)) (rw (c .before .before .before .before .allowance-row .ensures, c .before .before .before .whole .ensures) at (c .before .allowances-ok .ensures)) (not-true _ (c .if2 .taken))
+returns-2 c =
+    let c5 = c .before .before .before .before .before in
+    let c10 = c5 .before .before .before .before .before in
+    let p = c10 .pre in
+    body-allowances _ _ _ (p .0 .range) _ (p .1) (p .2) (c5 .before .places-ok .ensures) (not-false _
+    (c5 .if1 .left)) (rw (
+      c .before .before .before .before .allowance-row .ensures,
+      c .before .before .before
+          .whole .ensures,
+    ) at (c .before .allowances-ok .ensures)) (not-true _ (c .if2 .taken))
 
 -- src/lib.rt:141:31
 table-row-requires : tie.Need-table-row-requires
-table-row-requires c κs = let r = c .before .before .before .before .before .before .before .before .before .before .pre .0 .range in (r .routers .1, r .actives .1, r .passives .1)
+table-row-requires c κs =
+    let c5 = c .before .before .before .before .before in
+    let c10 = c5 .before .before .before .before .before in
+    let r = c10 .pre .0 .range in
+    (r .routers .1, r .actives .1, r .passives .1)
 
 -- src/lib.rt:141:51
 mul-sides-ok : tie.Need-mul-sides-ok
-mul-sides-ok c = let r = c .before .before .before .before .before .before .before .before .before .before .before .before .pre .0 .range .routers .1 in omega arith
+mul-sides-ok c =
+    let c5 = c .before .before .before .before .before in
+    let c10 = c5 .before .before .before .before .before in
+    let r = c10 .before .before .pre .0 .range .routers .1 in
+    omega arith
 
 -- src/lib.rt:141:66
 index-requires : tie.Need-index-requires
@@ -58,11 +87,28 @@ index-requires c κs = search needs
 
 -- src/lib.rt:141:5
 sides-ok-requires : tie.Need-sides-ok-requires
-sides-ok-requires c κs = let p = c .before .before .before .before .before .before .before .before .before .before .before .before .before .pre in let r = p .0 .range .routers .1 in let s = p .0 .range .slots .0 in let l = p .1 in let i = c .before .before .table-row .ensures in let k = c .index .ensures .0 in (omega arith, omega arith, omega arith)
+sides-ok-requires c κs =
+    let c5 = c .before .before .before .before .before in
+    let c10 = c5 .before .before .before .before .before in
+    let p = c10 .before .before .before .pre in
+    let r = p .0 .range .routers .1 in
+    let s = p .0 .range .slots .0 in
+    let l = p .1 in
+    let i = c .before .before .table-row .ensures in
+    let k = c .index .ensures .0 in
+    (omega arith, omega arith, omega arith)
 
 -- src/lib.rt:121:1
 returns-3 : tie.Need-returns-3
-returns-3 c = let p = c .before .before .before .before .before .before .before .before .before .before .before .before .before .before .pre in body-tables _ _ _ (p .0 .range) _ (p .1) (p .2) (c .before .before .before .before .before .before .before .before .before .before .places-ok .ensures) (not-false _ (c .before .before .before .before .before .before .before .before .before .if1 .left)) (rw (c .before .before .before .before .before .before .before .before .allowance-row .ensures, c .before .before .before .before .before .before .before .whole .ensures) at (c .before .before .before .before .before .allowances-ok .ensures)) (not-false _ (c .before .before .before .before .if2 .left)) (rw (c .before .before .before .table-row .ensures, c .before .index .ensures .0) at (c .sides-ok .ensures))
+returns-3 c =
+    let c5 = c .before .before .before .before .before in
+    let c10 = c5 .before .before .before .before .before in
+    let p = c10 .before .before .before .before .pre in
+    body-tables _ _ _ (p .0 .range) _ (p .1) (p .2) (c10 .places-ok .ensures) (not-false _
+    (c5 .before .before .before .before .if1 .left)) (rw
+    (c5 .before .before .before .allowance-row .ensures, c5 .before .before .whole .ensures) at
+    (c5 .allowances-ok .ensures)) (not-false _ (c .before .before .before .before .if2 .left)) (rw
+    (c .before .before .before .table-row .ensures, c .before .index .ensures .0) at (c .sides-ok .ensures))
 
 pub body-ok-spec : {M : Type 1} → statement M
 body-ok-spec =

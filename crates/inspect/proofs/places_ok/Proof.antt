@@ -13,7 +13,9 @@ quiet-requires c κs = (c .before .pre .1, c .before .pre .0 .range)
 
 -- src/lib.rt:115:9
 returns : tie.Need-returns
-returns c = let p = c .before .before .before .pre in quiet-passed _ _ _ (p .0 .range) _ (p .3) (c .before .quiet .ensures (c .if1 .taken))
+returns c =
+    let p = c .before .before .before .pre in
+    quiet-passed _ _ _ (p .0 .range) _ (p .3) (c .before .quiet .ensures (c .if1 .taken))
 
 -- src/lib.rt:117:5
 busy-ok-requires : tie.Need-busy-ok-requires

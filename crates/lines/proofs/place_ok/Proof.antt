@@ -57,7 +57,8 @@ add-fits c =
 
 mul-fits : tie.Need-mul-fits
 mul-fits c =
-    let f = queues-few (c .before .before .before .before .before .before .before .before .before .pre .0 .lent .range) in
+    let c5 = c .before .before .before .before .before in
+    let f = queues-few (c5 .before .before .before .before .pre .0 .lent .range) in
     omega arith
 
 -- src/lib.rt:102:9
@@ -87,9 +88,10 @@ returns-3 c =
 -- src/lib.rt:105:5
 tally-requires : tie.Need-tally-requires
 tally-requires c κs =
-    let r = c .before .before .before .before .before .before .before .before .before .before .before .before .pre .0 in
-    let e = sym (c .before .before .before .before .before .before .before .packet-ok .ensures _ _ _ _
-    (r .lent)) ∙ not-false _ (c .before .before .before .before .before .before .if2 .left) in
+    let c5 = c .before .before .before .before .before in
+    let c10 = c5 .before .before .before .before .before in
+    let r = c10 .before .before .pre .0 in
+    let e = sym (c5 .before .before .packet-ok .ensures _ _ _ _ (r .lent)) ∙ not-false _ (c5 .before .if2 .left) in
     active-few _ _ _ (r .lent .range) _ (numbers-ok _ _ _ e)
 
 -- src/lib.rt:72:1

@@ -24,11 +24,14 @@ loop-holds c = (omega arith, seen-none _ _ _ _ _ _)
 
 -- src/lib.rt:132:13
 place-ok-requires : tie.Need-place-ok-requires Inv-loop μ-loop
-place-ok-requires c κs = (c .before .before .before .before .pre .0, c .before .before .before .before .pre .1, omega arith, omega arith)
+place-ok-requires c κs =
+    (c .before .before .before .before .pre .0, c .before .before .before .before .pre .1, omega arith, omega arith)
 
 -- src/lib.rt:133:13
 returns : tie.Need-returns Inv-loop μ-loop
-returns c = seen-fail _ _ _ _ _ _ _ _ (c .before .before .before .loop-test .taken) (c .before .place-ok .ensures) (not-true _ (c .if1 .taken))
+returns c =
+    seen-fail _ _ _ _ _ _ _ _ (c .before .before .before .loop-test .taken) (c .before .place-ok .ensures)
+    (not-true _ (c .if1 .taken))
 
 -- src/lib.rt:131:9
 add-k : tie.Need-add-k Inv-loop μ-loop
@@ -40,7 +43,11 @@ loop-less c = omega arith
 
 -- src/lib.rt:131:5
 loop-again : tie.Need-loop-again Inv-loop μ-loop
-loop-again c = (omega arith, seen-more _ _ _ _ _ _ _ (c .before .before .before .before .loop .inv .1) (c .before .place-ok .ensures) (not-false _ (c .if1 .left)))
+loop-again c = (
+  omega arith,
+  seen-more _ _ _ _ _ _ _ (c .before .before .before .before .loop .inv .1)
+      (c .before .place-ok .ensures) (not-false _ (c .if1 .left)),
+)
 
 -- src/lib.rt:110:1
 returns-2 : tie.Need-returns-2 Inv-loop μ-loop

@@ -25,7 +25,11 @@ abbrev μ-loop : tie.MeasureT-loop
 
 -- src/lib.rt:304:13
 add-d : tie.Need-add-d Inv-loop μ-loop
-add-d c = let r = c .before .before .pre .0 .lent .range in let a = r .actives .1 in let p = r .passives .1 in omega arith
+add-d c =
+    let r = c .before .before .pre .0 .lent .range in
+    let a = r .actives .1 in
+    let p = r .passives .1 in
+    omega arith
 
 -- src/lib.rt:305:16
 router-caps-requires : tie.Need-router-caps-requires Inv-loop μ-loop
@@ -41,15 +45,34 @@ mul-rows-ok c = let r = c .before .before .before .before .before .pre .0 .lent 
 
 -- src/lib.rt:307:75
 add-rows-ok : tie.Need-add-rows-ok Inv-loop μ-loop
-add-rows-ok c = let r = c .before .before .before .before .before .pre .0 .lent .range in let n = r .routers .1 in let a = r .actives .1 in let p = r .passives .1 in omega arith
+add-rows-ok c =
+    let r = c .before .before .before .before .before .pre .0 .lent .range in
+    let n = r .routers .1 in
+    let a = r .actives .1 in
+    let p = r .passives .1 in
+    omega arith
 
 -- src/lib.rt:307:13
 rows-ok-requires : tie.Need-rows-ok-requires Inv-loop μ-loop
-rows-ok-requires c κs = let p = c .before .before .before .before .before .before .before .pre in let l = c .before .before .loop-test .taken in (p .0, omega arith, omega arith, p .1, λ k h. rw (c .before .before .before .before .router-caps .ensures) (router-caps _ _ _ _ k l h), p .2)
+rows-ok-requires c κs =
+    let c5 = c .before .before .before .before .before in
+    let p = c5 .before .before .pre in
+    let l = c .before .before .loop-test .taken in (
+      p .0,
+      omega arith,
+      omega arith,
+      p .1,
+      λ k h. rw (c .before .before .before .before .router-caps .ensures)
+          (router-caps _ _ _ _ k l h),
+      p .2,
+    )
 
 -- src/lib.rt:308:13
 returns : tie.Need-returns Inv-loop μ-loop
-returns c = routers-fail _ _ _ _ _ (c .before .before .before .before .loop-test .taken) (c .before .before .before .before .before .loop .inv .1) (rw (not-true (c .before .rows-ok .result) (c .if1 .taken)) at (c .before .rows-ok .ensures))
+returns c =
+    routers-fail _ _ _ _ _ (c .before .before .before .before .loop-test .taken)
+    (c .before .before .before .before .before .loop .inv .1) (rw (not-true (c .before .rows-ok .result)
+    (c .if1 .taken)) at (c .before .rows-ok .ensures))
 
 -- src/lib.rt:306:9
 add-r : tie.Need-add-r Inv-loop μ-loop
@@ -61,7 +84,11 @@ loop-less c = omega arith
 
 -- src/lib.rt:306:5
 loop-again : tie.Need-loop-again Inv-loop μ-loop
-loop-again c = (omega arith, routers-more _ _ _ _ (c .before .before .before .before .before .loop .inv .1) (rw (not-false (c .before .rows-ok .result) (c .if1 .left)) at (c .before .rows-ok .ensures)))
+loop-again c = (
+  omega arith,
+  routers-more _ _ _ _ (c .before .before .before .before .before .loop .inv .1) (rw (not-false
+      (c .before .rows-ok .result) (c .if1 .left)) at (c .before .rows-ok .ensures)),
+)
 
 -- src/lib.rt:286:1
 returns-2 : tie.Need-returns-2 Inv-loop μ-loop

@@ -20,11 +20,21 @@ queue-row-requires c κs = search needs
 
 -- src/lib.rt:177:9
 row-frame-requires : tie.Need-row-frame-requires
-row-frame-requires c κs = let p = c .before .before .pre in let r = p .0 .lent .range in let n = p .1 in let l = p .2 in let q = c .queue-row .ensures in ((r .routers .1, r .actives .1, r .passives .1), omega arith)
+row-frame-requires c κs =
+    let p = c .before .before .pre in
+    let r = p .0 .lent .range in
+    let n = p .1 in
+    let l = p .2 in
+    let q = c .queue-row .ensures in
+    ((r .routers .1, r .actives .1, r .passives .1), omega arith)
 
 -- src/lib.rt:178:9
 returns : tie.Need-returns
-returns c = let p = c .before .before .before .before .pre in let r = p .0 in code-frame _ _ _ (r .lent .range) _ _ (p .1) _ _ _ (c .before .before .queue-row .ensures) (p .3) (p .4) (c .before .row-frame .ensures) _ _ (not-true _ (c .if1 .taken))
+returns c =
+    let p = c .before .before .before .before .pre in
+    let r = p .0 in
+    code-frame _ _ _ (r .lent .range) _ _ (p .1) _ _ _ (c .before .before .queue-row .ensures) (p .3) (p .4)
+    (c .before .row-frame .ensures) _ _ (not-true _ (c .if1 .taken))
 
 -- src/lib.rt:180:21
 add-index : tie.Need-add-index
@@ -56,15 +66,40 @@ mul-zeros-2 c = search needs
 
 -- src/lib.rt:181:40
 sub-zeros : tie.Need-sub-zeros
-sub-zeros c = let p = c .before .before .before .before .before .before .pre in let r = p .0 in let f = code-few _ _ _ (r .lent .range) _ _ (p .1) _ _ _ (c .before .before .before .before .queue-row .ensures) (p .3) (p .4) (c .before .before .before .row-frame .ensures) (not-false _ (c .before .before .if1 .left)) in let k = c .index .ensures .0 in omega arith
+sub-zeros c =
+    let c5 = c .before .before .before .before .before in
+    let p = c5 .before .pre in
+    let r = p .0 in
+    let f = code-few _ _ _ (r .lent .range) _ _ (p .1) _ _ _
+    (c .before .before .before .before .queue-row .ensures) (p .3) (p .4)
+    (c .before .before .before .row-frame .ensures) (not-false _ (c .before .before .if1 .left)) in
+    let k = c .index .ensures .0 in
+    omega arith
 
 -- src/lib.rt:181:9
 zeros-requires : tie.Need-zeros-requires
-zeros-requires c κs = let p = c .before .before .before .before .before .before .pre in let r = p .0 in let f = code-few _ _ _ (r .lent .range) _ _ (p .1) _ _ _ (c .before .before .before .before .queue-row .ensures) (p .3) (p .4) (c .before .before .before .row-frame .ensures) (not-false _ (c .before .before .if1 .left)) in let k = c .index .ensures .0 in let n = p .1 in let l = p .2 in let q = c .before .before .before .before .queue-row .ensures in (omega arith, omega arith)
+zeros-requires c κs =
+    let c5 = c .before .before .before .before .before in
+    let p = c5 .before .pre in
+    let r = p .0 in
+    let f = code-few _ _ _ (r .lent .range) _ _ (p .1) _ _ _
+    (c .before .before .before .before .queue-row .ensures) (p .3) (p .4)
+    (c .before .before .before .row-frame .ensures) (not-false _ (c .before .before .if1 .left)) in
+    let k = c .index .ensures .0 in
+    let n = p .1 in
+    let l = p .2 in
+    let q = c .before .before .before .before .queue-row .ensures in
+    (omega arith, omega arith)
 
 -- src/lib.rt:182:9
 returns-2 : tie.Need-returns-2
-returns-2 c = let p = c .before .before .before .before .before .before .before .before .pre in let r = p .0 in code-zeros _ _ _ (r .lent .range) _ _ (p .1) _ _ _ (c .before .before .before .before .before .before .queue-row .ensures) (p .3) (p .4) (c .before .before .before .before .before .row-frame .ensures) _ _ (not-false _ (c .before .before .before .before .if1 .left)) (c .before .before .index .ensures .0) (c .before .zeros .ensures) (not-true _ (c .if2 .taken))
+returns-2 c =
+    let c5 = c .before .before .before .before .before in
+    let p = c5 .before .before .before .pre in
+    let r = p .0 in
+    code-zeros _ _ _ (r .lent .range) _ _ (p .1) _ _ _ (c5 .before .queue-row .ensures) (p .3) (p .4)
+    (c5 .row-frame .ensures) _ _ (not-false _ (c .before .before .before .before .if1 .left))
+    (c .before .before .index .ensures .0) (c .before .zeros .ensures) (not-true _ (c .if2 .taken))
 
 -- src/lib.rt:184:32
 add-flag-of : tie.Need-add-flag-of
@@ -84,11 +119,31 @@ add-places-ok c = search needs
 
 -- src/lib.rt:185:5
 places-ok-requires : tie.Need-places-ok-requires
-places-ok-requires c κs = let p = c .before .before .before .before .before .before .before .before .before .before .before .pre in let r = p .0 in let f = code-few _ _ _ (r .lent .range) _ _ (p .1) _ _ _ (c .before .before .before .before .before .before .before .before .before .queue-row .ensures) (p .3) (p .4) (c .before .before .before .before .before .before .before .before .row-frame .ensures) (not-false _ (c .before .before .before .before .before .before .before .if1 .left)) in let k = c .before .before .before .before .before .index .ensures .0 in let q = c .before .before .before .before .before .before .before .before .before .queue-row .ensures in let n = p .1 in let l = p .2 in (r, n, omega arith, omega arith)
+places-ok-requires c κs =
+    let c5 = c .before .before .before .before .before in
+    let c10 = c5 .before .before .before .before .before in
+    let p = c10 .before .pre in
+    let r = p .0 in
+    let f = code-few _ _ _ (r .lent .range) _ _ (p .1) _ _ _
+    (c5 .before .before .before .before .queue-row .ensures) (p .3) (p .4)
+    (c5 .before .before .before .row-frame .ensures) (not-false _ (c5 .before .before .if1 .left)) in
+    let k = c5 .index .ensures .0 in
+    let q = c5 .before .before .before .before .queue-row .ensures in
+    let n = p .1 in
+    let l = p .2 in
+    (r, n, omega arith, omega arith)
 
 -- src/lib.rt:154:1
 returns-3 : tie.Need-returns-3
-returns-3 c = let p = c .before .before .before .before .before .before .before .before .before .before .before .before .pre in let r = p .0 in code-places _ _ _ (r .lent .range) _ _ (p .1) _ _ _ (c .before .before .before .before .before .before .before .before .before .before .queue-row .ensures) (p .3) (p .4) (c .before .before .before .before .before .before .before .before .before .row-frame .ensures) _ _ (not-false _ (c .before .before .before .before .before .before .before .before .if1 .left)) (c .before .before .before .before .before .before .index .ensures .0) (c .before .before .before .before .before .zeros .ensures) (not-false _ (c .before .before .before .before .if2 .left)) (c .before .before .flag-of .ensures) (c .places-ok .ensures)
+returns-3 c =
+    let c5 = c .before .before .before .before .before in
+    let c10 = c5 .before .before .before .before .before in
+    let p = c10 .before .before .pre in
+    let r = p .0 in
+    code-places _ _ _ (r .lent .range) _ _ (p .1) _ _ _ (c10 .queue-row .ensures) (p .3) (p .4)
+    (c5 .before .before .before .before .row-frame .ensures) _ _ (not-false _
+    (c5 .before .before .before .if1 .left)) (c5 .before .index .ensures .0) (c5 .zeros .ensures) (not-false _
+    (c .before .before .before .before .if2 .left)) (c .before .before .flag-of .ensures) (c .places-ok .ensures)
 
 pub row-busy-spec : {M : Type 1} → statement M
 row-busy-spec =

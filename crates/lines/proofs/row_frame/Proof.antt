@@ -53,7 +53,9 @@ frame-ok-requires c κs = search needs
 
 -- src/lib.rt:141:1
 returns : tie.Need-returns
-returns c = rw (← c .before .before .before .before .before .before .before .fed-at .ensures, ← c .before .before .before .before .before .before .unit-at .ensures) (c .frame-ok .ensures)
+returns c =
+    let c5 = c .before .before .before .before .before in
+    rw (← c5 .before .before .fed-at .ensures, ← c5 .before .unit-at .ensures) (c .frame-ok .ensures)
 
 pub row-frame-spec : {M : Type 1} → statement M
 row-frame-spec =

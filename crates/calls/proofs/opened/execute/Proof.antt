@@ -19,7 +19,11 @@ returns c = turn-refused _ Execute _ (c .if1 .taken)
 
 -- src/opened.rt:52:5
 execute-requires : tie.Need-execute-requires
-execute-requires c κs = (c .before .before .before .before .pre .0, turn-held _ Execute (c .before .if1 .left) (c .before .before .before .before .pre .1))
+execute-requires c κs = (
+  c .before .before .before .before .pre .0,
+  turn-held _ Execute (c .before .if1 .left)
+      (c .before .before .before .before .pre .1),
+)
 
 -- src/opened.rt:44:1
 same-length : tie.Need-same-length
@@ -27,7 +31,8 @@ same-length c = search needs
 
 -- src/opened.rt:44:1
 returns-2 : tie.Need-returns-2
-returns-2 c = turn-done _ Execute _ _ (c .before .before .before .before .if1 .left) (c .before .before .execute .ensures)
+returns-2 c =
+    turn-done _ Execute _ _ (c .before .before .before .before .if1 .left) (c .before .before .execute .ensures)
 
 pub execute-spec : {M : Type 1} → statement M
 execute-spec = tie.close (tie.spec slice-read-if1 returns execute-requires same-length returns-2)

@@ -19,7 +19,11 @@ returns c = turn-refused _ Read _ (c .if1 .taken)
 
 -- src/opened.rt:39:5
 read-requires : tie.Need-read-requires
-read-requires c κs = (c .before .before .before .before .pre .0, turn-held _ Read (c .before .if1 .left) (c .before .before .before .before .pre .1))
+read-requires c κs = (
+  c .before .before .before .before .pre .0,
+  turn-held _ Read (c .before .if1 .left)
+      (c .before .before .before .before .pre .1),
+)
 
 -- src/opened.rt:31:1
 same-length : tie.Need-same-length

@@ -19,7 +19,11 @@ returns c = turn-refused _ Write _ (c .if1 .taken)
 
 -- src/opened.rt:65:5
 write-requires : tie.Need-write-requires
-write-requires c κs = (c .before .before .before .before .pre .0, turn-held _ Write (c .before .if1 .left) (c .before .before .before .before .pre .1))
+write-requires c κs = (
+  c .before .before .before .before .pre .0,
+  turn-held _ Write (c .before .if1 .left)
+      (c .before .before .before .before .pre .1),
+)
 
 -- src/opened.rt:57:1
 same-length : tie.Need-same-length

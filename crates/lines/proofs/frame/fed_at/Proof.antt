@@ -30,7 +30,13 @@ fed-in-router-requires c κs = search needs
 -- src/frame.rt:151:9
 returns-2 : tie.Need-returns-2
 unfolding Rattle.lines.specs.Frame.fedOf
-returns-2 c = simp (le-ltb _ _ (c .before .before .before .if1 .left), lt-ltb _ _ (c .before .if2 .taken), c .fed-in-router .ensures)
+returns-2 c =
+    simp (
+      le-ltb _ _ (c .before .before .before .if1 .left),
+      lt-ltb _ _
+          (c .before .if2 .taken),
+      c .fed-in-router .ensures,
+    )
 
 -- src/frame.rt:142:1
 returns-3 : tie.Need-returns-3

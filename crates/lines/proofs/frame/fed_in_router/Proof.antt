@@ -36,7 +36,8 @@ sub-j c = search needs
 -- src/frame.rt:136:9
 returns-3 : tie.Need-returns-3
 unfolding Rattle.lines.specs.Frame.fedInRouter
-returns-3 c = simp (le-ltb _ _ (c .before .before .if1 .left), ne-eqb _ _ (c .before .if2 .left), eq-eqb _ _ (c .if3 .taken))
+returns-3 c =
+    simp (le-ltb _ _ (c .before .before .if1 .left), ne-eqb _ _ (c .before .if2 .left), eq-eqb _ _ (c .if3 .taken))
 
 -- src/frame.rt:138:20
 mul-joined-2 : tie.Need-mul-joined-2
@@ -65,7 +66,16 @@ joined-requires-2 c κs = search needs
 -- src/frame.rt:124:1
 returns-4 : tie.Need-returns-4
 unfolding Rattle.lines.specs.Frame.fedInRouter
-returns-4 c = simp (le-ltb _ _ (c .before .before .before .before .if1 .left), ne-eqb _ _ (c .before .before .before .if2 .left), ne-eqb _ _ (c .before .before .if3 .left), c .joined2 .ensures, c .before .cross-side .ensures .0)
+returns-4 c =
+    simp (
+      le-ltb _ _ (c .before .before .before .before .if1 .left),
+      ne-eqb _ _
+          (c .before .before .before .if2 .left),
+      ne-eqb _ _
+          (c .before .before .if3 .left),
+      c .joined2 .ensures,
+      c .before .cross-side .ensures .0,
+    )
 
 pub fed-in-router-spec : {M : Type 1} → statement M
 fed-in-router-spec =

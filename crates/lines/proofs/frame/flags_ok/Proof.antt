@@ -20,7 +20,8 @@ returns-2 c = simp (le-leb _ _ (c .before .if1 .left), lt-leb _ _ (c .if2 .taken
 -- src/frame.rt:77:9
 returns-3 : tie.Need-returns-3
 unfolding Rattle.lines.specs.Frame.flagsOf
-returns-3 c = simp (le-leb _ _ (c .before .before .if1 .left), le-leb _ _ (c .before .if2 .left), lt-leb _ _ (c .if3 .taken))
+returns-3 c =
+    simp (le-leb _ _ (c .before .before .if1 .left), le-leb _ _ (c .before .if2 .left), lt-leb _ _ (c .if3 .taken))
 
 -- src/frame.rt:79:8
 flag-ok-requires : tie.Need-flag-ok-requires
@@ -33,12 +34,32 @@ mark-ok-requires c κs = search needs
 -- src/frame.rt:80:9
 returns-4 : tie.Need-returns-4
 unfolding Rattle.lines.specs.Frame.flagsOf
-returns-4 c = simp (le-leb _ _ (c .before .before .before .before .before .if1 .left), le-leb _ _ (c .before .before .before .before .if2 .left), le-leb _ _ (c .before .before .before .if3 .left), ← c .before .before .flag-ok .ensures, c .before .if4 .taken, c .mark-ok .ensures)
+returns-4 c =
+    simp (
+      le-leb _ _ (c .before .before .before .before .before .if1 .left),
+      le-leb _ _
+          (c .before .before .before .before .if2 .left),
+      le-leb _ _
+          (c .before .before .before .if3 .left),
+      ← c .before .before .flag-ok .ensures,
+      c .before .if4 .taken,
+      c
+          .mark-ok .ensures,
+    )
 
 -- src/frame.rt:67:1
 returns-5 : tie.Need-returns-5
 unfolding Rattle.lines.specs.Frame.flagsOf
-returns-5 c = simp (le-leb _ _ (c .before .before .before .before .if1 .left), le-leb _ _ (c .before .before .before .if2 .left), le-leb _ _ (c .before .before .if3 .left), ← c .before .flag-ok .ensures, c .if4 .left)
+returns-5 c =
+    simp (
+      le-leb _ _ (c .before .before .before .before .if1 .left),
+      le-leb _ _
+          (c .before .before .before .if2 .left),
+      le-leb _ _
+          (c .before .before .if3 .left),
+      ← c .before .flag-ok .ensures,
+      c .if4 .left,
+    )
 
 pub flags-ok-spec : {M : Type 1} → statement M
 flags-ok-spec =

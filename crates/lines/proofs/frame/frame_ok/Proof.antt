@@ -51,11 +51,23 @@ low-requires-5 c κs = search needs
 
 -- src/frame.rt:88:9
 returns-2 : tie.Need-returns-2
-returns-2 c = rw (c .before .before .before .before .low .ensures .0, c .before .before .before .low2 .ensures .0, c .before .before .low3 .ensures .0, c .before .low4 .ensures .0, c .low5 .ensures .0) (frame-fed _ _ _ _ _ _ _ _ _ _ (c .before .before .before .before .before .before .before .flags-ok .ensures) (not-false _ (c .before .before .before .before .before .before .if1 .left)) (c .before .before .before .before .before .if2 .taken))
+returns-2 c =
+    let c5 = c .before .before .before .before .before in
+    rw (
+      c .before .before .before .before .low .ensures .0,
+      c .before .before .before .low2 .ensures .0,
+      c .before
+          .before .low3 .ensures .0,
+      c .before .low4 .ensures .0,
+      c .low5 .ensures .0,
+    ) (frame-fed _ _ _ _ _ _ _ _ _ _
+    (c5 .before .before .flags-ok .ensures) (not-false _ (c5 .before .if1 .left)) (c5 .if2 .taken))
 
 -- src/frame.rt:71:1
 returns-3 : tie.Need-returns-3
-returns-3 c = frame-unfed _ _ _ _ _ _ _ _ _ _ (c .before .before .flags-ok .ensures) (not-false _ (c .before .if1 .left)) (c .if2 .left)
+returns-3 c =
+    frame-unfed _ _ _ _ _ _ _ _ _ _ (c .before .before .flags-ok .ensures) (not-false _ (c .before .if1 .left))
+    (c .if2 .left)
 
 pub frame-ok-spec : {M : Type 1} → statement M
 frame-ok-spec =

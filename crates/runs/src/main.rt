@@ -335,6 +335,7 @@ fn all(t: &[u8], two: &[u8], crossed: &[u8]) {
     crossing(crossed);
 }
 
+// Runs all on plan T, the plan of two routers, and the one in which set-ups cross.
 fn main() {
     all(
         b"\x08\x42\x11\x24\x92\x4c\x06\x00\x00\x00\x20",

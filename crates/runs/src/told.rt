@@ -4,6 +4,8 @@ use packets::Answer;
 use packets::Entry;
 use packets::Packet;
 use packets::Wire;
+ghost use mathlib.Core.Path.{_≡_};
+ghost use mathlib.Core.Bool.{true};
 
 // The byte of a queue's row that says how many packets it has, the first packet's, and the row's bytes.
 const LENGTH_BYTE: usize = 3;
@@ -13,7 +15,9 @@ const FIRST_PLACE: usize = 4;
 const ROW_BYTES: usize = 39;
 
 // Writes an answer, and says whether it is the one that is expected.
-fn answered(x: Answer, want: Answer) -> bool {
+fn answered(x: Answer, want: Answer) -> bool
+    ensures { λ r. ⌜ (r ≡ true → x ≡ want) ⌝ }
+{
     super::words::say_answer(x);
     super::same::same(x, want)
 }

@@ -68,7 +68,9 @@ fn say_reason(w: Refusal) {
         Refusal::OutOfRange => say(b"R, A, P, S or a capacity outside its range"),
         Refusal::WrongLength => say(b"wrong length or a fill bit set"),
         Refusal::BadField => say(b"a later field outside its range"),
-        Refusal::BadJoint => say(b"a joint that may not be"),
+        Refusal::BadJoint => say(
+            b"a joint not named back, to the same router, or not the only one of an interface",
+        ),
         Refusal::HasRing => say(b"a ring"),
         Refusal::NotState => say(b"not a state"),
         Refusal::WrongPhase => say(b"another phase"),

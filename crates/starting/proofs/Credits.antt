@@ -10,7 +10,7 @@ use borrow.Author.Tests.{lt-ltb, le-ltb, ne-eqb}
 use Rattle.basis.specs.Choice.{pick, pick-out}
 use Rattle.basis.specs.Fold.{upTo, up-keeps-at, fill-at, length-fill}
 use Rattle.plan.specs.declared.Head.{Head}
-use Rattle.plan.specs.Head.{Counts, destinations}
+use Rattle.plan.specs.Head.{destinations}
 use Rattle.plan.specs.Plan.{Plan, A}
 use Rattle.feeding.specs.Queue.{Queue, activeOut, activeIn, passiveIn, passiveOut, U, Q, outs, inBase, senderAt}
 use Rattle.feeding.specs.Queue.{inRouter, queueAt}

@@ -137,9 +137,8 @@ fn fits(s: u64) -> bool
     (s >> UNFIT_AT) % UNFIT == 0
 }
 
-// The routes of one router, n of them, whose bits start at a position, into its row and into its sets of columns by side,
-// which are empty before; answers whether each is a side or none.
-fn read_row(plan: &[u8], n: usize, at: usize, row: &mut [u8; 32], sides: &mut [u32; 4]) -> bool
+// A row of any number of columns, eight at a time where they begin at a byte's first bit.
+fn long_row(plan: &[u8], n: usize, at: usize, row: &mut [u8; 32], sides: &mut [u32; 4]) -> bool
     requires { ⌜ (n ≤ 32) × (6 ≤ at) × (at < 100000) × (at + 3 * n ≤ 8 * length (now plan)) × Empty (now sides) ⌝ }
     ensures { λ ok. ⌜ Row (sideAt (now (plan .entry)) at) n (now (row .entry)) (now (row .exit)) (now (sides .exit))
         ok ⌝ }
@@ -157,6 +156,28 @@ fn read_row(plan: &[u8], n: usize, at: usize, row: &mut [u8; 32], sides: &mut [u
     let s = some(plan, n - d, at, d, row);
     lay(sides, s, d);
     fits(long::either(all, s))
+}
+
+// A row of at most eight columns.
+fn short_row(plan: &[u8], n: usize, at: usize, row: &mut [u8; 32], sides: &mut [u32; 4]) -> bool
+    requires { ⌜ (n ≤ 8) × (6 ≤ at) × (at < 100000) × (at + 3 * n ≤ 8 * length (now plan)) × Empty (now sides) ⌝ }
+    ensures { λ ok. ⌜ Row (sideAt (now (plan .entry)) at) n (now (row .entry)) (now (row .exit)) (now (sides .exit)) ok ⌝ }
+{
+    let s = some(plan, n, at, 0, row);
+    lay(sides, s, 0);
+    fits(s)
+}
+
+// The routes of one router, n of them, whose bits start at a position, into its row and into sets of columns by side,
+// which are empty before; answers whether each is a side or none.
+fn read_row(plan: &[u8], n: usize, at: usize, row: &mut [u8; 32], sides: &mut [u32; 4]) -> bool
+    requires { ⌜ (n ≤ 32) × (6 ≤ at) × (at < 100000) × (at + 3 * n ≤ 8 * length (now plan)) × Empty (now sides) ⌝ }
+    ensures { λ ok. ⌜ Row (sideAt (now (plan .entry)) at) n (now (row .entry)) (now (row .exit)) (now (sides .exit)) ok ⌝ }
+{
+    if n <= GROUP {
+        return short_row(plan, n, at, row, sides);
+    }
+    long_row(plan, n, at, row, sides)
 }
 
 // The routes of all routers, into the table and into sets of destinations by router and side; answers whether each is a side

@@ -7,10 +7,10 @@ use native.Mathlib.Omega.{arith}
 use lib.ListN.{length}
 use Rattle.plan.specs.Marks.{sideAt, fitsOf, Row}
 use Rattle.plan.proofs.Marks.{side-small, row-first, row-more}
-use Rattle.plan.proofs.routes.read_row.Statement.{statement}
-use Rattle.plan.proofs.routes.read_row.Tie as tie
-use Rattle.plan.proofs.routes.read_row.Reads as reads
-use Rattle.plan.proofs.routes.read_row.Lts as lts
+use Rattle.plan.proofs.routes.long_row.Statement.{statement}
+use Rattle.plan.proofs.routes.long_row.Tie as tie
+use Rattle.plan.proofs.routes.long_row.Reads as reads
+use Rattle.plan.proofs.routes.long_row.Lts as lts
 use Rattle.plan.proofs.routes.eight.Reads as eight-reads
 use Rattle.plan.proofs.routes.fits.Reads as fits-reads
 use Rattle.plan.proofs.routes.lay.Reads as lay-reads
@@ -141,8 +141,8 @@ returns c =
     (rw all at (row-more _ (side-small _ _) d (n - d) (omega arith) (omega arith) _ groups (c .before .before .before .before .some2 .ensures)
     (c .before .before .lay3 .ensures)))
 
-pub read-row-spec : {M : Type 1} → statement M
-read-row-spec =
+pub long-row-spec : {M : Type 1} → statement M
+long-row-spec =
     tie.close
     (tie.spec
     Inv-loop

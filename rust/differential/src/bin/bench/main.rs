@@ -29,8 +29,11 @@ const AGAIN: usize = 4;
 /// Random plans, and the fewest routers that they have.
 const RANDOM_PLANS: usize = 200;
 const FEWEST_ROUTERS: u8 = 5;
-/// The highest ratio of a call on a state, and of Start, that passes.
-const CALL: f64 = 1.2;
+/// The highest ratios of a call that pass, on an idle network (Start is one of these) and on a busy
+/// one. `lean` knows what the proved check does not use yet: which rows are not at rest, kept for
+/// the phase.
+const IDLE: f64 = 1.4;
+const BUSY: f64 = 1.8;
 /// The highest ratios of Load that pass: small plans, the largest and the median of random ones,
 /// the worst.
 const SMALL: f64 = 1.5;
@@ -165,18 +168,18 @@ fn calls_pass() -> bool {
     let mut passed = true;
     for (name, plan) in plans() {
         for (at, case) in cases(name, &plan, &LEAN).iter().enumerate() {
-            let state = if at < 8 { "idle" } else { "busy" };
+            let (state, limit) = if at < 8 { ("idle", IDLE) } else { ("busy", BUSY) };
             let call = case.call.map_or("Start".to_string(), |call| format!("{call:?}"));
             let call = call.split(' ').next().unwrap_or_default();
-            let times = settled(CALL, || measure(case));
-            passed &= says([case.name, state, call], case.packets, answer(case), times, CALL);
+            let times = settled(limit, || measure(case));
+            passed &= says([case.name, state, call], case.packets, answer(case), times, limit);
         }
     }
     passed
 }
 
 fn main() -> ExitCode {
-    println!("nanoseconds; a call's ratio is at most {CALL}, Load's {SMALL} to {WORST}");
+    println!("nanoseconds; a call's ratio is at most {IDLE} idle, {BUSY} busy, Load's {SMALL} to {WORST}");
     println!(
         "{:<14}{:<6}{:>7}  {:<8}{:>6}{:>9}{:>9}{:>7}",
         "plan", "state", "packets", "call", "answer", "proved", "lean", "ratio"

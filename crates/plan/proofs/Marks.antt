@@ -20,7 +20,7 @@ use Rattle.sets.specs.Laws.{has-either, has-single, has-cut, has-past, none-has
 use Rattle.fields.specs.Bits.{fieldOf}
 use Rattle.fields.specs.Laws.{field-lt}
 use Rattle.plan.specs.Rules.{routeOk}
-use Rattle.plan.specs.Marks.{sideAt, Side, Put, Group, laneOf, Laid, fitsOf, Empty, Row}
+use Rattle.plan.specs.Marks.{sideAt, Side, Put, PutIf, Group, laneOf, Laid, fitsOf, Empty, Row}
 
 -- ---- truth
 or-none : (b : Bool) → (b || false) ≡ b
@@ -180,6 +180,31 @@ module _ (g : ℕ → ℕ) where
             ltb-alike k (m + 1) k m (λ t. omega arith) (λ t. omega arith),
           )
           (or-none (ltb k m && eqb (g (d + k)) o))
+
+  -- ---- the first k of m columns, all m where k is past them
+  pub record Begun (d k m : ℕ) (first row : List ℕ) (s : ℕ) : Type 0 where
+    pub some : k ≤ m → Group g d k first row s
+    pub all : m ≤ k → Group g d m first row s
+
+  pub begun-none : (d m : ℕ) (row : List ℕ) → Begun d 0 m row row 0
+  begun-none d m row = record {
+    some = λ l. group-none d row;
+    all = λ l. let e : m ≡ 0 = omega arith in rw e (group-none d row);
+  }
+
+  pub begun-more : (d k m : ℕ) {first row row′ : List ℕ} {s s′ v : ℕ} → Begun d k m first row s → k < 8
+      → (k < m → v ≡ g (d + k)) → PutIf v d k m row row′ s s′ → Begun d (k + 1) m first row′ s′
+  begun-more d k m {first} {row} {row′} {s} {s′} {v} w l e p = record {
+    some = λ r. next (omega arith);
+    all = λ r. by r (lt-or-ge k m);
+  }
+    where
+      next : k < m → Group g d (k + 1) first row′ s′
+      next r = group-more d k (w .some (omega arith)) l (e r) (p .there r)
+
+      by : m ≤ k + 1 → (k < m) ⊎ (m ≤ k) → Group g d m first row′ s′
+      by r (inl a) = let last : m ≡ k + 1 = omega arith in rw last (next a)
+      by r (inr a) = rw (p .past a .0, p .past a .1) (w .all a)
 
   -- ---- a group is laid to the row
   module _ (small : (i : ℕ) → g i < 8) (d m : ℕ) (room : d + m ≤ 32) (eight : m ≤ 8) where

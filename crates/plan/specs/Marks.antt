@@ -2,7 +2,7 @@
 use mathlib.Core.Path.{_≡_}
 use mathlib.Core.Bool.{Bool, false, _&&_}
 use mathlib.Core.List.{List, []}
-use Prim.Native.Nat.{ℕ, _+_, _*_, _/_, _%_, _^_, _<_}
+use Prim.Native.Nat.{ℕ, _+_, _*_, _/_, _%_, _^_, _≤_, _<_}
 use lib.Dec.{eqb, ltb}
 use lib.ListN.{getD, set, length, replicate}
 use Rattle.basis.specs.Bounded.{allBelow}
@@ -27,6 +27,11 @@ Side g k o s = (i : ℕ) → has s i ≡ (ltb i k && eqb (g i) o)
 -- a column's side is put into a row at d + k, and into a word as member k of the side's lane
 abbrev pub Put : ℕ → ℕ → ℕ → List ℕ → List ℕ → ℕ → ℕ → Type 0
 Put side d k row row′ s s′ = (row′ ≡ set row (d + k) side) × (s′ ≡ either s (single (8 * side + k)))
+
+-- the same where k is below m; else nothing
+pub record PutIf (side d k m : ℕ) (row row′ : List ℕ) (s s′ : ℕ) : Type 0 where
+  pub there : k < m → Put side d k row row′ s s′
+  pub past : m ≤ k → (row′ ≡ row) × (s′ ≡ s)
 
 -- m columns from d on are put into a row that holds those below d, and into a word: member k of lane o is column d + k
 -- of side o

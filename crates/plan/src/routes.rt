@@ -13,7 +13,7 @@ ghost use lib.ListN.{length};
 ghost use Rattle.fields.specs.Bits.{fieldOf};
 ghost use Rattle.sets.specs.Sets.{either, single};
 ghost use Rattle.plan.specs.Head.{Counts, bitCount};
-ghost use Rattle.plan.specs.Marks.{sideAt, fitsOf, laneOf, Put, Group, Laid, Empty, Row, NoRoutes, Routes};
+ghost use Rattle.plan.specs.Marks.{sideAt, fitsOf, laneOf, Put, PutIf, Group, Laid, Empty, Row, NoRoutes, Routes};
 
 // What the table holds where the plan gives no side.
 pub const NO_SIDE: u8 = 7;
@@ -89,6 +89,34 @@ fn eight(plan: &[u8], at: usize, d: usize, row: &mut [u8; 32]) -> u64
     one(plan, i, d, 7, row, s6)
 }
 
+// The same as `one`, where there is a column k among the m columns; else nothing.
+fn one_if(plan: &[u8], i: usize, d: usize, k: usize, m: usize, row: &mut [u8; 32], s: u64) -> u64
+    requires { ⌜ (k < m → 1 ≤ i) × (i < 20000) × (k < 8) × (d + m ≤ 32) × (8 * i + 3 * m ≤ 8 * length (now plan)) ⌝ }
+    ensures { λ r. ⌜ PutIf (fieldOf (now (plan .entry)) (8 * i + 3 * k) 3) d k m (now (row .entry)) (now (row .exit))
+        s r ⌝ }
+{
+    if k < m {
+        return one(plan, i, d, k, row, s);
+    }
+    s
+}
+
+// The routes of the m columns from d on, fewer than eight, the first of which begins at a byte's first bit.
+fn tail(plan: &[u8], m: usize, at: usize, d: usize, row: &mut [u8; 32]) -> u64
+    requires { ⌜ (m < 8) × (d + m ≤ 32) × (6 ≤ at) × (at < 100000) × (at + 3 * (d + m) ≤ 8 * length (now plan))
+        × (0 < m → (at + 3 * d) % 8 ≡ 0) ⌝ }
+    ensures { λ s. ⌜ Group (sideAt (now (plan .entry)) at) d m (now (row .entry)) (now (row .exit)) s ⌝ }
+{
+    let i = (at + ROUTE_BITS * d) / 8;
+    let s0 = one_if(plan, i, d, 0, m, row, 0);
+    let s1 = one_if(plan, i, d, 1, m, row, s0);
+    let s2 = one_if(plan, i, d, 2, m, row, s1);
+    let s3 = one_if(plan, i, d, 3, m, row, s2);
+    let s4 = one_if(plan, i, d, 4, m, row, s3);
+    let s5 = one_if(plan, i, d, 5, m, row, s4);
+    one_if(plan, i, d, 6, m, row, s5)
+}
+
 // The routes of the m columns from d on, at most eight, wherever they begin.
 fn some(plan: &[u8], m: usize, at: usize, d: usize, row: &mut [u8; 32]) -> u64
     requires { ⌜ (m ≤ 8) × (d + m ≤ 32) × (6 ≤ at) × (at < 100000) × (at + 3 * (d + m) ≤ 8 * length (now plan)) ⌝ }
@@ -153,7 +181,7 @@ fn long_row(plan: &[u8], n: usize, at: usize, row: &mut [u8; 32], sides: &mut [u
         all = long::either(all, s);
     }
     let d = f + GROUP * g;
-    let s = some(plan, n - d, at, d, row);
+    let s = tail(plan, n - d, at, d, row);
     lay(sides, s, d);
     fits(long::either(all, s))
 }

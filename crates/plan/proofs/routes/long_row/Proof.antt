@@ -16,6 +16,7 @@ use Rattle.plan.proofs.routes.fits.Reads as fits-reads
 use Rattle.plan.proofs.routes.lay.Reads as lay-reads
 use Rattle.plan.proofs.routes.lead.Reads as lead-reads
 use Rattle.plan.proofs.routes.some.Reads as some-reads
+use Rattle.plan.proofs.routes.tail.Reads as tail-reads
 use Rattle.sets.proofs.long.either.Reads as either-reads
 
 abbrev Inv-loop : tie.InvT-loop
@@ -107,12 +108,14 @@ add-d : tie.Need-add-d Inv-loop μ-loop
 add-d c = record { fits = omega arith }
 
 -- src/routes.rt:155:24
-sub-some : tie.Need-sub-some Inv-loop μ-loop
-sub-some c = omega arith
+sub-tail : tie.Need-sub-tail Inv-loop μ-loop
+sub-tail c = omega arith
 
 -- src/routes.rt:155:9
-some-requires-2 : tie.Need-some-requires-2 Inv-loop μ-loop
-some-requires-2 c κs = (omega arith, omega arith, omega arith, omega arith, omega arith)
+tail-requires : tie.Need-tail-requires Inv-loop μ-loop
+tail-requires c κs =
+    let whole = c .before .before .before .before .before .before .before .lead .ensures .2 in
+    (omega arith, omega arith, omega arith, omega arith, omega arith, λ l. omega (arith, whole (omega arith)))
 
 -- src/routes.rt:156:5
 lay-requires-3 : tie.Need-lay-requires-3 Inv-loop μ-loop
@@ -138,7 +141,7 @@ returns c =
     let groups = rw left at (c .before .before .before .before .before .before .before .loop .inv .2 _ first) in
     let all : d + (n - d) ≡ n = omega arith in
     rw (c .fits2 .ensures, c .before .either2 .ensures)
-    (rw all at (row-more _ (side-small _ _) d (n - d) (omega arith) (omega arith) _ groups (c .before .before .before .before .some2 .ensures)
+    (rw all at (row-more _ (side-small _ _) d (n - d) (omega arith) (omega arith) _ groups (c .before .before .before .before .tail .ensures)
     (c .before .before .lay3 .ensures)))
 
 pub long-row-spec : {M : Type 1} → statement M
@@ -164,8 +167,8 @@ long-row-spec =
     loop-again
     mul-d
     add-d
-    sub-some
-    some-requires-2
+    sub-tail
+    tail-requires
     lay-requires-3
     either-requires-2
     fits-requires

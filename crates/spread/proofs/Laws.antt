@@ -79,6 +79,16 @@ module _ (by : List (List ℕ)) (joints : List ℕ) where
           → has (less m (getD t n 0)) d ≡ true
       new d a b c = has-less m (getD t n 0) d ∙ rw (em, in-both (side x o) (getD t x 0) d a b, en, c)
 
+  pub pushed-empty : (x o : ℕ) (t : List ℕ) {m : ℕ} → m ≡ both (side x o) (getD t x 0) → m ≡ 0
+      → Pushed by joints x o t 0 t
+  pushed-empty x o t {m} em e = record {
+    long = refl;
+    keeps = λ y d a. a;
+    fair = λ n f h a. a;
+    gone = λ d a b. absurd (not-both (rw em (in-both (side x o) (getD t x 0) d a b)) (none-of m d e));
+    same = λ y a. refl;
+  }
+
   pub pushed-some : (x o : ℕ) (t : List ℕ) {n m v s : ℕ} → length t ≡ 32 → (n ≡ to x o) × (n < 32) → o < 4
       → m ≡ both (side x o) (getD t x 0) → v ≡ either (getD t n 0) m → s ≡ single n
       → Pushed by joints x o t s (set t n v)

@@ -39,8 +39,11 @@ fn push(by: &[[u32; 4]; 16], joints: &[u8; 64], t: &mut [u32; 32], x: usize, o: 
     requires { ⌜ (x < 16) × (o < 4) × (length (now t) ≡ 32) ⌝ }
     ensures { λ new. ⌜ Pushed (now (by .entry)) (now (joints .entry)) x o (now (t .entry)) new (now (t .exit)) ⌝ }
 {
-    let n = partner(joints, 4 * x + o) / 4;
     let m = both(by[x][o], t[x]);
+    if m == 0 {
+        return 0;
+    }
+    let n = partner(joints, 4 * x + o) / 4;
     if less(m, t[n]) == 0 {
         return 0;
     }

@@ -4,7 +4,7 @@ use inspect::Checked;
 use kinds::Refusal;
 use load::Loaded;
 use packets::Answer;
-use plan::routes::NO_SIDE;
+use routes::NO_SIDE;
 ghost use mathlib.Core.Path.{_≡_};
 ghost use Rattle.machine.specs.Calls.{read, execute, write, launch, reply, consume, entry};
 ghost use Rattle.claims.specs.Calls.{given, startOn, callOn};

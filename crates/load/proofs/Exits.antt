@@ -21,7 +21,7 @@ use Rattle.plan.specs.Head.{InRange, headOf, headOk, destinations, routesAt, bi
 use Rattle.plan.specs.Plan.{Plan, noSide, routeAt, planOf}
 use Rattle.plan.specs.Rules.{fillOk, fieldsOk, namedOk, interfacesOk, portsOf}
 use Rattle.plan.specs.Tables.{tablePlan, homesOf, rowOf, routesOf, jointsOf, jointBytesOk, routesOk}
-use Rattle.plan.specs.Marks.{Routes}
+use Rattle.routes.specs.Marks.{Routes}
 use Rattle.plan.specs.Head.{Counts}
 use Rattle.circles.specs.RingTest.{hasRing}
 use Rattle.wiring.proofs.Heads.{head-ok, and-both}

@@ -17,7 +17,7 @@ use Rattle.plan.specs.Head.{headOf, headOk, bitCount, byteCount}
 use Rattle.plan.specs.Plan.{noSide, planOf}
 use Rattle.plan.specs.Rules.{fillOk, fieldsOk, namedOk, interfacesOk}
 use Rattle.plan.specs.Tables.{routesOf, jointsOf, homesOf}
-use Rattle.plan.specs.Marks.{NoRoutes}
+use Rattle.routes.specs.Marks.{NoRoutes}
 use Rattle.sets.specs.Sets.{has}
 use Rattle.paths.specs.Drawn.{Sides}
 use Rattle.circles.specs.RingTest.{hasRing}

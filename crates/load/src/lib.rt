@@ -2,7 +2,7 @@
 use kinds::Hub;
 use kinds::Refusal;
 use plan::Head;
-use plan::routes::NO_SIDE;
+use routes::NO_SIDE;
 ghost use mathlib.Core.Path.{_≡_};
 ghost use mathlib.Core.List.{[]};
 ghost use Prim.Native.Nat.{_<_};
@@ -62,7 +62,7 @@ pub fn fill(
         return Loaded::Refused(Refusal::WrongLength);
     }
     let joined = plan::joints::joints(plan, h, joints);
-    let fit = plan::routes::routes(plan, h, routes, by);
+    let fit = routes::routes(plan, h, routes, by);
     if !(joined & fit) {
         return Loaded::Refused(Refusal::BadField);
     }

@@ -1,4 +1,4 @@
--- A joint's byte, read from the two bytes that hold it; a route read past its row's end. Assumes nothing.
+-- A joint's byte, read from the two bytes that hold it. Assumes nothing.
 use mathlib.Core.Path.{_≡_, refl, sym, ap}
 use mathlib.Core.Bool.{Bool, true, false, _&&_}
 use mathlib.Core.List.{List, [], _∷_}
@@ -77,22 +77,6 @@ module _ (b : List ℕ) (i : ℕ) where
       sums : (p q r s t u v w : ℕ) → high % 8 ≡ (p * 2 + q) * 2 + r → low / 8 ≡ (((s * 2 + t) * 2 + u) * 2 + v) * 2 + w
           → high % 8 * 32 + low / 8 ≡ (p * 2 + q) * 64 + (((r * 2 + s) * 2 + t) * 2 + u) * 4 + (v * 2 + w)
       sums p q r s t u v w e f = omega arith
-
--- the byte in which a route ends and the one before hold it, found from the byte behind whose first bit it begins
-pub field-near : (b : List ℕ) (i c : ℕ) → getD b (i + (c + 3 - 1) / 8) 0 < 256 → 1 ≤ i
-    → (getD b (i + (c + 3 - 1) / 8 - 1) 0 * 256 + getD b (i + (c + 3 - 1) / 8) 0) / 2 ^ (7 - (c + 3 - 1) % 8) % 8
-    ≡ fieldOf b (8 * i + c) 3
-field-near b i c low one =
-    let byte : i + (c + 3 - 1) / 8 ≡ (8 * i + c + 3 - 1) / 8 = omega arith in
-    let off : (c + 3 - 1) % 8 ≡ (8 * i + c + 3 - 1) % 8 = omega arith in
-    rw (byte, off) (field-ends b (8 * i + c) 3 (rw (← byte) low) (omega arith) (omega arith) (omega arith))
-
--- both 0 and 7 are routes, so it is the same which of them a row gives past its end
-pub route-default : (row : List ℕ) (d : ℕ) → routeOk (getD row d 0) ≡ routeOk (getD row d 7)
-unfolding routeOk
-route-default [] d = refl
-route-default (x ∷ row) zero = refl
-route-default (x ∷ row) (suc d) = route-default row d
 
 -- one more turn of a loop that tests and goes on
 pub all-and : (f : ℕ → Bool) (i : ℕ) {b c : Bool} → b ≡ allBelow i f → c ≡ f i → (b && c) ≡ allBelow (i + 1) f

@@ -3,19 +3,31 @@ use mathlib.Core.Path.{_≡_, refl, sym, ap, _∙_}
 use mathlib.Core.Logic.{_⊎_, inl, inr}
 use mathlib.Core.Bool.{Bool, true, false, _&&_, true≢false}
 use mathlib.Core.List.{List}
-use Prim.Native.Nat.{ℕ, _+_, _*_, _-_, _/_, _%_, _^_, _≤_, _<_}
+use Prim.Native.Nat.{ℕ, zero, suc, _+_, _*_, _-_, _/_, _%_, _^_, _≤_, _<_}
 use native.Mathlib.Omega.{arith}
 use lib.Dec.{eqb, ltb}
 use lib.ListN.{getD, length}
+use lib.Pow.{pow-pos, add-lt-pow}
 use borrow.Author.Tests.{eqb-true, eq-eqb, ne-eqb, lt-ltb, le-ltb}
 use Rattle.basis.specs.Choice.{same-test}
 use Rattle.basis.specs.Bounded.{allBelow, all-at, all-of, lt-or-ge}
 use Rattle.sets.specs.Sets.{has, both, below}
-use Rattle.sets.specs.Laws.{has-both, has-below, none-has}
+use Rattle.sets.specs.Laws.{has-both, has-below, none-has, no-member}
 use Rattle.fields.specs.Bits.{bitAt, fieldOf}
 use Rattle.fields.specs.Laws.{bit-of, bit-lt}
 use Rattle.plan.specs.Rules.{fillOk}
-use Rattle.plan.proofs.Marks.{nothing}
+
+-- ---- a set that holds nothing is 0
+small-pow : (n : ℕ) → n < 2 ^ n
+small-pow zero = pow-pos 0
+small-pow (suc zero) = omega arith
+small-pow (suc (suc n)) =
+    let h = small-pow (suc n) in
+    let one : 1 < 2 ^ suc n = omega (arith, h) in
+    omega (arith, add-lt-pow {a = suc n} {b = 1} (suc n) h one)
+
+nothing : (s : ℕ) → ((i : ℕ) → has s i ≡ false) → s ≡ 0
+nothing s f = no-member s s (small-pow s) (λ i l. f i)
 
 and-none : (b : Bool) → (b && false) ≡ false
 and-none true = refl

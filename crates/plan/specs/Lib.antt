@@ -3,5 +3,4 @@ pub mod Plan
 pub mod Rules
 pub mod Tables
 pub mod Found
-pub mod Marks
 pub mod Samples

@@ -17,7 +17,7 @@ use Rattle.plan.proofs.counts.head_ok.Reads as head-ok-reads
 use Rattle.plan.proofs.counts.read_head.Reads as read-head-reads
 use Rattle.plan.proofs.interfaces.homes.Reads as homes-reads
 use Rattle.plan.proofs.joints.joints.Reads as joints-reads
-use Rattle.plan.proofs.routes.routes.Reads as routes-reads
+use Rattle.routes.proofs.routes.Reads as routes-reads
 
 -- src/lib.rt
 returns : tie.Need-returns

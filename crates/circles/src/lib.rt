@@ -28,8 +28,8 @@ fn walks_ring(
     let mut used = [0u32; 32];
     links::starts::carried(by, joints, homes, served, n, h.actives, &mut used);
     let mut to = [0u64; 16];
-    links::words::nexts(by, joints, &used, n, &mut to);
-    peel::words::has_ring(&to, n)
+    let some = links::words::nexts(by, joints, &used, n, &mut to);
+    peel::words::has_ring(&to, n, some)
 }
 
 // Whether answers might go round, if every router sent some to each served active that it reaches: a quick look.
@@ -50,8 +50,8 @@ fn links_ring(
     let mut gone = [0u32; 64];
     links::leaves(by, arrive, live, n, &mut gone);
     let mut to = [0u64; 64];
-    links::words::links(&gone, joints, 4 * n, &mut to);
-    peel::words::has_ring(&to, 4 * n)
+    let some = links::words::links(&gone, joints, 4 * n, &mut to);
+    peel::words::has_ring(&to, 4 * n, some)
 }
 
 // Whether answers go round.

@@ -1,5 +1,5 @@
 -- What the words tell, and what makes a member of one.
-use mathlib.Core.Path.{_≡_, refl, sym, _∙_}
+use mathlib.Core.Path.{_≡_, refl, sym, ap, _∙_}
 use mathlib.Core.Logic.{_⊎_, inl, inr, _≢_}
 use mathlib.Core.Bool.{Bool, true, false}
 use mathlib.Core.List.{List, []}
@@ -9,9 +9,10 @@ use lib.Dec.{eqb, ltb}
 use lib.ListN.{getD, length, replicate}
 use borrow.Author.Tests.{lt-ltb, le-ltb, ltb-true, eqb-true, eqb-false, eq-eqb, ne-eqb}
 use Rattle.basis.specs.Choice.{test}
-use Rattle.basis.specs.Fold.{fill-at, length-fill}
+use Rattle.basis.specs.Fold.{upTo, fill, up-none, up-more, up-same, fill-at, length-fill}
 use Rattle.sets.specs.Sets.{has, single, both, either}
 use Rattle.sets.specs.Laws.{has-single}
+use Rattle.peel.specs.Words.{someOf, firstOf}
 use Rattle.spread.specs.Carried.{partnerOf, beyondOf}
 use Rattle.spread.proofs.Laws.{in-left, in-right, either-in}
 use Rattle.links.specs.Words.{fourOf, towardOf, nextOf, nextsOf, ontoOf, linkOf, linksOf}
@@ -40,6 +41,27 @@ module _ (f : ℕ → ℕ) (i : ℕ) where
   in-four (suc (suc zero)) l u = in-right (either (f 0) (f 1)) (either (f 2) (f 3)) i (in-left (f 2) (f 3) i u)
   in-four (suc (suc (suc zero))) l u = in-right (either (f 0) (f 1)) (either (f 2) (f 3)) i (in-right (f 2) (f 3) i u)
   in-four (suc (suc (suc (suc j)))) l u = absurd (omega arith)
+
+-- ---- those that lead to some, told while their sets are made
+module _ (f : ℕ → ℕ) where
+  -- the numbers below k whose set has some
+  unfoldable pub somesOf : ℕ → ℕ
+  somesOf k = upTo (λ x. someOf (f x) x) k 0
+
+  pub somes-none : 0 ≡ somesOf 0
+  unfolding somesOf
+  somes-none = up-none (λ x. someOf (f x) x) 0
+
+  pub somes-more : (k : ℕ) {v s r : ℕ} → s ≡ somesOf k → v ≡ f k → r ≡ someOf v k s → r ≡ somesOf (k + 1)
+  unfolding somesOf
+  somes-more k {v} {s} e g h = up-more (λ x. someOf (f x) x) 0 k e (h ∙ ap (λ (w : ℕ). someOf w k s) g)
+
+  pub somes-done : (n : ℕ) (l : List ℕ) {k s : ℕ} {c : List ℕ} → n ≤ length l → k ≡ n → c ≡ upTo (fill f) k l
+      → s ≡ somesOf k → s ≡ firstOf c n
+  unfolding somesOf firstOf
+  somes-done n l m e g h =
+      h ∙ rw (g, e) (up-same (λ x. someOf (f x) x) (λ x. someOf (getD (upTo (fill f) n l) x 0) x) n 0
+      (λ x s b. ap (λ (w : ℕ). someOf w x s) (sym (fill-at f n l x 0 b m))))
 
 -- ---- routers
 module _ (by : List (List ℕ)) (joints t : List ℕ) where

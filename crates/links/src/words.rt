@@ -1,13 +1,26 @@
 // What leads on, as sets in words (crate peel, words): by router the routers that what it has goes on to, by side the
-// sides that some of the same leave by next.
+// sides that some of the same leave by next. `nexts` and `links` answer which lead to some.
 use sets::both;
 use sets::long::either;
 use sets::long::single;
+use sets::long::with;
 use spread::partner;
 ghost use mathlib.Core.Path.{_≡_};
 ghost use Prim.Native.Nat.{_+_, _*_, _≤_, _<_};
 ghost use lib.ListN.{replicate};
+ghost use Rattle.peel.specs.Words.{someOf, firstOf};
 ghost use Rattle.links.specs.Words.{fourOf, towardOf, nextOf, nextsOf, ontoOf, linkOf, linksOf};
+
+// A set, with x if v, the set of those that it leads to, has some.
+fn some(v: u64, s: u64, x: usize) -> u64
+    requires { ⌜ x < 64 ⌝ }
+    ensures { λ r. ⌜ r ≡ someOf v x s ⌝ }
+{
+    if v == 0 {
+        return s;
+    }
+    with(s, x)
+}
 
 // The router beyond side o of router x, if some of what x has goes on by it.
 fn toward(by: &[[u32; 4]; 16], joints: &[u8; 64], t: &[u32; 32], x: usize, o: usize) -> u64
@@ -36,13 +49,24 @@ fn next(by: &[[u32; 4]; 16], joints: &[u8; 64], t: &[u32; 32], x: usize) -> u64
     either(either(a, b), either(c, d))
 }
 
-pub fn nexts(by: &[[u32; 4]; 16], joints: &[u8; 64], t: &[u32; 32], n: usize, to: &mut [u64; 16])
+pub fn nexts(
+    by: &[[u32; 4]; 16],
+    joints: &[u8; 64],
+    t: &[u32; 32],
+    n: usize,
+    to: &mut [u64; 16],
+) -> u64
     requires { ⌜ (n ≤ 16) × (now to ≡ replicate 16 0) ⌝ }
-    ensures { λ _. ⌜ now (to .exit) ≡ nextsOf (now (by .entry)) (now (joints .entry)) (now (t .entry)) n ⌝ }
+    ensures { λ s. ⌜ (now (to .exit) ≡ nextsOf (now (by .entry)) (now (joints .entry)) (now (t .entry)) n)
+        × (s ≡ firstOf (now (to .exit)) n) ⌝ }
 {
+    let mut s = 0u64;
     for x in 0..n {
-        to[x] = next(by, joints, t, x);
+        let v = next(by, joints, t, x);
+        to[x] = v;
+        s = some(v, s, x);
     }
+    s
 }
 
 // The j-th side of router q, if some of m leave by it.
@@ -84,11 +108,16 @@ fn link(l: &[u32; 64], joints: &[u8; 64], k: usize) -> u64
     0
 }
 
-pub fn links(l: &[u32; 64], joints: &[u8; 64], n: usize, to: &mut [u64; 64])
+pub fn links(l: &[u32; 64], joints: &[u8; 64], n: usize, to: &mut [u64; 64]) -> u64
     requires { ⌜ (n ≤ 64) × (now to ≡ replicate 64 0) ⌝ }
-    ensures { λ _. ⌜ now (to .exit) ≡ linksOf (now (l .entry)) (now (joints .entry)) n ⌝ }
+    ensures { λ s. ⌜ (now (to .exit) ≡ linksOf (now (l .entry)) (now (joints .entry)) n)
+        × (s ≡ firstOf (now (to .exit)) n) ⌝ }
 {
+    let mut s = 0u64;
     for k in 0..n {
-        to[k] = link(l, joints, k);
+        let v = link(l, joints, k);
+        to[k] = v;
+        s = some(v, s, k);
     }
+    s
 }

@@ -1,10 +1,10 @@
 -- What goes lies on no ring, and what stays where none goes leads on for ever; so the sweeps find a ring exactly if
 -- there is one.
-use mathlib.Core.Path.{_≡_, refl, sym, ap, _∙_}
+use mathlib.Core.Path.{_≡_, refl, sym, _∙_}
 use mathlib.Core.Logic.{_⊎_, inl, inr, _≢_}
 use mathlib.Core.Bool.{Bool, true, false, not, _&&_, and-eq-true-iff}
 use mathlib.Core.List.{List}
-use Prim.Native.Nat.{ℕ, zero, suc, _-_, _≤_, _<_, _^_}
+use Prim.Native.Nat.{ℕ, zero, suc, _≤_, _<_, _^_}
 use native.Mathlib.Nat.{pow-suc}
 use native.Mathlib.Omega.{arith}
 use lib.Dec.{eqb}
@@ -12,12 +12,12 @@ use lib.ListN.{getD}
 use borrow.Author.Tests.{eqb-true, eq-eqb, ne-eqb}
 use Rattle.basis.specs.Choice.{pick, test, refuted, affirmed, not-both}
 use Rattle.basis.specs.Bounded.{Found, find, below-suc, or-cases, or-right}
-use Rattle.basis.specs.Fold.{up-keeps, up-keeps-at}
+use Rattle.basis.specs.Fold.{up-keeps-at}
 use Rattle.basis.specs.Ring.{Ring, Leads, follow, ringTest, ring-of-test, test-of-ring}
-use Rattle.sets.specs.Sets.{has, single, both, either, less, lowest, rest}
+use Rattle.sets.specs.Sets.{has, single, both, either, less, lowest, rest, highest}
 use Rattle.sets.specs.Laws.{has-both, has-either, has-less, has-single, has-rest, no-member, less-le}
-use Rattle.sets.specs.Laws.{lowest-is, rest-less}
-use Rattle.peel.specs.Words.{leadsTo, stayOf, downOf, someOf, firstOf, Left, Swept}
+use Rattle.sets.specs.Laws.{lowest-is, highest-is, rest-less, without-less}
+use Rattle.peel.specs.Words.{leadsTo, loneOf, someOf, firstOf, Left, Swept}
 use Rattle.peel.proofs.Laws.{not-empty}
 
 -- ---- a set that is not empty has a member
@@ -31,6 +31,57 @@ member s h = by (find s (has s))
     by : Found s (has s) ⊎ ((i : ℕ) → i < s → has s i ≡ false) → (d : ℕ) × (has s d ≡ true)
     by (inl (d, l, t)) = (d, t)
     by (inr none) = absurd (h (no-member s s (under-pow s) none))
+
+-- ---- x is taken from todo, and later is what then is there
+pub record Taken (todo x later : ℕ) : Type 0 where
+  pub there : has todo x ≡ true
+  pub fewer : later < todo
+  pub others : (y : ℕ) → has later y ≡ (has todo y && not (eqb y x))
+
+pub taken-low : {todo x later : ℕ} → 0 < todo → todo < 2 ^ 64 → x ≡ lowest todo → later ≡ rest todo
+    → Taken todo x later
+taken-low {todo} p l e f = rw (e, f) (record {
+  there = lowest-is todo p l .there;
+  fewer = rest-less todo p;
+  others = λ y. has-rest todo y p l;
+})
+
+pub taken-high : {todo x later : ℕ} → 0 < todo → todo < 2 ^ 64 → x ≡ highest todo → later ≡ less todo (single x)
+    → Taken todo x later
+taken-high {todo} {x} p l e f = rw f (record {
+  there = is;
+  fewer = without-less todo x is;
+  others = λ y. has-less todo (single x) y ∙ rw (has-single x y);
+})
+  where
+    is : has todo x ≡ true
+    is = rw e (highest-is todo p l .there)
+
+-- ---- a set with a node more, if that leads to some
+some-has : (v x s y : ℕ) → has s y ≡ true → has (someOf v x s) y ≡ true
+unfolding someOf
+some-has v x s y t = by (test (eqb v 0))
+  where
+    by : (eqb v 0 ≡ true) ⊎ (eqb v 0 ≡ false) → has (pick (eqb v 0) s (either s (single x))) y ≡ true
+    by (inl e) = rw e t
+    by (inr e) = rw e (has-either s (single x) y ∙ rw t)
+
+some-new : (v x s : ℕ) → v ≢ 0 → has (someOf v x s) x ≡ true
+unfolding someOf
+some-new v x s h =
+    rw (ne-eqb v 0 h) (has-either s (single x) x ∙ rw (has-single x x, eq-eqb x x refl) (or-right (has s x)))
+
+some-was : (v x s y : ℕ) → has (someOf v x s) y ≡ true → (has s y ≡ true) ⊎ (y ≡ x)
+unfolding someOf
+some-was v x s y t = by (test (eqb v 0))
+  where
+    either-was : (has s y ≡ true) ⊎ (has (single x) y ≡ true) → (has s y ≡ true) ⊎ (y ≡ x)
+    either-was (inl u) = inl u
+    either-was (inr u) = inr (eqb-true y x (sym (has-single x y) ∙ u))
+
+    by : (eqb v 0 ≡ true) ⊎ (eqb v 0 ≡ false) → (has s y ≡ true) ⊎ (y ≡ x)
+    by (inl e) = inl (rw e at t)
+    by (inr e) = either-was (or-cases (has s y) (has (single x) y) (sym (has-either s (single x) y) ∙ (rw e at t)))
 
 module _ (succ : List ℕ) (n : ℕ) where
   -- ---- a node of a ring leads to one that is left
@@ -49,13 +100,13 @@ module _ (succ : List ℕ) (n : ℕ) where
       by (inl l) = at i l
       by (inr e) = rw (e, r .closed) (at 0 (r .some))
 
-  -- node x is left and leads to none that is left
+  -- node x leads to none that is left
   abbrev goesFrom : ℕ → ℕ → Bool
-  goesFrom x left = has left x && eqb (both (getD succ x 0) left) 0
+  goesFrom x left = eqb (both (getD succ x 0) left) 0
 
-  left-stay : (x left : ℕ) → Left succ n left → Left succ n (stayOf succ x left)
-  unfolding stayOf
-  left-stay x left k = by (test (goesFrom x left))
+  left-lone : (x left : ℕ) → Left succ n left → Left succ n (loneOf succ x left)
+  unfolding loneOf
+  left-lone x left k = by (test (goesFrom x left))
     where
       by : (goesFrom x left ≡ true) ⊎ (goesFrom x left ≡ false)
           → Left succ n (pick (goesFrom x left) (less left (single x)) left)
@@ -66,8 +117,7 @@ module _ (succ : List ℕ) (n : ℕ) where
           was y t = and-eq-true-iff (has left y) (not (has (single x) y)) .0 (sym (has-less left (single x) y) ∙ t) .0
 
           other : (y : ℕ) → both (getD succ y 0) left ≢ 0 → y ≢ x
-          other y h q = h (rw q (eqb-true (both (getD succ x 0) left) 0
-              (and-eq-true-iff (has left x) (eqb (both (getD succ x 0) left) 0) .0 e .1)))
+          other y h q = h (rw q (eqb-true (both (getD succ x 0) left) 0 e))
 
           stays : (r : Ring (Leads n (leadsTo succ))) (i : ℕ) → i ≤ r .size
               → has (less left (single x)) (r .node i) ≡ true
@@ -79,58 +129,29 @@ module _ (succ : List ℕ) (n : ℕ) where
                 k .keeps r i b,
               )
 
-  pub left-down : {left after : ℕ} → after ≡ downOf succ n left → Left succ n left → Left succ n after
-  unfolding downOf
-  left-down {left} e k =
-      rw e (up-keeps (Left succ n) (λ i. stayOf succ (n - 1 - i)) n left (λ i t h q. left-stay (n - 1 - i) t q) k)
-
   -- ---- at the start
-  some-has : (x s y : ℕ) → has s y ≡ true → has (someOf succ x s) y ≡ true
-  unfolding someOf
-  some-has x s y t = by (test (eqb (getD succ x 0) 0))
-    where
-      by : (eqb (getD succ x 0) 0 ≡ true) ⊎ (eqb (getD succ x 0) 0 ≡ false)
-          → has (pick (eqb (getD succ x 0) 0) s (either s (single x))) y ≡ true
-      by (inl e) = rw e t
-      by (inr e) = rw e (has-either s (single x) y ∙ rw t)
-
-  some-new : (x s : ℕ) → getD succ x 0 ≢ 0 → has (someOf succ x s) x ≡ true
-  unfolding someOf
-  some-new x s h =
-      rw (ne-eqb (getD succ x 0) 0 h)
-      (has-either s (single x) x ∙ rw (has-single x x, eq-eqb x x refl) (or-right (has s x)))
-
-  some-was : (x s y : ℕ) → has (someOf succ x s) y ≡ true → (has s y ≡ true) ⊎ (y ≡ x)
-  unfolding someOf
-  some-was x s y t = by (test (eqb (getD succ x 0) 0))
-    where
-      either-was : (has s y ≡ true) ⊎ (has (single x) y ≡ true) → (has s y ≡ true) ⊎ (y ≡ x)
-      either-was (inl u) = inl u
-      either-was (inr u) = inr (eqb-true y x (sym (has-single x y) ∙ u))
-
-      by : (eqb (getD succ x 0) 0 ≡ true) ⊎ (eqb (getD succ x 0) 0 ≡ false) → (has s y ≡ true) ⊎ (y ≡ x)
-      by (inl e) = inl (rw e at t)
-      by (inr e) = either-was (or-cases (has s y) (has (single x) y) (sym (has-either s (single x) y) ∙ (rw e at t)))
-
   record Begun (i s : ℕ) : Type 0 where
     pub sound : (y : ℕ) → has s y ≡ true → y < i
     pub complete : (y : ℕ) → y < i → getD succ y 0 ≢ 0 → has s y ≡ true
 
   begun : Begun n (firstOf succ n)
   unfolding firstOf
-  begun = up-keeps-at Begun (someOf succ) n 0 more
+  begun = up-keeps-at Begun (λ x. someOf (getD succ x 0) x) n 0 more
       (record { sound = λ y t. absurd (not-empty 0 y t refl); complete = λ y l h. absurd (omega arith) })
     where
-      more : (i s : ℕ) → i < n → Begun i s → Begun (suc i) (someOf succ i s)
-      more i s h b = record { sound = λ y t. low y (some-was i s y t); complete = λ y l k. at y k (below-suc l) }
+      more : (i s : ℕ) → i < n → Begun i s → Begun (suc i) (someOf (getD succ i 0) i s)
+      more i s h b = record {
+        sound = λ y t. low y (some-was (getD succ i 0) i s y t);
+        complete = λ y l k. at y k (below-suc l);
+      }
         where
           low : (y : ℕ) → (has s y ≡ true) ⊎ (y ≡ i) → y < suc i
           low y (inl t) = let l = b .sound y t in omega arith
           low y (inr e) = omega arith
 
-          at : (y : ℕ) → getD succ y 0 ≢ 0 → (y < i) ⊎ (y ≡ i) → has (someOf succ i s) y ≡ true
-          at y k (inl l) = some-has i s y (b .complete y l k)
-          at y k (inr e) = rw e (some-new i s (rw e at k))
+          at : (y : ℕ) → getD succ y 0 ≢ 0 → (y < i) ⊎ (y ≡ i) → has (someOf (getD succ i 0) i s) y ≡ true
+          at y k (inl l) = some-has (getD succ i 0) i s y (b .complete y l k)
+          at y k (inr e) = rw e (some-new (getD succ i 0) i s (rw e at k))
 
   pub left-first : {left : ℕ} → left ≡ firstOf succ n → Left succ n left
   left-first e =
@@ -153,27 +174,22 @@ module _ (succ : List ℕ) (n : ℕ) where
       some : Ring (Leads n (leadsTo succ)) → ⊥
       some r = not-empty left (r .node 0) (k .keeps r 0 (omega arith)) e
 
-  stay-le : (x left : ℕ) → stayOf succ x left ≤ left
-  unfolding stayOf
-  stay-le x left = by (goesFrom x left)
+  lone-le : (x left : ℕ) → loneOf succ x left ≤ left
+  unfolding loneOf
+  lone-le x left = by (goesFrom x left)
     where
       by : (b : Bool) → pick b (less left (single x)) left ≤ left
       by true = less-le left (single x)
       by false = omega arith
 
-  pub down-le : {left after : ℕ} → after ≡ downOf succ n left → after ≤ left
-  unfolding downOf
-  down-le {left} e =
-      rw e (up-keeps (λ v. v ≤ left) (λ i. stayOf succ (n - 1 - i)) n left (λ i v h q. let a = stay-le (n - 1 - i) v in
-      omega arith) (omega arith))
+  lone-same : (x left : ℕ) → loneOf succ x left ≡ left → has left x ≡ true → both (getD succ x 0) left ≢ 0
+  unfolding loneOf
+  lone-same x left e t q =
+      let s : less left (single x) ≡ left = rw (eq-eqb (both (getD succ x 0) left) 0 q) at e in
+      let l = without-less left x t in
+      omega arith
 
-  stay-same : (x left : ℕ) → stayOf succ x left ≡ left → has left x ≡ true → both (getD succ x 0) left ≢ 0
-  unfolding stayOf
-  stay-same x left e t q =
-      let s : less left (single x) ≡ left = rw (t, eq-eqb (both (getD succ x 0) left) 0 q) at e in
-      not-both (ap (λ (v : ℕ). has v x) s ∙ t) (has-less left (single x) x ∙ rw (has-single x x, eq-eqb x x refl, t))
-
-  -- ---- a sweep up, with the nodes of todo still to be judged
+  -- ---- a sweep, with the nodes of todo still to be judged
   pub record Going (left todo now : ℕ) : Type 0 where
     pub small : todo < 2 ^ 64
     pub fewer : now ≤ left
@@ -190,28 +206,25 @@ module _ (succ : List ℕ) (n : ℕ) where
     leads = λ e x t f. absurd (not-both t f);
   }
 
-  -- the lowest of them is left
-  pub going-next : (left todo now : ℕ) {x : ℕ} → 0 < todo → Going left todo now → x ≡ lowest todo → has left x ≡ true
-  going-next left todo now p g e = rw e (g .among (lowest todo) (lowest-is todo p (g .small) .there))
+  -- the next of them is left
+  pub going-next : {left todo now x later : ℕ} → Going left todo now → Taken todo x later → has left x ≡ true
+  going-next g k = g .among _ (k .there)
 
-  pub going-more : (left todo now : ℕ) {x later after : ℕ} → 0 < todo → Going left todo now
-      → x ≡ lowest todo → later ≡ rest todo → after ≡ stayOf succ x now → Going left later after
-  going-more left todo now {x} {later} {after} p g ex el ea = record {
-    small = let a = rest-less todo p in let b = g .small in rw el (omega arith);
+  pub going-more : {left todo now x later after : ℕ} → Going left todo now → Taken todo x later
+      → after ≡ loneOf succ x now → Going left later after
+  going-more {left} {todo} {now} {x} {later} {after} g k ea = record {
+    small = omega (arith, k .fewer, g .small);
     fewer = omega (arith, le, g .fewer);
     among = λ y t. g .among y (was y t);
-    whole = λ k. rw ea (left-stay x now (g .whole k));
+    whole = λ w. rw ea (left-lone x now (g .whole w));
     leads = λ e y t f. by e y t (test (has todo y)) f;
   }
     where
       le : after ≤ now
-      le = rw ea (stay-le x now)
-
-      later-has : (y : ℕ) → has later y ≡ (has todo y && not (eqb y x))
-      later-has y = rw (el, ex) (has-rest todo y p (g .small))
+      le = rw ea (lone-le x now)
 
       was : (y : ℕ) → has later y ≡ true → has todo y ≡ true
-      was y t = and-eq-true-iff (has todo y) (not (eqb y x)) .0 (sym (later-has y) ∙ t) .0
+      was y t = and-eq-true-iff (has todo y) (not (eqb y x)) .0 (sym (k .others y) ∙ t) .0
 
       still : after ≡ left → now ≡ left
       still e = omega (arith, le, g .fewer)
@@ -224,8 +237,8 @@ module _ (succ : List ℕ) (n : ℕ) where
           at : (eqb y x ≡ true) ⊎ (eqb y x ≡ false) → both (getD succ y 0) left ≢ 0
           at (inl q) =
               rw (eqb-true y x q)
-              (stay-same x left (rw (still e) at (sym ea ∙ e)) (rw (eqb-true y x q) at t))
-          at (inr q) = absurd (not-both (later-has y ∙ rw (u, q)) f)
+              (lone-same x left (rw (still e) at (sym ea ∙ e)) (rw (eqb-true y x q) at t))
+          at (inr q) = absurd (not-both (k .others y ∙ rw (u, q)) f)
 
   pub going-done : (left todo now : ℕ) → todo ≡ 0 → Going left todo now → Swept succ n left now
   going-done left todo now e g = record {
@@ -235,16 +248,16 @@ module _ (succ : List ℕ) (n : ℕ) where
   }
 
   -- a round in which none goes
-  pub ends-still : {left down up : ℕ} → left ≢ 0 → Left succ n left → down ≡ downOf succ n left
-      → Swept succ n down up → up ≡ left → true ≡ ringTest n (leadsTo succ)
+  pub ends-still : {left down up : ℕ} → left ≢ 0 → Left succ n left → Swept succ n left down → Swept succ n down up
+      → up ≡ left → true ≡ ringTest n (leadsTo succ)
   ends-still {left} {down} {up} h k d u s =
       sym (affirmed (ringTest n (leadsTo succ)) (λ f. none f (member left h)))
     where
       same : down ≡ left
-      same = let a = down-le d in let b = u .fewer in omega arith
+      same = omega (arith, d .fewer, u .fewer)
 
       judged : (x : ℕ) → has left x ≡ true → both (getD succ x 0) left ≢ 0
-      judged = rw same at (u .leads (s ∙ sym same))
+      judged = d .leads same
 
       step : (x : ℕ) → has left x ≡ true → ((y : ℕ) × (has left y ≡ true) × (leadsTo succ x y ≡ true)) ⊎ ⊥
       step x t = by (member (both (getD succ x 0) left) (judged x t))
@@ -261,5 +274,5 @@ module _ (succ : List ℕ) (n : ℕ) where
           (λ r. not-both (test-of-ring n (leadsTo succ) r) f) x t
 
   -- the round's measure
-  pub round-less : {left down up : ℕ} → down ≡ downOf succ n left → Swept succ n down up → up ≢ left → up < left
-  round-less d u h = let a = down-le d in let b = u .fewer in omega arith
+  pub round-less : {left down up : ℕ} → Swept succ n left down → Swept succ n down up → up ≢ left → up < left
+  round-less d u h = omega (arith, d .fewer, u .fewer)

@@ -30,7 +30,7 @@ links-requires c κs = search needs
 
 -- src/lib.rt:54:27
 slice-aggregate-has-ring : tie.Need-slice-aggregate-has-ring
-slice-aggregate-has-ring c = sym (links-long _ _ _ (c .before .links .ensures))
+slice-aggregate-has-ring c = sym (links-long _ _ _ (c .before .links .ensures .0))
 
 -- src/lib.rt:54:32
 mul-has-ring : tie.Need-mul-has-ring
@@ -38,13 +38,16 @@ mul-has-ring c = search needs
 
 -- src/lib.rt:54:5
 has-ring-requires : tie.Need-has-ring-requires
-has-ring-requires c κs = (omega arith, let e = links-long _ _ _ (c .before .links .ensures) in omega arith)
+has-ring-requires c κs =
+    let made = c .before .links .ensures in
+    let e = links-long _ _ _ (made .0) in
+    (omega arith, omega arith, made .1)
 
 -- src/lib.rt:36:1
 returns : tie.Need-returns
 returns c = λ pl homes told. links-ring (c .before .before .before .before .before .before .before .before .pre) told
     (c .before .before .before .before .before .before .before .live .ensures)
-    (c .before .before .before .before .before .leaves .ensures) (c .before .before .links .ensures)
+    (c .before .before .before .before .before .leaves .ensures) (c .before .before .links .ensures .0)
     (c .has-ring .ensures)
 
 pub links-ring-spec : {M : Type 1} → statement M

@@ -21,16 +21,19 @@ nexts-requires c κs = search needs
 
 -- src/lib.rt:32:27
 slice-aggregate-has-ring : tie.Need-slice-aggregate-has-ring
-slice-aggregate-has-ring c = sym (nexts-long _ _ _ _ (c .before .nexts .ensures))
+slice-aggregate-has-ring c = sym (nexts-long _ _ _ _ (c .before .nexts .ensures .0))
 
 -- src/lib.rt:32:5
 has-ring-requires : tie.Need-has-ring-requires
-has-ring-requires c κs = (omega arith, let e = nexts-long _ _ _ _ (c .before .nexts .ensures) in omega arith)
+has-ring-requires c κs =
+    let made = c .before .nexts .ensures in
+    let e = nexts-long _ _ _ _ (made .0) in
+    (omega arith, omega arith, made .1)
 
 -- src/lib.rt:15:1
 returns : tie.Need-returns
 returns c = λ pl arrive told. walks-ring (c .before .before .before .before .before .before .before .pre) told
-    (c .before .before .before .before .before .carried .ensures) (c .before .before .nexts .ensures)
+    (c .before .before .before .before .before .carried .ensures) (c .before .before .nexts .ensures .0)
     (c .has-ring .ensures)
 
 pub walks-ring-spec : {M : Type 1} → statement M

@@ -1,52 +1,57 @@
-use Rattle.basis.specs.Fold.{upTo, up-none, up-more, up-done}
-use Rattle.peel.specs.Words.{stayOf, downOf}
-use Prim.Native.Nat.{_-_, _≤_}
-use mathlib.Core.Path.{_≡_}
 use native.Mathlib.Omega.{arith}
+use Rattle.peel.proofs.Going.{Going, taken-high, going-none, going-next, going-more, going-done}
 use Rattle.peel.proofs.words.sweep_down.Statement.{statement}
 use Rattle.peel.proofs.words.sweep_down.Tie as tie
 use Rattle.peel.proofs.words.sweep_down.Reads as reads
 use Rattle.peel.proofs.words.sweep_down.Lts as lts
-use Rattle.peel.proofs.words.stay.Reads as stay-reads
+use Rattle.peel.proofs.words.lone.Reads as lone-reads
+use Rattle.sets.proofs.long.highest.Reads as highest-reads
+use Rattle.sets.proofs.long.without.Reads as without-reads
 
 abbrev Inv-loop : tie.InvT-loop
-Inv-loop follow n left now₀ i₀ now i = (i ≤ n) × (now ≡ upTo (λ j. stayOf follow (n - 1 - j)) i left)
+Inv-loop follow n left now₀ todo₀ now todo = Going follow n left todo now
 
 abbrev μ-loop : tie.MeasureT-loop
-μ-loop follow n left now₀ i₀ now i = n - i
+μ-loop follow n left now₀ todo₀ now todo = todo
 
--- src/words.rt:41:5
+-- src/words.rt:49:5
 loop-holds : tie.Need-loop-holds Inv-loop μ-loop
-loop-holds c = (omega arith, up-none _ _)
+loop-holds c = going-none _ _ _ (omega arith)
 
--- src/words.rt:42:33
-sub-stay : tie.Need-sub-stay Inv-loop μ-loop
-sub-stay c = omega arith
+-- src/words.rt:50:13
+highest-requires : tie.Need-highest-requires Inv-loop μ-loop
+highest-requires c κs = omega arith
 
--- src/words.rt:42:33
-sub-stay-2 : tie.Need-sub-stay-2 Inv-loop μ-loop
-sub-stay-2 c = omega arith
+-- src/words.rt:51:9
+without-requires : tie.Need-without-requires Inv-loop μ-loop
+without-requires c κs = c .highest .ensures .1
 
--- src/words.rt:42:9
-stay-requires : tie.Need-stay-requires Inv-loop μ-loop
-stay-requires c κs = (omega arith, omega arith)
+-- src/words.rt:52:9
+lone-requires : tie.Need-lone-requires Inv-loop μ-loop
+lone-requires c κs =
+    let pre = c .before .before .before .before .before .pre in
+    let inv = c .before .before .before .loop .inv in
+    let node = c .before .highest .ensures in
+    let taken = taken-high (omega arith) (inv .small) (node .0) (c .without .ensures) in
+    let last = pre .2 _ (going-next _ _ inv taken) in
+    (omega (arith, last, pre .1), node .1)
 
--- src/words.rt:41:9
-add-i : tie.Need-add-i Inv-loop μ-loop
-add-i c = record { fits = omega arith }
-
--- src/words.rt:41:5
+-- src/words.rt:49:5
 loop-less : tie.Need-loop-less Inv-loop μ-loop
-loop-less c = omega arith
+loop-less c =
+    let inv = c .before .before .before .before .loop .inv in
+    taken-high (omega arith) (inv .small) (c .before .before .highest .ensures .0) (c .before .without .ensures) .fewer
 
--- src/words.rt:41:5
+-- src/words.rt:49:5
 loop-again : tie.Need-loop-again Inv-loop μ-loop
-loop-again c = (omega arith, up-more _ _ _ (c .before .before .loop .inv .1) (c .stay .ensures))
+loop-again c =
+    let inv = c .before .before .before .before .loop .inv in
+    going-more _ _ inv (taken-high (omega arith) (inv .small) (c .before .before .highest .ensures .0)
+    (c .before .without .ensures)) (c .lone .ensures)
 
--- src/words.rt:36:1
+-- src/words.rt:43:1
 returns : tie.Need-returns Inv-loop μ-loop
-unfolding downOf
-returns c = up-done _ _ (c .before .loop .inv .1) (omega arith)
+returns c = going-done _ _ _ _ _ (c .loop-test .left) (c .before .loop .inv)
 
 pub sweep-down-spec : {M : Type 1} → statement M
 sweep-down-spec =
@@ -55,10 +60,9 @@ sweep-down-spec =
     Inv-loop
     μ-loop
     loop-holds
-    sub-stay
-    sub-stay-2
-    stay-requires
-    add-i
+    highest-requires
+    without-requires
+    lone-requires
     loop-less
     loop-again
     returns)

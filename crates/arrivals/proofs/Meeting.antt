@@ -34,14 +34,17 @@ use Rattle.arrivals.proofs.Arrive.{spot-front}
 use Rattle.arrivals.proofs.Charts.{charted}
 use Rattle.arrivals.proofs.Sizes.{side-on, far-idle, far-walk, far-way, far-count, arrivals}
 
-pub blank : Blank (replicate 17 (replicate 32 0))
-blank = record {
-  shape = record {
-    rows = length-replicate 17 (replicate 32 zero);
-    wide = λ r l. ap length (getD-replicate 17 r (replicate 32 zero) [] l) ∙ length-replicate 32 zero;
-  };
-  none = λ r d. replicate-row 17 32 0 r d;
+pub blank : (n : ℕ) {up : List (List ℕ)} → up ≡ replicate n (replicate 32 0) → Blank up
+blank n e = rw e record {
+  shape = record { wide = λ r l. wide′ r (rw (length-replicate n (replicate 32 zero)) at l) };
+  none = λ r d. replicate-row n 32 0 r d;
 }
+  where
+    wide′ : (r : ℕ) → r < n → length (getD (replicate n (replicate 32 zero)) r []) ≡ 32
+    wide′ r l = ap length (getD-replicate n r (replicate 32 zero) [] l) ∙ length-replicate 32 zero
+
+pub rows : (n : ℕ) {up : List (List ℕ)} → up ≡ replicate n (replicate 32 0) → length up ≡ n
+rows n e = ap length e ∙ length-replicate n (replicate 32 zero)
 
 pub stands-at : (r : ℕ) (s : Spot Port) → standsOn r s ≡ true → (i : ℕ) × (s ≡ on (record { router = r; side = i }))
 stands-at r (on x) t = (x .side, ap (λ (n : ℕ). on (record { router = n; side = x .side })) (eqb-true (x .router) r t))

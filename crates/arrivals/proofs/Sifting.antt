@@ -93,6 +93,12 @@ pub record Sifting (up : List (List ℕ)) (x v missing left w : ℕ) : Type 0 wh
 pub sifting-none : (up : List (List ℕ)) (x v missing : ℕ) → v < 2 ^ 32 → Sifting up x v missing v v
 sifting-none up x v missing l = record { small = l; todo = λ d q. (q, q); done = λ d q. rw q }
 
+-- the next to be looked at is a member
+pub sifting-there : {up : List (List ℕ)} {x v missing left d w : ℕ} → 0 < left → d ≡ lowest left
+    → Sifting up x v missing left w → has v d ≡ true
+sifting-there {left = left} {d = d} p e s =
+    s .todo d (lowest-there left (rest left) d p (s .small) e refl) .0
+
 pub sifting-more : {up : List (List ℕ)} {x v missing left left′ d w w′ met : ℕ} → 0 < left → d ≡ lowest left
     → left′ ≡ rest left → met ≡ both (getD (getD up x []) d 0) missing
     → w′ ≡ pick (eqb met 0) w (less w (single d)) → Sifting up x v missing left w

@@ -10,14 +10,15 @@ use lib.ListN.{getD, set, length, length-set, replicate, length-replicate}
 use lib.Seq.{getD-set-same, getD-set-other}
 use borrow.Author.Tests.{lt-ltb}
 use Rattle.basis.specs.Choice.{pick, test}
-use Rattle.basis.specs.Bounded.{allBelow, all-at, all-of}
+use Rattle.basis.specs.Bounded.{allBelow, all-at, all-of, lt-or-ge}
 use Rattle.basis.specs.Fold.{upTo, fill, length-fill, fill-at, fill-past}
 use Rattle.plan.specs.declared.Head.{Head}
 use Rattle.wiring.proofs.Tables.{replicate-at}
 use Rattle.sets.specs.Sets.{has, both, less, below}
-use Rattle.sets.specs.Laws.{has-less, has-below, none-has}
-use Rattle.reach.proofs.Sweeps.{same-or-not}
-use Rattle.arrivals.specs.Tables.{firstOf, firstStep, firstsOf, nearOf, nearStep, farOf}
+use Rattle.sets.specs.Laws.{has-both, has-less, has-below, none-has}
+use Rattle.reach.specs.Reach.{Idle, Reached}
+use Rattle.reach.proofs.Sweeps.{same-or-not, and-parts, reach-idle}
+use Rattle.arrivals.specs.Tables.{OnlyBelow, firstOf, firstStep, firstsOf, nearOf, nearStep, farOf}
 use Rattle.arrivals.specs.Pairs.{plainOf, atHome, atHomes, Lacking, Sift, Chosen, Choices, Known, Serving}
 use Rattle.arrivals.specs.Pairs.{Servings, lengthOf, lengthsBy}
 
@@ -75,6 +76,31 @@ pub chosen-sifted : (homes arrive : List ℕ) (h : Head) (all : ℕ) (up : List 
     → v ≡ atHome homes arrive h a → k ≡ getD homes a 0 → Lacking arrive a (h .routers) m → Sift up (k / 4) v m w
     → Chosen homes arrive h all up a w
 chosen-sifted homes arrive h all up a {m = m} e f l s = inr (m, l, rw (e, f) at s)
+
+-- ---- from which routers walks arrive
+pub reached-below : (by : List (List ℕ)) (next : List ℕ) {n full : ℕ} {first t : List ℕ} → Idle by next n first
+    → Reached by next n full first t → OnlyBelow n t
+reached-below by next {n} {full} {first} {t} idle w r d l = by′ (test (has (getD t r 0) d))
+  where
+    by′ : (has (getD t r 0) d ≡ true) ⊎ (has (getD t r 0) d ≡ false) → has (getD t r 0) d ≡ false
+    by′ (inl q) = let s = w .sound r d q in absurd (reach-idle by next n first idle d (s .0) r l (s .1))
+    by′ (inr q) = q
+
+-- an active's walks arrive somewhere only if its router is one of the plan's
+pub home-below : (homes arrive : List ℕ) (h : Head) (a : ℕ) {k v : ℕ} → OnlyBelow (h .routers) arrive
+    → v ≡ atHome homes arrive h a → k ≡ getD homes a 0 → (d : ℕ) → has v d ≡ true → k / 4 < h .routers
+unfolding atHome
+home-below homes arrive h a {k} {v} only e f d q = by′ (lt-or-ge (k / 4) (h .routers))
+  where
+    there : has (getD arrive (k / 4) 0) d ≡ true
+    there =
+        rw f
+        (and-parts _ _ (sym (has-both (getD arrive (getD homes a 0 / 4) 0) (farOf h) d) ∙ sym (ap (λ (u : ℕ). has u d)
+        e) ∙ q) .0)
+
+    by′ : (k / 4 < h .routers) ⊎ (h .routers ≤ k / 4) → k / 4 < h .routers
+    by′ (inl l) = l
+    by′ (inr l) = absurd (true≢false (sym there ∙ only (k / 4) d l))
 
 -- ---- all actives
 module _ (by : List (List ℕ)) (joints homes arrive : List ℕ) (h : Head) (all : ℕ) where

@@ -1,6 +1,8 @@
 -- The tables that walks are swept with: the router beyond each side and the destinations one step away.
+use mathlib.Core.Path.{_≡_}
+use mathlib.Core.Bool.{false}
 use mathlib.Core.List.{List, []}
-use Prim.Native.Nat.{ℕ, _+_, _*_, _/_, _%_, _<_}
+use Prim.Native.Nat.{ℕ, _+_, _*_, _/_, _%_, _≤_, _<_}
 use lib.Dec.{eqb}
 use lib.ListN.{getD, set, replicate}
 use Rattle.basis.specs.Choice.{pick}
@@ -19,6 +21,10 @@ nextsOf joints routers = upTo (fill (λ k. nextOf (getD joints k 0))) (4 * route
 -- every destination's port is one of 64
 abbrev pub PortsIn : List ℕ → ℕ → Type 0
 PortsIn homes n = (d : ℕ) → d < n → getD homes d 0 < 64
+
+-- walks arrive only from routers below n
+abbrev pub OnlyBelow : ℕ → List ℕ → Type 0
+OnlyBelow n arrive = (r d : ℕ) → n ≤ r → has (getD arrive r 0) d ≡ false
 
 -- the set of port k's router, with d where the router's side for d is that port's
 unfoldable pub firstOf : List (List ℕ) → ℕ → ℕ → ℕ → ℕ

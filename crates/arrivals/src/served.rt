@@ -1,7 +1,7 @@
 // Which pairs are served: those whose walk arrives and meets no router without a way back to the active.
 use crate::far_of;
 use crate::port;
-use crate::tracks::tracks;
+use crate::tracks::tracks_in;
 use plan::Head;
 use sets::below;
 use sets::both;
@@ -12,17 +12,24 @@ use sets::rest;
 use sets::with;
 use sets::without;
 ghost use mathlib.Core.Path.{_≡_};
-ghost use mathlib.Core.Bool.{false};
+ghost use mathlib.Core.Bool.{true, false};
 ghost use mathlib.Core.List.{List, []};
 ghost use Prim.Native.Nat.{ℕ, _+_, _≤_, _<_};
 ghost use lib.Dec.{eqb};
-ghost use lib.ListN.{getD};
+ghost use lib.ListN.{getD, length};
 ghost use Rattle.basis.specs.Choice.{pick};
 ghost use Rattle.basis.specs.Bounded.{allBelow};
 ghost use Rattle.sets.specs.Sets.{has, single, either, less};
+ghost use Rattle.reach.specs.Trails.{Blank};
 ghost use Rattle.plan.specs.Head.{Counts};
-ghost use Rattle.arrivals.specs.Tables.{PortsIn};
+ghost use Rattle.arrivals.specs.Tables.{PortsIn, OnlyBelow};
 ghost use Rattle.arrivals.specs.Pairs.{atHome, atHomes, plainOf, Lacking, Sift, Chosen, Choices, Servings};
+
+// A plan of few routers has at most so many.
+const FEW: usize = 4;
+
+// The most routers.
+const MOST: usize = 16;
 
 // A set with router r, unless it has a way back.
 fn lack(s: u32, r: usize, back: bool) -> u32
@@ -53,8 +60,8 @@ fn kept(w: u32, d: usize, met: u32) -> u32
 }
 
 // The destinations of a set whose walk from router x meets none of the routers missing.
-fn sift(up: &[[u32; 32]; 17], x: usize, v: u32, missing: u32) -> u32
-    requires { ⌜ x < 17 ⌝ }
+fn sift(up: &[[u32; 32]], x: usize, v: u32, missing: u32) -> u32
+    requires { ⌜ (x < 16) × ((d : ℕ) → has v d ≡ true → x < length (now up)) ⌝ }
     ensures { λ w. ⌜ Sift (now (up .entry)) x v missing w ⌝ }
 {
     let mut left = v;
@@ -114,15 +121,9 @@ fn plains(all: u32, t: &[u32; 16], actives: usize) -> bool
 }
 
 // The passives that an active is served with, by the words of all walks.
-fn serve(
-    up: &[[u32; 32]; 17],
-    homes: &[u8; 32],
-    arrive: &[u32; 32],
-    h: Head,
-    all: u32,
-    a: usize,
-) -> u32
-    requires { ⌜ Counts h × (a < h .actives) × PortsIn (now homes) (h .actives + h .passives) ⌝ }
+fn serve(up: &[[u32; 32]], homes: &[u8; 32], arrive: &[u32; 32], h: Head, all: u32, a: usize) -> u32
+    requires { ⌜ Counts h × (a < h .actives) × PortsIn (now homes) (h .actives + h .passives)
+        × OnlyBelow (h .routers) (now arrive) × (h .routers ≤ length (now up)) ⌝ }
     ensures { λ w. ⌜ Chosen (now (homes .entry)) (now (arrive .entry)) h all (now (up .entry)) a w ⌝ }
 {
     let v = at_home(arrive, homes, h, a);
@@ -134,8 +135,9 @@ fn serve(
 }
 
 // By active: the passives that it is served with, by the words of all walks.
-fn sifts(up: &[[u32; 32]; 17], homes: &[u8; 32], arrive: &[u32; 32], h: Head, all: u32) -> [u32; 16]
-    requires { ⌜ Counts h × PortsIn (now homes) (h .actives + h .passives) ⌝ }
+fn sifts(up: &[[u32; 32]], homes: &[u8; 32], arrive: &[u32; 32], h: Head, all: u32) -> [u32; 16]
+    requires { ⌜ Counts h × PortsIn (now homes) (h .actives + h .passives)
+        × OnlyBelow (h .routers) (now arrive) × (h .routers ≤ length (now up)) ⌝ }
     ensures { λ t. ⌜ Choices (now (homes .entry)) (now (arrive .entry)) h all (now (up .entry)) (h .actives) t ⌝ }
 {
     let actives = h.actives;
@@ -146,7 +148,65 @@ fn sifts(up: &[[u32; 32]; 17], homes: &[u8; 32], arrive: &[u32; 32], h: Head, al
     t
 }
 
-// The same where the words are still to be made.
+// The same where the words are still to be made, in a table that has a row for each router.
+fn sifted_in(
+    up: &mut [[u32; 32]],
+    h: Head,
+    joints: &[u8; 64],
+    homes: &[u8; 32],
+    by: &[[u32; 4]; 16],
+    arrive: &[u32; 32],
+    all: u32,
+) -> [u32; 16]
+    requires { ⌜ Counts h × PortsIn (now homes) (h .actives + h .passives)
+        × ((r o d : ℕ) → h .routers ≤ r → o < 4 → has (getD (getD (now by) r []) o 0) d ≡ false)
+        × OnlyBelow (h .routers) (now arrive) × (h .routers ≤ length (now up)) × Blank (now up) ⌝ }
+    ensures { λ t. ⌜ Servings (now (by .entry)) (now (joints .entry)) (now (homes .entry)) (now (arrive .entry))
+        h all (h .actives) t ⌝ }
+{
+    tracks_in(h, joints, homes, by, up);
+    sifts(up, homes, arrive, h, all)
+}
+
+// The same in a plan of few routers.
+fn sifted_few(
+    h: Head,
+    joints: &[u8; 64],
+    homes: &[u8; 32],
+    by: &[[u32; 4]; 16],
+    arrive: &[u32; 32],
+    all: u32,
+) -> [u32; 16]
+    requires { ⌜ Counts h × PortsIn (now homes) (h .actives + h .passives)
+        × ((r o d : ℕ) → h .routers ≤ r → o < 4 → has (getD (getD (now by) r []) o 0) d ≡ false)
+        × OnlyBelow (h .routers) (now arrive) × (h .routers ≤ 4) ⌝ }
+    ensures { λ t. ⌜ Servings (now (by .entry)) (now (joints .entry)) (now (homes .entry)) (now (arrive .entry))
+        h all (h .actives) t ⌝ }
+{
+    let mut up = [[0u32; 32]; FEW];
+    sifted_in(&mut up, h, joints, homes, by, arrive, all)
+}
+
+// The same in any plan.
+fn sifted_many(
+    h: Head,
+    joints: &[u8; 64],
+    homes: &[u8; 32],
+    by: &[[u32; 4]; 16],
+    arrive: &[u32; 32],
+    all: u32,
+) -> [u32; 16]
+    requires { ⌜ Counts h × PortsIn (now homes) (h .actives + h .passives)
+        × ((r o d : ℕ) → h .routers ≤ r → o < 4 → has (getD (getD (now by) r []) o 0) d ≡ false)
+        × OnlyBelow (h .routers) (now arrive) ⌝ }
+    ensures { λ t. ⌜ Servings (now (by .entry)) (now (joints .entry)) (now (homes .entry)) (now (arrive .entry))
+        h all (h .actives) t ⌝ }
+{
+    let mut up = [[0u32; 32]; MOST];
+    sifted_in(&mut up, h, joints, homes, by, arrive, all)
+}
+
+// The same; the table of words is as large as the plan needs.
 fn sifted(
     h: Head,
     joints: &[u8; 64],
@@ -156,13 +216,15 @@ fn sifted(
     all: u32,
 ) -> [u32; 16]
     requires { ⌜ Counts h × PortsIn (now homes) (h .actives + h .passives)
-        × ((r o d : ℕ) → h .routers ≤ r → o < 4 → has (getD (getD (now by) r []) o 0) d ≡ false) ⌝ }
+        × ((r o d : ℕ) → h .routers ≤ r → o < 4 → has (getD (getD (now by) r []) o 0) d ≡ false)
+        × OnlyBelow (h .routers) (now arrive) ⌝ }
     ensures { λ t. ⌜ Servings (now (by .entry)) (now (joints .entry)) (now (homes .entry)) (now (arrive .entry))
         h all (h .actives) t ⌝ }
 {
-    let mut up = [[0u32; 32]; 17];
-    tracks(h, joints, homes, by, &mut up);
-    sifts(&up, homes, arrive, h, all)
+    if h.routers <= FEW {
+        return sifted_few(h, joints, homes, by, arrive, all);
+    }
+    sifted_many(h, joints, homes, by, arrive, all)
 }
 
 // By active: the passives that it is served with. The words of the walks are made only where some active needs them.
@@ -175,7 +237,8 @@ fn needed(
     all: u32,
 ) -> [u32; 16]
     requires { ⌜ Counts h × PortsIn (now homes) (h .actives + h .passives)
-        × ((r o d : ℕ) → h .routers ≤ r → o < 4 → has (getD (getD (now by) r []) o 0) d ≡ false) ⌝ }
+        × ((r o d : ℕ) → h .routers ≤ r → o < 4 → has (getD (getD (now by) r []) o 0) d ≡ false)
+        × OnlyBelow (h .routers) (now arrive) ⌝ }
     ensures { λ t. ⌜ Servings (now (by .entry)) (now (joints .entry)) (now (homes .entry)) (now (arrive .entry))
         h all (h .actives) t ⌝ }
 {
@@ -196,7 +259,8 @@ pub fn serves(
     all: u32,
 ) -> [u32; 16]
     requires { ⌜ Counts h × PortsIn (now homes) (h .actives + h .passives)
-        × ((r o d : ℕ) → h .routers ≤ r → o < 4 → has (getD (getD (now by) r []) o 0) d ≡ false) ⌝ }
+        × ((r o d : ℕ) → h .routers ≤ r → o < 4 → has (getD (getD (now by) r []) o 0) d ≡ false)
+        × OnlyBelow (h .routers) (now arrive) ⌝ }
     ensures { λ t. ⌜ Servings (now (by .entry)) (now (joints .entry)) (now (homes .entry)) (now (arrive .entry))
         h all (h .actives) t ⌝ }
 {

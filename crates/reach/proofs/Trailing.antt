@@ -15,17 +15,17 @@ use Rattle.basis.specs.Bounded.{anyBelow, any-true, or-cases, lt-or-ge}
 use Rattle.sets.specs.Sets.{has, single, both, less, lowest, rest}
 use Rattle.sets.specs.Laws.{has-both, has-less, none-has, lowest-is, has-rest, rest-less}
 use Rattle.reach.specs.Reach.{sideSet, beyond, Idle, throughOf, pullOf, sweepAt, changeOf}
-use Rattle.reach.specs.Trails.{Shaped, cell, Blank, Led, Started, Trail, last, more, Tracked}
-use Rattle.reach.specs.Trails.{Trailed, Lengthens, Room, Turned, Turns, Turning}
+use Rattle.reach.specs.Trails.{Shaped, cell, Blank, Readable, Led, Started, Trail, last, more}
+use Rattle.reach.specs.Trails.{Tracked, Trailed, Lengthens, Room, Turned, Turns, Turning}
 use Rattle.reach.proofs.Sweeps.{and-parts, same-or-not, has-pull, unchanged}
 
 -- ---- one word put into the table
 abbrev putAt : List (List ℕ) → ℕ → ℕ → ℕ → List (List ℕ)
 putAt up x d v = set up x (set (getD up x []) d v)
 
-module _ (up : List (List ℕ)) (x d v : ℕ) (shape : Shaped up) (row : x < 17) where
+module _ (up : List (List ℕ)) (x d v : ℕ) (shape : Shaped up) (row : x < length up) where
   here : getD (putAt up x d v) x [] ≡ set (getD up x []) d v
-  here = getD-set-same up x (set (getD up x []) d v) [] (rw (shape .rows) row)
+  here = getD-set-same up x (set (getD up x []) d v) [] row
 
   cell-put : d < 32 → cell (putAt up x d v) x d ≡ v
   cell-put l = rw here (getD-set-same (getD up x []) d v 0 (rw (shape .wide x row) l))
@@ -37,13 +37,13 @@ module _ (up : List (List ℕ)) (x d v : ℕ) (shape : Shaped up) (row : x < 17)
       by (inl q) = rw (q, here) (getD-set-other (getD up x []) d e v 0 (away q))
       by (inr q) = ap (λ (l : List ℕ). getD l e 0) (getD-set-other up x r (set (getD up x []) d v) [] q)
 
+  long-put : length (putAt up x d v) ≡ length up
+  long-put = length-set up x (set (getD up x []) d v)
+
   shaped-put : Shaped (putAt up x d v)
-  shaped-put = record {
-    rows = length-set up x (set (getD up x []) d v) ∙ shape .rows;
-    wide = λ r l. wide′ r l (same-or-not r x);
-  }
+  shaped-put = record { wide = λ r l. wide′ r (rw long-put at l) (same-or-not r x) }
     where
-      wide′ : (r : ℕ) → r < 17 → (r ≡ x) ⊎ (r ≡ x → ⊥) → length (getD (putAt up x d v) r []) ≡ 32
+      wide′ : (r : ℕ) → r < length up → (r ≡ x) ⊎ (r ≡ x → ⊥) → length (getD (putAt up x d v) r []) ≡ 32
       wide′ r l (inl q) = rw (q, here) (length-set (getD up x []) d v ∙ shape .wide x row)
       wide′ r l (inr q) = ap length (getD-set-other up x r (set (getD up x []) d v) [] q) ∙ shape .wide r l
 
@@ -71,6 +71,7 @@ module _ (left left′ d : ℕ) (some : 0 < left) (small : left < 2 ^ 32) (low :
 
 -- ---- the loop over the members of a set: left are those that are still to do
 pub record Leading (x n k left : ℕ) (up₀ up : List (List ℕ)) : Type 0 where
+  pub long : length up ≡ length up₀
   pub shape : Shaped up
   pub small : left < 2 ^ 32
   pub within : (d : ℕ) → has left d ≡ true → has k d ≡ true
@@ -79,6 +80,7 @@ pub record Leading (x n k left : ℕ) (up₀ up : List (List ℕ)) : Type 0 wher
 
 pub leading-none : (x n k : ℕ) {up : List (List ℕ)} → k < 2 ^ 32 → Shaped up → Leading x n k k up up
 leading-none x n k l s = record {
+  long = refl;
   shape = s;
   small = l;
   within = λ d q. q;
@@ -94,19 +96,23 @@ leading-word {x} {n} {k} {left} {d} p e w =
     let q : has left d ≡ true = rw e (lowest-is left p (omega arith) .there) in
     (w .within d q, w .same n d (λ a b c. true≢false (sym q ∙ c)))
 
-pub leading-more : {x n k left left′ d v : ℕ} {up₀ up : List (List ℕ)} → x < 16 → 0 < left
+pub leading-more : {x n k left left′ d v : ℕ} {up₀ up : List (List ℕ)} → x < length up₀ → 0 < left
     → d ≡ lowest left → d < 32 → left′ ≡ rest left → v ≡ cell up n d + single x + 65536 → Leading x n k left up₀ up
     → Leading x n k left′ up₀ (putAt up x d v)
 leading-more {x} {n} {k} {left} {left′} {d} {v} {up₀} {up} lx p e ld f g w = record {
-  shape = shaped-put up x d v (w .shape) (omega arith);
+  long = long-put up x d v (w .shape) row ∙ w .long;
+  shape = shaped-put up x d v (w .shape) row;
   small = others-small left left′ d p (w .small) e f;
   within = λ i q. w .within i (and-parts (has left i) _ (sym (others-has left left′ d p (w .small) e f i) ∙ q) .0);
-  same = λ r i a. cell-other up x d v (w .shape) (omega arith) r i
+  same = λ r i a. cell-other up x d v (w .shape) row r i
       (λ q s. a q (rw s known) (rw s (lowest-gone left left′ d p (w .small) e f)))
       ∙ w .same r i (λ q b c. a q b (others-has left left′ d p (w .small) e f i ∙ rw c));
   new = λ i a b. at i a b (same-or-not i d);
 }
   where
+    row : x < length up
+    row = rw (w .long) lx
+
     there : has left d ≡ true
     there = lowest-there left left′ d p (w .small) e f
 
@@ -117,14 +123,15 @@ leading-more {x} {n} {k} {left} {left′} {d} {v} {up₀} {up} lx p e ld f g w =
         → cell (putAt up x d v) x i ≡ cell up₀ n i + single x + 65536
     at i a b (inl q) =
         rw q
-        (cell-put up x d v (w .shape) (omega arith) ld ∙ g
+        (cell-put up x d v (w .shape) row ld ∙ g
         ∙ ap (λ (u : ℕ). u + single x + 65536) (w .same n d (λ _ _ c. true≢false (sym there ∙ c))))
     at i a b (inr q) =
-        cell-other up x d v (w .shape) (omega arith) x i (λ _ s. q s)
+        cell-other up x d v (w .shape) row x i (λ _ s. q s)
         ∙ w .new i a (sym (others-kept left left′ d p (w .small) e f i q) ∙ b)
 
 pub leading-end : {x n k left : ℕ} {up₀ up : List (List ℕ)} → left ≡ 0 → Leading x n k left up₀ up → Led x n k up₀ up
 leading-end {x} {n} {k} {left} e w = record {
+  long = w .long;
   shape = w .shape;
   same = λ r d f. w .same r d (λ q a b. f q a);
   new = λ d q. w .new d q (rw e (none-has d));
@@ -155,7 +162,7 @@ module _ (by : List (List ℕ)) (next first : List ℕ) where
   pub trailed-more : {b c : ℕ} {t : List ℕ} {up : List (List ℕ)} → b ≤ c → Trailed by next first b t up
       → Trailed by next first c t up
   trailed-more l w =
-      record { long = w .long; shape = w .shape; some = λ r d q. tracked-more l (w .some r d q) }
+      record { long = w .long; shape = w .shape; rows = w .rows; some = λ r d q. tracked-more l (w .some r d q) }
 
   -- one router more
   tracked-on : {b d x o v w : ℕ} → x < 16 → o < 4 → has (sideSet by next x o) d ≡ true
@@ -188,20 +195,24 @@ module _ (by : List (List ℕ)) (next : List ℕ) (t : List ℕ) (x new : ℕ) w
       (sym (ap (λ (u : ℕ). has u d) f ∙ has-both (throughOf by next t x o) new d) ∙ q)
 
   module _ (first : List ℕ) (b : ℕ) where
-    -- what is read on the way is small
+    -- what is read on the way is there, and small
     pub turn-small : (o : ℕ) {n k : ℕ} {up : List (List ℕ)} → n ≡ beyond by next x o
-        → k ≡ both (throughOf by next t x o) new → b ≤ 600 → Turned by next first b t x new o up
-        → (d : ℕ) → has k d ≡ true → cell up n d ≤ 100000000
+        → k ≡ both (throughOf by next t x o) new → b ≤ 600 → Turned by next first b t x new o up → Readable up n k
     turn-small o {n} {k} {up} e f l w d q =
         let s = through-parts o d (new-parts o k d f q .0) in
         let a = tracked-le by next first l (w .old .some (beyond by next x o) d (s .1)) in
-        rw e a
+        (rw e (w .old .rows (beyond by next x o) d (s .1)), rw e a)
 
     pub turn-next : (o : ℕ) {n k : ℕ} {up up′ : List (List ℕ)} → x < 16 → o < 4 → n ≡ beyond by next x o
         → k ≡ both (throughOf by next t x o) new → Led x n k up up′ → Turned by next first b t x new o up
         → Turned by next first b t x new (o + 1) up′
     turn-next o {n} {k} {up} {up′} lx lo e f led w = record {
-      old = record { long = w .old .long; shape = led .shape; some = λ r d q. older r d q };
+      old = record {
+        long = w .old .long;
+        shape = led .shape;
+        rows = λ r d q. rw (led .long) (w .old .rows r d q);
+        some = λ r d q. older r d q;
+      };
       apart = w .apart;
       done = λ i d l a c. at i d l a c (test (has k d)) (same-or-not i o);
     }
@@ -240,14 +251,20 @@ module _ (by : List (List ℕ)) (next : List ℕ) (t : List ℕ) (x new : ℕ) w
         gone d q (inl a) = absurd (false≢true (rw a at q))
         gone d q (inr a) = a
 
-    pub turn-end : {v : ℕ} {up : List (List ℕ)} → x < 16 → v ≡ pullOf by next t x → new ≡ less v (getD t x 0)
-        → Turned by next first b t x new 4 up → Trailed by next first (b + 1) (set t x v) up
-    turn-end {v} {up} l f e w = record {
+    pub turn-end : {v : ℕ} {up : List (List ℕ)} → x < 16 → x < length up → v ≡ pullOf by next t x
+        → new ≡ less v (getD t x 0) → Turned by next first b t x new 4 up
+        → Trailed by next first (b + 1) (set t x v) up
+    turn-end {v} {up} l row f e w = record {
       long = length-set t x v ∙ w .old .long;
       shape = w .old .shape;
+      rows = λ r d q. in-row r d q (same-or-not r x);
       some = λ r d q. at r d q (same-or-not r x);
     }
       where
+        in-row : (r d : ℕ) → has (getD (set t x v) r 0) d ≡ true → (r ≡ x) ⊎ (r ≡ x → ⊥) → r < length up
+        in-row r d q (inl s) = rw s row
+        in-row r d q (inr s) = w .old .rows r d (rw (getD-set-other t x r v 0 s) at q)
+
         older : (r d : ℕ) → has (getD t r 0) d ≡ true → Tracked by next first (b + 1) d r (cell up r d)
         older r d q = tracked-more by next first (omega arith) (w .old .some r d q)
 
@@ -298,13 +315,13 @@ stepped-none by next t up x {v} {new} e f g =
     )
 
 pub stepped-new : (by : List (List ℕ)) (next t : List ℕ) (up up′ : List (List ℕ)) (x : ℕ) {v new : ℕ} → x < 16
-    → v ≡ pullOf by next t x → new ≡ less v (getD t x 0) → Turns by next t x new 0 up 4 up′
+    → x < length up′ → v ≡ pullOf by next t x → new ≡ less v (getD t x 0) → Turns by next t x new 0 up 4 up′
     → (set t x v ≡ sweepAt by next x t) × (new ≡ changeOf by next t x) × Lengthens by next 1 t up (set t x v) up′
 unfolding sweepAt changeOf
-stepped-new by next t up up′ x {v} {new} l e f g = (
+stepped-new by next t up up′ x {v} {new} l row e f g = (
   ap (set t x) e,
   f ∙ ap (λ (u : ℕ). less u (getD t x 0)) e,
-  λ first b w. turn-end by next t x new first b l e f (g first b (turn-start by next t x new first b v f w)),
+  λ first b w. turn-end by next t x new first b l row e f (g first b (turn-start by next t x new first b v f w)),
 )
 
 -- ---- steps one after another
@@ -331,9 +348,9 @@ room-on by next n j k l (first, b, m, w) f = (first, b + j, omega arith, f first
 pub started-none : (t : List ℕ) {up : List (List ℕ)} → Blank up → Started 0 t up
 started-none t w = record { shape = w .shape; some = λ r d l. absurd (omega arith); none = λ r d l. w .none r d }
 
-pub started-more : (x : ℕ) {t : List ℕ} {up up′ : List (List ℕ)} → x < 16 → Started x t up
-    → Led x 16 (getD t x 0) up up′ → Started (x + 1) t up′
-started-more x {t} {up} {up′} l w led = record {
+pub started-more : (x : ℕ) {t : List ℕ} {up up′ : List (List ℕ)} → Started x t up
+    → Led x x (getD t x 0) up up′ → Started (x + 1) t up′
+started-more x {t} {up} {up′} w led = record {
   shape = led .shape;
   some = λ r d m q. at r d m q (same-or-not r x);
   none = λ r d m. led .same r d (λ s h. omega arith) ∙ w .none r d (omega arith);
@@ -342,7 +359,7 @@ started-more x {t} {up} {up′} l w led = record {
     at : (r d : ℕ) → r < x + 1 → has (getD t r 0) d ≡ true → (r ≡ x) ⊎ (r ≡ x → ⊥) → cell up′ r d
         ≡ single r + 65536
     at r d m q (inl s) =
-        let e : cell up 16 d ≡ 0 = w .none 16 d (omega arith) in
+        let e : cell up x d ≡ 0 = w .none x d (omega arith) in
         let f = led .new d (rw s at q) in
         rw s (omega arith)
     at r d m q (inr s) = led .same r d (λ e h. s e) ∙ w .some r d (omega arith) q
@@ -351,10 +368,18 @@ pub started-done : {i n : ℕ} {t : List ℕ} {up : List (List ℕ)} → i ≡ n
 started-done e w = rw (← e) w
 
 pub started-trailed : (by : List (List ℕ)) (next : List ℕ) (n : ℕ) {t : List ℕ} {up : List (List ℕ)} → n ≤ 16
-    → Idle by next n t → length t ≡ 32 → Started n t up → Trailed by next t 1 t up
-started-trailed by next n {t} {up} l idle long w =
-    record { long = long; shape = w .shape; some = λ r d q. at r d q (lt-or-ge r n) }
+    → n ≤ length up → Idle by next n t → length t ≡ 32 → Started n t up → Trailed by next t 1 t up
+started-trailed by next n {t} {up} l rows idle long w = record {
+  long = long;
+  shape = w .shape;
+  rows = λ r d q. row r d q (lt-or-ge r n);
+  some = λ r d q. at r d q (lt-or-ge r n);
+}
   where
+    row : (r d : ℕ) → has (getD t r 0) d ≡ true → (r < n) ⊎ (n ≤ r) → r < length up
+    row r d q (inl h) = omega arith
+    row r d q (inr h) = absurd (true≢false (sym q ∙ idle .here r d h))
+
     at : (r d : ℕ) → has (getD t r 0) d ≡ true → (r < n) ⊎ (n ≤ r) → Tracked by next t 1 d r (cell up r d)
     at r d q (inl h) = record {
       count = 1;

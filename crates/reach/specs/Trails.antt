@@ -8,10 +8,9 @@ use lib.ListN.{getD, length}
 use Rattle.sets.specs.Sets.{has, single}
 use Rattle.reach.specs.Reach.{sideSet, beyond, throughOf}
 
--- ---- the table: 32 words for each of 16 routers, and a row for 'no router'
+-- ---- the table: 32 words for each router
 pub record Shaped (up : List (List ℕ)) : Type 0 where
-  pub rows : length up ≡ 17
-  pub wide : (r : ℕ) → r < 17 → length (getD up r []) ≡ 32
+  pub wide : (r : ℕ) → r < length up → length (getD up r []) ≡ 32
 
 abbrev pub cell : List (List ℕ) → ℕ → ℕ → ℕ
 cell up r d = getD (getD up r []) d 0
@@ -20,9 +19,14 @@ pub record Blank (up : List (List ℕ)) : Type 0 where
   pub shape : Shaped up
   pub none : (r d : ℕ) → cell up r d ≡ 0
 
+-- router n's words for the members of k are in the table, and small enough for one router more
+abbrev pub Readable : List (List ℕ) → ℕ → ℕ → Type 0
+Readable up n k = (d : ℕ) → has k d ≡ true → (n < length up) × (cell up n d ≤ 100000000)
+
 -- ---- what the code does
 -- at router x, for the members of k: the word of router n, and x itself with it
 pub record Led (x n k : ℕ) (up up′ : List (List ℕ)) : Type 0 where
+  pub long : length up′ ≡ length up
   pub shape : Shaped up′
   pub same : (r d : ℕ) → (r ≡ x → has k d ≡ true → ⊥) → cell up′ r d ≡ cell up r d
   pub new : (d : ℕ) → has k d ≡ true → cell up′ x d ≡ cell up n d + single x + 65536
@@ -53,6 +57,7 @@ module _ (by : List (List ℕ)) (next : List ℕ) where
   pub record Trailed (first : List ℕ) (b : ℕ) (t : List ℕ) (up : List (List ℕ)) : Type 0 where
     pub long : length t ≡ 32
     pub shape : Shaped up
+    pub rows : (r d : ℕ) → has (getD t r 0) d ≡ true → r < length up
     pub some : (r d : ℕ) → has (getD t r 0) d ≡ true → Tracked by next first b d r (cell up r d)
 
   -- where the words were right they still are, for ways that are k routers longer

@@ -1,5 +1,5 @@
 // The routers that walks meet, by router and destination: their set in the low 16 digits, and 65536 times their number.
-// The words are made as the walks are found, from their ends.
+// The words are made as the walks are found, from their ends, in a table that has a row for each router.
 use crate::common;
 use crate::index;
 use crate::pull;
@@ -17,18 +17,15 @@ ghost use Prim.Native.Nat.{ℕ, _+_, _*_, _≤_, _<_};
 ghost use lib.ListN.{getD, length};
 ghost use Rattle.sets.specs.Sets.{has};
 ghost use Rattle.reach.specs.Reach.{sweepAt, changeOf, upOf, downOf, Closed, Reached, Inside, Idle};
-ghost use Rattle.reach.specs.Trails.{Shaped, Blank, cell, Led, Started, Trailed, Lengthens, Room};
+ghost use Rattle.reach.specs.Trails.{Shaped, Blank, Readable, Led, Started, Trailed, Lengthens, Room};
 ghost use Rattle.reach.specs.Trails.{Turns, Turning};
-
-// The row for 'no router'.
-const NO_ROUTER: usize = 16;
 
 // What one router more adds to a word, beside the router itself.
 const ONE_MORE: u32 = 65536;
 
 // Router x's words for the destinations of a set: those of router n, and x itself.
-fn lead(up: &mut [[u32; 32]; 17], x: usize, n: usize, k: u32)
-    requires { ⌜ (x < 16) × (n < 17) × Shaped (now up) × ((d : ℕ) → has k d ≡ true → cell (now up) n d ≤ 100000000) ⌝ }
+fn lead(up: &mut [[u32; 32]], x: usize, n: usize, k: u32)
+    requires { ⌜ (x < 16) × (n < 17) × (x < length (now up)) × Shaped (now up) × Readable (now up) n k ⌝ }
     ensures { λ _. ⌜ Led x n k (now (up .entry)) (now (up .exit)) ⌝ }
 {
     let mut left = k;
@@ -44,12 +41,13 @@ fn side(
     by: &[[u32; 4]; 16],
     next: &[u8; 64],
     t: &[u32; 32],
-    up: &mut [[u32; 32]; 17],
+    up: &mut [[u32; 32]],
     x: usize,
     o: usize,
     new: u32,
 )
-    requires { ⌜ (x < 16) × (o < 4) × Inside (now next) × Turning (now by) (now next) (now t) x new o (now up) ⌝ }
+    requires { ⌜ (x < 16) × (o < 4) × Inside (now next) × (x < length (now up))
+        × Turning (now by) (now next) (now t) x new o (now up) ⌝ }
     ensures { λ _. ⌜ Turns (now (by .entry)) (now (next .entry)) (now (t .entry)) x new
         o (now (up .entry)) (o + 1) (now (up .exit)) ⌝ }
 {
@@ -63,11 +61,12 @@ fn sides(
     by: &[[u32; 4]; 16],
     next: &[u8; 64],
     t: &[u32; 32],
-    up: &mut [[u32; 32]; 17],
+    up: &mut [[u32; 32]],
     x: usize,
     new: u32,
 )
-    requires { ⌜ (x < 16) × Inside (now next) × Turning (now by) (now next) (now t) x new 0 (now up) ⌝ }
+    requires { ⌜ (x < 16) × Inside (now next) × (x < length (now up))
+        × Turning (now by) (now next) (now t) x new 0 (now up) ⌝ }
     ensures { λ _. ⌜ Turns (now (by .entry)) (now (next .entry)) (now (t .entry)) x new
         0 (now (up .entry)) 4 (now (up .exit)) ⌝ }
 {
@@ -82,9 +81,9 @@ fn step(
     next: &[u8; 64],
     x: usize,
     t: &mut [u32; 32],
-    up: &mut [[u32; 32]; 17],
+    up: &mut [[u32; 32]],
 ) -> u32
-    requires { ⌜ (x < 16) × Inside (now next) × Room (now by) (now next) 1 (now t) (now up) ⌝ }
+    requires { ⌜ (x < 16) × Inside (now next) × (x < length (now up)) × Room (now by) (now next) 1 (now t) (now up) ⌝ }
     ensures { λ new. ⌜ (now (t .exit) ≡ sweepAt (now (by .entry)) (now (next .entry)) x (now (t .entry)))
         × (new ≡ changeOf (now (by .entry)) (now (next .entry)) (now (t .entry)) x)
         × Lengthens (now (by .entry)) (now (next .entry)) 1
@@ -106,9 +105,9 @@ fn sweep_up(
     next: &[u8; 64],
     n: usize,
     t: &mut [u32; 32],
-    up: &mut [[u32; 32]; 17],
+    up: &mut [[u32; 32]],
 ) -> u32
-    requires { ⌜ (n ≤ 16) × Inside (now next) × Room (now by) (now next) n (now t) (now up) ⌝ }
+    requires { ⌜ (n ≤ 16) × Inside (now next) × (n ≤ length (now up)) × Room (now by) (now next) n (now t) (now up) ⌝ }
     ensures { λ new. ⌜ (now (t .exit) ≡ upOf (now (by .entry)) (now (next .entry)) n (now (t .entry)))
         × (new ≡ 0 → Closed (now (by .entry)) (now (next .entry)) n (now (t .exit)))
         × Lengthens (now (by .entry)) (now (next .entry)) n
@@ -127,9 +126,9 @@ fn sweep_down(
     next: &[u8; 64],
     n: usize,
     t: &mut [u32; 32],
-    up: &mut [[u32; 32]; 17],
+    up: &mut [[u32; 32]],
 )
-    requires { ⌜ (n ≤ 16) × Inside (now next) × Room (now by) (now next) n (now t) (now up) ⌝ }
+    requires { ⌜ (n ≤ 16) × Inside (now next) × (n ≤ length (now up)) × Room (now by) (now next) n (now t) (now up) ⌝ }
     ensures { λ _. ⌜ (now (t .exit) ≡ downOf (now (by .entry)) (now (next .entry)) n (now (t .entry)))
         × Lengthens (now (by .entry)) (now (next .entry)) n
         (now (t .entry)) (now (up .entry)) (now (t .exit)) (now (up .exit)) ⌝ }
@@ -140,13 +139,13 @@ fn sweep_down(
     }
 }
 
-// The words of the walks of one router.
-fn starts(t: &[u32; 32], n: usize, up: &mut [[u32; 32]; 17])
-    requires { ⌜ (n ≤ 16) × Blank (now up) ⌝ }
+// The words of the walks of one router: the router itself, its word being 0 so far.
+fn starts(t: &[u32; 32], n: usize, up: &mut [[u32; 32]])
+    requires { ⌜ (n ≤ 16) × (n ≤ length (now up)) × Blank (now up) ⌝ }
     ensures { λ _. ⌜ Started n (now (t .entry)) (now (up .exit)) ⌝ }
 {
     for x in 0..n {
-        lead(up, x, NO_ROUTER, t[x]);
+        lead(up, x, x, t[x]);
     }
 }
 
@@ -157,9 +156,9 @@ fn rounds(
     n: usize,
     full: u32,
     t: &mut [u32; 32],
-    up: &mut [[u32; 32]; 17],
+    up: &mut [[u32; 32]],
 )
-    requires { ⌜ (n ≤ 16) × Inside (now next) × Idle (now by) (now next) n (now t)
+    requires { ⌜ (n ≤ 16) × Inside (now next) × Idle (now by) (now next) n (now t) × (n ≤ length (now up))
         × Trailed (now by) (now next) (now t) 1 (now t) (now up) ⌝ }
     ensures { λ _. ⌜ Reached (now (by .entry)) (now (next .entry)) n full (now (t .entry)) (now (t .exit))
         × ((b : ℕ) × Trailed (now (by .entry)) (now (next .entry)) (now (t .entry)) b
@@ -184,10 +183,10 @@ pub fn trails(
     n: usize,
     full: u32,
     t: &mut [u32; 32],
-    up: &mut [[u32; 32]; 17],
+    up: &mut [[u32; 32]],
 )
     requires { ⌜ (n ≤ 16) × Inside (now next) × Idle (now by) (now next) n (now t)
-        × (length (now t) ≡ 32) × Blank (now up) ⌝ }
+        × (length (now t) ≡ 32) × (n ≤ length (now up)) × Blank (now up) ⌝ }
     ensures { λ _. ⌜ Reached (now (by .entry)) (now (next .entry)) n full (now (t .entry)) (now (t .exit))
         × ((b : ℕ) × Trailed (now (by .entry)) (now (next .entry)) (now (t .entry)) b
         (now (t .exit)) (now (up .exit))) ⌝ }

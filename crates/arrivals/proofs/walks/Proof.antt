@@ -1,3 +1,4 @@
+use Rattle.arrivals.proofs.Steps.{reached-below}
 use lib.ListN.{length}
 use mathlib.Core.Path.{ap, _∙_}
 use native.Mathlib.Omega.{arith}
@@ -44,37 +45,55 @@ far-of-requires c κs = search needs
 -- src/lib.rt:284:9
 reach-requires : tie.Need-reach-requires
 reach-requires c κs =
-    let made = c .before .before .before .before .before .before .before .firsts .ensures in
-    let pre = c .before .before .before .before .before .before .before .before .before .before .before .pre in (
+    let c5 = c .before .before .before .before .before in
+    let c10 = c5 .before .before .before .before .before in
+    let made = c5 .before .before .firsts .ensures in
+    let pre = c10 .before .pre in (
       pre .0 .0,
       pre .0 .1,
-      rw (c .before .before .before .before .before .before .before .before .before .nexts .ensures) (nexts-inside _ _ (pre .0 .0)),
+      rw (c5 .before .before .before .before .nexts .ensures) (nexts-inside _ _ (pre .0 .0)),
       rw made (first-idle _ _ _ _ (pre .1) (pre .2) _),
       ap length made ∙ firsts-long _ _ _,
     )
 
 -- src/lib.rt:285:13
 serves-requires : tie.Need-serves-requires
-serves-requires c κs = let pre = c .before .before .before .before .before .before .before .before .before .before .before .before .before .pre in (pre .0, pre .1, pre .2)
+serves-requires c κs =
+    let c5 = c .before .before .before .before .before in
+    let c10 = c5 .before .before .before .before .before in
+    let made = c5 .before .before .before .before .firsts .ensures in
+    let pre = c10 .before .before .before .pre in (
+      pre .0,
+      pre .1,
+      pre .2,
+      reached-below _ _ (rw made (first-idle _ _ _ _ (pre .1) (pre .2) _)) (c .before .reach .ensures .0),
+    )
 
 -- src/lib.rt:286:16
 lengths-of-requires : tie.Need-lengths-of-requires
-lengths-of-requires c κs = let pre = c .before .before .before .before .before .before .before .before .before .before .before .before .before .before .before .before .before .before .pre in (pre .0, pre .1, pre .4)
+lengths-of-requires c κs =
+    let c5 = c .before .before .before .before .before in
+    let c10 = c5 .before .before .before .before .before in
+    let c15 = c10 .before .before .before .before .before in
+    let pre = c15 .before .before .before .pre in (pre .0, pre .1, pre .4)
 
 -- src/lib.rt:260:1
 returns : tie.Need-returns
 returns c =
-    let pre = c .before .before .before .before .before .before .before .before .before .before .before .before .before .before .before .before .before .before .before .pre in
+    let c5 = c .before .before .before .before .before in
+    let c10 = c5 .before .before .before .before .before in
+    let c15 = c10 .before .before .before .before .before in
+    let pre = c15 .before .before .before .before .pre in
     walks-sound _ _ _ _ _ _ _ (pre .0 .1) (pre .0 .2)
-    (c .before .before .before .before .before .before .before .before .before .before .before .before .before .before .before .before .before .nexts .ensures)
-    (c .before .before .before .before .before .before .before .before .before .before .before .before .before .before .before .firsts .ensures)
-    (c .before .before .before .before .before .before .before .before .before .before .before .before .before .nears .ensures)
-    (c .before .before .before .before .before .before .before .before .before .before .before .before .below .ensures)
-    (c .before .before .before .before .before .before .before .before .before .before .before .far-of .ensures)
-    (c .before .before .before .before .before .before .before .reach .ensures .0)
-    (c .before .before .before .before .before .before .before .reach .ensures .1)
-    (c .before .before .before .before .before .before .before .reach .ensures .2)
-    (c .before .before .before .before .before .serves .ensures) (c .lengths-of .ensures)
+    (c15 .before .before .nexts .ensures)
+    (c15 .firsts .ensures)
+    (c10 .before .before .before .nears .ensures)
+    (c10 .before .before .below .ensures)
+    (c10 .before .far-of .ensures)
+    (c5 .before .before .reach .ensures .0)
+    (c5 .before .before .reach .ensures .1)
+    (c5 .before .before .reach .ensures .2)
+    (c5 .serves .ensures) (c .lengths-of .ensures)
 
 pub walks-spec : {M : Type 1} → statement M
 walks-spec =

@@ -19,12 +19,7 @@ returns c = plain-serve _ _ _ _ _ _ (c .before .before .before .before .pre .0 .
     (c .if1 .taken)
 
 sifted-requires : tie.Need-sifted-requires
-sifted-requires c κs = (
-  c .before .before .before .before .pre .0,
-  c .before .before .before .before .pre .1,
-  c
-      .before .before .before .before .pre .2,
-)
+sifted-requires c κs = let pre = c .before .before .before .before .pre in (pre .0, pre .1, pre .2, pre .3)
 
 returns-2 : tie.Need-returns-2
 returns-2 c = c .sifted .ensures

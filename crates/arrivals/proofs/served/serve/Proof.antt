@@ -1,4 +1,4 @@
-use Rattle.arrivals.proofs.Steps.{chosen-plain, chosen-sifted}
+use Rattle.arrivals.proofs.Steps.{home-below, chosen-plain, chosen-sifted}
 use native.Mathlib.Omega.{arith}
 use borrow.Author.Needs.{needs}
 use Rattle.arrivals.proofs.served.serve.Statement.{statement}
@@ -37,7 +37,13 @@ missing-requires c κs = search needs
 
 -- src/served.rt:131:5
 sift-requires : tie.Need-sift-requires
-sift-requires c κs = let l = c .before .port .ensures .1 in omega arith
+sift-requires c κs =
+    let c5 = c .before .before .before .before .before in
+    let pre = c5 .before .pre in
+    let port = c .before .port .ensures in
+    let l = port .1 in
+    let below = home-below _ _ (c5 .before .args .h) _ (pre .3) (c5 .at-home .ensures) (port .0) in
+    (omega arith, λ d q. let m = below d q in omega (arith, m, pre .4))
 
 -- src/served.rt:115:1
 returns-2 : tie.Need-returns-2

@@ -1,4 +1,4 @@
-use Rattle.arrivals.proofs.Sifting.{Sifting, sifting-none, sifting-more, sifting-end}
+use Rattle.arrivals.proofs.Sifting.{Sifting, sifting-none, sifting-there, sifting-more, sifting-end}
 use borrow.Author.Needs.{needs}
 use native.Mathlib.Omega.{arith}
 use Rattle.arrivals.proofs.served.sift.Statement.{statement}
@@ -38,7 +38,9 @@ mul-both-2 c = search needs
 
 -- src/served.rt:63:29
 index-1-both : tie.Need-index-1-both Inv-loop μ-loop
-index-1-both c = search needs
+index-1-both c =
+    let inv = c .before .before .before .loop .inv in
+    c .before .before .before .before .pre .1 _ (sifting-there (omega arith) (c .before .lowest .ensures .0) inv)
 
 -- src/served.rt:63:29
 index-2-both : tie.Need-index-2-both Inv-loop μ-loop

@@ -21,7 +21,8 @@ loop-holds c = (omega arith, choices-none _ _ _ _ _)
 
 -- src/served.rt:148:16
 serve-requires : tie.Need-serve-requires Inv-loop μ-loop
-serve-requires c κs = (c .before .before .pre .0, omega arith, c .before .before .pre .1)
+serve-requires c κs =
+    let pre = c .before .before .pre in (pre .0, omega arith, pre .1, pre .2, pre .3)
 
 -- src/served.rt:148:9
 mul-t : tie.Need-mul-t Inv-loop μ-loop

@@ -1,55 +1,19 @@
 use native.Mathlib.Omega.{arith}
-use Rattle.arrivals.proofs.Meeting.{blank, tracks-are}
-use Rattle.arrivals.proofs.Charts.{nexts-inside, first-idle, firsts-long}
-use mathlib.Core.Path.{ap, _∙_}
-use lib.ListN.{length}
-use borrow.Author.Needs.{needs}
+use Rattle.arrivals.proofs.Meeting.{blank, rows}
 use Rattle.arrivals.proofs.tracks.tracks.Statement.{statement}
 use Rattle.arrivals.proofs.tracks.tracks.Tie as tie
 use Rattle.arrivals.proofs.tracks.tracks.Reads as reads
 use Rattle.arrivals.proofs.tracks.tracks.Lts as lts
-use Rattle.arrivals.proofs.firsts.Reads as firsts-reads
-use Rattle.arrivals.proofs.nexts.Reads as nexts-reads
-use Rattle.reach.proofs.trails.trails.Reads as trails-reads
-use Rattle.sets.proofs.below.Reads as below-reads
+use Rattle.arrivals.proofs.tracks.tracks_in.Reads as tracks-in-reads
 
--- src/tracks.rt:33:13
-add-n : tie.Need-add-n
-add-n c = search needs
+tracks-in-requires : tie.Need-tracks-in-requires
+tracks-in-requires c κs =
+    let pre = c .before .pre in
+    let l = rows 17 (pre .3) in
+    (pre .0, pre .1, pre .2, omega (arith, l, pre .0 .0), blank 17 (pre .3))
 
--- src/tracks.rt:34:16
-nexts-requires : tie.Need-nexts-requires
-nexts-requires c κs = search needs
-
--- src/tracks.rt:35:17
-firsts-requires : tie.Need-firsts-requires
-firsts-requires c κs = search needs
-
--- src/tracks.rt:36:49
-below-requires : tie.Need-below-requires
-below-requires c κs = search needs
-
--- src/tracks.rt:36:5
-trails-requires : tie.Need-trails-requires
-trails-requires c κs =
-    let made = c .before .before .before .before .firsts .ensures in
-    let pre = c .before .before .before .before .before .before .before .before .pre in (
-      pre .0 .0,
-      rw (c .before .before .before .before .before .before .nexts .ensures) (nexts-inside _ _ (omega arith)),
-      rw made (first-idle _ _ _ _ (pre .1) (pre .2) _),
-      ap length made ∙ firsts-long _ _ _,
-      rw (pre .3) blank,
-    )
-
--- src/tracks.rt:20:1
 returns : tie.Need-returns
-returns c =
-    tracks-are (c .before .before .before .before .before .before .before .before .before .args .h) _ _ _
-    (c .before .before .before .before .before .before .before .nexts .ensures)
-    (c .before .before .before .before .before .firsts .ensures) (c .before .before .before .below .ensures) (c .trails .ensures .0)
-    (c .trails .ensures .1 .1)
+returns c = c .tracks-in .ensures
 
 pub tracks-spec : {M : Type 1} → statement M
-tracks-spec =
-    tie.close
-    (tie.spec add-n nexts-requires firsts-requires below-requires trails-requires returns)
+tracks-spec = tie.close (tie.spec tracks-in-requires returns)

@@ -17,7 +17,7 @@ abbrev μ-loop : tie.MeasureT-loop
 
 -- src/trails.rt:34:5
 loop-holds : tie.Need-loop-holds Inv-loop μ-loop
-loop-holds c = leading-none _ _ _ (omega arith) (c .pre .2)
+loop-holds c = leading-none _ _ _ (omega arith) (c .pre .3)
 
 -- src/trails.rt:35:13
 lowest-requires : tie.Need-lowest-requires Inv-loop μ-loop
@@ -37,7 +37,11 @@ mul-up-2 c = search needs
 
 -- src/trails.rt:37:20
 index-1-up : tie.Need-index-1-up Inv-loop μ-loop
-index-1-up c = search needs
+index-1-up c =
+    let w = leading-word (omega arith) (c .before .lowest .ensures .0) (c .before .before .before .loop .inv) in
+    let a = c .before .before .before .before .pre .4 _ (w .0) in
+    let e = c .before .before .before .loop .inv .long in
+    omega (arith, a .0, e)
 
 -- src/trails.rt:37:20
 index-2-up : tie.Need-index-2-up Inv-loop μ-loop
@@ -49,19 +53,21 @@ single-requires c κs = search needs
 
 -- src/trails.rt:37:20
 add-up : tie.Need-add-up Inv-loop μ-loop
-add-up c = let w = leading-word (omega arith) (c .before .before .before .lowest .ensures .0) (c .before .before
-    .before .before .before .loop .inv) in
-    let a = c .before .before .before .before .before .before .pre .3 _ (w .0) in
+add-up c =
+    let c5 = c .before .before .before .before .before in
+    let w = leading-word (omega arith) (c .before .before .before .lowest .ensures .0) (c5 .loop .inv) in
+    let a = c5 .before .pre .4 _ (w .0) in
     let b = single-fits _ (c .single .ensures) (omega arith) in
-    record { fits = omega (arith, a, w .1, b) }
+    record { fits = omega (arith, a .1, w .1, b) }
 
 -- src/trails.rt:37:20
 add-up-2 : tie.Need-add-up-2 Inv-loop μ-loop
-add-up-2 c = let w = leading-word (omega arith) (c .before .before .before .lowest .ensures .0) (c .before .before
-    .before .before .before .loop .inv) in
-    let a = c .before .before .before .before .before .before .pre .3 _ (w .0) in
+add-up-2 c =
+    let c5 = c .before .before .before .before .before in
+    let w = leading-word (omega arith) (c .before .before .before .lowest .ensures .0) (c5 .loop .inv) in
+    let a = c5 .before .pre .4 _ (w .0) in
     let b = single-fits _ (c .single .ensures) (omega arith) in
-    record { fits = omega (arith, a, w .1, b) }
+    record { fits = omega (arith, a .1, w .1, b) }
 
 -- src/trails.rt:37:9
 mul-up-3 : tie.Need-mul-up-3 Inv-loop μ-loop
@@ -73,7 +79,7 @@ mul-up-4 c = search needs
 
 -- src/trails.rt:37:9
 index-1-up-2 : tie.Need-index-1-up-2 Inv-loop μ-loop
-index-1-up-2 c = search needs
+index-1-up-2 c = let e = c .before .before .before .before .before .loop .inv .long in omega (arith, e)
 
 -- src/trails.rt:37:9
 index-2-up-2 : tie.Need-index-2-up-2 Inv-loop μ-loop
@@ -88,6 +94,9 @@ loop-again : tie.Need-loop-again Inv-loop μ-loop
 loop-again c = leading-more (omega arith) (omega arith) (c .before .before .before .lowest .ensures .0) (omega arith)
     (c .before .before .rest .ensures .0) (omega (arith, c .single .ensures)) (c .before .before .before .before
     .before .loop .inv)
+
+same-length : tie.Need-same-length Inv-loop μ-loop
+same-length c = c .before .loop .inv .long
 
 -- src/trails.rt:29:1
 returns : tie.Need-returns Inv-loop μ-loop
@@ -115,4 +124,4 @@ lead-spec =
     index-2-up-2
     loop-less
     loop-again
-    returns)
+    same-length returns)

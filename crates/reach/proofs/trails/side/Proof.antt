@@ -38,21 +38,29 @@ both-requires c κs = search needs
 
 -- src/trails.rt:56:5
 lead-requires : tie.Need-lead-requires
-lead-requires c κs = (
-  c .before .before .before .before .before .pre .0,
-  rw (c .before .before .before .index .ensures) (c .before .before .before .before .before .pre .2 (4 * c .before
-      .before .before .before .before .args .x + c .before .before .before .before .before .args .o) (omega arith)),
-  c .before .before .before .before .before .pre .3 .3 .old .shape,
-  turn-small _ _ _ _ _ _ _ _ (c .before .before .before .index .ensures) (c .before .both .ensures ∙ rw (c .before
-      .before .through .ensures)) (c .before .before .before .before .before .pre .3 .2) (c .before .before .before
-      .before .before .pre .3 .3),
-)
+lead-requires c κs =
+    let c5 = c .before .before .before .before .before in
+    let pre = c5 .pre in
+    let at = c .before .before .before .index .ensures in (
+      pre .0,
+      rw at (pre .2 (4 * c5 .args .x + c5 .args .o) (omega arith)),
+      pre .3,
+      pre .4 .3 .old .shape,
+      turn-small _ _ _ _ _ _ _ _ at (c .before .both .ensures ∙ rw (c .before .before .through .ensures)) (pre .4 .2)
+          (pre .4 .3),
+    )
+
+same-length : tie.Need-same-length
+same-length c = c .before .lead .kept .0
 
 -- src/trails.rt:42:1
 returns : tie.Need-returns
-returns c = λ first b w. turn-next _ _ _ _ _ first b _ (c .before .before .before .before .before .before .pre .0) (c
-    .before .before .before .before .before .before .pre .1) (c .before .before .before .before .index .ensures) (c
-    .before .before .both .ensures ∙ rw (c .before .before .before .through .ensures)) (c .lead .ensures) w
+returns c =
+    let c5 = c .before .before .before .before .before in
+    let pre = c5 .before .before .pre in
+    λ first b w. turn-next _ _ _ _ _ first b _ (pre .0) (pre .1) (c5 .index .ensures)
+    (c .before .before .before .both .ensures ∙ rw (c .before .before .before .before .through .ensures))
+    (c .before .lead .ensures) w
 
 pub side-spec : {M : Type 1} → statement M
 side-spec =
@@ -65,4 +73,4 @@ side-spec =
     through-requires
     both-requires
     lead-requires
-    returns)
+    same-length returns)

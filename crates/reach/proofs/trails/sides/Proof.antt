@@ -1,3 +1,5 @@
+use lib.ListN.{length}
+use mathlib.Core.Path.{_≡_, refl, _∙_}
 use Rattle.reach.proofs.Trailing.{turning-on, turns-done}
 use Rattle.reach.specs.Trails.{Turns}
 use borrow.Author.Needs.{needs}
@@ -10,14 +12,14 @@ use Rattle.reach.proofs.trails.sides.Lts as lts
 use Rattle.reach.proofs.trails.side.Reads as side-reads
 
 abbrev Inv-loop : tie.InvT-loop
-Inv-loop by next t up₀ x new o₀ up o = (o ≤ 4) × Turns by next t x new 0 up₀ o up
+Inv-loop by next t up₀ x new o₀ up o = (o ≤ 4) × (length up ≡ length up₀) × Turns by next t x new 0 up₀ o up
 
 abbrev μ-loop : tie.MeasureT-loop
 μ-loop by next t up₀ x new o₀ up o = 4 - o
 
 -- src/trails.rt:71:5
 loop-holds : tie.Need-loop-holds Inv-loop μ-loop
-loop-holds c = (omega arith, λ first b w. w)
+loop-holds c = (omega arith, refl, λ first b w. w)
 
 -- src/trails.rt:72:9
 side-requires : tie.Need-side-requires Inv-loop μ-loop
@@ -25,7 +27,8 @@ side-requires c κs = (
   c .before .before .before .pre .0,
   omega arith,
   c .before .before .before .pre .1,
-  turning-on _ _ _ _ _ _ (c .before .before .before .pre .2) (c .before .before .loop .inv .1),
+  omega (arith, c .before .before .before .pre .2, c .before .before .loop .inv .1),
+  turning-on _ _ _ _ _ _ (c .before .before .before .pre .3) (c .before .before .loop .inv .2),
 )
 
 -- src/trails.rt:71:9
@@ -38,13 +41,20 @@ loop-less c = omega arith
 
 -- src/trails.rt:71:5
 loop-again : tie.Need-loop-again Inv-loop μ-loop
-loop-again c = (omega arith, λ first b w. c .side .ensures first b (c .before .before .before .loop .inv .1 first b w))
+loop-again c = (
+  omega arith,
+  c .before .side .kept .1 .1 .1 .0 ∙ c .before .before .before .before .loop .inv .1,
+  λ first b w. c .before .side .ensures first b (c .before .before .before .before .loop .inv .2 first b w),
+)
+
+same-length : tie.Need-same-length Inv-loop μ-loop
+same-length c = c .before .loop .inv .1
 
 -- src/trails.rt:60:1
 returns : tie.Need-returns Inv-loop μ-loop
-returns c = turns-done _ _ _ _ _ (omega arith) (c .before .loop .inv .1)
+returns c = turns-done _ _ _ _ _ (omega arith) (c .before .loop .inv .2)
 
 pub sides-spec : {M : Type 1} → statement M
 sides-spec =
     tie.close
-    (tie.spec Inv-loop μ-loop loop-holds side-requires add-o loop-less loop-again returns)
+    (tie.spec Inv-loop μ-loop loop-holds side-requires add-o loop-less loop-again same-length returns)

@@ -1,3 +1,5 @@
+use lib.ListN.{length}
+use mathlib.Core.Path.{_≡_, refl, _∙_}
 use Rattle.reach.proofs.Trailing.{started-none, started-more, started-done}
 use Rattle.reach.specs.Trails.{Started}
 use borrow.Author.Needs.{needs}
@@ -10,14 +12,14 @@ use Rattle.reach.proofs.trails.starts.Lts as lts
 use Rattle.reach.proofs.trails.lead.Reads as lead-reads
 
 abbrev Inv-loop : tie.InvT-loop
-Inv-loop t n up₀ x₀ up x = (x ≤ n) × Started x t up
+Inv-loop t n up₀ x₀ up x = (x ≤ n) × (length up ≡ length up₀) × Started x t up
 
 abbrev μ-loop : tie.MeasureT-loop
 μ-loop t n up₀ x₀ up x = n - x
 
 -- src/trails.rt:145:5
 loop-holds : tie.Need-loop-holds Inv-loop μ-loop
-loop-holds c = (omega arith, started-none _ (c .pre .1))
+loop-holds c = (omega arith, refl, started-none _ (c .pre .2))
 
 -- src/trails.rt:146:32
 mul-lead : tie.Need-mul-lead Inv-loop μ-loop
@@ -29,12 +31,14 @@ element-copy-out-lead c = search needs
 
 -- src/trails.rt:146:9
 lead-requires : tie.Need-lead-requires Inv-loop μ-loop
-lead-requires c κs = (
-  omega arith,
-  omega arith,
-  c .before .before .before .loop .inv .1 .shape,
-  λ d q. rw (c .before .before .before .loop .inv .1 .none 16 d (omega arith)) (omega arith),
-)
+lead-requires c κs =
+    let at = c .before .before .before .loop in (
+      omega arith,
+      omega arith,
+      omega (arith, at .inv .1),
+      at .inv .2 .shape,
+      λ d q. (omega (arith, at .inv .1), rw (at .inv .2 .none (at .x) d (omega arith)) (omega arith)),
+    )
 
 -- src/trails.rt:145:9
 add-x : tie.Need-add-x Inv-loop μ-loop
@@ -48,13 +52,16 @@ loop-less c = omega arith
 loop-again : tie.Need-loop-again Inv-loop μ-loop
 loop-again c = (
   omega arith,
-  started-more _ (omega arith) (c .before .before .before .before .loop .inv .1) (c .lead
-      .ensures),
+  c .before .lead .kept .0 ∙ c .before .before .before .before .before .loop .inv .1,
+  started-more _ (c .before .before .before .before .before .loop .inv .2) (c .before .lead .ensures),
 )
+
+same-length : tie.Need-same-length Inv-loop μ-loop
+same-length c = c .before .loop .inv .1
 
 -- src/trails.rt:141:1
 returns : tie.Need-returns Inv-loop μ-loop
-returns c = started-done (omega arith) (c .before .loop .inv .1)
+returns c = started-done (omega arith) (c .before .loop .inv .2)
 
 pub starts-spec : {M : Type 1} → statement M
 starts-spec =
@@ -69,4 +76,4 @@ starts-spec =
     add-x
     loop-less
     loop-again
-    returns)
+    same-length returns)

@@ -32,13 +32,13 @@ returns c = stepped-none _ _ _ _ _ (c .before .before .before .pull .ensures) (c
 
 -- src/trails.rt:95:5
 sides-requires : tie.Need-sides-requires
-sides-requires c κs = (
-  c .before .before .before .before .before .before .before .pre .0,
-  c .before .before .before
-      .before .before .before .before .pre .1,
-  turning-start _ _ _ _ _ _ (c .before .before .before .before .before
-      .before .before .pre .2) (c .before .before .before .less .ensures),
-)
+sides-requires c κs =
+    let c5 = c .before .before .before .before .before in (
+      c5 .before .before .pre .0,
+      c5 .before .before .pre .1,
+      c5 .before .before .pre .2,
+      turning-start _ _ _ _ _ _ (c5 .before .before .pre .3) (c .before .before .before .less .ensures),
+    )
 
 -- src/trails.rt:96:5
 mul-t : tie.Need-mul-t
@@ -48,11 +48,17 @@ mul-t c = search needs
 element-write-t : tie.Need-element-write-t
 element-write-t c = search needs
 
+same-length : tie.Need-same-length
+same-length c = c .before .sides .kept .1 .1 .1 .0
+
 -- src/trails.rt:77:1
 returns-2 : tie.Need-returns-2
-returns-2 c = stepped-new _ _ _ _ _ _ (c .before .before .before .before .before .before .before .before .pre .0) (c
-    .before .before .before .before .before .before .pull .ensures) (c .before .before .before .before .less .ensures)
-    (c .sides .ensures)
+returns-2 c =
+    let c5 = c .before .before .before .before .before in
+    let pre = c5 .before .before .before .before .pre in
+    let led = c .before .sides in
+    stepped-new _ _ _ _ _ _ (pre .0) (omega (arith, pre .2, led .kept .1 .1 .1 .0)) (c5 .before .before .pull .ensures)
+    (c5 .less .ensures) (led .ensures)
 
 pub step-spec : {M : Type 1} → statement M
 step-spec =
@@ -66,4 +72,4 @@ step-spec =
     sides-requires
     mul-t
     element-write-t
-    returns-2)
+    same-length returns-2)

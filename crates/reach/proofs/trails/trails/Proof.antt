@@ -1,3 +1,4 @@
+use mathlib.Core.Path.{_∙_}
 use Rattle.reach.proofs.Trailing.{started-trailed}
 use native.Mathlib.Omega.{arith}
 use borrow.Author.Needs.{needs}
@@ -10,21 +11,30 @@ use Rattle.reach.proofs.trails.starts.Reads as starts-reads
 
 -- src/trails.rt:189:5
 starts-requires : tie.Need-starts-requires
-starts-requires c κs = (c .before .before .pre .0, c .before .before .pre .4)
+starts-requires c κs = (c .before .before .pre .0, c .before .before .pre .4, c .before .before .pre .5)
 
 -- src/trails.rt:190:5
 rounds-requires : tie.Need-rounds-requires
-rounds-requires c κs = (
-  c .before .before .before .before .before .pre .0,
-  c .before .before .before .before .before .pre .1,
-  c .before .before .before .before .before .pre .2,
-  started-trailed _ _ _ (c .before .before .before .before .before .pre .0) (c .before .before .before .before .before
-      .pre .2) (c .before .before .before .before .before .pre .3) (c .before .before .starts .ensures),
-)
+rounds-requires c κs =
+    let c5 = c .before .before .before .before .before in
+    let pre = c5 .before .pre in
+    let begun = c .before .before .before .starts in
+    let long = begun .kept .1 .1 .0 in (
+      pre .0,
+      pre .1,
+      pre .2,
+      omega (arith, pre .4, long),
+      started-trailed _ _ _ (pre .0) (omega (arith, pre .4, long)) (pre .2) (pre .3) (begun .ensures),
+    )
+
+same-length : tie.Need-same-length
+same-length c =
+    let c5 = c .before .before .before .before .before in
+    c .before .rounds .kept .1 .1 .1 .1 .1 .0 ∙ c5 .starts .kept .1 .1 .0
 
 -- src/trails.rt:177:1
 returns : tie.Need-returns
-returns c = c .rounds .ensures
+returns c = c .before .rounds .ensures
 
 pub trails-spec : {M : Type 1} → statement M
-trails-spec = tie.close (tie.spec starts-requires rounds-requires returns)
+trails-spec = tie.close (tie.spec starts-requires rounds-requires same-length returns)

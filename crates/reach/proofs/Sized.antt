@@ -5,18 +5,19 @@ use mathlib.Core.Bool.{Bool, true, false, _&&_, true≢false}
 use mathlib.Core.List.{List, []}
 use Prim.Native.Nat.{ℕ, suc, _+_, _*_, _≤_, _<_}
 use native.Mathlib.Omega.{arith}
+use lib.Bits.{bitOr, or-zero-l, or-zero-r}
 use lib.Dec.{eqb, ltb}
 use lib.ListN.{getD, set, length-set, replicate, length-replicate}
 use lib.Seq.{getD-set-same, getD-set-other}
-use borrow.Author.Tests.{eqb-true, eqb-false, lt-ltb, le-ltb}
-use Rattle.basis.specs.Choice.{pick, test, not-both}
+use borrow.Author.Tests.{eqb-true, eqb-false, ne-eqb, lt-ltb, le-ltb}
+use Rattle.basis.specs.Choice.{pick, test}
 use Rattle.basis.specs.Bounded.{anyBelow, any-true, any-of, or-cases, lt-or-ge}
 use Rattle.basis.specs.Fold.{fill-at}
 use Rattle.sets.specs.Sets.{has, both, less}
 use Rattle.sets.specs.Laws.{has-both, has-less, none-has}
 use Rattle.reach.specs.declared.Span.{Span}
 use Rattle.reach.specs.Reach.{sideSet, beyond, pullOf, sweepAt, changeOf}
-use Rattle.reach.specs.Sizes.{longer, sizeOf, shareOf, rowOf, farIn, Far, Sized, Told, Grows}
+use Rattle.reach.specs.Sizes.{longer, farBy, sizeOf, mergedOf, rowOf, farIn, Far, Sized, Told, Grows}
 use Rattle.reach.proofs.Sweeps.{and-parts, same-or-not, has-pull, pull-own, pull-through, sweep-same}
 use Rattle.reach.proofs.Sweeps.{sweep-other, sweep-length, sweep-grows}
 
@@ -46,40 +47,110 @@ some-size k v e z = by (lt-or-ge (k + 1) 16)
     by (inl l) = let is : v ≡ k + 1 = e ∙ rw (lt-ltb (k + 1) 16 l) in omega arith
     by (inr l) = let is : v ≡ 16 = e ∙ rw (le-ltb (k + 1) 16 l) in omega arith
 
--- a share's size at a place
-share-at : (sides : List ℕ) (column o : ℕ) (far own : List ℕ) (p : ℕ) → p < 16
-    → getD (shareOf sides column o far own) p 0 ≡ sizeOf (getD sides (column + p) 0) o (getD far p 0) (getD own p 0)
-unfolding shareOf
-share-at sides column o far own p l =
-    fill-at (λ i. sizeOf (getD sides (column + i) 0) o (getD far i 0) (getD own i 0)) 16 (replicate 16 0) p 0 l
-    (rw length-replicate (omega arith))
+-- ---- the size from the router beyond the route's side
+-- as the code puts it together: at most one is not 0
+far-or : (side a b c d : ℕ)
+    → bitOr (bitOr (bitOr (pick (eqb side 0) a 0) (pick (eqb side 1) b 0)) (pick (eqb side 2) c 0))
+    (pick (eqb side 3) d 0)
+    ≡ farBy side a b c d
+unfolding farBy
+far-or side a b c d = go (test (eqb side 0)) (test (eqb side 1)) (test (eqb side 2))
+  where
+    apart : (i j : ℕ) → (i ≡ j → ⊥) → eqb side i ≡ true → eqb side j ≡ false
+    apart i j n e = ne-eqb side j (λ q. n (sym (eqb-true side i e) ∙ q))
+
+    go : (eqb side 0 ≡ true) ⊎ (eqb side 0 ≡ false) → (eqb side 1 ≡ true) ⊎ (eqb side 1 ≡ false)
+        → (eqb side 2 ≡ true) ⊎ (eqb side 2 ≡ false)
+        → bitOr (bitOr (bitOr (pick (eqb side 0) a 0) (pick (eqb side 1) b 0)) (pick (eqb side 2) c 0))
+        (pick (eqb side 3) d 0)
+        ≡ farBy side a b c d
+    go (inl e) f g =
+        rw (e, apart 0 1 (λ q. omega arith) e, apart 0 2 (λ q. omega arith) e, apart 0 3 (λ q. omega arith) e)
+        (or-zero-r (bitOr (bitOr a 0) 0) ∙ or-zero-r (bitOr a 0) ∙ or-zero-r a)
+    go (inr e) (inl f) g =
+        rw (e, f, apart 1 2 (λ q. omega arith) f, apart 1 3 (λ q. omega arith) f)
+        (or-zero-r (bitOr (bitOr 0 b) 0) ∙ or-zero-r (bitOr 0 b) ∙ or-zero-l b)
+    go (inr e) (inr f) (inl g) =
+        rw (e, f, g, apart 2 3 (λ q. omega arith) g) (or-zero-r (bitOr (bitOr 0 0) c) ∙ or-zero-l c)
+    go (inr e) (inr f) (inr g) = rw (e, f, g) (or-zero-l (pick (eqb side 3) d 0))
+
+pub far-put : (side a b c d : ℕ) {m n o p : ℕ} → m ≡ pick (eqb side 0) a 0 → n ≡ pick (eqb side 1) b 0
+    → o ≡ pick (eqb side 2) c 0 → p ≡ pick (eqb side 3) d 0 → bitOr (bitOr (bitOr m n) o) p ≡ farBy side a b c d
+far-put side a b c d e f g h = rw (e, f, g, h) (far-or side a b c d)
+
+pub size-put : (far own : ℕ) {n v : ℕ} → far ≡ n → v ≡ sizeOf far own → v ≡ sizeOf n own
+size-put far own e f = f ∙ ap (λ (m : ℕ). sizeOf m own) e
+
+-- it is that of one side, which is the route's; or the route has none and it is 0
+far-cases : (f : ℕ → ℕ) (side : ℕ)
+    → ((o : ℕ) × (o < 4) × (eqb side o ≡ true) × (farBy side (f 0) (f 1) (f 2) (f 3) ≡ f o))
+    ⊎ (((o : ℕ) → o < 4 → eqb side o ≡ true → ⊥) × (farBy side (f 0) (f 1) (f 2) (f 3) ≡ 0))
+unfolding farBy
+far-cases f side = go (test (eqb side 0)) (test (eqb side 1)) (test (eqb side 2)) (test (eqb side 3))
+  where
+    go : (eqb side 0 ≡ true) ⊎ (eqb side 0 ≡ false) → (eqb side 1 ≡ true) ⊎ (eqb side 1 ≡ false)
+        → (eqb side 2 ≡ true) ⊎ (eqb side 2 ≡ false) → (eqb side 3 ≡ true) ⊎ (eqb side 3 ≡ false)
+        → ((o : ℕ) × (o < 4) × (eqb side o ≡ true) × (farBy side (f 0) (f 1) (f 2) (f 3) ≡ f o))
+        ⊎ (((o : ℕ) → o < 4 → eqb side o ≡ true → ⊥) × (farBy side (f 0) (f 1) (f 2) (f 3) ≡ 0))
+    go (inl a) b c d = inl (0, omega arith, a, rw a)
+    go (inr a) (inl b) c d = inl (1, omega arith, b, rw (a, b))
+    go (inr a) (inr b) (inl c) d = inl (2, omega arith, c, rw (a, b, c))
+    go (inr a) (inr b) (inr c) (inl d) = inl (3, omega arith, d, rw (a, b, c, d))
+    go (inr a) (inr b) (inr c) (inr d) = inr (none, rw (a, b, c, d))
+      where
+        none : (o : ℕ) → o < 4 → eqb side o ≡ true → ⊥
+        none o l q =
+            let e = eqb-true side o q in
+            omega (arith, e, eqb-false side 0 a, eqb-false side 1 b, eqb-false side 2 c, eqb-false side 3 d)
+
+-- a row's size at a place
+row-at : (sides : List ℕ) (column : ℕ) (next : List ℕ) (z : List (List ℕ)) (x p : ℕ) → p < 16
+    → getD (rowOf sides column next z x) p 0
+    ≡ sizeOf (farBy (getD sides (column + p) 0) (getD (getD z (getD next (4 * x + 0) 0) []) p 0)
+    (getD (getD z (getD next (4 * x + 1) 0) []) p 0) (getD (getD z (getD next (4 * x + 2) 0) []) p 0)
+    (getD (getD z (getD next (4 * x + 3) 0) []) p 0))
+    (getD (getD z x []) p 0)
+unfolding rowOf mergedOf
+row-at sides column next z x p l =
+    let zero-side : 4 * x + 0 ≡ 4 * x = omega arith in
+    rw zero-side
+    (fill-at
+    (λ i. sizeOf (farBy (getD sides (column + i) 0) (getD (getD z (getD next (4 * x) 0) []) i 0)
+    (getD (getD z (getD next (4 * x + 1) 0) []) i 0) (getD (getD z (getD next (4 * x + 2) 0) []) i 0)
+    (getD (getD z (getD next (4 * x + 3) 0) []) i 0))
+    (getD (getD z x []) i 0))
+    16 (replicate 16 0) p 0 l (rw length-replicate (omega arith)))
 
 module _ (by : List (List ℕ)) (next : List ℕ) (routes : List (List ℕ)) (s : Span) (first t : List ℕ)
     (z : List (List ℕ))
     (told : Told by next s routes) (sized : Sized by next s first t z) (x : ℕ) (inside : x < 16) (p : ℕ)
     (place : p < 16) where
-  -- the size is right; or none is known yet after the sides below o
+  -- the side of the route, and the size from the router beyond side o
+  abbrev side : ℕ
+  side = getD (getD routes x []) (s .column + p) 0
+
+  abbrev far : ℕ → ℕ
+  far o = getD (getD z (beyond by next x o) []) p 0
+
+  -- the size is right; or none is known yet
   abbrev Right : ℕ → Type 0
   Right v =
       (has (s .sized) (s .column + p) ≡ true) × (has (pullOf by next t x) (s .column + p) ≡ true)
       × Far by next first (s .column + p) x v
 
-  abbrev Blank : ℕ → ℕ → Type 0
-  Blank o v =
-      (v ≡ 0) × ((has (s .sized) (s .column + p) && has (getD t x 0) (s .column + p)) ≡ false)
-      × ((i : ℕ) → i < o → eqb (getD (getD routes x []) (s .column + p) 0) i ≡ true
-      → getD (getD z (beyond by next x i) []) p 0 ≡ 0)
+  abbrev Blank : ℕ → Type 0
+  Blank v = (v ≡ 0) × ((has (s .sized) (s .column + p) && has (getD t x 0) (s .column + p)) ≡ false)
 
-  begins : Right (getD (getD z x []) p 0) ⊎ Blank 0 (getD (getD z x []) p 0)
+  begins : Right (getD (getD z x []) p 0) ⊎ Blank (getD (getD z x []) p 0)
   begins = go (test (has (s .sized) (s .column + p))) (test (has (getD t x 0) (s .column + p)))
     where
       none : (has (s .sized) (s .column + p) && has (getD t x 0) (s .column + p)) ≡ false
-          → Right (getD (getD z x []) p 0) ⊎ Blank 0 (getD (getD z x []) p 0)
-      none e = inr (sized .none x p place e, e, λ i l q. absurd (omega arith))
+          → Right (getD (getD z x []) p 0) ⊎ Blank (getD (getD z x []) p 0)
+      none e = inr (sized .none x p place e, e)
 
       go : (has (s .sized) (s .column + p) ≡ true) ⊎ (has (s .sized) (s .column + p) ≡ false)
           → (has (getD t x 0) (s .column + p) ≡ true) ⊎ (has (getD t x 0) (s .column + p) ≡ false)
-          → Right (getD (getD z x []) p 0) ⊎ Blank 0 (getD (getD z x []) p 0)
+          → Right (getD (getD z x []) p 0) ⊎ Blank (getD (getD z x []) p 0)
       go (inl a) (inl b) =
           inl (a, pull-own by next t x (s .column + p) b, sized .some x p place a b)
       go (inl a) (inr b) = none (rw (a, b))
@@ -90,9 +161,7 @@ module _ (by : List (List ℕ)) (next : List ℕ) (routes : List (List ℕ)) (s 
       → has (getD t r 0) (s .column + p) ≡ true → ⊥
   unknown r a e b = let f = sized .some r p place a b in some-size (f .0) _ (f .2) e
 
-  onward : (o : ℕ) → o < 4 → eqb (getD (getD routes x []) (s .column + p) 0) o ≡ true
-      → (getD (getD z (beyond by next x o) []) p 0 ≡ 0 → ⊥)
-      → Right (longer (getD (getD z (beyond by next x o) []) p 0))
+  onward : (o : ℕ) → o < 4 → eqb side o ≡ true → (far o ≡ 0 → ⊥) → Right (longer (far o))
   unfolding farIn
   onward o l e n =
       let there : has (sideSet by next x o) (s .column + p) ≡ true = told .sides x o p inside l place ∙ e in
@@ -102,7 +171,7 @@ module _ (by : List (List ℕ)) (next : List ℕ) (routes : List (List ℕ)) (s 
       reached : has (sideSet by next x o) (s .column + p) ≡ true → has (s .sized) (s .column + p) ≡ true
           → (has (getD t (beyond by next x o) 0) (s .column + p) ≡ true)
           ⊎ (has (getD t (beyond by next x o) 0) (s .column + p) ≡ false)
-          → Right (longer (getD (getD z (beyond by next x o) []) p 0))
+          → Right (longer (far o))
       reached there want (inl b) =
           let f = sized .some (beyond by next x o) p place want b in (
             want,
@@ -117,60 +186,39 @@ module _ (by : List (List ℕ)) (next : List ℕ) (routes : List (List ℕ)) (s 
           )
       reached there want (inr b) = absurd (n (sized .none (beyond by next x o) p place (rw (want, b))))
 
-  -- one side more
-  turn : (o v : ℕ) → o < 4 → Right v ⊎ Blank o v
-      → Right (sizeOf (getD (getD routes x []) (s .column + p) 0) o (getD (getD z (beyond by next x o) []) p 0) v)
-      ⊎ Blank (suc o) (sizeOf (getD (getD routes x []) (s .column + p) 0) o
-      (getD (getD z (beyond by next x o) []) p 0) v)
+  -- no side that the route may have gives a size
+  abbrev Dark : Type 0
+  Dark = (i : ℕ) → i < 4 → eqb side i ≡ true → far i ≡ 0
+
+  -- a size put together
+  put : (n : ℕ) → ((o : ℕ) × (o < 4) × (eqb side o ≡ true) × (n ≡ far o))
+      ⊎ (((o : ℕ) → o < 4 → eqb side o ≡ true → ⊥) × (n ≡ 0))
+      → Right (sizeOf n (getD (getD z x []) p 0)) ⊎ (Blank (sizeOf n (getD (getD z x []) p 0)) × Dark)
   unfolding sizeOf
-  turn o v l w = go w (test (eqb (getD (getD routes x []) (s .column + p) 0) o))
-      (test (eqb (getD (getD z (beyond by next x o) []) p 0) 0))
+  put n (inr (none, e)) = rw e (as-was begins)
     where
-      keep : Blank o v → (eqb (getD (getD routes x []) (s .column + p) 0) o ≡ true
-          → getD (getD z (beyond by next x o) []) p 0 ≡ 0)
-          → Blank (suc o) v
-      keep (a, b, e) f = (a, b, λ i m q. at i m q (same-or-not i o))
-        where
-          at : (i : ℕ) → i < suc o → eqb (getD (getD routes x []) (s .column + p) 0) i ≡ true → (i ≡ o) ⊎ (i ≡ o → ⊥)
-              → getD (getD z (beyond by next x i) []) p 0 ≡ 0
-          at i m q (inl same) = rw same (f (rw same at q))
-          at i m q (inr other) = e i (omega arith) q
+      as-was : Right (getD (getD z x []) p 0) ⊎ Blank (getD (getD z x []) p 0)
+          → Right (getD (getD z x []) p 0) ⊎ (Blank (getD (getD z x []) p 0) × Dark)
+      as-was (inl r) = inl r
+      as-was (inr k) = inr (k, λ i m q. absurd (none i m q))
+  put n (inl (o, l, q, e)) = go (test (eqb n 0)) begins
+    where
+      dark : n ≡ 0 → Dark
+      dark is i m a =
+          let same : i ≡ o = sym (eqb-true side i a) ∙ eqb-true side o q in ap far same ∙ sym e ∙ is
 
-      go : Right v ⊎ Blank o v
-          → (eqb (getD (getD routes x []) (s .column + p) 0) o ≡ true) ⊎
-          (eqb (getD (getD routes x []) (s .column + p) 0) o ≡ false)
-          → (eqb (getD (getD z (beyond by next x o) []) p 0) 0 ≡ true) ⊎
-          (eqb (getD (getD z (beyond by next x o) []) p 0) 0 ≡ false)
-          → Right (sizeOf (getD (getD routes x []) (s .column + p) 0) o (getD (getD z (beyond by next x o) []) p 0) v)
-          ⊎ Blank (suc o) (sizeOf (getD (getD routes x []) (s .column + p) 0) o
-          (getD (getD z (beyond by next x o) []) p 0) v)
-      go (inl r) (inr a) b = rw a (inl r)
-      go (inl r) (inl a) (inl b) = rw (a, b) (inl r)
-      go (inl r) (inl a) (inr b) = rw (a, b) (inl (onward o l a (eqb-false _ _ b)))
-      go (inr k) (inr a) b = rw a (inr (keep k (λ q. absurd (not-both q a))))
-      go (inr k) (inl a) (inl b) = rw (a, b) (inr (keep k (λ q. eqb-true _ _ b)))
-      go (inr k) (inl a) (inr b) = rw (a, b) (inl (onward o l a (eqb-false _ _ b)))
+      go : (eqb n 0 ≡ true) ⊎ (eqb n 0 ≡ false) → Right (getD (getD z x []) p 0) ⊎ Blank (getD (getD z x []) p 0)
+          → Right (sizeOf n (getD (getD z x []) p 0)) ⊎ (Blank (sizeOf n (getD (getD z x []) p 0)) × Dark)
+      go (inl a) (inl r) = rw a (inl r)
+      go (inl a) (inr k) = rw a (inr (k, dark (eqb-true n 0 a)))
+      go (inr a) w = rw a (inl (rw e (onward o l q (λ b. eqb-false n 0 a (e ∙ b)))))
 
-  -- after all four
+  -- the row's size
   whole : Right (getD (rowOf (getD routes x []) (s .column) next z x) p 0)
-      ⊎ Blank 4 (getD (rowOf (getD routes x []) (s .column) next z x) p 0)
-  unfolding rowOf
+      ⊎ (Blank (getD (rowOf (getD routes x []) (s .column) next z x) p 0) × Dark)
   whole =
-      let sides : List ℕ = getD routes x [] in
-      let c : ℕ = s .column in
-      let z0 : List ℕ = getD z x [] in
-      let first′ = shareOf sides c 0 (getD z (getD next (4 * x) 0) []) z0 in
-      let second = shareOf sides c 1 (getD z (getD next (4 * x + 1) 0) []) first′ in
-      let third = shareOf sides c 2 (getD z (getD next (4 * x + 2) 0) []) second in
-      let zero-side : 4 * x + 0 ≡ 4 * x = omega arith in
-      let a0 = rw (← share-at sides c 0 (getD z (getD next (4 * x + 0) 0) []) z0 p place, zero-side) at
-      (turn 0 (getD z0 p 0) (omega arith) begins) in
-      let a1 = rw (← share-at sides c 1 (getD z (getD next (4 * x + 1) 0) []) first′ p place) at
-      (turn 1 (getD first′ p 0) (omega arith) a0) in
-      let a2 = rw (← share-at sides c 2 (getD z (getD next (4 * x + 2) 0) []) second p place) at
-      (turn 2 (getD second p 0) (omega arith) a1) in
-      rw (share-at sides c 3 (getD z (getD next (4 * x + 3) 0) []) third p place)
-      (turn 3 (getD third p 0) (omega arith) a2)
+      rw (row-at (getD routes x []) (s .column) next z x p place)
+      (put (farBy side (far 0) (far 1) (far 2) (far 3)) (far-cases far side))
 
   -- so the row that is put is right for what x reaches now
   row-some : has (s .sized) (s .column + p) ≡ true → has (pullOf by next t x) (s .column + p) ≡ true
@@ -179,21 +227,20 @@ module _ (by : List (List ℕ)) (next : List ℕ) (routes : List (List ℕ)) (s 
     where
       side-of : (o : ℕ) × (o < 4) × ((has (sideSet by next x o) (s .column + p) && has
           (getD t (beyond by next x o) 0) (s .column + p)) ≡ true)
-          → ((i : ℕ) → i < 4 → eqb (getD (getD routes x []) (s .column + p) 0) i ≡ true
-          → getD (getD z (beyond by next x i) []) p 0 ≡ 0) → ⊥
+          → Dark → ⊥
       side-of (o, l, q) e =
           let w = and-parts _ _ q in
           unknown (beyond by next x o) a (e o l (sym (told .sides x o p inside l place) ∙ w .0)) (w .1)
 
-      gone : Blank 4 (getD (rowOf (getD routes x []) (s .column) next z x) p 0)
+      gone : Blank (getD (rowOf (getD routes x []) (s .column) next z x) p 0) × Dark
           → (has (getD t x 0) (s .column + p) ≡ true)
           ⊎ (anyBelow 4 (λ o. has (sideSet by next x o) (s .column + p) && has (getD t (beyond by next x o) 0)
           (s .column + p)) ≡ true) → ⊥
-      gone (e, n, f) (inl q) = true≢false (rw (a, q) at n)
-      gone (e, n, f) (inr q) = side-of (any-true 4 _ q) f
+      gone ((e, n), f) (inl q) = true≢false (rw (a, q) at n)
+      gone ((e, n), f) (inr q) = side-of (any-true 4 _ q) f
 
       go : Right (getD (rowOf (getD routes x []) (s .column) next z x) p 0)
-          ⊎ Blank 4 (getD (rowOf (getD routes x []) (s .column) next z x) p 0)
+          ⊎ (Blank (getD (rowOf (getD routes x []) (s .column) next z x) p 0) × Dark)
           → Far by next first (s .column + p) x (getD (rowOf (getD routes x []) (s .column) next z x) p 0)
       go (inl r) = r .2
       go (inr k) = absurd (gone k (or-cases _ _ (sym (has-pull by next t x (s .column + p)) ∙ b)))
@@ -203,10 +250,10 @@ module _ (by : List (List ℕ)) (next : List ℕ) (routes : List (List ℕ)) (s 
   row-none e = go whole
     where
       go : Right (getD (rowOf (getD routes x []) (s .column) next z x) p 0)
-          ⊎ Blank 4 (getD (rowOf (getD routes x []) (s .column) next z x) p 0)
+          ⊎ (Blank (getD (rowOf (getD routes x []) (s .column) next z x) p 0) × Dark)
           → getD (rowOf (getD routes x []) (s .column) next z x) p 0 ≡ 0
       go (inl r) = absurd (true≢false (rw (r .0, r .1) at e))
-      go (inr k) = k .0
+      go (inr k) = k .0 .0
 
 -- ---- a step of a sweep
 module _ (by : List (List ℕ)) (next : List ℕ) (routes : List (List ℕ)) (s : Span) (t : List ℕ) (z : List (List ℕ))

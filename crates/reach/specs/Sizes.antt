@@ -17,20 +17,26 @@ use Rattle.reach.specs.Reach.{sideSet, beyond}
 unfoldable pub longer : ℕ → ℕ
 longer far = pick (ltb far 16) (far + 1) far
 
-unfoldable pub sizeOf : ℕ → ℕ → ℕ → ℕ → ℕ
-sizeOf side o far own = pick (eqb side o) (pick (eqb far 0) own (longer far)) own
+-- of four sizes, that of the router beyond the route's side; 0 where the route has no side
+unfoldable pub farBy : ℕ → ℕ → ℕ → ℕ → ℕ → ℕ
+farBy side a b c d = pick (eqb side 0) a (pick (eqb side 1) b (pick (eqb side 2) c (pick (eqb side 3) d 0)))
 
-unfoldable pub shareOf : List ℕ → ℕ → ℕ → List ℕ → List ℕ → List ℕ
-shareOf sides column o far own =
-    upTo (fill (λ p. sizeOf (getD sides (column + p) 0) o (getD far p 0) (getD own p 0))) 16 (replicate 16 0)
+unfoldable pub sizeOf : ℕ → ℕ → ℕ
+sizeOf far own = pick (eqb far 0) own (longer far)
 
--- the sizes of router x's walks, from the first side to the last
+unfoldable pub mergedOf : List ℕ → ℕ → List ℕ → List ℕ → List ℕ → List ℕ → List ℕ → List ℕ
+mergedOf sides column a b c d own =
+    upTo
+    (fill
+    (λ p. sizeOf (farBy (getD sides (column + p) 0) (getD a p 0) (getD b p 0) (getD c p 0) (getD d p 0))
+    (getD own p 0)))
+    16 (replicate 16 0)
+
+-- the sizes of router x's walks, from those of the routers beyond its sides
 unfoldable pub rowOf : List ℕ → ℕ → List ℕ → List (List ℕ) → ℕ → List ℕ
 rowOf sides column next z x =
-    shareOf sides column 3 (getD z (getD next (4 * x + 3) 0) [])
-    (shareOf sides column 2 (getD z (getD next (4 * x + 2) 0) [])
-    (shareOf sides column 1 (getD z (getD next (4 * x + 1) 0) [])
-    (shareOf sides column 0 (getD z (getD next (4 * x) 0) []) (getD z x []))))
+    mergedOf sides column (getD z (getD next (4 * x) 0) []) (getD z (getD next (4 * x + 1) 0) [])
+    (getD z (getD next (4 * x + 2) 0) []) (getD z (getD next (4 * x + 3) 0) []) (getD z x [])
 
 -- ---- what is meant
 module _ (by : List (List ℕ)) (next : List ℕ) where

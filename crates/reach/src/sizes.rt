@@ -1,9 +1,11 @@
 // How many routers the walks have, by router and passive: 0 where none is known.
 ghost use mathlib.Core.Path.{_≡_};
 ghost use Prim.Native.Nat.{ℕ, _+_, _*_, _≤_, _<_};
+ghost use lib.Dec.{eqb};
 ghost use lib.ListN.{getD};
+ghost use Rattle.basis.specs.Choice.{pick};
 ghost use Rattle.reach.specs.Reach.{Inside};
-ghost use Rattle.reach.specs.Sizes.{longer, sizeOf, shareOf, rowOf};
+ghost use Rattle.reach.specs.Sizes.{longer, farBy, sizeOf, mergedOf, rowOf};
 
 // The most routers.
 const MOST: u8 = 16;
@@ -15,25 +17,44 @@ fn longer(far: u8) -> u8
     if far < MOST { far + 1 } else { far }
 }
 
-// A walk's size after side o: where the route is that side, one router more than from the router beyond, if its walk is known.
-fn size_of(side: u8, o: u8, far: u8, own: u8) -> u8
-    ensures { λ v. ⌜ v ≡ sizeOf side o far own ⌝ }
+// What the router beyond side o adds: its size where the route is that side, else 0.
+fn through(side: u8, o: u8, far: u8) -> u8
+    ensures { λ v. ⌜ v ≡ pick (eqb side o) far 0 ⌝ }
 {
-    if side == o {
-        if far == 0 { own } else { longer(far) }
-    } else {
-        own
-    }
+    if side == o { far } else { 0 }
 }
 
-// The sizes of a router's walks after side o, from those of the router beyond.
-fn share(sides: &[u8; 32], column: usize, o: u8, far: [u8; 16], own: [u8; 16]) -> [u8; 16]
+// The size from the router beyond the route's side: at most one of the four is not 0.
+fn far_by(side: u8, a: u8, b: u8, c: u8, d: u8) -> u8
+    ensures { λ v. ⌜ v ≡ farBy side a b c d ⌝ }
+{
+    through(side, 0, a) | through(side, 1, b) | through(side, 2, c) | through(side, 3, d)
+}
+
+// A walk's size: one router more than from the router beyond, if that is known; else as it was.
+fn size_of(far: u8, own: u8) -> u8
+    ensures { λ v. ⌜ v ≡ sizeOf far own ⌝ }
+{
+    if far == 0 { own } else { longer(far) }
+}
+
+// The sizes of a router's walks, from those of the routers beyond its four sides, in one pass.
+fn merged(
+    sides: &[u8; 32],
+    column: usize,
+    a: [u8; 16],
+    b: [u8; 16],
+    c: [u8; 16],
+    d: [u8; 16],
+    own: [u8; 16],
+) -> [u8; 16]
     requires { ⌜ column ≤ 16 ⌝ }
-    ensures { λ t. ⌜ t ≡ shareOf (now (sides .entry)) column o far own ⌝ }
+    ensures { λ t. ⌜ t ≡ mergedOf (now (sides .entry)) column a b c d own ⌝ }
 {
     let mut t = [0u8; 16];
     for p in 0..16 {
-        t[p] = size_of(sides[column + p], o, far[p], own[p]);
+        let far = far_by(sides[column + p], a[p], b[p], c[p], d[p]);
+        t[p] = size_of(far, own[p]);
     }
     t
 }
@@ -68,8 +89,5 @@ pub fn row(
     let b = beyond(next, 4 * x + 1);
     let c = beyond(next, 4 * x + 2);
     let d = beyond(next, 4 * x + 3);
-    let first = share(sides, column, 0, z[a], z[x]);
-    let second = share(sides, column, 1, z[b], first);
-    let third = share(sides, column, 2, z[c], second);
-    share(sides, column, 3, z[d], third)
+    merged(sides, column, z[a], z[b], z[c], z[d], z[x])
 }

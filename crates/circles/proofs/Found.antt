@@ -27,12 +27,12 @@ use Rattle.peel.specs.Words.{leadsTo}
 use Rattle.spread.specs.Carried.{partnerOf, beyondOf, Spread}
 use Rattle.spread.proofs.Laws.{in-both, both-in}
 use Rattle.links.specs.Cells.{leavesOf, maskOf, crossed, crossOf}
-use Rattle.links.specs.Cells.{crossesOf, outOf}
+use Rattle.links.specs.Cells.{CrossCells, outOf}
 use Rattle.links.specs.Starts.{startsOf, livesOf}
 use Rattle.links.specs.Words.{nextsOf, linksOf}
 use Rattle.links.proofs.Laws.{mask-small, not-empty}
 use Rattle.links.proofs.Members.{member, in-lives, leaves-at, leave-in, in-leave, cell-group, cell-has}
-use Rattle.links.proofs.Members.{mask-in, in-mask, cross-in, cross-is, crosses-at}
+use Rattle.links.proofs.Members.{mask-in, in-mask, cross-in, cross-is}
 use Rattle.links.proofs.Onward.{goneBy, next-in, in-next, in-links}
 use Rattle.circles.specs.Circles.{Answers, Crossing, Hands, AnswerRing}
 use Rattle.circles.specs.RingTest.{walkMeets, walkLeaves, isRouter, trailEdge, answered, answerLeaves}
@@ -174,13 +174,13 @@ module _ {pl : Plan} {h : Head} {by : List (List ℕ)} {joints homes arrive serv
         (of-answers fits told t answers a (record { router = k / 4; side = s .0 }) (s .1))
         (has-below 32 a ∙ lt-ltb a 32 (omega (arith, room))))
 
-    hand-edges : (x y : ℕ) → x < 16 * R pl → y < 16 * R pl
-        → edge (crossesOf sent joints (16 * R pl)) x y ≡ handEdge pl x y
+    hand-edges : (cells : List ℕ) → CrossCells sent joints (16 * R pl) cells → (x y : ℕ) → x < 16 * R pl
+        → y < 16 * R pl → edge cells x y ≡ handEdge pl x y
     unfolding handEdge answersPass
-    hand-edges x y lx ly = same-test (edge (crossesOf sent joints (16 * R pl)) x y) (handEdge pl x y) there back
+    hand-edges cells crosses x y lx ly = same-test (edge cells x y) (handEdge pl x y) there back
       where
-        cell : getD (crossesOf sent joints (16 * R pl)) x 0 ≡ crossOf sent joints x
-        cell = crosses-at sent joints (16 * R pl) x lx (omega (arith, room))
+        cell : getD cells x 0 ≡ crossOf sent joints x
+        cell = crosses .at x lx
 
         ox : outOf x < 4 * R pl
         ox = omega arith
@@ -204,10 +204,10 @@ module _ {pl : Plan} {h : Head} {by : List (List ℕ)} {joints homes arrive serv
         pass a = also (answerComes pl a (pl .joint (x / 16) (x / 4 % 4)))
             (also (answerLeaves pl a (x / 16) (x % 4)) (answerLeaves pl a (y / 16) (y % 4)))
 
-        there : edge (crossesOf sent joints (16 * R pl)) x y ≡ true
+        there : edge cells x y ≡ true
             → also (isRouterAt (y / 4) (pl .joint (x / 16) (x % 4))) (anyBelow (A pl) pass) ≡ true
         there e =
-            let b = edge-parts (crossesOf sent joints (16 * R pl)) x y e in
+            let b = edge-parts cells x y e in
             let c = cross-in sent joints x (y % 4) (rw cell at (b .1)) in
             let s = mask-small sent (crossed sent joints x) (beyondOf joints (outOf x)) in
             let g : q ≡ y / 4 =
@@ -246,14 +246,14 @@ module _ {pl : Plan} {h : Head} {by : List (List ℕ)} {joints homes arrive serv
                 (rw into (first .1)) (also-of (rw (or, oo) at (second .1)) (rw (er, eo) at (third .1)))))
 
         back : also (isRouterAt (y / 4) (pl .joint (x / 16) (x % 4))) (anyBelow (A pl) pass) ≡ true
-            → edge (crossesOf sent joints (16 * R pl)) x y ≡ true
+            → edge cells x y ≡ true
         back e =
             let b = also-true {a = isRouterAt (y / 4) (pl .joint (x / 16) (x % 4))} e in
             let n = port-is (y / 4) (pl .joint (x / 16) (x % 4)) (b .0) in
             found (n .0) (n .1) (n .2) (n .3) (any-true (A pl) pass (b .1))
           where
             found : (n t : ℕ) → pl .joint (x / 16) (x % 4) ≡ Router n t → 4 * n + t ≡ y / 4 → Found (A pl) pass
-                → edge (crossesOf sent joints (16 * R pl)) x y ≡ true
+                → edge cells x y ≡ true
             found n t over p (a, la, v) =
                 let b = also-true {a = answerComes pl a (pl .joint (x / 16) (x / 4 % 4))}
                 {b = also (answerLeaves pl a (x / 16) (x % 4)) (answerLeaves pl a (y / 16) (y % 4))} v in
@@ -279,14 +279,15 @@ module _ {pl : Plan} {h : Head} {by : List (List ℕ)} {joints homes arrive serv
                 let z =
                 cross-is sent joints x (omega (arith, li, room)) (omega (arith, ln, room))
                 (not-empty (crossed sent joints x) a k) in
-                parts-edge (crossesOf sent joints (16 * R pl)) x y q (maskOf sent (crossed sent joints x) (q / 4))
+                parts-edge cells x y q (maskOf sent (crossed sent joints x) (q / 4))
                 (cell ∙ z) (omega (arith, ln, room))
                 (mask-small sent (crossed sent joints x) (q / 4)) (eq ∙ p)
                 (in-mask sent (crossed sent joints x) (q / 4) (y % 4) (omega arith) m)
 
-    pub answers-found : {r : Bool} → r ≡ ringTest (16 * R pl) (edge (crossesOf sent joints (16 * R pl)))
-        → r ≡ ringTest (16 * R pl) (handEdge pl)
-    answers-found e = e ∙ ring-alike (16 * R pl) (edge (crossesOf sent joints (16 * R pl))) (handEdge pl) hand-edges
+    pub answers-found : (cells : List ℕ) → CrossCells sent joints (16 * R pl) cells → {r : Bool}
+        → r ≡ ringTest (16 * R pl) (edge cells) → r ≡ ringTest (16 * R pl) (handEdge pl)
+    answers-found cells crosses e =
+        e ∙ ring-alike (16 * R pl) (edge cells) (handEdge pl) (hand-edges cells crosses)
 
   -- ---- links: where they have no ring the answers have none
   abbrev heard : List ℕ
@@ -371,11 +372,11 @@ module _ {pl : Plan} {h : Head} {by : List (List ℕ)} {joints homes arrive serv
 
   pub answers-ring : {t l cells : List ℕ} {limit : ℕ} {r : Bool}
       → Rattle.links.specs.Starts.Answers by joints homes serve (h .routers) (h .actives) t
-      → limit ≡ below 32 → l ≡ leavesOf by t limit (4 * h .routers) → cells ≡ crossesOf l joints (16 * h .routers)
+      → limit ≡ below 32 → l ≡ leavesOf by t limit (4 * h .routers) → CrossCells l joints (16 * h .routers) cells
       → r ≡ ringTest (4 * (4 * h .routers)) (edge cells) → r ≡ ringTest (16 * R pl) (handEdge pl)
   answers-ring {t} {l} {cells} s m el ec e =
       let n : 4 * (4 * h .routers) ≡ 16 * h .routers = omega arith in
-      answers-found t (rw (routers, actives) at s) (rw (n, ec, el, m, routers) at e)
+      answers-found t (rw (routers, actives) at s) cells (rw (el, m, routers) at ec) (rw (n, routers) at e)
 
   pub links-ring : {l words : List ℕ} {live : ℕ} {r : Bool} → live ≡ livesOf serve (h .actives)
       → l ≡ leavesOf by arrive live (4 * h .routers) → words ≡ linksOf l joints (4 * h .routers)

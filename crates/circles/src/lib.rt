@@ -4,12 +4,19 @@ use plan::Head;
 ghost use mathlib.Core.Path.{_≡_};
 ghost use mathlib.Core.Bool.{false};
 ghost use mathlib.Core.List.{List};
-ghost use Prim.Native.Nat.{ℕ, _*_};
+ghost use Prim.Native.Nat.{ℕ, _*_, _≤_};
+ghost use lib.ListN.{length};
 ghost use Rattle.basis.specs.Ring.{ringTest};
 ghost use Rattle.plan.specs.Plan.{Plan, R};
 ghost use Rattle.plan.specs.Head.{Counts};
 ghost use Rattle.circles.specs.RingTest.{trailEdge, handEdge, hasRing};
 ghost use Rattle.circles.specs.Told.{Told};
+
+// A plan of few routers has at most so many.
+const FEW: usize = 4;
+
+// The most routers.
+const MOST: usize = 16;
 
 // Whether the walks of served pairs go round.
 fn walks_ring(
@@ -54,7 +61,64 @@ fn links_ring(
     peel::words::has_ring(&to, 4 * n, some)
 }
 
-// Whether answers go round.
+// Whether answers go round; the crossings are put into a lent table, sixteen to a router.
+fn answers_round(
+    by: &[[u32; 4]; 16],
+    joints: &[u8; 64],
+    homes: &[u8; 32],
+    served: &[u32; 16],
+    h: Head,
+    cells: &mut [u32],
+) -> bool
+    requires { ⌜ Counts h × (16 * h .routers ≤ length (now cells)) ⌝ }
+    ensures { λ r. ⌜ ((pl : Plan) (arrive : List ℕ)
+        → Told pl h (now (by .entry)) (now (joints .entry)) (now (homes .entry)) arrive (now (served .entry))
+        → r ≡ ringTest (16 * R pl) (handEdge pl)) ⌝ }
+{
+    let n = h.routers;
+    let mut sent = [0u32; 32];
+    links::starts::answers(by, joints, homes, served, n, h.actives, &mut sent);
+    let mut gone = [0u32; 64];
+    links::leaves(by, &sent, sets::below(32), n, &mut gone);
+    links::cross_cells(&gone, joints, 16 * n, cells);
+    peel::has_ring(cells, 4 * n)
+}
+
+// The same in a plan of few routers.
+fn answers_few(
+    by: &[[u32; 4]; 16],
+    joints: &[u8; 64],
+    homes: &[u8; 32],
+    served: &[u32; 16],
+    h: Head,
+) -> bool
+    requires { ⌜ Counts h × (h .routers ≤ 4) ⌝ }
+    ensures { λ r. ⌜ ((pl : Plan) (arrive : List ℕ)
+        → Told pl h (now (by .entry)) (now (joints .entry)) (now (homes .entry)) arrive (now (served .entry))
+        → r ≡ ringTest (16 * R pl) (handEdge pl)) ⌝ }
+{
+    let mut cells = [0u32; 16 * FEW];
+    answers_round(by, joints, homes, served, h, &mut cells)
+}
+
+// The same in any plan.
+fn answers_many(
+    by: &[[u32; 4]; 16],
+    joints: &[u8; 64],
+    homes: &[u8; 32],
+    served: &[u32; 16],
+    h: Head,
+) -> bool
+    requires { ⌜ Counts h ⌝ }
+    ensures { λ r. ⌜ ((pl : Plan) (arrive : List ℕ)
+        → Told pl h (now (by .entry)) (now (joints .entry)) (now (homes .entry)) arrive (now (served .entry))
+        → r ≡ ringTest (16 * R pl) (handEdge pl)) ⌝ }
+{
+    let mut cells = [0u32; 16 * MOST];
+    answers_round(by, joints, homes, served, h, &mut cells)
+}
+
+// The same; the table is as large as the plan needs.
 fn answers_ring(
     by: &[[u32; 4]; 16],
     joints: &[u8; 64],
@@ -67,14 +131,10 @@ fn answers_ring(
         → Told pl h (now (by .entry)) (now (joints .entry)) (now (homes .entry)) arrive (now (served .entry))
         → r ≡ ringTest (16 * R pl) (handEdge pl)) ⌝ }
 {
-    let n = h.routers;
-    let mut sent = [0u32; 32];
-    links::starts::answers(by, joints, homes, served, n, h.actives, &mut sent);
-    let mut gone = [0u32; 64];
-    links::leaves(by, &sent, sets::below(32), n, &mut gone);
-    let mut cells = [0u32; 256];
-    links::cross_cells(&gone, joints, 16 * n, &mut cells);
-    peel::has_ring(&cells, 4 * n)
+    if h.routers <= FEW {
+        return answers_few(by, joints, homes, served, h);
+    }
+    answers_many(by, joints, homes, served, h)
 }
 
 // Whether some queues feed each other in a ring, for tables that tell what a plan says.

@@ -19,7 +19,7 @@ use Rattle.sets.specs.Laws.{has-single, no-member}
 use Rattle.spread.specs.Carried.{partnerOf, beyondOf, In}
 use Rattle.spread.proofs.Laws.{in-both, both-in, in-left, in-right, either-in}
 use Rattle.links.specs.Cells.{leaveOf, leavesOf, bitOf, maskOf, crossed}
-use Rattle.links.specs.Cells.{crossOf, crossesOf, outOf}
+use Rattle.links.specs.Cells.{crossOf, outOf}
 use Rattle.links.specs.Starts.{homeRow, startAt, startsOf, aloneOf, liveOf, livesOf}
 use Rattle.links.proofs.Laws.{empty-at, not-empty}
 
@@ -279,10 +279,14 @@ module _ (l joints : List ℕ) where
         ne-eqb (crossed l joints x) 0 n,
       )
 
-  pub crosses-at : (n k : ℕ) → k < n → n ≤ 256 → getD (crossesOf l joints n) k 0 ≡ crossOf l joints k
-  unfolding crossesOf
-  crosses-at n k h m = fill-at {A = ℕ} (crossOf l joints) n (replicate 256 0) k 0 h m
-
-  pub crosses-long : (n : ℕ) {c : List ℕ} → c ≡ crossesOf l joints n → length c ≡ 256
-  unfolding crossesOf
-  crosses-long n e = rw e (length-fill {A = ℕ} (crossOf l joints) n (replicate 256 0))
+  -- the table of crossings grows by one
+  pub cells-more : (x : ℕ) {v : ℕ} (cells : List ℕ) → x < length cells → v ≡ crossOf l joints x
+      → ((k : ℕ) → k < x → getD cells k 0 ≡ crossOf l joints k)
+      → (k : ℕ) → k < x + 1 → getD (set cells x v) k 0 ≡ crossOf l joints k
+  cells-more x {v} cells h e f k b = by (test (eqb k x))
+    where
+      by : (eqb k x ≡ true) ⊎ (eqb k x ≡ false) → getD (set cells x v) k 0 ≡ crossOf l joints k
+      by (inl t) = rw (eqb-true k x t) (getD-set-same cells x v 0 h ∙ e)
+      by (inr t) =
+          let away : k ≢ x = eqb-false k x t in
+          getD-set-other cells x k v 0 away ∙ f k (omega (arith, away))

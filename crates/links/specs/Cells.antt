@@ -1,8 +1,9 @@
 -- What leaves by each side, and the cells that lead from crossing to crossing (crate peel).
+use mathlib.Core.Path.{_≡_}
 use mathlib.Core.List.{List, []}
-use Prim.Native.Nat.{ℕ, _+_, _*_, _/_, _%_}
+use Prim.Native.Nat.{ℕ, _+_, _*_, _/_, _%_, _≤_, _<_}
 use lib.Dec.{eqb, ltb}
-use lib.ListN.{getD, replicate}
+use lib.ListN.{getD, length, replicate}
 use Rattle.basis.specs.Choice.{pick}
 use Rattle.basis.specs.Fold.{upTo, fill}
 use Rattle.sets.specs.Sets.{both, either, single}
@@ -39,5 +40,7 @@ module _ (l joints : List ℕ) where
       (pick (eqb (crossed x) 0) 0
       (16 * partnerOf joints (outOf x) + maskOf l (crossed x) (beyondOf joints (outOf x)))) 0) 0
 
-  unfoldable pub crossesOf : ℕ → List ℕ
-  crossesOf n = upTo (fill crossOf) n (replicate 256 0)
+  -- a table of the first n crossings
+  pub record CrossCells (n : ℕ) (cells : List ℕ) : Type 0 where
+    pub room : n ≤ length cells
+    pub at : (x : ℕ) → x < n → getD cells x 0 ≡ crossOf x

@@ -10,8 +10,8 @@ use sets::single;
 use spread::partner;
 ghost use mathlib.Core.Path.{_≡_};
 ghost use Prim.Native.Nat.{_+_, _*_, _≤_, _<_};
-ghost use lib.ListN.{replicate};
-ghost use Rattle.links.specs.Cells.{leaveOf, leavesOf, bitOf, maskOf, crossOf, crossesOf};
+ghost use lib.ListN.{length, replicate};
+ghost use Rattle.links.specs.Cells.{leaveOf, leavesOf, bitOf, maskOf, crossOf, CrossCells};
 
 // What of a set leaves router x by side o.
 fn leave(by: &[[u32; 4]; 16], t: &[u32; 32], limit: u32, x: usize, o: usize) -> u32
@@ -87,9 +87,10 @@ fn cross(l: &[u32; 64], joints: &[u8; 64], x: usize) -> u32
     cell(q, mask(l, m, q / 4))
 }
 
-pub fn cross_cells(l: &[u32; 64], joints: &[u8; 64], n: usize, cells: &mut [u32; 256])
-    requires { ⌜ (n ≤ 256) × (now cells ≡ replicate 256 0) ⌝ }
-    ensures { λ _. ⌜ now (cells .exit) ≡ crossesOf (now (l .entry)) (now (joints .entry)) n ⌝ }
+// The first n crossings, into a table that has room for them.
+pub fn cross_cells(l: &[u32; 64], joints: &[u8; 64], n: usize, cells: &mut [u32])
+    requires { ⌜ (n ≤ 256) × (n ≤ length (now cells)) ⌝ }
+    ensures { λ _. ⌜ CrossCells (now (l .entry)) (now (joints .entry)) n (now (cells .exit)) ⌝ }
 {
     for x in 0..n {
         cells[x] = cross(l, joints, x);

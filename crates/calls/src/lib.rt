@@ -143,7 +143,7 @@ pub fn launch(plan: &[u8], state: &mut [u8], active: usize, passive: usize, slot
     let Checked::State = c else {
         return Answer::Refused(Refusal::NotState);
     };
-    visits::launch(h, &lengths, state, active, passive, slot)
+    launching::launch(h, &lengths, state, active, passive, slot)
 }
 
 // Reply: the passive's head is answered, 1 accept or 0 decline.
@@ -170,7 +170,7 @@ pub fn reply(plan: &[u8], state: &mut [u8], passive: usize, choice: usize) -> An
     let Checked::State = c else {
         return Answer::Refused(Refusal::NotState);
     };
-    visits::reply(h, state, passive, choice)
+    replying::reply(h, state, passive, choice)
 }
 
 // Consume: the active's head is taken out and returned.
@@ -197,7 +197,7 @@ pub fn consume(plan: &[u8], state: &mut [u8], active: usize) -> Answer
     let Checked::State = c else {
         return Answer::Refused(Refusal::NotState);
     };
-    visits::consume(h, state, active)
+    consuming::consume(h, state, active)
 }
 
 // Entry: what the slot table holds.
@@ -224,5 +224,5 @@ pub fn entry(plan: &[u8], state: &[u8], router: usize, side: usize, slot: usize)
     let Checked::State = c else {
         return Answer::Refused(Refusal::NotState);
     };
-    visits::entry(h, state, router, side, slot)
+    looking::entry(h, state, router, side, slot)
 }

@@ -1,22 +1,20 @@
 -- The calls between the phases, on the bytes of a good state: what is asked of the bytes, what a call's code did, and
--- the bytes that each accepted call leaves.
+-- the bytes once a queue's head has left.
 use mathlib.Core.Path.{_≡_}
 use mathlib.Core.Bool.{true}
 use mathlib.Core.List.{List}
-use Prim.Native.Nat.{ℕ, _+_, _*_, _-_}
-use lib.ListN.{getD, set}
+use Prim.Native.Nat.{ℕ, _+_, _*_}
+use lib.ListN.{set}
 use Rattle.packets.specs.declared.Answer.{Answer}
 use Rattle.plan.specs.declared.Head.{Head}
 use Rattle.plan.specs.Head.{destinations}
 use Rattle.plan.specs.Plan.{Plan}
 use Rattle.arrivals.specs.Pairs.{lengthsOf}
-use Rattle.machine.specs.Visits.{setupOf, replyKind, repliedAs}
 use Rattle.machine.specs.Calls.{Visit, visit}
 use Rattle.machine.specs.Ruled.{Good}
-use Rattle.layout.specs.Offsets.{flagByte, firstPlace}
+use Rattle.layout.specs.Offsets.{flagByte}
 use Rattle.layout.specs.Codes.{flagCode}
-use Rattle.layout.specs.Places.{packetAt}
-use Rattle.layout.specs.Updates.{pushAt, popAt}
+use Rattle.layout.specs.Updates.{popAt}
 use Rattle.acts.specs.Acts.{Holds, Acts}
 use Rattle.acts.specs.Counts.{allowancesFrom}
 
@@ -51,20 +49,6 @@ passiveInRow h p = 2 + 39 * (destinations h + 21 * h .routers + h .actives + p)
 abbrev pub allowanceByte : Head → ℕ → ℕ
 allowanceByte h a = allowancesFrom h + a
 
--- ---- what accepted calls leave
--- 'a SETUP, hub 0, joins and the allowance falls by one'
-unfoldable pub launchedAt : ℕ → ℕ → ℕ → ℕ → ℕ → List ℕ → List ℕ
-launchedAt row byte a p t b = set (pushAt row (setupOf a p t) b) byte (getD b byte 0 - 1)
-
--- a queue's head leaves and its flag rises
+-- ---- a queue's head leaves and its flag rises
 unfoldable pub takenAt : ℕ → List ℕ → List ℕ
 takenAt row b = set (popAt row b) (row + flagByte) (flagCode true)
-
--- 'the head becomes ACK or NACK, slot and hub kept, in the out-queue; the flag rises'
-unfoldable pub repliedAt : ℕ → ℕ → ℕ → List ℕ → List ℕ
-repliedAt from to choice b =
-    pushAt to (repliedAs (replyKind choice) (packetAt (from + firstPlace) b)) (takenAt from b)
-
--- 'the packet is returned and removed, the flag rises, the allowance grows by one'
-unfoldable pub consumedAt : ℕ → ℕ → List ℕ → List ℕ
-consumedAt row byte b = set (takenAt row b) byte (getD b byte 0 + 1)

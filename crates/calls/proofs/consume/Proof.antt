@@ -9,7 +9,7 @@ use Rattle.calls.proofs.consume.Lts as lts
 use Rattle.calls.proofs.opened.refusal.Reads as refusal-reads
 use Rattle.inspect.proofs.inspect.Reads as inspect-reads
 use Rattle.load.proofs.fill.Reads as fill-reads
-use Rattle.visits.proofs.consume.Reads as consume-reads
+use Rattle.consuming.proofs.consume.Reads as consume-reads
 
 -- src/lib.rt:143:9
 fill-requires : tie.Need-fill-requires

@@ -9,7 +9,7 @@ use Rattle.calls.proofs.entry.Lts as lts
 use Rattle.calls.proofs.opened.refusal.Reads as refusal-reads
 use Rattle.inspect.proofs.inspect.Reads as inspect-reads
 use Rattle.load.proofs.fill.Reads as fill-reads
-use Rattle.visits.proofs.entry.Reads as entry-reads
+use Rattle.looking.proofs.entry.Reads as entry-reads
 
 -- src/lib.rt:163:9
 fill-requires : tie.Need-fill-requires

@@ -9,7 +9,7 @@ use Rattle.calls.proofs.launch.Lts as lts
 use Rattle.calls.proofs.opened.refusal.Reads as refusal-reads
 use Rattle.inspect.proofs.inspect.Reads as inspect-reads
 use Rattle.load.proofs.fill.Reads as fill-reads
-use Rattle.visits.proofs.launch.Reads as launch-reads
+use Rattle.launching.proofs.launch.Reads as launch-reads
 
 -- src/lib.rt:103:9
 fill-requires : tie.Need-fill-requires

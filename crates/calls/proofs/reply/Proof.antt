@@ -9,7 +9,7 @@ use Rattle.calls.proofs.reply.Lts as lts
 use Rattle.calls.proofs.opened.refusal.Reads as refusal-reads
 use Rattle.inspect.proofs.inspect.Reads as inspect-reads
 use Rattle.load.proofs.fill.Reads as fill-reads
-use Rattle.visits.proofs.reply.Reads as reply-reads
+use Rattle.replying.proofs.reply.Reads as reply-reads
 
 -- src/lib.rt:123:9
 fill-requires : tie.Need-fill-requires

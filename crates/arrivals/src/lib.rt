@@ -1,5 +1,5 @@
-// All walks of a plan at once: at which destinations the walk from each router arrives, which pairs are served, and how long
-// their walks are.
+// All walks of a plan at once: at which destinations the walk from each router arrives, which pairs are served, and
+// how long their walks are.
 use plan::Head;
 use reach::Span;
 use sets::below;
@@ -174,8 +174,8 @@ fn lengths_of(
     }
 }
 
-// All walks: where they arrive, by router; how long those of served pairs are, by active and passive; and which pairs are
-// served, by active. Both lent tables are filled in place.
+// All walks: where they arrive, by router; how long those of served pairs are, by active and passive; and which pairs
+// are served, by active. Both lent tables are filled in place.
 pub fn walks(
     h: Head,
     routes: &[[u8; 32]; 16],

@@ -1,1 +1,2 @@
-// Laws that no crate of the network owns: choices, folds over numbers, tests, pigeonhole, walks and rings. All of it is in specs/.
+// Laws that no crate of the network owns: choices, folds over numbers, tests, pigeonhole, walks and rings. All of it
+// is in specs/.

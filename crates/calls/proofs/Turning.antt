@@ -49,7 +49,8 @@ phase-of-code Write Write e = refl
 
 module _ (pl : Plan) where
   -- the first byte says the phase
-  phase-byte : (b : List ℕ) (s : State) (rest : List ℕ) → b ≡ encode pl s rest → getD b 0 0 ≡ phaseCode (s .clock .phase)
+  phase-byte : (b : List ℕ) (s : State) (rest : List ℕ) → b ≡ encode pl s rest → getD b 0 0 ≡ phaseCode
+      (s .clock .phase)
   unfolding encode
   phase-byte b s rest e = ap (λ (x : List ℕ). getD x 0 0) e
 
@@ -88,7 +89,11 @@ module _ (pl : Plan) where
         record {
           answer = λ s rest g f. rw (in-phase s rest f);
           bytes = λ s rest g f. rw (in-phase s rest f)
-              (k .done s rest (record { good = g; phase = phase-of-code (s .clock .phase) x (sym (phase-byte b s rest f) ∙ e) })
+              (k .done s rest (record {
+                good = g;
+                phase = phase-of-code (s .clock .phase) x
+                    (sym (phase-byte b s rest f) ∙ e);
+              })
               f);
         }
       where

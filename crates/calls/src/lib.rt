@@ -1,5 +1,5 @@
-// The eight calls of document 01 on lent bytes: the plan's by `&`, the state's by `&mut`. Each loads the plan, checks the state,
-// and then goes its own way. A refusal alters no byte, and no byte past the state is written.
+// The eight calls of document 01 on lent bytes: the plan's by `&`, the state's by `&mut`. Each loads the plan, checks
+// the state, and then goes its own way. A refusal alters no byte, and no byte past the state is written.
 use inspect::Checked;
 use kinds::Refusal;
 use load::Loaded;
@@ -121,7 +121,8 @@ pub fn write(plan: &[u8], state: &mut [u8]) -> Answer
 
 // Launch: a set-up of a served pair joins the active's out-queue.
 pub fn launch(plan: &[u8], state: &mut [u8], active: usize, passive: usize, slot: usize) -> Answer
-    ensures { λ r. ⌜ given r (now (state .exit)) ≡ callOn (now (plan .entry)) (launch active passive slot) (now (state .entry)) ⌝ }
+    ensures { λ r. ⌜ given r (now (state .exit)) ≡ callOn (now (plan .entry)) (launch active passive slot)
+        (now (state .entry)) ⌝ }
 {
     let mut routes = [[NO_SIDE; 32]; 16];
     let mut joints = [0u8; 64];
@@ -148,7 +149,8 @@ pub fn launch(plan: &[u8], state: &mut [u8], active: usize, passive: usize, slot
 
 // Reply: the passive's head is answered, 1 accept or 0 decline.
 pub fn reply(plan: &[u8], state: &mut [u8], passive: usize, choice: usize) -> Answer
-    ensures { λ r. ⌜ given r (now (state .exit)) ≡ callOn (now (plan .entry)) (reply passive choice) (now (state .entry)) ⌝ }
+    ensures { λ r. ⌜ given r (now (state .exit)) ≡ callOn (now (plan .entry)) (reply passive choice)
+        (now (state .entry)) ⌝ }
 {
     let mut routes = [[NO_SIDE; 32]; 16];
     let mut joints = [0u8; 64];
@@ -202,7 +204,8 @@ pub fn consume(plan: &[u8], state: &mut [u8], active: usize) -> Answer
 
 // Entry: what the slot table holds.
 pub fn entry(plan: &[u8], state: &[u8], router: usize, side: usize, slot: usize) -> Answer
-    ensures { λ r. ⌜ given r (now (state .entry)) ≡ callOn (now (plan .entry)) (entry router side slot) (now (state .entry)) ⌝ }
+    ensures { λ r. ⌜ given r (now (state .entry)) ≡ callOn (now (plan .entry)) (entry router side slot)
+        (now (state .entry)) ⌝ }
 {
     let mut routes = [[NO_SIDE; 32]; 16];
     let mut joints = [0u8; 64];

@@ -39,7 +39,8 @@ pub fn read(
 ) -> Answer
     requires { ⌜ Wiring h (now routes) (now joints) (now homes)
         × Holds (tablePlan h (now routes) (now joints)) (Good (tablePlan h (now routes) (now joints))) (now s) ⌝ }
-    ensures { λ x. ⌜ Acts (tablePlan h (now (routes .entry)) (now (joints .entry))) read (now (s .entry)) x (now (s .exit)) ⌝ }
+    ensures { λ x. ⌜ Acts (tablePlan h (now (routes .entry)) (now (joints .entry))) read (now (s .entry)) x
+        (now (s .exit)) ⌝ }
 {
     if s[0] != READ {
         return Answer::Refused(Refusal::WrongPhase);
@@ -58,7 +59,8 @@ pub fn execute(
 ) -> Answer
     requires { ⌜ Wiring h (now routes) (now joints) (now homes)
         × Holds (tablePlan h (now routes) (now joints)) (Good (tablePlan h (now routes) (now joints))) (now s) ⌝ }
-    ensures { λ x. ⌜ Acts (tablePlan h (now (routes .entry)) (now (joints .entry))) execute (now (s .entry)) x (now (s .exit)) ⌝ }
+    ensures { λ x. ⌜ Acts (tablePlan h (now (routes .entry)) (now (joints .entry))) execute (now (s .entry)) x
+        (now (s .exit)) ⌝ }
 {
     if s[0] != EXECUTE {
         return Answer::Refused(Refusal::WrongPhase);
@@ -77,7 +79,8 @@ pub fn write(
 ) -> Answer
     requires { ⌜ Wiring h (now routes) (now joints) (now homes)
         × Holds (tablePlan h (now routes) (now joints)) (Good (tablePlan h (now routes) (now joints))) (now s) ⌝ }
-    ensures { λ x. ⌜ Acts (tablePlan h (now (routes .entry)) (now (joints .entry))) write (now (s .entry)) x (now (s .exit)) ⌝ }
+    ensures { λ x. ⌜ Acts (tablePlan h (now (routes .entry)) (now (joints .entry))) write (now (s .entry)) x
+        (now (s .exit)) ⌝ }
 {
     if s[0] != WRITE {
         return Answer::Refused(Refusal::WrongPhase);

@@ -35,8 +35,8 @@ pub extern "C" fn pandabrass_load(plan: &[u8]) -> u32
     load::load_number(l) as u32
 }
 
-// The number of routers on a served pair's walk; 0 where the plan does not load, a number is out of range or the pair is
-// not served.
+// The number of routers on a served pair's walk; 0 where the plan does not load, a number is out of range or the pair
+// is not served.
 #[no_mangle]
 pub extern "C" fn pandabrass_walk(plan: &[u8], active: u32, passive: u32) -> u32
     ensures { λ r. ⌜ r ≡ walkOf (now (plan .entry)) active passive ⌝ }
@@ -126,7 +126,8 @@ pub extern "C" fn pandabrass_launch(
     passive: u32,
     slot: u32,
 ) -> u32
-    ensures { λ r. ⌜ (r ≡ answerNumber (callOn (now (plan .entry)) (launch active passive slot) (now (state .entry)) .answer))
+    ensures { λ r. ⌜ (r ≡ answerNumber
+        (callOn (now (plan .entry)) (launch active passive slot) (now (state .entry)) .answer))
         × (now (state .exit) ≡ callOn (now (plan .entry)) (launch active passive slot) (now (state .entry)) .bytes) ⌝ }
 {
     number_of(calls::launch(
@@ -157,7 +158,8 @@ pub extern "C" fn pandabrass_consume(
 ) -> u32
     ensures { λ r. ⌜ (r ≡ answerNumber (callOn (now (plan .entry)) (consume active) (now (state .entry)) .answer))
         × (now (state .exit) ≡ callOn (now (plan .entry)) (consume active) (now (state .entry)) .bytes)
-        × (now (out .exit) ≡ takenBytes (callOn (now (plan .entry)) (consume active) (now (state .entry)) .answer) (now (out .entry))) ⌝ }
+        × (now (out .exit) ≡ takenBytes (callOn (now (plan .entry)) (consume active) (now (state .entry)) .answer)
+        (now (out .entry))) ⌝ }
 {
     let x = calls::consume(plan, state, active as usize);
     put_taken(x, out);
@@ -198,8 +200,10 @@ pub extern "C" fn pandabrass_entry(
     slot: u32,
     out: &mut [u8; 8],
 ) -> u32
-    ensures { λ r. ⌜ (r ≡ answerNumber (callOn (now (plan .entry)) (entry router side slot) (now (state .entry)) .answer))
-        × (now (out .exit) ≡ entryByte (callOn (now (plan .entry)) (entry router side slot) (now (state .entry)) .answer) (now (out .entry))) ⌝ }
+    ensures { λ r. ⌜ (r ≡ answerNumber
+        (callOn (now (plan .entry)) (entry router side slot) (now (state .entry)) .answer))
+        × (now (out .exit) ≡ entryByte (callOn (now (plan .entry)) (entry router side slot)
+        (now (state .entry)) .answer) (now (out .entry))) ⌝ }
 {
     let x = calls::entry(plan, state, router as usize, side as usize, slot as usize);
     put_entry(x, out);

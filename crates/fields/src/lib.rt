@@ -1,4 +1,5 @@
-// A field of 1 to 6 bits of the plan's bytes, most significant bit first, read directly from the one or two bytes that hold it.
+// A field of 1 to 6 bits of the plan's bytes, most significant bit first, read directly from the one or two bytes
+// that hold it.
 ghost use mathlib.Core.Path.{_≡_};
 ghost use Prim.Native.Nat.{_≤_, _<_, _*_, _+_};
 ghost use lib.ListN.{length, getD};

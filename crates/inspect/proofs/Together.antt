@@ -165,7 +165,8 @@ module _ (h : Head) (routes : List (List ℕ)) (joints : List ℕ) (range : InRa
       let p = quiet-parts net b g in
       record {
         test = sym (rw (p .0, p .1, p .2));
-        count = λ f a l. ap (λ (s : List ℕ). getD s a 0) e ∙ none-spent a ∙ ap (min 200) (sym (quiet-spent net b g (spends a)));
+        count = λ f a l. ap (λ (s : List ℕ). getD s a 0) e ∙ none-spent a ∙ ap (min 200)
+            (sym (quiet-spent net b g (spends a)));
       }
 
   -- ---- the body

@@ -79,7 +79,8 @@ fn busy_ok(
 ) -> bool
     requires { ⌜ Lent h (now routes) (now joints) (now homes) (now lengths) (now by) × (stateSize h ≤ length (now s))
         × (getD (now s) 0 0 ≤ 2) × (now spent ≡ noneSpent) ⌝ }
-    ensures { λ r. ⌜ Passed (tablePlan h (now (routes .entry)) (now (joints .entry))) (now (s .entry)) r (now (spent .exit)) ⌝ }
+    ensures { λ r. ⌜ Passed (tablePlan h (now (routes .entry)) (now (joints .entry))) (now (s .entry)) r
+        (now (spent .exit)) ⌝ }
 {
     let mut up = no_tracks();
     arrivals::tracks::tracks(h, joints, homes, by, &mut up);
@@ -131,7 +132,8 @@ fn places_ok(
 ) -> bool
     requires { ⌜ Lent h (now routes) (now joints) (now homes) (now lengths) (now by) × (stateSize h ≤ length (now s))
         × (getD (now s) 0 0 ≤ 2) × (now spent ≡ noneSpent) ⌝ }
-    ensures { λ r. ⌜ Passed (tablePlan h (now (routes .entry)) (now (joints .entry))) (now (s .entry)) r (now (spent .exit)) ⌝ }
+    ensures { λ r. ⌜ Passed (tablePlan h (now (routes .entry)) (now (joints .entry))) (now (s .entry)) r
+        (now (spent .exit)) ⌝ }
 {
     if forms::quiet(s, h) {
         return true;
@@ -174,7 +176,8 @@ pub fn inspect(
     s: &[u8],
 ) -> Checked
     requires { ⌜ Lent h (now routes) (now joints) (now homes) (now lengths) (now by) ⌝ }
-    ensures { λ r. ⌜ r ≡ checkedOf (checkOf (tablePlan h (now (routes .entry)) (now (joints .entry))) (now (s .entry))) ⌝ }
+    ensures { λ r. ⌜ r ≡ checkedOf (checkOf (tablePlan h (now (routes .entry)) (now (joints .entry))) (now (s .entry)))
+        ⌝ }
 {
     if s.len() < acts::state_size(h) {
         return Checked::NotState;

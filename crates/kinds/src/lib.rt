@@ -1,4 +1,5 @@
-// The three counters of the network, and why a call is refused. The counters are never added or compared but by a stated rule.
+// The three counters of the network, and why a call is refused. The counters are never added or compared but by a
+// stated rule.
 
 // Document 004's SLOT: a time slot, below the plan's slot count.
 pub struct Slot(pub u8);

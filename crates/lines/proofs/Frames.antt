@@ -24,7 +24,8 @@ use Rattle.machine.specs.Valid.{fed, isJoined}
 use Rattle.layout.specs.Codes.{flagOf}
 use Rattle.states.specs.Parts.{frameTest}
 use Rattle.lines.specs.Lines.{ofHead}
-use Rattle.lines.specs.Frame.{flagFits, markFits, flagsOf, frameOf, joinedBy, crossSide, fedInRouter, fedOf, unitOf, placeIn, routerIn}
+use Rattle.lines.specs.Frame.{flagFits, markFits, flagsOf, frameOf, joinedBy, crossSide, fedInRouter, fedOf}
+use Rattle.lines.specs.Frame.{unitOf, placeIn, routerIn}
 
 also-assoc : (a b c : Bool) → also (also a b) c ≡ also a (also b c)
 also-assoc true b c = refl
@@ -187,7 +188,8 @@ module _ (h : Head) (routes : List (List ℕ)) (joints : List ℕ) where
         by : (n < h .actives) ⊎ (h .actives ≤ n) → (n < destinations h) ⊎ (destinations h ≤ n)
             → (n < destinations h + 21 * h .routers) ⊎ (destinations h + 21 * h .routers ≤ n)
             → (ltb n (destinations h + 21 * h .routers + h .actives) ≡ true)
-            ⊎ (ltb n (destinations h + 21 * h .routers + h .actives) ≡ false) → fedOf h joints n ≡ fed net (queueAt net n)
+            ⊎ (ltb n (destinations h + 21 * h .routers + h .actives) ≡ false) → fedOf h joints n ≡ fed net
+            (queueAt net n)
         by (inl a) d b x =
             let l : n < destinations h = omega arith in rw (lt-ltb n (h .actives) a, lt-ltb n (destinations h) l)
         by (inr a) (inl d) b x = rw (le-ltb n (h .actives) a, lt-ltb n (destinations h) d)
@@ -201,7 +203,8 @@ module _ (h : Head) (routes : List (List ℕ)) (joints : List ℕ) where
 
     pub unit-law : unitOf h n ≡ isUnit (queueAt net n)
     unfolding unitOf queueAt tablePlan
-    unit-law = by (lt-or-ge n (h .actives)) (lt-or-ge n (destinations h)) (lt-or-ge n (destinations h + 21 * h .routers))
+    unit-law = by (lt-or-ge n (h .actives)) (lt-or-ge n (destinations h))
+        (lt-or-ge n (destinations h + 21 * h .routers))
         (test (ltb n (destinations h + 21 * h .routers + h .actives)))
       where
         by : (n < h .actives) ⊎ (h .actives ≤ n) → (n < destinations h) ⊎ (destinations h ≤ n)

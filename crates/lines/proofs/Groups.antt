@@ -81,7 +81,8 @@ module _ (h : Head) (routes : List (List ℕ)) (joints : List ℕ) where
   pub active-out-cap : (k : ℕ) → k < h .actives → h .aout .0 ≡ capacity h (queueAt net (0 + k))
   unfolding tablePlan number
   active-out-cap k l =
-      ap (capacity h) (sym (queue-at net (activeOut k) l)) ∙ ap (λ (n : ℕ). capacity h (queueAt net n)) (sym (zero-add k))
+      ap (capacity h) (sym (queue-at net (activeOut k) l)) ∙ ap (λ (n : ℕ). capacity h (queueAt net n))
+      (sym (zero-add k))
 
   pub passive-out-cap : (k : ℕ) → k < h .passives → h .pout .0 ≡ capacity h (queueAt net (0 + h .actives + k))
   unfolding tablePlan number
@@ -111,7 +112,8 @@ module _ (h : Head) (routes : List (List ℕ)) (joints : List ℕ) where
       record {
         test =
             x .test
-            ∙ all-same (destinations h + 21 * h .routers + destinations h) (λ k. queueRowTest net b (queueAt net (0 + k)))
+            ∙ all-same (destinations h + 21 * h .routers + destinations h)
+            (λ k. queueRowTest net b (queueAt net (0 + k)))
             (λ k. queueRowTest net b (queueAt net k))
             (λ k l. ap (λ (n : ℕ). queueRowTest net b (queueAt net n)) (zero-add k))
             ∙ ap (λ (m : ℕ). allBelow m (λ k. queueRowTest net b (queueAt net k))) (sym count-is);

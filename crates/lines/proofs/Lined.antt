@@ -88,7 +88,8 @@ module _ (b : List ℕ) where
   form-of (suc c) (suc n) i l x y =
       also-of (let f : i + packetWidth * 0 + packetKind ≡ i + packetKind = omega arith in rw f at (x 0 (omega arith)))
       (form-of c n (i + packetWidth) (omega arith)
-      (λ k h. let f : i + packetWidth * suc k + packetKind ≡ i + packetWidth + packetWidth * k + packetKind = omega arith in
+      (λ k h. let f : i + packetWidth * suc k + packetKind
+      ≡ i + packetWidth + packetWidth * k + packetKind = omega arith in
       rw f at (x (suc k) (omega arith)))
       (λ k h. let f : i + packetWidth * suc n + k ≡ i + packetWidth + packetWidth * n + k = omega arith in
       rw f at (y k (omega arith))))
@@ -175,7 +176,8 @@ module _ (pl : Plan) (q : Queue) (done : Bool) (b : List ℕ) where
           (form-blank b c n i l f))
           (all-of n (placeTest pl q done i b) (λ k h. also-of (form-kinds b c n i l f k h) (lined-at c n i l g k h)))
 
-      from : also (zeros (i + packetWidth * n) (packetWidth * c - packetWidth * n) b) (placesTest pl q done n i b) ≡ true
+      from : also (zeros (i + packetWidth * n) (packetWidth * c - packetWidth * n) b) (placesTest pl q done n i b)
+          ≡ true
           → also (placesForm c n i b) (linedTest pl q done (packetsAt c n i b)) ≡ true
       from e =
           let f = left-true (zeros (i + packetWidth * n) (packetWidth * c - packetWidth * n) b)

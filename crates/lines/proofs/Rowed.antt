@@ -100,7 +100,8 @@ module _ (pl : Plan) (b : List ℕ) (q : Queue) (h : Exists pl q) where
   abbrev byBytes : Bool
   byBytes =
       also (queueForm i b)
-      (also (frameTest pl (phaseOf (getD b phaseByte 0)) q (getD b (i + creditByte) 0) (flagOf (getD b (i + flagByte) 0))
+      (also (frameTest pl (phaseOf (getD b phaseByte 0)) q (getD b (i + creditByte) 0)
+      (flagOf (getD b (i + flagByte) 0))
       (flagOf m) (length (packetsAt places n (i + firstPlace) b)) (onWires pl q (decode pl b)))
       (linedTest pl q (flagOf m) (packetsAt places n (i + firstPlace) b)))
 

@@ -103,7 +103,8 @@ module _ (pl : Plan) (q : Queue) (done : Bool) (i : ℕ) (b : List ℕ) (k : ℕ
   place-kind l =
       record { test = rw (kind-at, lt-leb (getD b at 0) 3 l); count = λ f. absurd (false≢true f) }
 
-  pub place-numbers : {r : Bool} → getD b at 0 ≤ 3 → r ≡ also (packetTest pl here) (served pl (here .active) (here .passive))
+  pub place-numbers : {r : Bool} → getD b at 0 ≤ 3 → r ≡ also (packetTest pl here)
+      (served pl (here .active) (here .passive))
       → r ≡ false → PlaceChecked pl q done i b k false t u
   unfolding placeTest belongsTest
   place-numbers l e f =

@@ -6,6 +6,7 @@ use Rattle.plan.specs.Tables.{tablePlan}
 use Rattle.arrivals.specs.Tracks.{Tracks}
 use Rattle.moves.specs.Lent.{Lent}
 
-pub record Ready (h : Head) (routes : List (List ℕ)) (joints homes : List ℕ) (lengths by up : List (List ℕ)) : Type 0 where
+pub record Ready (h : Head) (routes : List (List ℕ)) (joints homes : List ℕ)
+    (lengths by up : List (List ℕ)) : Type 0 where
   pub lent : Lent h routes joints homes lengths by
   pub tracks : Tracks (tablePlan h routes joints) up

@@ -7,7 +7,8 @@ ghost use Prim.Native.Nat.{ℕ, _+_, _*_, _≤_, _<_};
 ghost use Rattle.plan.specs.Head.{Counts, destinations};
 ghost use Rattle.machine.specs.Valid.{spendsKind};
 ghost use Rattle.lines.specs.Tally.{counted};
-ghost use Rattle.lines.specs.Frame.{flagFits, markFits, flagsOf, frameOf, joinedAt, crossSide, fedInRouter, fedOf, unitOf};
+ghost use Rattle.lines.specs.Frame.{flagFits, markFits, flagsOf, frameOf, joinedAt, crossSide, fedInRouter};
+ghost use Rattle.lines.specs.Frame.{fedOf, unitOf};
 ghost use Rattle.lines.specs.Lines.{ofHead};
 
 // What a packet of a kind has spent of its active's allowance.

@@ -1,5 +1,5 @@
-// The queues' rows of a state: whether credit, flag, mark and length fit and every packet belongs where it is, and what each
-// active has spent.
+// The queues' rows of a state: whether credit, flag, mark and length fit and every packet belongs where it is, and
+// what each active has spent.
 use packets::Kind;
 use packets::Packet;
 use plan::Head;
@@ -51,7 +51,8 @@ pub fn packet_ok(h: Head, lengths: &[[u8; 16]; 16], x: Packet) -> bool
     requires { ⌜ InRange h ⌝ }
     ensures { λ r. ⌜ ((routes : List (List ℕ)) (joints homes : List ℕ) (by : List (List ℕ))
         → Lent h routes joints homes (now (lengths .entry)) by
-        → r ≡ also (packetTest (tablePlan h routes joints) x) (served (tablePlan h routes joints) (x .active) (x .passive))) ⌝ }
+        → r ≡ also (packetTest (tablePlan h routes joints) x)
+        (served (tablePlan h routes joints) (x .active) (x .passive))) ⌝ }
 {
     let a = index(x.active);
     let p = index(x.passive);
@@ -86,7 +87,8 @@ fn place_ok(
     k: usize,
     spent: &mut [u8; 16],
 ) -> bool
-    requires { ⌜ Ready h (now routes) (now joints) (now homes) (now lengths) (now by) (now up) × (n < queueCount h) × (k < 7)
+    requires { ⌜ Ready h (now routes) (now joints) (now homes) (now lengths) (now by) (now up) × (n < queueCount h)
+        × (k < 7)
         × (i + 5 * k + 5 ≤ length (now s)) ⌝ }
     ensures { λ r. ⌜ PlaceChecked (tablePlan h (now (routes .entry)) (now (joints .entry)))
         (queueAt (tablePlan h (now (routes .entry)) (now (joints .entry))) n) done i (now (s .entry)) k r
@@ -141,7 +143,8 @@ fn places_ok(
     i: usize,
     spent: &mut [u8; 16],
 ) -> bool
-    requires { ⌜ Ready h (now routes) (now joints) (now homes) (now lengths) (now by) (now up) × (n < queueCount h) × (m ≤ 7)
+    requires { ⌜ Ready h (now routes) (now joints) (now homes) (now lengths) (now by) (now up) × (n < queueCount h)
+        × (m ≤ 7)
         × (i + 35 ≤ length (now s)) ⌝ }
     ensures { λ r. ⌜ PlacesChecked (tablePlan h (now (routes .entry)) (now (joints .entry)))
         (queueAt (tablePlan h (now (routes .entry)) (now (joints .entry))) n) done m i (now (s .entry)) r
@@ -282,9 +285,11 @@ fn rows_ok(
     caps: &[u8; 21],
     spent: &mut [u8; 16],
 ) -> bool
-    requires { ⌜ Ready h (now routes) (now joints) (now homes) (now lengths) (now by) (now up) × (from + m ≤ queueCount h)
+    requires { ⌜ Ready h (now routes) (now joints) (now homes) (now lengths) (now by) (now up)
+        × (from + m ≤ queueCount h)
         × (m ≤ 21) × (stateSize h ≤ length (now s))
-        × ((k : ℕ) → k < m → getD (now caps) k 0 ≡ capacity h (queueAt (tablePlan h (now routes) (now joints)) (from + k)))
+        × ((k : ℕ) → k < m → getD (now caps) k 0 ≡ capacity h
+        (queueAt (tablePlan h (now routes) (now joints)) (from + k)))
         × Coming (tablePlan h (now routes) (now joints)) (now s) (now coming) ⌝ }
     ensures { λ r. ⌜ RowsChecked (tablePlan h (now (routes .entry)) (now (joints .entry))) (now (s .entry)) from m r
         (now (spent .entry)) (now (spent .exit)) ⌝ }
@@ -415,7 +420,8 @@ fn interfaces_ok(
         × ((k : ℕ) → k < h .actives → cap ≡ capacity h (queueAt (tablePlan h (now routes) (now joints)) (from + k)))
         × ((k : ℕ) → k < h .passives
         → more ≡ capacity h (queueAt (tablePlan h (now routes) (now joints)) (from + h .actives + k))) ⌝ }
-    ensures { λ r. ⌜ RowsChecked (tablePlan h (now (routes .entry)) (now (joints .entry))) (now (s .entry)) from (destinations h) r
+    ensures { λ r. ⌜ RowsChecked (tablePlan h (now (routes .entry)) (now (joints .entry))) (now (s .entry)) from
+        (destinations h) r
         (now (spent .entry)) (now (spent .exit)) ⌝ }
 {
     let caps = same_caps(cap);

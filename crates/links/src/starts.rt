@@ -9,7 +9,8 @@ ghost use mathlib.Core.List.{List};
 ghost use Prim.Native.Nat.{ℕ, _≤_, _<_};
 ghost use lib.ListN.{replicate};
 ghost use Rattle.spread.specs.Carried.{Spread};
-ghost use Rattle.links.specs.Starts.{homeRow, startsOf, aloneOf, liveOf, livesOf, noteOf, notesOf, Answering, Answers};
+ghost use Rattle.links.specs.Starts.{homeRow, startsOf, aloneOf, liveOf, livesOf, noteOf, notesOf, Answering};
+ghost use Rattle.links.specs.Starts.{Answers};
 
 // The router that active a is joined to.
 fn home(homes: &[u8; 32], a: usize) -> usize
@@ -122,7 +123,8 @@ fn answering(
     t: &mut [u32; 32],
 )
     requires { ⌜ (n ≤ 16) × (actives ≤ 16) × (now t ≡ replicate 32 0) ⌝ }
-    ensures { λ _. ⌜ Answering (now (by .entry)) (now (joints .entry)) (now (homes .entry)) (now (served .entry)) n actives
+    ensures { λ _. ⌜ Answering (now (by .entry)) (now (joints .entry)) (now (homes .entry))
+        (now (served .entry)) n actives
         (now (t .exit)) ⌝ }
 {
     for a in 0..actives {
@@ -143,7 +145,8 @@ pub fn answers(
     t: &mut [u32; 32],
 )
     requires { ⌜ (n ≤ 16) × (actives ≤ 16) × (now t ≡ replicate 32 0) ⌝ }
-    ensures { λ _. ⌜ Answers (now (by .entry)) (now (joints .entry)) (now (homes .entry)) (now (served .entry)) n actives
+    ensures { λ _. ⌜ Answers (now (by .entry)) (now (joints .entry)) (now (homes .entry))
+        (now (served .entry)) n actives
         (now (t .exit)) ⌝ }
 {
     answering(by, joints, homes, served, n, actives, t);

@@ -88,8 +88,8 @@ pub record LentSides (b : List ℕ) (l : Loaded) (by : List (List ℕ)) : Type 0
   pub past : (h : Head) → l ≡ Accepted h → (r o d : ℕ) → h .routers ≤ r → o < 4
       → has (getD (getD by r []) o 0) d ≡ false
 
--- what Load leaves in tables that were blank: its answer, and an accepted plan's tables; after a refusal nothing is said
--- of them
+-- what Load leaves in tables that were blank: its answer, and an accepted plan's tables; after a refusal nothing is
+-- said of them
 pub record Filled (b : List ℕ) (l : Loaded) (routes : List (List ℕ)) (joints homes : List ℕ)
     (lengths by : List (List ℕ)) : Type 0 where
   pub answer : l ≡ loadOf b

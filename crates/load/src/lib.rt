@@ -10,7 +10,8 @@ ghost use lib.ListN.{getD, replicate};
 ghost use Rattle.kinds.specs.declared.Refusal.{Refusal as Why};
 ghost use Rattle.kinds.specs.Refusals.{refusalNumber};
 ghost use Rattle.plan.specs.Head.{headOf, InRange};
-ghost use Rattle.load.specs.Load.{lengthOk, loadOf, loadNumber, loadRoutes, loadJoints, loadHomes, loadLengths, LentSides};
+ghost use Rattle.load.specs.Load.{lengthOk, loadOf, loadNumber, loadRoutes, loadJoints, loadHomes, loadLengths};
+ghost use Rattle.load.specs.Load.{LentSides};
 ghost use Rattle.load.specs.Load.{Blank, Filled, noRoutes, noWalks, noDestinations};
 ghost use Rattle.load.specs.declared.Loaded.the-variants.{Refused as Unloaded};
 ghost use Rattle.load.specs.Walk.{walkOf};
@@ -164,8 +165,8 @@ pub fn pair_walk(lengths: &[[u8; 16]; 16], a: usize, p: usize) -> Hub
     Hub(lengths[a][p])
 }
 
-// The number of routers on a served pair's walk; 0 where the plan does not load, a number is out of range or the pair is
-// not served.
+// The number of routers on a served pair's walk; 0 where the plan does not load, a number is out of range or the pair
+// is not served.
 pub fn walk(plan: &[u8], active: usize, passive: usize) -> Hub
     ensures { λ r. ⌜ r .0 ≡ walkOf (now (plan .entry)) active passive ⌝ }
 {

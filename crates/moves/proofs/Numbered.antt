@@ -156,7 +156,8 @@ module _ (h : Head) (routes : List (List ℕ)) (joints homes : List ℕ) (w : Wi
   routed-number k a p r o hr ho = by (test (ltb o 4)) (test (eqb o 4))
     where
       by : (ltb o 4 ≡ true) ⊎ (ltb o 4 ≡ false) → (eqb o 4 ≡ true) ⊎ (eqb o 4 ≡ false)
-          → routedOf h routes joints r o (goesBack k) a p ≡ numberOr net (beyond net (headingOf k) a p (routerOutput r o))
+          → routedOf h routes joints r o (goesBack k) a p ≡ numberOr net
+          (beyond net (headingOf k) a p (routerOutput r o))
       by (inl x) y = rw x (across-number k a p r o (ltb-true o 4 x))
       by (inr x) (inl y) = rw (x, y) (unit-number r hr)
       by (inr x) (inr y) = rw (x, y)

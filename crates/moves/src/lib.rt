@@ -1,4 +1,5 @@
-// Where packets go next, by the tables that Load lends: the number of the queue that a packet joins as it leaves by an output.
+// Where packets go next, by the tables that Load lends: the number of the queue that a packet joins as it leaves by
+// an output.
 use packets::Kind;
 use packets::Packet;
 use plan::Head;
@@ -12,7 +13,8 @@ ghost use Rattle.plan.specs.Plan.{noSide};
 ghost use Rattle.plan.specs.Tables.{tablePlan};
 ghost use Rattle.machine.specs.Outputs.{nextBy, outputAt};
 ghost use Rattle.moves.specs.Wiring.{Wiring};
-ghost use Rattle.moves.specs.Next.{numberOr, goesBack, baseOf, outputsOf, crossedOf, leavesOf, enteredOf, acrossOf, columnOf};
+ghost use Rattle.moves.specs.Next.{numberOr, goesBack, baseOf, outputsOf, crossedOf, leavesOf, enteredOf};
+ghost use Rattle.moves.specs.Next.{acrossOf, columnOf};
 ghost use Rattle.moves.specs.Next.{routedOf, nextOf};
 
 // No queue.

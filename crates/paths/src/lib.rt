@@ -1,6 +1,6 @@
 // Walks: the way from a router to an interface by the routes, step by step.
-// A plan is two tables and a head: the side by router and destination column, and what each port is joined to, as a byte
-// (kind times 64, number times 4, partner's side). A port is a number, router times four plus side.
+// A plan is two tables and a head: the side by router and destination column, and what each port is joined to, as a
+// byte (kind times 64, number times 4, partner's side). A port is a number, router times four plus side.
 use plan::Head;
 ghost use mathlib.Core.Path.{_≡_};
 ghost use mathlib.Core.List.{List, []};
@@ -43,7 +43,8 @@ fn side_of(row: &[u8], d: usize) -> u8
 // The side that a router gives for the interface of a column.
 pub fn side_out(routes: &[[u8; 32]; 16], d: usize, r: usize) -> u8
     requires { ⌜ (d < 32) × (r < 16) ⌝ }
-    ensures { λ v. ⌜ ((h : Head) (joints : List ℕ) → v ≡ routeTo (tablePlan h (now (routes .entry)) joints) (interfaceAt h d) r) ⌝ }
+    ensures { λ v. ⌜ ((h : Head) (joints : List ℕ) → v ≡ routeTo (tablePlan h (now (routes .entry)) joints)
+        (interfaceAt h d) r) ⌝ }
 {
     side_of(&routes[r], d)
 }
@@ -60,7 +61,8 @@ fn wanted(h: Head, d: usize) -> usize
     48 + (d - actives)
 }
 
-// One step of a walk from a port: through the side given for the column, to the joint that is wanted or to the next router.
+// One step of a walk from a port: through the side given for the column, to the joint that is wanted or to the next
+// router.
 fn step_to(routes: &[[u8; 32]; 16], joints: &[u8; 64], d: usize, want: usize, at: usize) -> Step
     requires { ⌜ (d < 32) × (at < 64) ⌝ }
     ensures { λ s. ⌜ Stepped (now (routes .entry)) (now (joints .entry)) d want at s ⌝ }
@@ -90,7 +92,8 @@ pub fn stands(
     k: usize,
 ) -> Step
     requires { ⌜ (h .actives ≤ 16) × (d < 32) × (from < 64) ⌝ }
-    ensures { λ s. ⌜ s ≡ stepOf (walked (tablePlan h (now (routes .entry)) (now (joints .entry))) (interfaceAt h d) k (portOf from)) ⌝ }
+    ensures { λ s. ⌜ s ≡ stepOf (walked (tablePlan h (now (routes .entry)) (now (joints .entry))) (interfaceAt h d) k
+        (portOf from)) ⌝ }
 {
     let want = wanted(h, d);
     let mut at = from;

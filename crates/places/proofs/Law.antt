@@ -297,7 +297,8 @@ module _ {h : Head} {actives outs inner : ℕ} {routes : List (List ℕ)} {joint
 
         by′ : (n < h .actives + h .passives) ⊎ (h .actives + h .passives ≤ n)
             → (n - (h .actives + h .passives) < 21 * h .routers) ⊎ (21 * h .routers ≤ n - (h .actives + h .passives))
-            → Tested (headPlace done (queueAt (tablePlan h routes joints) n)) (fitsBy routes joints homes by up t x (h .actives)
+            → Tested (headPlace done (queueAt (tablePlan h routes joints) n))
+            (fitsBy routes joints homes by up t x (h .actives)
             (h .actives + h .passives) (21 * h .routers) n done)
         by′ (inl l) m =
             rw (lt-ltb n (h .actives + h .passives) l, queue-out n l)

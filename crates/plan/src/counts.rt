@@ -1,4 +1,5 @@
-// The plan's first 45 bits: counts and capacities, their ranges, the length that they give, and the fill bits behind it.
+// The plan's first 45 bits: counts and capacities, their ranges, the length that they give, and the fill bits behind
+// it.
 use crate::Head;
 use kinds::Credit;
 use sets::below;

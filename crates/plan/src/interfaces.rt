@@ -31,7 +31,8 @@ const ACTIVE_BYTES: u8 = 128;
 // Whether the i-th port, if it is joined to a router, is joined to another router, whose joint names it back.
 pub fn back_ok(joints: &[u8; 64], i: usize) -> bool
     requires { ⌜ i < 64 ⌝ }
-    ensures { λ r. ⌜ ((h : Head) → r ≡ backOk (tablePlan h [] (now (joints .entry))) i (jointOfPort (tablePlan h [] (now (joints .entry))) i)) ⌝ }
+    ensures { λ r. ⌜ ((h : Head) → r ≡ backOk (tablePlan h [] (now (joints .entry))) i
+        (jointOfPort (tablePlan h [] (now (joints .entry))) i)) ⌝ }
 {
     let v = joints[i];
     if v / KIND != TO_ROUTER {
@@ -142,12 +143,13 @@ fn port_or_0(cell: u8) -> u8
     if cell < NONE_FOUND { cell } else { 0 }
 }
 
-// The port number of every interface, by column; answers whether router joints are named back by another router, and each
-// interface has exactly one joint: refusal 5.
+// The port number of every interface, by column; answers whether router joints are named back by another router, and
+// each interface has exactly one joint: refusal 5.
 pub fn homes(h: Head, joints: &[u8; 64], r: &mut [u8; 32]) -> bool
     requires { ⌜ Counts h × (jointBytesOk h (now joints) ≡ true) × (now r ≡ replicate 32 0) ⌝ }
     ensures { λ ok. ⌜ (now (r .exit) ≡ homesOf (tablePlan h [] (now (joints .entry))))
-        × (ok ≡ (namedOk (tablePlan h [] (now (joints .entry))) && interfacesOk (tablePlan h [] (now (joints .entry))))) ⌝ }
+        × (ok ≡ (namedOk (tablePlan h [] (now (joints .entry))) && interfacesOk
+        (tablePlan h [] (now (joints .entry))))) ⌝ }
 {
     let mut t = [NONE_FOUND; 32];
     let named = found(h, joints, &mut t);

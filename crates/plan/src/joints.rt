@@ -1,4 +1,5 @@
-// The joints: 8 bits for each side of each router, kept as a byte (kind times 64, number times 4, partner's side) by port number.
+// The joints: 8 bits for each side of each router, kept as a byte (kind times 64, number times 4, partner's side) by
+// port number.
 use crate::Head;
 use crate::Joint;
 ghost use mathlib.Core.Path.{_≡_};
@@ -66,8 +67,8 @@ fn joint_byte_ok(routers: u8, actives: u8, passives: u8, v: u8) -> bool
     (v / NUMBER % NUMBERS < most) & ((kind == TO_ROUTER) | (v % NUMBER == 0))
 }
 
-// The joints of the plan's routers, and nothing at the ports behind them; answers whether each joint's kind, number and side
-// are in range: refusal 4.
+// The joints of the plan's routers, and nothing at the ports behind them; answers whether each joint's kind, number
+// and side are in range: refusal 4.
 pub fn joints(plan: &[u8], h: Head, t: &mut [u8; 64]) -> bool
     requires { ⌜ Counts h × (6 + 4 * h .routers ≤ length (now plan)) × (now t ≡ replicate 64 0) ⌝ }
     ensures { λ ok. ⌜ (now (t .exit) ≡ jointsOf (now (plan .entry)) h) × (ok ≡ jointBytesOk h (now (t .exit))) ⌝ }

@@ -1,12 +1,13 @@
-// The plan's bytes: counts and capacities, and joints (routes are read in crate routes), with the tests of document 01's refusals 1 to 5.
+// The plan's bytes: counts and capacities, and joints (routes are read in crate routes), with the tests of document
+// 01's refusals 1 to 5.
 use kinds::Credit;
 
 pub mod counts;
 pub mod interfaces;
 pub mod joints;
 
-// The plan's first 45 bits: counts, the slot count and the eight capacities, in the plan's order: of the actives' out-queues (aout) and
-// in-queues (ain), of U, Q, F and K, of the passives' in-queues (pin) and out-queues (pout).
+// The plan's first 45 bits: counts, the slot count and the eight capacities, in the plan's order: of the actives'
+// out-queues (aout) and in-queues (ain), of U, Q, F and K, of the passives' in-queues (pin) and out-queues (pout).
 pub struct Head {
     pub routers: usize,
     pub actives: usize,

@@ -215,7 +215,8 @@ module _ (g : ℕ → ℕ) where
         by : (i < d) ⊎ (d ≤ i) → (i < 32) ⊎ (32 ≤ i) → (i - d < 8) ⊎ (8 ≤ i - d)
             → ((ltb i d && eqb (g i) o) || has (laneOf s o d) i) ≡ (ltb i (d + m) && eqb (g i) o)
         by (inl a) b c =
-            rw (lt-ltb i d a, lane-under s o d (omega arith) i a, lt-ltb i (d + m) (omega arith)) (or-none (eqb (g i) o))
+            rw (lt-ltb i d a, lane-under s o d (omega arith) i a, lt-ltb i (d + m) (omega arith))
+            (or-none (eqb (g i) o))
         by (inr a) (inr b) c =
             rw (le-ltb i d a, lane-past s o d (omega arith) i b, le-ltb i (d + m) (omega arith))
         by (inr a) (inl b) (inl c) =

@@ -1,5 +1,5 @@
-// The routes: 3 bits for each router and destination, kept as a table of bytes, router by destination, with 7 where the plan gives no side;
-// and as sets of destinations by router and side.
+// The routes: 3 bits for each router and destination, kept as a table of bytes, router by destination, with 7 where
+// the plan gives no side; and as sets of destinations by router and side.
 use plan::Head;
 use plan::counts::JOINTS_AT;
 use plan::counts::ROUTE_BITS;
@@ -13,7 +13,8 @@ ghost use lib.ListN.{length};
 ghost use Rattle.fields.specs.Bits.{fieldOf};
 ghost use Rattle.sets.specs.Sets.{either, single};
 ghost use Rattle.plan.specs.Head.{Counts, bitCount};
-ghost use Rattle.routes.specs.Marks.{sideAt, fitsOf, laneOf, Put, PutIf, Group, Laid, Empty, Row, NoRoutes, Routes};
+ghost use Rattle.routes.specs.Marks.{sideAt, fitsOf, laneOf, Put, PutIf, Group, Laid, Empty, Row, NoRoutes};
+ghost use Rattle.routes.specs.Marks.{Routes};
 
 // What the table holds where the plan gives no side.
 pub const NO_SIDE: u8 = 7;
@@ -189,7 +190,8 @@ fn long_row(plan: &[u8], n: usize, at: usize, row: &mut [u8; 32], sides: &mut [u
 // A row of at most eight columns.
 fn short_row(plan: &[u8], n: usize, at: usize, row: &mut [u8; 32], sides: &mut [u32; 4]) -> bool
     requires { ⌜ (n ≤ 8) × (6 ≤ at) × (at < 100000) × (at + 3 * n ≤ 8 * length (now plan)) × Empty (now sides) ⌝ }
-    ensures { λ ok. ⌜ Row (sideAt (now (plan .entry)) at) n (now (row .entry)) (now (row .exit)) (now (sides .exit)) ok ⌝ }
+    ensures { λ ok. ⌜ Row (sideAt (now (plan .entry)) at) n (now (row .entry)) (now (row .exit))
+        (now (sides .exit)) ok ⌝ }
 {
     let s = some(plan, n, at, 0, row);
     lay(sides, s, 0);
@@ -200,7 +202,8 @@ fn short_row(plan: &[u8], n: usize, at: usize, row: &mut [u8; 32], sides: &mut [
 // which are empty before; answers whether each is a side or none.
 fn read_row(plan: &[u8], n: usize, at: usize, row: &mut [u8; 32], sides: &mut [u32; 4]) -> bool
     requires { ⌜ (n ≤ 32) × (6 ≤ at) × (at < 100000) × (at + 3 * n ≤ 8 * length (now plan)) × Empty (now sides) ⌝ }
-    ensures { λ ok. ⌜ Row (sideAt (now (plan .entry)) at) n (now (row .entry)) (now (row .exit)) (now (sides .exit)) ok ⌝ }
+    ensures { λ ok. ⌜ Row (sideAt (now (plan .entry)) at) n (now (row .entry)) (now (row .exit))
+        (now (sides .exit)) ok ⌝ }
 {
     if n <= GROUP {
         return short_row(plan, n, at, row, sides);
@@ -208,8 +211,8 @@ fn read_row(plan: &[u8], n: usize, at: usize, row: &mut [u8; 32], sides: &mut [u
     long_row(plan, n, at, row, sides)
 }
 
-// The routes of all routers, into the table and into sets of destinations by router and side; answers whether each is a side
-// or none: refusal 4.
+// The routes of all routers, into the table and into sets of destinations by router and side; answers whether each is
+// a side or none: refusal 4.
 pub fn routes(plan: &[u8], h: Head, t: &mut [[u8; 32]; 16], by: &mut [[u32; 4]; 16]) -> bool
     requires { ⌜ Counts h × (bitCount h ≤ 8 * length (now plan)) × NoRoutes (now t) (now by) ⌝ }
     ensures { λ ok. ⌜ Routes (now (plan .entry)) h (now (t .exit)) (now (by .exit)) ok ⌝ }

@@ -48,7 +48,8 @@ returns c = λ pl arrive told.
     let crossed = c .before .before .before .before in
     let left = crossed .before .before .before in
     let sent = left .before .before .before .before in
-    answers-ring (sent .before .before .before .pre .0) told (sent .answers .ensures) (left .before .before .below .ensures)
+    answers-ring (sent .before .before .before .pre .0) told (sent .answers .ensures)
+    (left .before .before .below .ensures)
     (left .leaves .ensures) (crossed .cross-cells .ensures) (c .has-ring .ensures)
 
 pub answers-round-spec : {M : Type 1} → statement M

@@ -3,7 +3,8 @@ use Rattle.wires.proofs.Bringing.{coming-is}
 use mathlib.Core.Path.{_∙_, sym, ap}
 use native.Mathlib.Omega.{arith}
 use borrow.Author.Tests.{not-true, not-false}
-use Rattle.inspect.proofs.Together.{none-coming, coming-long, no-tracks, busy-outputs, busy-lines, busy-picks, busy-else, lent-wired}
+use Rattle.inspect.proofs.Together.{none-coming, coming-long, no-tracks, busy-outputs, busy-lines, busy-picks}
+use Rattle.inspect.proofs.Together.{busy-else, lent-wired}
 use borrow.Author.Needs.{needs}
 use Rattle.inspect.proofs.busy_ok.Statement.{statement}
 use Rattle.inspect.proofs.busy_ok.Tie as tie

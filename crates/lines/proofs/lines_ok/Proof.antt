@@ -1,6 +1,7 @@
 use native.Mathlib.Omega.{arith}
 use borrow.Author.Tests.{not-true, not-false}
-use Rattle.lines.proofs.Groups.{active-out-cap, passive-out-cap, active-in-cap, passive-in-cap, lines-first, lines-second, lines-all}
+use Rattle.lines.proofs.Groups.{active-out-cap, passive-out-cap, active-in-cap, passive-in-cap, lines-first}
+use Rattle.lines.proofs.Groups.{lines-second, lines-all}
 use borrow.Author.Needs.{needs}
 use Rattle.lines.proofs.lines_ok.Statement.{statement}
 use Rattle.lines.proofs.lines_ok.Tie as tie

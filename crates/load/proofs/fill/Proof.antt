@@ -119,8 +119,10 @@ walks-requires c κs =
     let c10 = c5 .before .before .before .before .before in
     let c15 = c10 .before .before .before .before .before in
     let c20 = c15 .before .before .before .before .before in
-    let ready = sweeps-ready _ _ _ _ _ (range-counts _ (head-range _ (c15 .before .before .before .before .head-ok .ensures)
-    (not-false _ (c15 .before .before .before .if2 .left)))) (tables _ (c20 .before .if1 .left) (c20 .read-head .ensures) (c15 .before
+    let ready = sweeps-ready _ _ _ _ _
+    (range-counts _ (head-range _ (c15 .before .before .before .before .head-ok .ensures)
+    (not-false _ (c15 .before .before .before .if2 .left))))
+    (tables _ (c20 .before .if1 .left) (c20 .read-head .ensures) (c15 .before
     .before .before .before .head-ok .ensures) (not-false _ (c15 .before .before .before .if2 .left)) (c15 .before
     .before .length-ok .ensures) (not-false _ (c15 .before .if3 .left)) (c10 .before .before .before .before .joints
     .ensures .0) (c10 .before .routes .ensures .table) (ap₂ _&&_ (c10 .before .before .before .before .joints

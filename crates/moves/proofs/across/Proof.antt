@@ -36,7 +36,12 @@ add-result c = search needs
 -- src/lib.rt:111:9
 returns-2 : tie.Need-returns-2
 unfolding Rattle.moves.specs.Next.acrossOf
-returns-2 c = simp (ne-eqb _ _ (c .before .before .before .if1 .left), eq-eqb _ _ (c .before .before .if2 .taken), c .before .base-of .ensures .0, c .index2 .ensures .0)
+returns-2 c = simp (
+  ne-eqb _ _ (c .before .before .before .if1 .left),
+  eq-eqb _ _ (c .before .before .if2 .taken),
+  c .before .base-of .ensures .0,
+  c .index2 .ensures .0,
+)
 
 -- src/lib.rt:114:16
 base-of-requires-2 : tie.Need-base-of-requires-2
@@ -57,12 +62,22 @@ add-result-3 c = search needs
 -- src/lib.rt:114:9
 returns-3 : tie.Need-returns-3
 unfolding Rattle.moves.specs.Next.acrossOf
-returns-3 c = simp (ne-eqb _ _ (c .before .before .before .before .before .if1 .left), ne-eqb _ _ (c .before .before .before .before .if2 .left), eq-eqb _ _ (c .before .before .before .if3 .taken), c .before .before .base-of2 .ensures .0, c .index3 .ensures .0)
+returns-3 c = simp (
+  ne-eqb _ _ (c .before .before .before .before .before .if1 .left),
+  ne-eqb _ _ (c .before .before .before .before .if2 .left),
+  eq-eqb _ _ (c .before .before .before .if3 .taken),
+  c .before .before .base-of2 .ensures .0,
+  c .index3 .ensures .0,
+)
 
 -- src/lib.rt:103:1
 returns-4 : tie.Need-returns-4
 unfolding Rattle.moves.specs.Next.acrossOf
-returns-4 c = simp (ne-eqb _ _ (c .before .before .if1 .left), ne-eqb _ _ (c .before .if2 .left), ne-eqb _ _ (c .if3 .left))
+returns-4 c = simp (
+  ne-eqb _ _ (c .before .before .if1 .left),
+  ne-eqb _ _ (c .before .if2 .left),
+  ne-eqb _ _ (c .if3 .left),
+)
 
 pub across-spec : {M : Type 1} → statement M
 across-spec =

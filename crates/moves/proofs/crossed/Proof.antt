@@ -34,7 +34,12 @@ add-result-4 c = search needs
 -- src/lib.rt:74:13
 returns-2 : tie.Need-returns-2
 unfolding Rattle.moves.specs.Next.crossedOf
-returns-2 c = simp (lt-ltb _ _ (c .before .before .if1 .taken), ne-eqb _ _ (c .before .if2 .left), lt-ltb _ _ (c .if3 .taken), add-one)
+returns-2 c = simp (
+  lt-ltb _ _ (c .before .before .if1 .taken),
+  ne-eqb _ _ (c .before .if2 .left),
+  lt-ltb _ _ (c .if3 .taken),
+  add-one,
+)
 
 -- src/lib.rt:76:16
 add-result-5 : tie.Need-add-result-5
@@ -55,7 +60,11 @@ add-result-7 c = search needs
 -- src/lib.rt:76:9
 returns-3 : tie.Need-returns-3
 unfolding Rattle.moves.specs.Next.crossedOf
-returns-3 c = simp (lt-ltb _ _ (c .before .before .if1 .taken), ne-eqb _ _ (c .before .if2 .left), le-ltb _ _ (c .if3 .left))
+returns-3 c = simp (
+  lt-ltb _ _ (c .before .before .if1 .taken),
+  ne-eqb _ _ (c .before .if2 .left),
+  le-ltb _ _ (c .if3 .left),
+)
 
 -- src/lib.rt:65:1
 returns-4 : tie.Need-returns-4

@@ -22,7 +22,12 @@ crossed-requires c κs = search needs
 -- src/lib.rt:97:9
 returns : tie.Need-returns
 unfolding Rattle.moves.specs.Next.enteredOf
-returns c = simp (c .before .before .if1 .taken, c .crossed .ensures, c .before .side-out .ensures .0, c .before .before .before .base-of .ensures .0)
+returns c = simp (
+  c .before .before .if1 .taken,
+  c .crossed .ensures,
+  c .before .side-out .ensures .0,
+  c .before .before .before .base-of .ensures .0,
+)
 
 -- src/lib.rt:99:5
 add-result : tie.Need-add-result

@@ -24,11 +24,25 @@ index-requires-2 c κs = search needs
 
 -- src/lib.rt:192:5
 next-of-requires : tie.Need-next-of-requires
-next-of-requires c κs = let w = c .before .before .before .pre .0 in let r = w .range .routers .1 in let a = w .range .actives .1 in let p = w .range .passives .1 in ((r, a, p), c .before .before .before .pre .1, rw (c .before .index .ensures .0) (omega arith), rw (c .index2 .ensures .0) (omega arith), λ d l. port-few _ _ _ _ w d l)
+next-of-requires c κs = let w = c .before .before .before .pre .0 in let r = w .range .routers .1 in
+    let a = w .range .actives .1 in let p = w .range .passives .1 in (
+      (r, a, p),
+      c .before .before .before .pre .1,
+      rw (c .before .index .ensures .0) (omega arith),
+      rw (c .index2 .ensures .0) (omega arith),
+      λ d l. port-few _ _ _ _ w d l,
+    )
 
 -- src/lib.rt:176:1
 returns : tie.Need-returns
-returns c = rw (c .next-of .ensures, c .before .index2 .ensures .0, c .before .before .index .ensures .0, c .before .before .before .goes-back .ensures) (next-number _ _ _ _ (c .before .before .before .before .pre .0) _ (c .before .before .before .before .args .x) (c .before .before .before .before .pre .1))
+returns c = rw (
+  c .next-of .ensures,
+  c .before .index2 .ensures .0,
+  c .before .before .index .ensures .0,
+  c .before .before .before .goes-back .ensures,
+)
+    (next-number _ _ _ _ (c .before .before .before .before .pre .0) _ (c .before .before .before .before .args .x)
+    (c .before .before .before .before .pre .1))
 
 pub next-spec : {M : Type 1} → statement M
 next-spec =

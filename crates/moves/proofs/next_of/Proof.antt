@@ -23,7 +23,11 @@ index-requires c κs = search needs
 
 -- src/lib.rt:170:9
 entered-requires : tie.Need-entered-requires
-entered-requires c κs = (search needs, rw (c .index .ensures .0) (c .before .before .before .before .pre .4 _ (c .before .before .if1 .taken)), omega arith)
+entered-requires c κs = (
+  search needs,
+  rw (c .index .ensures .0) (c .before .before .before .before .pre .4 _ (c .before .before .if1 .taken)),
+  omega arith,
+)
 
 -- src/lib.rt:170:9
 returns : tie.Need-returns

@@ -42,7 +42,11 @@ add-result c = search needs
 -- src/lib.rt:146:9
 returns-2 : tie.Need-returns-2
 unfolding Rattle.moves.specs.Next.routedOf
-returns-2 c = simp (le-ltb _ _ (c .before .before .if1 .left), eq-eqb _ _ (c .if2 .taken), c .before .base-of .ensures .0)
+returns-2 c = simp (
+  le-ltb _ _ (c .before .before .if1 .left),
+  eq-eqb _ _ (c .if2 .taken),
+  c .before .base-of .ensures .0,
+)
 
 -- src/lib.rt:148:9
 column-of-requires : tie.Need-column-of-requires
@@ -59,7 +63,14 @@ leaves-requires c κs = search needs
 -- src/lib.rt:128:1
 returns-3 : tie.Need-returns-3
 unfolding Rattle.moves.specs.Next.routedOf
-returns-3 c = simp (le-ltb _ _ (c .before .before .before .before .before .if1 .left), ne-eqb _ _ (c .before .before .before .if2 .left), c .leaves .ensures, c .before .side-out .ensures .0, c .before .before .column-of .ensures .0, c .before .before .before .before .base-of .ensures .0)
+returns-3 c = simp (
+  le-ltb _ _ (c .before .before .before .before .before .if1 .left),
+  ne-eqb _ _ (c .before .before .before .if2 .left),
+  c .leaves .ensures,
+  c .before .side-out .ensures .0,
+  c .before .before .column-of .ensures .0,
+  c .before .before .before .before .base-of .ensures .0,
+)
 
 pub routed-spec : {M : Type 1} → statement M
 routed-spec =

@@ -17,7 +17,11 @@ index-requires c κs = search needs
 
 -- src/lib.rt:49:1
 returns : tie.Need-returns
-returns c = (c .index .ensures .0 ∙ same-default (c .before .before .before .args .row .now) _ 0 7 (c .before .before .before .pre), c .index .ensures .1)
+returns c = (
+  c .index .ensures .0 ∙ same-default (c .before .before .before .args .row .now) _ 0 7
+      (c .before .before .before .pre),
+  c .index .ensures .1,
+)
 
 pub side-of-spec : {M : Type 1} → statement M
 side-of-spec = tie.close (tie.spec shared-slice-read-index index-requires returns)

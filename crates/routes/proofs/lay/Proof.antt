@@ -76,9 +76,13 @@ element-write-sides-4 c = search needs
 -- src/lib.rt:113:1
 returns : tie.Need-returns
 returns c =
-    laid _ _ (c .before .before .before .before .before .before .before .before .before .before .before .before .args .sides .now) (c .before .before .before .before .before .before .before .before .before .before .before .before .pre .1)
-    (c .before .before .before .before .before .before .before .before .before .either .ensures ∙ ap (either _) (c .before .before .before .before .before .before .before .before .before .before .lane .ensures))
-    (c .before .before .before .before .before .before .either2 .ensures ∙ ap (either _) (c .before .before .before .before .before .before .before .lane2 .ensures))
+    laid _ _ (c .before .before .before .before .before .before .before .before .before .before .before .before .args
+    .sides .now) (c .before .before .before .before .before .before .before .before .before .before .before .before
+    .pre .1)
+    (c .before .before .before .before .before .before .before .before .before .either .ensures ∙ ap (either _)
+    (c .before .before .before .before .before .before .before .before .before .before .lane .ensures))
+    (c .before .before .before .before .before .before .either2 .ensures ∙ ap (either _)
+    (c .before .before .before .before .before .before .before .lane2 .ensures))
     (c .before .before .before .either3 .ensures ∙ ap (either _) (c .before .before .before .before .lane3 .ensures))
     (c .either4 .ensures ∙ ap (either _) (c .before .lane4 .ensures))
 

@@ -95,7 +95,8 @@ loop-again c =
       omega arith,
       c .before .lay2 .ensures .four,
       λ first w. rw (next, c .either .ensures)
-          (row-more _ (side-small _ _) (f + 8 * j) 8 (omega arith) (omega arith) _ (c .before .before .before .before .before .before .loop .inv .2 first w)
+          (row-more _ (side-small _ _) (f + 8 * j) 8 (omega arith)
+          (omega arith) _ (c .before .before .before .before .before .before .loop .inv .2 first w)
           (c .before .before .before .eight .ensures) (c .before .lay2 .ensures)),
     )
 
@@ -132,16 +133,22 @@ fits-requires c κs = search needs
 -- src/lib.rt:141:1
 returns : tie.Need-returns Inv-loop μ-loop
 returns c =
-    let n = c .before .before .before .before .before .before .before .before .before .before .before .before .before .before .args .n in
-    let f = c .before .before .before .before .before .before .before .before .before .before .before .before .lead .result in
+    let n = c .before .before .before .before .before .before .before .before .before .before .before .before .before
+    .before .args .n in
+    let f = c .before .before .before .before .before .before .before .before .before .before .before .before .lead
+    .result in
     let d = f + 8 * ((n - f) / 8) in
-    let first = row-first _ (side-small _ _) _ (omega arith) (c .before .before .before .before .before .before .before .before .before .before .before .before .before .before .pre .4) (c .before .before .before .before .before .before .before .before .before .before .some .ensures)
+    let first = row-first _ (side-small _ _) _ (omega arith)
+    (c .before .before .before .before .before .before .before .before .before .before .before .before .before
+    .before .pre .4) (c .before .before .before .before .before .before .before .before .before .before .some
+    .ensures)
     (c .before .before .before .before .before .before .before .before .lay .ensures) in
     let left : c .before .before .before .before .before .before .before .loop .j ≡ (n - f) / 8 = omega arith in
     let groups = rw left at (c .before .before .before .before .before .before .before .loop .inv .2 _ first) in
     let all : d + (n - d) ≡ n = omega arith in
     rw (c .fits2 .ensures, c .before .either2 .ensures)
-    (rw all at (row-more _ (side-small _ _) d (n - d) (omega arith) (omega arith) _ groups (c .before .before .before .before .tail .ensures)
+    (rw all at (row-more _ (side-small _ _) d (n - d) (omega arith) (omega arith) _ groups
+    (c .before .before .before .before .tail .ensures)
     (c .before .before .lay3 .ensures)))
 
 pub long-row-spec : {M : Type 1} → statement M

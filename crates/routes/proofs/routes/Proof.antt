@@ -78,8 +78,13 @@ read-row-requires c κs =
     let row = mul-le-mul-right (c .before .before .before .loop .r) h in
     let inside = row-inside (c5 .before .before .args .h .actives + c5 .before .before .args .h .passives) (c .before
     .before .before .loop .r) (c5 .before .before .args .h .routers) (omega arith) in
-    let long = c5 .before .before .pre .1 in
-    (omega arith, omega arith, omega arith, omega arith, rows-next _ _ _ _ (omega arith) (c .before .before .before .loop .inv .1))
+    let long = c5 .before .before .pre .1 in (
+      omega arith,
+      omega arith,
+      omega arith,
+      omega arith,
+      rows-next _ _ _ _ (omega arith) (c .before .before .before .loop .inv .1),
+    )
 
 -- src/lib.rt:152:9
 add-r : tie.Need-add-r Inv-loop μ-loop

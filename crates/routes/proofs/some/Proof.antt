@@ -55,8 +55,12 @@ loop-less c = omega arith
 loop-again : tie.Need-loop-again Inv-loop μ-loop
 loop-again c =
     let a = c .before .before .before .before .before .before .args in
-    let side = side-of (a .plan .now) (a .at) (a .d + c .before .before .before .before .loop .k) (c .before .before .route .ensures) in
-    (omega arith, group-more _ _ _ (c .before .before .before .before .loop .inv .1) (omega arith) side (c .put .ensures))
+    let side = side-of (a .plan .now) (a .at) (a .d + c .before .before .before .before .loop .k)
+    (c .before .before .route .ensures) in (
+      omega arith,
+      group-more _ _ _ (c .before .before .before .before .loop .inv .1) (omega arith) side
+          (c .put .ensures),
+    )
 
 -- src/lib.rt:92:1
 returns : tie.Need-returns Inv-loop μ-loop

@@ -70,7 +70,8 @@ less-requires c κs = search needs
 returns-2 : tie.Need-returns-2
 returns-2 c =
     let at = c .before .before .before in
-    pushed-none _ _ _ _ _ (beyond-at _ _ (at .partner .ensures) .0) (at .before .before .both .ensures) (c .before .less .ensures)
+    pushed-none _ _ _ _ _ (beyond-at _ _ (at .partner .ensures) .0) (at .before .before .both .ensures)
+    (c .before .less .ensures)
     (c .if2 .taken)
 
 -- src/lib.rt:50:19

@@ -96,7 +96,8 @@ next-requires c κs =
 enter-requires : tie.Need-enter-requires
 enter-requires c κs = (
   wire-within (tablePlan _ _ _) (table-head _ _ _) _ _
-      (c .before .before .before .before .before .before .before .before .before .before .before .before .before .pre .1)
+      (c .before .before .before .before .before .before .before .before .before .before .before .before .before .pre
+      .1)
       (c .before .before .before .before .before .before .before .before .before .before .before .output-row .ensures)
       (c .before .before .before .before .before .before .before .before .rank .ensures .0)
       (c .before .before .before .before .before .before .before .sender-of .ensures)
@@ -104,16 +105,19 @@ enter-requires c κs = (
       (c .before .before .before .before .before .before .before .before .before .before .before .before .before .pre
       .2),
   next-small (tablePlan _ _ _) (table-head _ _ _) _ _
-      (c .before .before .before .before .before .before .before .before .before .before .before .before .before .pre .1)
+      (c .before .before .before .before .before .before .before .before .before .before .before .before .before .pre
+      .1)
       (c .before .before .before .before .before .before .before .before .before .before .before .output-row .ensures)
       (c .before .before .before .before .before .before .before .before .rank .ensures .0)
       (c .before .before .before .before .before .before .before .sender-of .ensures)
       (c .before .before .before .before .before .queue-row .ensures) (c .before .before .before .before .take .ensures)
       (c .next .ensures) (c .before .before .before .before .before .before .before .before .before .before .before
-      .before .before .pre .2) (c .before .before .before .before .before .before .before .before .before .before .before
+      .before .before .pre .2) (c .before .before .before .before .before .before .before .before .before .before
+      .before
       .before .before .pre .0 .range),
   next-within (tablePlan _ _ _) (table-head _ _ _) _ _
-      (c .before .before .before .before .before .before .before .before .before .before .before .before .before .pre .1)
+      (c .before .before .before .before .before .before .before .before .before .before .before .before .before .pre
+      .1)
       (c .before .before .before .before .before .before .before .before .before .before .before .output-row .ensures)
       (c .before .before .before .before .before .before .before .before .rank .ensures .0)
       (c .before .before .before .before .before .before .before .sender-of .ensures)
@@ -121,7 +125,8 @@ enter-requires c κs = (
       (c .next .ensures) (c .before .before .before .before .before .before .before .before .before .before .before
       .before .before .pre .2),
   next-credit (tablePlan _ _ _) (table-head _ _ _) _ _
-      (c .before .before .before .before .before .before .before .before .before .before .before .before .before .pre .1)
+      (c .before .before .before .before .before .before .before .before .before .before .before .before .before .pre
+      .1)
       (c .before .before .before .before .before .before .before .before .before .before .before .output-row .ensures)
       (c .before .before .before .before .before .before .before .before .rank .ensures .0)
       (c .before .before .before .before .before .before .before .sender-of .ensures)

@@ -18,7 +18,7 @@ use Rattle.sets.specs.Sets.{has, both, less, below}
 use Rattle.sets.specs.Laws.{has-both, has-less, has-below, none-has}
 use Rattle.reach.specs.Reach.{Idle, Reached}
 use Rattle.reach.proofs.Sweeps.{same-or-not, and-parts, reach-idle}
-use Rattle.arrivals.specs.Tables.{OnlyBelow, firstOf, firstStep, firstsOf, nearOf, nearStep, farOf}
+use Rattle.arrivals.specs.Tables.{OnlyBelow, firstOf, firstStep, firstsOf, nearOf, nearStep, nearsOf, farOf}
 use Rattle.arrivals.specs.Pairs.{plainOf, atHome, atHomes, Lacking, Sift, Chosen, Choices, Known, Serving}
 use Rattle.arrivals.specs.Pairs.{Servings, lengthOf, lengthsBy}
 
@@ -40,6 +40,11 @@ unfolding nearStep
 near-step t homes actives p z {k} e f =
     ap (λ (x : ℕ). set z (k / 4) (set (getD z (k / 4) []) p x)) f
     ∙ ap (λ (i : ℕ). set z (i / 4) (set (getD z (i / 4) []) p (nearOf (getD t (i / 4) 0) (actives + p)))) e
+
+pub nears-done : (t homes : List ℕ) (actives : ℕ) {p n : ℕ} {z z₀ : List (List ℕ)} → z₀ ≡ replicate 17 (replicate 16 0)
+    → z ≡ upTo (nearStep t homes actives) p z₀ → p ≡ n → z ≡ nearsOf t homes actives n
+unfolding nearsOf
+nears-done t homes actives b e f = e ∙ rw (b, f)
 
 -- ---- a turn of the loop over actives
 module _ (homes arrive : List ℕ) (h : Head) (all : ℕ) (up : List (List ℕ)) where

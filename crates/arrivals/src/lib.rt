@@ -90,16 +90,15 @@ fn near_of(s: u32, d: usize) -> u8
 }
 
 // By router and passive: 1 where the passive is one step away.
-fn nears(t: &[u32; 32], homes: &[u8; 32], actives: usize, passives: usize) -> [[u8; 16]; 17]
-    requires { ⌜ (actives ≤ 16) × (passives ≤ 16) × PortsIn (now homes) (actives + passives) ⌝ }
-    ensures { λ z. ⌜ z ≡ nearsOf (now (t .entry)) (now (homes .entry)) actives passives ⌝ }
+fn nears(t: &[u32; 32], homes: &[u8; 32], actives: usize, passives: usize, z: &mut [[u8; 16]; 17])
+    requires { ⌜ (actives ≤ 16) × (passives ≤ 16) × PortsIn (now homes) (actives + passives)
+        × (now z ≡ replicate 17 (replicate 16 0)) ⌝ }
+    ensures { λ _. ⌜ now (z .exit) ≡ nearsOf (now (t .entry)) (now (homes .entry)) actives passives ⌝ }
 {
-    let mut z = [[0u8; 16]; 17];
     for p in 0..passives {
         let k = port(homes, actives + p, actives + passives);
         z[k / 4][p] = near_of(t[k / 4], actives + p);
     }
-    z
 }
 
 // The destinations that are passives.
@@ -194,7 +193,8 @@ pub fn walks(
     let n = h.actives + h.passives;
     let next = nexts(joints, h.routers);
     firsts(by, homes, n, arrive);
-    let mut z = nears(arrive, homes, h.actives, h.passives);
+    let mut z = [[0u8; 16]; 17];
+    nears(arrive, homes, h.actives, h.passives, &mut z);
     let s = Span {
         routers: h.routers,
         all: below(n),

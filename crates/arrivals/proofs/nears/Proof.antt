@@ -1,11 +1,11 @@
 use Prim.Native.Nat.{_+_, _-_, _≤_, _*_, _/_, _%_}
 use lib.ListN.{getD, set, length, length-set}
 use mathlib.Core.Path.{_≡_, ap}
-use Rattle.basis.specs.Fold.{upTo, fill, up-none, up-more, up-fill, up-done}
+use Rattle.basis.specs.Fold.{upTo, up-none, up-more}
 use borrow.Author.Needs.{needs}
 use native.Mathlib.Omega.{arith}
-use Rattle.arrivals.proofs.Steps.{near-step}
-use Rattle.arrivals.specs.Tables.{nearStep, nearsOf}
+use Rattle.arrivals.proofs.Steps.{near-step, nears-done}
+use Rattle.arrivals.specs.Tables.{nearStep}
 use Rattle.arrivals.proofs.nears.Statement.{statement}
 use Rattle.arrivals.proofs.nears.Tie as tie
 use Rattle.arrivals.proofs.nears.Reads as reads
@@ -81,8 +81,7 @@ loop-again c = (
 
 -- src/lib.rt:87:1
 returns : tie.Need-returns Inv-loop μ-loop
-unfolding nearsOf
-returns c = up-done _ _ (c .before .loop .inv .1) (omega arith)
+returns c = nears-done _ _ _ (c .before .before .pre .3) (c .before .loop .inv .1) (omega arith)
 
 pub nears-spec : {M : Type 1} → statement M
 nears-spec =

@@ -47,11 +47,11 @@ reach-requires : tie.Need-reach-requires
 reach-requires c κs =
     let c5 = c .before .before .before .before .before in
     let c10 = c5 .before .before .before .before .before in
-    let made = c5 .before .before .firsts .ensures in
-    let pre = c10 .before .pre in (
+    let made = c5 .before .before .before .firsts .ensures in
+    let pre = c10 .before .before .pre in (
       pre .0 .0,
       pre .0 .1,
-      rw (c5 .before .before .before .before .nexts .ensures) (nexts-inside _ _ (pre .0 .0)),
+      rw (c10 .nexts .ensures) (nexts-inside _ _ (pre .0 .0)),
       rw made (first-idle _ _ _ _ (pre .1) (pre .2) _),
       ap length made ∙ firsts-long _ _ _,
     )
@@ -61,8 +61,8 @@ serves-requires : tie.Need-serves-requires
 serves-requires c κs =
     let c5 = c .before .before .before .before .before in
     let c10 = c5 .before .before .before .before .before in
-    let made = c5 .before .before .before .before .firsts .ensures in
-    let pre = c10 .before .before .before .pre in (
+    let made = c10 .firsts .ensures in
+    let pre = c10 .before .before .before .before .pre in (
       pre .0,
       pre .1,
       pre .2,
@@ -75,7 +75,7 @@ lengths-of-requires c κs =
     let c5 = c .before .before .before .before .before in
     let c10 = c5 .before .before .before .before .before in
     let c15 = c10 .before .before .before .before .before in
-    let pre = c15 .before .before .before .pre in (pre .0, pre .1, pre .4)
+    let pre = c15 .before .before .before .before .pre in (pre .0, pre .1, pre .4)
 
 -- src/lib.rt:260:1
 returns : tie.Need-returns
@@ -83,10 +83,10 @@ returns c =
     let c5 = c .before .before .before .before .before in
     let c10 = c5 .before .before .before .before .before in
     let c15 = c10 .before .before .before .before .before in
-    let pre = c15 .before .before .before .before .pre in
+    let pre = c15 .before .before .before .before .before .pre in
     walks-sound _ _ _ _ _ _ _ (pre .0 .1) (pre .0 .2)
-    (c15 .before .before .nexts .ensures)
-    (c15 .firsts .ensures)
+    (c15 .before .before .before .nexts .ensures)
+    (c15 .before .firsts .ensures)
     (c10 .before .before .before .nears .ensures)
     (c10 .before .before .below .ensures)
     (c10 .before .far-of .ensures)

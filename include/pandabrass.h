@@ -3,7 +3,7 @@
  *
  * Link with target/staticlib/libexport.a, which `rt staticlib export` writes.
  *
- * The rules are document 01's; the state's bytes are laid out in docs/STATE.md.
+ * The rules are those of documents 01 and 02; the state's bytes are laid out in docs/STATE.md.
  *
  * - A plan and a state are bytes of the caller: a pointer and a count. Nothing is kept between calls and no memory is
  *   asked for. The calls may be used from several threads at once on different states.
@@ -43,7 +43,8 @@ enum pandabrass_answer {
     PANDABRASS_QUEUE_FULL = 12,   /* out-queue full */
     PANDABRASS_QUEUE_EMPTY = 13,  /* in-queue empty */
     PANDABRASS_FLAG_UP = 14,      /* in-queue flag up */
-    PANDABRASS_UNMARKED = 15      /* head is an unmarked NACK */
+    PANDABRASS_UNMARKED = 15,     /* head is an unmarked NACK */
+    PANDABRASS_NOT_ACCEPTED = 16  /* connection not accepted */
 };
 
 /* A packet's kind, out[0] of pandabrass_consume. */
@@ -61,7 +62,7 @@ enum pandabrass_choice { PANDABRASS_DECLINE = 0, PANDABRASS_ACCEPT = 1 };
 #define PANDABRASS_FREE 4
 
 /* The most bytes that a state of any plan has, and the most that a plan has. */
-#define PANDABRASS_LARGEST_STATE 20610
+#define PANDABRASS_LARGEST_STATE 21634
 #define PANDABRASS_LARGEST_PLAN 262
 
 /* How many bytes a state of this plan has; 0 if the plan does not load. */
@@ -90,12 +91,20 @@ uint32_t pandabrass_write(const uint8_t *plan, size_t n, uint8_t *state, size_t 
 uint32_t pandabrass_launch(const uint8_t *plan, size_t n, uint8_t *state, size_t l, uint32_t active, uint32_t passive,
                            uint32_t slot);
 
+/* Close, in READ: 0, or 1 to 10, 16, 12. Gives back the slots of a connection that is accepted: its ACK was consumed,
+ * and it was not closed since. `slot` is its start slot, the one it was launched with; of an ACK it is slot minus hub
+ * modulo S. The connection is closed at once, so a second Close answers 16. Its slots are free when the TDOWN that
+ * joins the active's out-queue has passed its routers; 12 means that the out-queue has no room, and the connection
+ * stays accepted. Takes no allowance. */
+uint32_t pandabrass_close(const uint8_t *plan, size_t n, uint8_t *state, size_t l, uint32_t active, uint32_t passive,
+                          uint32_t slot);
+
 /* Reply, in WRITE: 0, or 1 to 9, 14, 13, 12. The head of the passive's in-queue becomes an ACK or a NACK in its
  * out-queue. */
 uint32_t pandabrass_reply(const uint8_t *plan, size_t n, uint8_t *state, size_t l, uint32_t passive, uint32_t choice);
 
 /* Consume, in WRITE: 0, or 1 to 9, 14, 13, 15. The head of the active's in-queue leaves it: kind, active, passive,
- * slot and hub stand in out[0] to out[4]. */
+ * slot and hub stand in out[0] to out[4]. An ACK's connection is accepted from then on. */
 uint32_t pandabrass_consume(const uint8_t *plan, size_t n, uint8_t *state, size_t l, uint32_t active, uint8_t out[8]);
 
 /* Entry, in every phase: 0, or 1 to 7, 9. out[0] is the side, 0 to 3, by which the booking came in, or

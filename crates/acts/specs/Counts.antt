@@ -7,7 +7,7 @@ use Rattle.plan.specs.Head.{destinations}
 use Rattle.plan.specs.Plan.{Plan}
 use Rattle.feeding.specs.Queue.{queues}
 use Rattle.machine.specs.Outputs.{outputs}
-use Rattle.layout.specs.Offsets.{size, outputsAt, allowancesAt, tableAt}
+use Rattle.layout.specs.Offsets.{size, outputsAt, allowancesAt, tableAt, connectionsAt}
 
 abbrev pub queueCount : Head → ℕ
 queueCount h = 2 * destinations h + 21 * h .routers
@@ -24,8 +24,11 @@ allowancesFrom h = outputsFrom h + 7 * outputCount h
 abbrev pub tableFrom : Head → ℕ
 tableFrom h = allowancesFrom h + h .actives
 
+abbrev pub connectionsFrom : Head → ℕ
+connectionsFrom h = tableFrom h + 256 * h .routers
+
 abbrev pub stateSize : Head → ℕ
-stateSize h = tableFrom h + 256 * h .routers
+stateSize h = connectionsFrom h + 64 * h .actives
 
 -- ---- they are the plan's
 module _ (pl : Plan) where
@@ -47,6 +50,10 @@ module _ (pl : Plan) where
   pub table-at : tableAt pl ≡ tableFrom (pl .head)
   unfolding queues
   table-at = omega arith
+
+  pub connections-at : connectionsAt pl ≡ connectionsFrom (pl .head)
+  unfolding queues
+  connections-at = omega arith
 
   pub size-by : size pl ≡ stateSize (pl .head)
   unfolding queues size

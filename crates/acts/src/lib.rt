@@ -3,7 +3,8 @@ use plan::Head;
 ghost use mathlib.Core.Path.{_≡_};
 ghost use Prim.Native.Nat.{_+_, _*_, _≤_, _<_};
 ghost use Rattle.plan.specs.Head.{Counts};
-ghost use Rattle.acts.specs.Counts.{queueCount, outputCount, outputsFrom, allowancesFrom, tableFrom, stateSize};
+ghost use Rattle.acts.specs.Counts.{queueCount, outputCount, outputsFrom, allowancesFrom, tableFrom};
+ghost use Rattle.acts.specs.Counts.{connectionsFrom, stateSize};
 
 // A queue's row: credit, flag, mark, length and seven places of five bytes.
 pub const QUEUE_WIDTH: usize = 39;
@@ -67,10 +68,26 @@ pub fn entry_row(h: Head, r: usize, o: usize, t: usize) -> usize
     table_row(h) + 2 * (128 * r + 32 * o + t)
 }
 
+// The first byte of the accepted connections.
+pub fn connections_row(h: Head) -> usize
+    requires { ⌜ Counts h ⌝ }
+    ensures { λ i. ⌜ i ≡ connectionsFrom h ⌝ }
+{
+    table_row(h) + 256 * h.routers
+}
+
+// The bytes of a pair's start slots: of an active and a passive.
+pub fn starts_row(h: Head, a: usize, p: usize) -> usize
+    requires { ⌜ Counts h × (a ≤ 16) × (p ≤ 16) ⌝ }
+    ensures { λ i. ⌜ i ≡ connectionsFrom h + 4 * (16 * a + p) ⌝ }
+{
+    connections_row(h) + 4 * (16 * a + p)
+}
+
 // The count of a state's bytes.
 pub fn state_size(h: Head) -> usize
     requires { ⌜ Counts h ⌝ }
     ensures { λ n. ⌜ n ≡ stateSize h ⌝ }
 {
-    table_row(h) + 256 * h.routers
+    connections_row(h) + 64 * h.actives
 }

@@ -1,12 +1,13 @@
-// The eight calls of document 01 on lent bytes: the plan's by `&`, the state's by `&mut`. Each loads the plan, checks
-// the state, and then goes its own way. A refusal alters no byte, and no byte past the state is written.
+// The calls of document 01, and Close of document 02, on lent bytes: the plan's by `&`, the state's by `&mut`. Each
+// loads the plan, checks the state, and then goes its own way. A refusal alters no byte, and no byte past the state is
+// written.
 use inspect::Checked;
 use kinds::Refusal;
 use load::Loaded;
 use packets::Answer;
 use routes::NO_SIDE;
 ghost use mathlib.Core.Path.{_≡_};
-ghost use Rattle.machine.specs.Calls.{read, execute, write, launch, reply, consume, entry};
+ghost use Rattle.machine.specs.Calls.{read, execute, write, launch, reply, consume, close, entry};
 ghost use Rattle.claims.specs.Calls.{given, startOn, callOn};
 
 pub mod opened;
@@ -200,6 +201,34 @@ pub fn consume(plan: &[u8], state: &mut [u8], active: usize) -> Answer
         return Answer::Refused(Refusal::NotState);
     };
     consuming::consume(h, state, active)
+}
+
+// Close: the tear-down of an accepted connection joins the active's out-queue, and the connection is accepted no more.
+pub fn close(plan: &[u8], state: &mut [u8], active: usize, passive: usize, slot: usize) -> Answer
+    ensures { λ r. ⌜ given r (now (state .exit)) ≡ callOn (now (plan .entry)) (close active passive slot)
+        (now (state .entry)) ⌝ }
+{
+    let mut routes = [[NO_SIDE; 32]; 16];
+    let mut joints = [0u8; 64];
+    let mut homes = [0u8; 32];
+    let mut lengths = [[0u8; 16]; 16];
+    let mut by = [[0u32; 4]; 16];
+    let l = load::fill(
+        plan,
+        &mut routes,
+        &mut joints,
+        &mut homes,
+        &mut lengths,
+        &mut by,
+    );
+    let Loaded::Accepted(h) = l else {
+        return Answer::Refused(opened::refusal(l));
+    };
+    let c = inspect::inspect(h, &routes, &joints, &homes, &lengths, &by, state);
+    let Checked::State = c else {
+        return Answer::Refused(Refusal::NotState);
+    };
+    closing::close(h, &lengths, state, active, passive, slot)
 }
 
 // Entry: what the slot table holds.

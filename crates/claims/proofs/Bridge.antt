@@ -22,7 +22,7 @@ use Rattle.claims.specs.Calls.{Given, isState, callOn, startOn}
 use Rattle.claims.specs.Demand3.{bytesAfter, stateOf, roundsIn, MovesIn, Claim, Demand3}
 use Rattle.claims.proofs.Exact.{accepted-wired, accepted-range, state-encode}
 use Rattle.claims.proofs.Run.{reached-after, decode-good, on-encode, start-encode, good-after, run-encode}
-use Rattle.claims.proofs.Run.{accepted-encode, rounds-encode, launches-encode}
+use Rattle.claims.proofs.Run.{accepted-encode, rounds-encode, launches-encode, acceptances-encode}
 
 module _ (p : List ℕ) (h : Head) (loads : loadOf p ≡ Accepted h) (ruled : Ruled (planOf p)) where
   -- ---- from the bytes of any state that the rules keep good
@@ -113,6 +113,9 @@ module _ (p : List ℕ) (h : Head) (loads : loadOf p ≡ Accepted h) (ruled : Ru
           table = λ before more e q.
               rw (reads before, accepted-encode p h loads ruled before (start (planOf p)) rest [] (ruled .starts))
               (ruled .table before (subst (Quiet (planOf p)) (reads before) q));
+          told = λ before more e.
+              rw (reads before, accepted-encode p h loads ruled before (start (planOf p)) rest [] (ruled .starts))
+              (ruled .told before);
           progress = λ before during more e w l.
               subst⁻¹ (MovesIn p during) (runs before)
               (progress-in during (after before) rest (reached before) (subst (Waits (planOf p)) (reads before) w)
@@ -123,11 +126,12 @@ module _ (p : List ℕ) (h : Head) (loads : loadOf p ≡ Accepted h) (ruled : Ru
                 wires = ap (λ (s : State).
                     s .links .wire) (reads before);
                 table = ap (λ (s : State). s .table) (reads before);
+                connections = ap (λ (s : State). s .connections) (reads before);
               };
           answers = λ before more c e. answer-after before c (start (planOf p)) rest (ruled .starts);
           launches = λ before more e d.
               rw (
-                accepted-encode p h loads ruled before (start (planOf p)) rest [] (ruled .starts),
+                acceptances-encode p h loads ruled d before (start (planOf p)) rest (ruled .starts),
                 launches-encode p h loads ruled d before (start (planOf p)) rest (ruled .starts),
               ) (ruled .launched before d);
         }

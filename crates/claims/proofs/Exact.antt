@@ -48,7 +48,7 @@ module _ (pl : Plan) (wired : Wired pl) (range : InRange (pl .head)) where
   unfolding isState
   state-encode s rest g =
       and-of (canonical-encode pl range s rest (g .bounded) (valid-small pl s range (g .valid)))
-      (rw (read-back s rest g) (valid-test pl wired s (g .valid)))
+      (rw (read-back s rest g) (valid-test pl wired range s (g .bounded) (g .valid)))
 
   -- bytes that pass the test tell a good state, and are its bytes and those past them
   pub is-state : (b : List ℕ) → isState pl b ≡ true
@@ -56,7 +56,10 @@ module _ (pl : Plan) (wired : Wired pl) (range : InRange (pl .head)) where
   unfolding isState
   is-state b e =
       let p = and-both e in (
-        record { valid = test-valid pl wired (decode pl b) (p .1); bounded = decode-bounded pl b },
+        record {
+          valid = test-valid pl wired range (decode pl b) (decode-bounded pl b) (p .1);
+          bounded = decode-bounded pl b;
+        },
         encode-canonical pl b (p .0),
       )
 

@@ -8,7 +8,7 @@ use Rattle.kinds.specs.declared.Refusal.{Refusal}
 use Rattle.kinds.specs.Refusals.{refusalNumber}
 use Rattle.kinds.specs.declared.Refusal.the-variants.{TooShort, OutOfRange, WrongLength, BadField, BadJoint, HasRing}
 use Rattle.kinds.specs.declared.Refusal.the-variants.{NotState, WrongPhase, BadNumber, NotServed, NoAllowance}
-use Rattle.kinds.specs.declared.Refusal.the-variants.{QueueFull, QueueEmpty, FlagUp, Unmarked}
+use Rattle.kinds.specs.declared.Refusal.the-variants.{QueueFull, QueueEmpty, FlagUp, Unmarked, NotAccepted}
 use Rattle.packets.specs.declared.Answer.the-variants.{Done}
 use Rattle.packets.specs.Answers.{Value, valueOf}
 use Rattle.plan.specs.declared.Head.{Head}
@@ -77,7 +77,7 @@ along p b all k before (c ∷ cs) e =
     (ap (answersIn p cs) (sym (bytes-more p before c b)) ∙ more
     ∙ ap (ruledAnswers (planOf p) cs) (ruled-more (planOf p) before c (start (planOf p))))
 
--- ---- plan T loads, and has 1,290 bytes
+-- ---- plan T loads, and has 1,354 bytes
 some-number : (w : Refusal) → 1 ≤ refusalNumber w
 some-number TooShort = omega arith
 some-number OutOfRange = omega arith
@@ -94,6 +94,7 @@ some-number QueueFull = omega arith
 some-number QueueEmpty = omega arith
 some-number FlagUp = omega arith
 some-number Unmarked = omega arith
+some-number NotAccepted = omega arith
 
 loaded : (l : Loaded) → loadNumber l ≡ 0 → (h : Head) × (l ≡ Accepted h)
 loaded (Accepted h) e = (h, refl)
@@ -103,9 +104,9 @@ t-accepted : (h : Head) × (loadOf planT ≡ Accepted h)
 unfolding loads
 t-accepted = loaded (loadOf planT) t-loads
 
-t-size : size (planOf planT) ≡ 1290
+t-size : size (planOf planT) ≡ 1354
 unfolding plannedT
-t-size = t-parts .3
+t-size = t-parts .4
 
 pub first-run : FirstRun
 first-run buffer long =

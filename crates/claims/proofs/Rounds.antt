@@ -13,12 +13,13 @@ use Rattle.machine.specs.State.{State, join}
 use Rattle.machine.specs.Read.{doRead}
 use Rattle.machine.specs.Execute.{doExecute}
 use Rattle.machine.specs.Write.{doWrite}
-use Rattle.machine.specs.Visits.{launched, removed}
+use Rattle.machine.specs.Visits.{launched, removed, closed}
 use Rattle.machine.specs.Calls.{Visit, Call, turn, Outcome, gives, phaseStep, call}
-use Rattle.theory.specs.Does.{Visited, launches, replies, consumes, looks, Does, refuses, turns, visits}
+use Rattle.theory.specs.Does.{Visited, launches, replies, consumes, closes, looks, Does, refuses, turns, visits}
 use Rattle.machine.specs.Progress.{turnsCall}
 use Rattle.machine.specs.Ruled.{ruledAfter, rounds}
 use Rattle.theory.proofs.Does.{call-does, refused-turns}
+use Rattle.theory.proofs.Cases.{noted-keeps}
 
 -- ---- accepted calls of a phase in a list; `rounds` counts the Writes
 abbrev pub turnsIn : Plan → Phase → List Call → State → ℕ
@@ -58,10 +59,12 @@ module _ (pl : Plan) (s : State) where
   phase-turn Write e = rw e (record { read-turn = refl; execute-turn = refl })
 
   visit-phase : (v : Visit) (o : Outcome) → Visited pl s v o → o .state .clock .phase ≡ s .clock .phase
-  unfolding launched join removed
+  unfolding launched join removed closed
   visit-phase v o (launches a p t m) = refl
   visit-phase v o (replies p c x rest m) = refl
-  visit-phase v o (consumes a x rest m) = refl
+  visit-phase v o (consumes a x rest m) =
+      noted-keeps pl x (removed a rest s) (λ t. t .clock .phase ≡ s .clock .phase) (λ e. refl) refl
+  visit-phase v o (closes a p t m) = refl
   visit-phase v o (looks r q t m) = refl
 
   does-turn : (c : Call) (o : Outcome) → Does pl s c o → TurnsBy c (s .clock .phase) o

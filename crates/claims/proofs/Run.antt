@@ -17,16 +17,18 @@ use Rattle.load.specs.declared.Loaded.the-variants.{Accepted}
 use Rattle.load.specs.Load.{loadOf}
 use Rattle.machine.specs.State.{State, start}
 use Rattle.machine.specs.Calls.{Call, call}
-use Rattle.machine.specs.Accepted.{Connection, accept}
+use Rattle.machine.specs.Connections.{Connection}
+use Rattle.machine.specs.Accepted.{accept}
 use Rattle.machine.specs.Progress.{endsRound}
-use Rattle.machine.specs.Ruled.{Good, Ruled, ruledAfter, acceptedAfter, rounds, launchesCall, launches}
+use Rattle.machine.specs.Ruled.{Good, Ruled, ruledAfter, acceptedAfter, rounds, launchesCall, launches, acceptsCall}
+use Rattle.machine.specs.Ruled.{acceptances}
 use Rattle.layout.specs.Rows.{past}
 use Rattle.layout.specs.Offsets.{size}
 use Rattle.layout.specs.Encode.{encode}
 use Rattle.layout.specs.Decode.{decode}
 use Rattle.layout.proofs.StateBytes.{past-encode}
 use Rattle.claims.specs.Calls.{Given, given, onState, startOn, callOn}
-use Rattle.claims.specs.Demand3.{bytesAfter, acceptedBy, roundsIn, launchesIn}
+use Rattle.claims.specs.Demand3.{bytesAfter, acceptedBy, roundsIn, launchesIn, acceptancesIn}
 use Rattle.claims.proofs.Exact.{accepted-wired, accepted-range, read-back, state-encode}
 
 -- ---- one call, and Start, on a plan that Load accepts
@@ -122,3 +124,13 @@ module _ (p : List ℕ) (h : Head) (loads : loadOf p ≡ Accepted h) (ruled : Ru
       (on-encode p h loads c s rest (ruled .good s g))
       ∙ ap (λ (n : ℕ). launchesCall d c (call (planOf p) c s .answer) + n)
       (launches-encode d cs (call (planOf p) c s .state) rest (ruled .keeps c s g))
+
+  -- the Consumes that accepted a triple are the rules'
+  pub acceptances-encode : (d : Connection) (cs : List Call) (s : State) (rest : List ℕ) → ruled .Reached s
+      → acceptancesIn p d cs (encode (planOf p) s rest) ≡ acceptances (planOf p) d cs s
+  acceptances-encode d [] s rest g = refl
+  acceptances-encode d (c ∷ cs) s rest g =
+      ap (λ (x : Given). acceptsCall (planOf p) d c (x .answer) + acceptancesIn p d cs (x .bytes))
+      (on-encode p h loads c s rest (ruled .good s g))
+      ∙ ap (λ (n : ℕ). acceptsCall (planOf p) d c (call (planOf p) c s .answer) + n)
+      (acceptances-encode d cs (call (planOf p) c s .state) rest (ruled .keeps c s g))

@@ -29,11 +29,11 @@ use Rattle.machine.specs.Capacity.{capacity}
 use Rattle.machine.specs.State.{State}
 use Rattle.machine.specs.Visits.{isEmpty, headUnmarked}
 use Rattle.machine.specs.Guards.{Guard, guard}
-use Rattle.machine.specs.Calls.{ofLaunch, ofReply, ofConsume, ofEntry, Call, turn, visit, isPhase, guards}
+use Rattle.machine.specs.Calls.{ofLaunch, ofReply, ofConsume, ofClose, ofEntry, Call, turn, visit, isPhase, guards}
 use Rattle.machine.specs.Conditions.{QueueIsFull, UnmarkedHead, conditions}
 use Rattle.machine.proofs.Apart.{phase-of, phase-is}
 use Rattle.theory.proofs.Cases.{unmarked-kind}
-use Rattle.valid.proofs.Decides.{Decides, like, so, less, same}
+use Rattle.valid.proofs.Decides.{Decides, like, so, not-so, less, same}
 use Rattle.claims.specs.Conditions.{loadConditions}
 use Rattle.claims.proofs.Tests.{Tell, failed}
 
@@ -110,6 +110,10 @@ head-unmarked q s = record { holds = λ e. of (s .lines .queue q) refl e; passes
     by h = rw (h .line, h .kind, failed (same (h .head .hub .0) 0) (h .hub))
 
 module _ (pl : Plan) (wired : Wired pl) (s : State) where
+  -- an active of three numbers that are in range
+  below : (a p t : ℕ) → ((A pl ≤ a) ⊎ (P pl ≤ p) ⊎ (S pl ≤ t) → ⊥) → a < A pl
+  below a p t k = ltb-true a (A pl) (not-false _ (failed (not-less a (A pl)) (λ h. k (inl h))))
+
   -- they tell of the calls' conditions
   pub calls-tell : (c : Call) → Tell (guards pl c s) (conditions pl c s)
   calls-tell (turn x) = (refl, other-phase (s .clock .phase) x, λ n. record {})
@@ -121,17 +125,11 @@ module _ (pl : Plan) (wired : Wired pl) (s : State) where
       not-three a p t (A pl) (P pl) (S pl),
       λ k. (
         refl,
-        no (record { holds = served-of wired a p (below k); passes = serves-of wired a p (below k) }),
+        no (record { holds = served-of wired a p (below a p t k); passes = serves-of wired a p (below a p t k) }),
         λ m. (refl, same (s .flow .allowance a) 0, λ u. (refl, full pl (activeOut a) s, λ v. record {})),
       ),
     ),
   )
-    where
-      below : ((A pl ≤ a) ⊎ (P pl ≤ p) ⊎ (S pl ≤ t) → ⊥) → a < A pl
-      below k = ltb-true a (A pl) (sure-less (λ h. k (inl h)))
-        where
-          sure-less : (A pl ≤ a → ⊥) → ltb a (A pl) ≡ true
-          sure-less n = not-false _ (failed (not-less a (A pl)) n)
   calls-tell (visit (ofReply p c)) = (
     refl,
     other-phase (s .clock .phase) Write,
@@ -163,6 +161,19 @@ module _ (pl : Plan) (wired : Wired pl) (s : State) where
           none-queued (s .lines .queue (activeIn a)),
           λ u. (refl, head-unmarked (activeIn a) s, λ v. record {}),
         ),
+      ),
+    ),
+  )
+  calls-tell (visit (ofClose a p t)) = (
+    refl,
+    other-phase (s .clock .phase) Read,
+    λ n. (
+      refl,
+      not-three a p t (A pl) (P pl) (S pl),
+      λ k. (
+        refl,
+        no (record { holds = served-of wired a p (below a p t k); passes = serves-of wired a p (below a p t k) }),
+        λ m. (refl, not-so (s .connections a p t), λ u. (refl, full pl (activeOut a) s, λ v. record {})),
       ),
     ),
   )

@@ -1,4 +1,4 @@
--- The conditions of all refusals of a call on bytes, in document 01's order: Load's, then 7, then the call's own.
+-- The conditions of all refusals of a call on bytes, in the documents' order: Load's, then 7, then the call's own.
 use mathlib.Core.Path.{_≡_}
 use mathlib.Core.Logic.{_≢_, _⊎_}
 use mathlib.Core.List.{List, [], _∷_, _++_}

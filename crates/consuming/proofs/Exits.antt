@@ -1,5 +1,5 @@
 -- Consume's returns, in the order of the code: each from the tests that led to it.
-use mathlib.Core.Path.{_≡_, sym, ap, _∙_}
+use mathlib.Core.Path.{_≡_, sym, ap, ap₂, _∙_}
 use mathlib.Core.Bool.{true, false, not}
 use mathlib.Core.List.{List}
 use Prim.Native.Nat.{ℕ, _+_, _≤_, _<_}
@@ -14,6 +14,7 @@ use Rattle.plan.specs.Head.{InRange}
 use Rattle.plan.specs.Plan.{Plan, A}
 use Rattle.feeding.specs.Queue.{activeIn}
 use Rattle.machine.specs.Execute.{unmarked}
+use Rattle.machine.specs.Visits.{removed}
 use Rattle.machine.specs.Calls.{ofConsume, consume, consumed}
 use Rattle.layout.specs.Encode.{encode}
 use Rattle.layout.specs.Decode.{flagAt, lengthAt}
@@ -24,8 +25,8 @@ use Rattle.visits.proofs.Refuse.{passed, here, later, refuses, accepts}
 use Rattle.visits.proofs.Tests.{write-wrong, write-right, flag-tells, empty-tells, some-tells, has-head, head-is}
 use Rattle.visits.proofs.Tests.{unmarked-tells}
 use Rattle.visits.proofs.Steps.{few}
-use Rattle.consuming.specs.Consuming.{consumedAt}
-use Rattle.consuming.proofs.Steps.{removed-bytes}
+use Rattle.consuming.specs.Consuming.{consumedAt, notedAt}
+use Rattle.consuming.proofs.Steps.{removed-bytes, noted-bytes, head-ok}
 
 module _ (h : Head) (b : List ℕ) (a : ℕ) where
   pub consume-phase : (getD b 0 0 ≡ 2 → ⊥) → Visits h (ofConsume a) b (Refused WrongPhase) b
@@ -83,9 +84,9 @@ module _ (h : Head) (b : List ℕ) (a : ℕ) where
                     (has-head pl s rest b k (activeIn a) there row i filled) (ap unmarked (sym read) ∙ u)))))));
               }
 
-          pub consumes : InRange h → unmarked x ≡ false → (byte : ℕ) → byte ≡ allowanceByte h a → (d : List ℕ)
-              → d ≡ consumedAt row byte b → Visits h (ofConsume a) b (Taken x) d
-          consumes range u byte byted d made =
+          pub consumes : InRange h → unmarked x ≡ false → (byte : ℕ) → byte ≡ allowanceByte h a → (c d : List ℕ)
+              → c ≡ consumedAt row byte b → d ≡ notedAt h x c → Visits h (ofConsume a) b (Taken x) d
+          consumes range u byte byted c d made noted =
               record {
                 acts = λ pl e.
                     let there = active-there pl e a active in
@@ -100,11 +101,14 @@ module _ (h : Head) (b : List ℕ) (a : ℕ) where
                     (λ s rest g k.
                     let l = has-head pl s rest b k (activeIn a) there row i filled in
                     ap Taken (read ∙ head-is pl s rest b k (activeIn a) there row i l)
-                    ∙ ap (λ (y : List Packet). consumed a y s .answer) (sym (l .line)))
+                    ∙ ap (λ (y : List Packet). consumed pl a y s .answer) (sym (l .line)))
                     (λ s rest g k.
                     let l = has-head pl s rest b k (activeIn a) there row i filled in
-                    made
-                    ∙ removed-bytes pl s rest b k a there byte (byted ∙ allowance-byte pl e a) row i l
-                    (few pl (range-of pl e range) s g (activeIn a) there)
-                    ∙ ap (λ (y : List Packet). encode pl (consumed a y s .state) rest) (sym (l .line)));
+                    noted
+                    ∙ ap₂ (notedAt h) (read ∙ head-is pl s rest b k (activeIn a) there row i l)
+                    (made ∙ removed-bytes pl s rest b k a there byte (byted ∙ allowance-byte pl e a) row i l
+                    (few pl (range-of pl e range) s g (activeIn a) there))
+                    ∙ noted-bytes pl e (range-of pl e range) (removed a (l .behind) s) rest (l .first)
+                    (head-ok pl s g (activeIn a) there l)
+                    ∙ ap (λ (y : List Packet). encode pl (consumed pl a y s .state) rest) (sym (l .line)));
               }

@@ -1,9 +1,10 @@
 // Consume on the bytes of a good state: its refusals one after another in document 01's order, and then its step. A
-// refusal writes nothing.
+// refusal writes nothing. An ACK's connection is accepted.
 use kinds::Refusal;
 use packets::Answer;
 use packets::Kind;
 use packets::Packet;
+use packets::start_slot;
 use plan::Head;
 use visits::FIRST_PLACE;
 use visits::PHASE_BYTE;
@@ -11,7 +12,9 @@ use visits::WRITE;
 use visits::active_in;
 use visits::allowance;
 use visits::flag_up;
+use visits::index;
 use visits::queued;
+use visits::starts;
 use visits::take;
 ghost use mathlib.Core.Path.{_≡_};
 ghost use Prim.Native.Nat.{_+_, _≤_, _<_};
@@ -21,7 +24,8 @@ ghost use Rattle.machine.specs.Execute.{unmarked};
 ghost use Rattle.machine.specs.Calls.{ofConsume};
 ghost use Rattle.layout.specs.Decode.{lengthAt};
 ghost use Rattle.visits.specs.Visits.{Ready, Visits};
-ghost use Rattle.consuming.specs.Consuming.{consumedAt};
+ghost use Rattle.acts.specs.Counts.{stateSize};
+ghost use Rattle.consuming.specs.Consuming.{consumedAt, isAck, notedAt, Named};
 
 // Whether a packet is an unmarked NACK.
 fn is_unmarked(x: Packet) -> bool
@@ -45,6 +49,32 @@ fn consume_step(s: &mut [u8], row: usize, byte: usize)
     let n = s[byte];
     take(s, row);
     s[byte] = n + 1;
+}
+
+// Whether a packet is an ACK.
+fn is_ack(x: Packet) -> bool
+    ensures { λ r. ⌜ r ≡ isAck (x .kind) ⌝ }
+{
+    let k = x.kind;
+    match k {
+        Kind::Setup => false,
+        Kind::Tdown => false,
+        Kind::Ack => true,
+        Kind::Nack => false,
+    }
+}
+
+// 'the accepted connections, set when an ACK is consumed': the packet's pair, and slot minus hub.
+fn note(h: Head, s: &mut [u8], x: Packet)
+    requires { ⌜ InRange h × Named h x × (stateSize h ≤ length (now s)) ⌝ }
+    ensures { λ _. ⌜ now (s .exit) ≡ notedAt h x (now (s .entry)) ⌝ }
+{
+    if !is_ack(x) {
+        return;
+    }
+    let at = starts(h, index(x.active), index(x.passive));
+    let t = start_slot(x.slot, x.hub, h.slots);
+    rows::starts::join(s, at, t);
 }
 
 // '**Consume** (active): 8 not WRITE; 9; 14; 13; 15 head is an unmarked NACK.'
@@ -71,5 +101,6 @@ pub fn consume(h: Head, s: &mut [u8], active: usize) -> Answer
     }
     let byte = allowance(h, active);
     consume_step(s, row, byte);
+    note(h, s, x);
     Answer::Taken(x)
 }

@@ -10,7 +10,7 @@ ghost use lib.ListN.{set};
 ghost use lib.Seq.{sets};
 ghost use Rattle.layout.specs.Places.{packetBytes};
 ghost use Rattle.packets.specs.Answers.{entryNumber};
-ghost use Rattle.machine.specs.Calls.{read, execute, write, launch, reply, consume, entry};
+ghost use Rattle.machine.specs.Calls.{read, execute, write, launch, reply, consume, close, entry};
 ghost use Rattle.claims.specs.Calls.{startOn, callOn};
 ghost use Rattle.export.specs.Numbers.{answerNumber, takenBytes, entryByte, sizeOf};
 
@@ -188,6 +188,28 @@ fn put_taken(x: Answer, out: &mut [u8; 8])
         Answer::Taken(p) => put_packet(p, out),
         Answer::Holds(_) => {}
     }
+}
+
+// Close.
+#[no_mangle]
+pub extern "C" fn pandabrass_close(
+    plan: &[u8],
+    state: &mut [u8],
+    active: u32,
+    passive: u32,
+    slot: u32,
+) -> u32
+    ensures { λ r. ⌜ (r ≡ answerNumber
+        (callOn (now (plan .entry)) (close active passive slot) (now (state .entry)) .answer))
+        × (now (state .exit) ≡ callOn (now (plan .entry)) (close active passive slot) (now (state .entry)) .bytes) ⌝ }
+{
+    number_of(calls::close(
+        plan,
+        state,
+        active as usize,
+        passive as usize,
+        slot as usize,
+    ))
 }
 
 // Entry: the side stands in the first byte of out, 4 for free.

@@ -18,7 +18,8 @@ use Rattle.plan.specs.Head.{destinations}
 use Rattle.acts.specs.Counts.{outputCount, outputsFrom}
 use Rattle.states.specs.Forms.{zeros}
 use Rattle.states.proofs.Bytes.{zeros-byte}
-use Rattle.forms.specs.Bytes.{fourAt, wordAt, IdleRow, IdleRows, IdleSide, IdleRouter, QuietBytes}
+use Rattle.layout.specs.Decode.{fourAt}
+use Rattle.forms.specs.Bytes.{wordAt, IdleRow, IdleRows, IdleSide, IdleRouter, QuietBytes}
 
 -- ---- the digits of two words together
 pub or-none : (a b : ℕ) → bitOr a b ≡ 0 → (a ≡ 0) × (b ≡ 0)

@@ -10,12 +10,10 @@ use Rattle.basis.specs.Bounded.{anyBelow, allBelow}
 use Rattle.plan.specs.declared.Head.{Head}
 use Rattle.plan.specs.Head.{destinations}
 use Rattle.acts.specs.Counts.{outputCount, outputsFrom}
+use Rattle.layout.specs.Decode.{fourAt}
 use Rattle.states.specs.Forms.{zeros}
 
--- four bytes from i on as a number, the first the lowest; and eight
-unfoldable pub fourAt : ℕ → List ℕ → ℕ
-fourAt i b = getD b i 0 + 256 * getD b (i + 1) 0 + 65536 * getD b (i + 2) 0 + 16777216 * getD b (i + 3) 0
-
+-- eight bytes from i on as a number, the first the lowest
 unfoldable pub wordAt : ℕ → List ℕ → ℕ
 wordAt i b = fourAt i b + 4294967296 * fourAt (i + 4) b
 

@@ -9,7 +9,8 @@ ghost use Rattle.basis.specs.Choice.{also};
 ghost use Rattle.plan.specs.Head.{InRange, destinations};
 ghost use Rattle.acts.specs.Counts.{stateSize};
 ghost use Rattle.states.specs.Forms.{zeros};
-ghost use Rattle.forms.specs.Bytes.{fourAt, wordAt, IdleRow, IdleRows, IdleSide, IdleRouter, QuietBytes};
+ghost use Rattle.layout.specs.Decode.{fourAt};
+ghost use Rattle.forms.specs.Bytes.{wordAt, IdleRow, IdleRows, IdleSide, IdleRouter, QuietBytes};
 
 pub mod sides;
 
@@ -51,7 +52,7 @@ pub fn four(s: &[u8], i: usize) -> u32
     requires { ⌜ i + 4 ≤ length (now s) ⌝ }
     ensures { λ v. ⌜ v ≡ fourAt i (now (s .entry)) ⌝ }
 {
-    low(s[i]) + 256 * low(s[i + 1]) + 65536 * low(s[i + 2]) + 16777216 * low(s[i + 3])
+    rows::starts::word(s, i)
 }
 
 // Four bytes' number as a word.

@@ -21,6 +21,7 @@ use Rattle.layout.specs.Offsets.{size, allowancesAt, tableAt}
 use Rattle.layout.specs.Decode.{decode}
 use Rattle.states.specs.Forms.{headerForm}
 use Rattle.states.specs.Check.{checkOf, outputsPart, queuesPart, picksPart, allowancesPart, tablesPart}
+use Rattle.states.specs.Check.{connectionsPart}
 use Rattle.forms.specs.Bytes.{QuietBytes, allowancesFit, sidesFit}
 use Rattle.forms.proofs.Meaning.{quiet-parts, quiet-spent, tables-fit, allowances-fit}
 use Rattle.lines.specs.Tally.{Tallied}
@@ -30,6 +31,7 @@ use Rattle.wires.proofs.Picking.{picks-none}
 use Rattle.acts.specs.Counts.{stateSize, allowancesFrom, tableFrom, size-by, allowances-at, table-at}
 use Rattle.moves.specs.Lent.{Lent}
 use Rattle.moves.specs.Wiring.{Wiring}
+use Rattle.ties.specs.Given.{Given}
 use Rattle.inspect.specs.declared.Checked.the-variants.{NotState}
 use Rattle.inspect.specs.Inspect.{headerFits, wholeOf, Passed, checkedOf, noTracks, noneComing, noneSpent}
 
@@ -55,6 +57,9 @@ module _ (pl : Plan) (b : List ℕ) where
   abbrev passing : Bool
   passing = also (outputsPart pl b) (also (queuesPart pl b) (picksPart pl b))
 
+  abbrev rest : Bool
+  rest = also (allowancesPart pl b) (also (tablesPart pl b) (connectionsPart pl b))
+
   regroup : (o q p x : Bool) → also o (also q (also p x)) ≡ also (also o (also q p)) x
   regroup true true p x = refl
   regroup true false p x = refl
@@ -73,11 +78,11 @@ module _ (pl : Plan) (b : List ℕ) where
   no-header l e f = rw (le-leb (size pl) (length b) l, header-same, ← e, f)
 
   pub body-is : size pl ≤ length b → headerFits (pl .head) b ≡ true
-      → checkOf pl b ≡ also passing (also (allowancesPart pl b) (tablesPart pl b))
+      → checkOf pl b ≡ also passing rest
   unfolding checkOf
   body-is l e =
       rw (le-leb (size pl) (length b) l, header-same, e)
-      (regroup (outputsPart pl b) (queuesPart pl b) (picksPart pl b) (also (allowancesPart pl b) (tablesPart pl b)))
+      (regroup (outputsPart pl b) (queuesPart pl b) (picksPart pl b) rest)
 
 -- ---- nothing counted
 replicate-at : (n k : ℕ) → _≡_ {A = ℕ} (getD (replicate n 0) k 0) 0
@@ -174,7 +179,7 @@ module _ (h : Head) (routes : List (List ℕ)) (joints : List ℕ) (range : InRa
     long : size net ≤ length b
     long = rw (size-by net, plan-head h routes joints) l
 
-    whole : checkOf net b ≡ also (passing net b) (also (allowancesPart net b) (tablesPart net b))
+    whole : checkOf net b ≡ also (passing net b) (rest net b)
     whole = body-is net b long (rw (plan-head h routes joints) e)
 
     pub body-places : {x : Bool} {t : List ℕ} → Passed net b x t → x ≡ false → false ≡ checkOf net b
@@ -207,10 +212,18 @@ module _ (h : Head) (routes : List (List ℕ)) (joints : List ℕ) (range : InRa
 
     pub body-tables : {x y z : Bool} {t : List ℕ} → Passed net b x t → x ≡ true
         → y ≡ allowancesFit (allowancesFrom h + 0) (h .actives) (wholeOf h) t b → y ≡ true
-        → z ≡ sidesFit (tableFrom h) (h .slots) (4 * h .routers) b → z ≡ checkOf net b
-    body-tables {x} {y} {z} {t} p f g k m =
+        → z ≡ sidesFit (tableFrom h) (h .slots) (4 * h .routers) b → z ≡ false → false ≡ checkOf net b
+    body-tables {x} {y} {z} {t} p f g k m n =
         let q : Passed net b true t = rw f at p in
-        m ∙ tables-is ∙ sym (whole ∙ rw (← q .test, ← allowances-is t q, ← g, k))
+        sym (whole ∙ rw (← q .test, ← allowances-is t q, ← g, k, ← tables-is, ← m, n))
+
+    pub body-ties : {x y z v : Bool} {t : List ℕ} → Passed net b x t → x ≡ true
+        → y ≡ allowancesFit (allowancesFrom h + 0) (h .actives) (wholeOf h) t b → y ≡ true
+        → z ≡ sidesFit (tableFrom h) (h .slots) (4 * h .routers) b → z ≡ true → v ≡ connectionsPart net b
+        → v ≡ checkOf net b
+    body-ties {x} {y} {z} {v} {t} p f g k m n d =
+        let q : Passed net b true t = rw f at p in
+        d ∙ sym (whole ∙ rw (← q .test, ← allowances-is t q, ← g, k, ← tables-is, ← m, n))
 
   -- ---- the whole
   pub all-short : length b < stateSize h → checkedOf (checkOf net b) ≡ NotState
@@ -238,3 +251,8 @@ pub lent-wired : (h : Head) (routes : List (List ℕ)) (joints homes : List ℕ)
 unfolding tablePlan
 lent-wired h routes joints homes lengths by w =
     record { range = w .range; wired = w .tables .chart .wired; ports = w .tables .chart .ports }
+
+pub lent-given : (h : Head) (routes : List (List ℕ)) (joints homes : List ℕ) (lengths by : List (List ℕ)) (b : List ℕ)
+    → Lent h routes joints homes lengths by → stateSize h ≤ length b → Given h routes joints homes lengths b
+lent-given h routes joints homes lengths by b w l =
+    record { wiring = lent-wired h routes joints homes lengths by w; sizes = w .sizes; long = l }

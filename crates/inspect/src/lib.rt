@@ -162,7 +162,10 @@ fn body_ok(
     if !forms::sides::allowances_ok(s, acts::allowance_row(h, 0), h.actives, whole(h), &spent) {
         return false;
     }
-    forms::sides::sides_ok(s, acts::table_row(h), 4 * h.routers, index(h.slots))
+    if !forms::sides::sides_ok(s, acts::table_row(h), 4 * h.routers, index(h.slots)) {
+        return false;
+    }
+    ties::ties_ok(h, routes, joints, homes, lengths, s)
 }
 
 // Whether bytes are a state's.

@@ -4,6 +4,7 @@ use Rattle.kinds.specs.declared.Refusal.{Refusal}
 use Rattle.kinds.specs.declared.Refusal.the-variants.{TooShort, OutOfRange, WrongLength, BadField, BadJoint}
 use Rattle.kinds.specs.declared.Refusal.the-variants.{HasRing, NotState, WrongPhase, BadNumber, NotServed}
 use Rattle.kinds.specs.declared.Refusal.the-variants.{NoAllowance, QueueFull, QueueEmpty, FlagUp, Unmarked}
+use Rattle.kinds.specs.declared.Refusal.the-variants.{NotAccepted}
 
 abbrev pub refusalNumber : Refusal → ℕ
 refusalNumber TooShort = 1
@@ -21,3 +22,4 @@ refusalNumber QueueFull = 12
 refusalNumber QueueEmpty = 13
 refusalNumber FlagUp = 14
 refusalNumber Unmarked = 15
+refusalNumber NotAccepted = 16

@@ -10,7 +10,7 @@ pub struct Hub(pub u8);
 // Document 004's credit: how many packets a queue still takes; at the start its capacity.
 pub struct Credit(pub u8);
 
-// Why a call is refused, in document 01's order.
+// Why a call is refused, in document 01's order; what document 02 adds stands behind.
 pub enum Refusal {
     TooShort,
     OutOfRange,
@@ -27,4 +27,5 @@ pub enum Refusal {
     QueueEmpty,
     FlagUp,
     Unmarked,
+    NotAccepted,
 }

@@ -1,3 +1,2 @@
-pub mod Served
 pub mod Steps
 pub mod Exits

@@ -14,9 +14,9 @@ use visits::allowance;
 use visits::index;
 use visits::queued;
 use visits::small;
+use visits::walk_length;
 ghost use mathlib.Core.Path.{_≡_};
 ghost use Prim.Native.Nat.{_+_, _≤_, _<_};
-ghost use mathlib.Core.List.{[]};
 ghost use lib.ListN.{getD, length};
 ghost use Rattle.plan.specs.Head.{InRange};
 ghost use Rattle.machine.specs.Visits.{setupOf};
@@ -24,14 +24,6 @@ ghost use Rattle.machine.specs.Calls.{ofLaunch};
 ghost use Rattle.layout.specs.Decode.{lengthAt};
 ghost use Rattle.visits.specs.Visits.{Ready, Walked};
 ghost use Rattle.launching.specs.Launching.{launchedAt};
-
-// The length of a pair's walk, 0 where it is not served.
-fn walk_length(lengths: &[[u8; 16]; 16], a: usize, p: usize) -> u8
-    requires { ⌜ (a < 16) × (p < 16) ⌝ }
-    ensures { λ v. ⌜ v ≡ getD (getD (now (lengths .entry)) a []) p 0 ⌝ }
-{
-    lengths[a][p]
-}
 
 // A SETUP with hub 0.
 fn set_up(a: usize, p: usize, t: usize) -> Packet

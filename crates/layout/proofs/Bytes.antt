@@ -27,11 +27,11 @@ use Rattle.machine.proofs.Numbers.{exists-at}
 use Rattle.machine.proofs.OutNumbers.{drives-at}
 use Rattle.layout.specs.Rows.{rows}
 use Rattle.layout.proofs.Numbering.{entry-named}
-use Rattle.layout.specs.Offsets.{places, entries, routerEntries, slotRoom}
+use Rattle.layout.specs.Offsets.{places, entries, routerEntries, slotRoom, pairs, passiveRoom}
 use Rattle.layout.specs.Codes.{phase-small, kind-small, flag-small, choiceCode}
 use Rattle.layout.specs.Places.{packetBytes, noPacket, placeBytes}
 use Rattle.layout.specs.Encode.{queueBytes, wireBytes, outputBytes, allowanceBytes, entryBytes, queuePart}
-use Rattle.layout.specs.Encode.{outputPart, allowancePart, tablePart, encode}
+use Rattle.layout.specs.Encode.{outputPart, allowancePart, tablePart, wordBytes, startsOf, connectionPart, encode}
 use Rattle.layout.specs.Decode.{capacity-most}
 
 -- all elements of a list are bytes
@@ -56,6 +56,9 @@ unfolding rows
 bytes-span i zero g h = record {}
 bytes-span i (suc n) g h = bytes-append (g i) (rows (suc i) n g) (h i (omega arith) (omega arith))
     (bytes-span (suc i) n g (λ j a b. h j (omega arith) (omega arith)))
+
+word-small : (w : ℕ) → Bytes (wordBytes w)
+word-small w = (omega arith, (omega arith, (omega arith, (omega arith, record {}))))
 
 no-packet-small : Bytes noPacket
 no-packet-small = (omega arith, (omega arith, (omega arith, (omega arith, (omega arith, record {})))))
@@ -153,19 +156,24 @@ module _ (pl : Plan) (s : State) (range : InRange (pl .head)) (v : Valid pl s) (
   pub bytes-small : Bytes (encode pl s [])
   unfolding encode
   bytes-small =
-      let p = phase-small (s .clock .phase) in let t = v .slot in let m = range .slots .1 in (
+      let p = phase-small (s .clock .phase) in let t = v .slot in let m = range .slots .1 in
+      let fifth : List ℕ = connectionPart pl s ++ [] in
+      let fourth : List ℕ = tablePart pl s ++ fifth in
+      let third : List ℕ = allowancePart pl s ++ fourth in (
         omega arith,
         (
           omega arith,
-          bytes-append (queuePart pl s) (outputPart pl s ++ (allowancePart pl s ++ (tablePart pl s ++ [])))
+          bytes-append (queuePart pl s) (outputPart pl s ++ third)
               (bytes-span 0 (queues pl) _ (λ n a b. queue-small (queueAt pl n) (exists-at pl n (omega arith))))
-              (bytes-append (outputPart pl s) (allowancePart pl s ++ (tablePart pl s ++ []))
+              (bytes-append (outputPart pl s) third
               (bytes-span 0 (outputs pl) _ (λ n a b. output-small (outputAt pl n) (drives-at pl n (omega arith))))
-              (bytes-append (allowancePart pl s) (tablePart pl s ++ [])
+              (bytes-append (allowancePart pl s) fourth
               (bytes-span 0 (A pl) _ (λ n a b. allowance-small n (omega arith)))
-              (bytes-append (tablePart pl s) []
+              (bytes-append (tablePart pl s) fifth
               (bytes-span 0 (entries pl) _ (λ n a b. let e = entry-named pl n (omega arith) in
               entry-small (n / routerEntries) (n % routerEntries / slotRoom) (n % slotRoom) (e .0) (e .1)))
-              (record {})))),
+              (bytes-append (connectionPart pl s) []
+              (bytes-span 0 (pairs pl) _ (λ n a b. word-small (startsOf s (n / passiveRoom) (n % passiveRoom))))
+              (record {}))))),
         ),
       )

@@ -7,3 +7,4 @@ pub mod Changes
 pub mod Lines
 pub mod Updates
 pub mod Readings
+pub mod Connections

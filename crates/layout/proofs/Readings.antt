@@ -4,6 +4,8 @@ use mathlib.Core.List.{List, [], _∷_, _++_}
 use Prim.Native.Nat.{ℕ, _+_, _<_, _≤_}
 use native.Mathlib.Omega.{arith}
 use lib.ListN.{length, getD, length-append}
+use Rattle.sets.specs.Sets.{has}
+use Rattle.sets.specs.Laws.{has-those}
 use Rattle.packets.specs.declared.Packet.{Packet}
 use Rattle.plan.specs.Plan.{Plan, A, R}
 use Rattle.feeding.specs.Queue.{Queue, Exists}
@@ -14,13 +16,15 @@ use Rattle.machine.specs.Valid.{Drives}
 use Rattle.machine.proofs.OutNumbers.{output-below}
 use Rattle.layout.specs.Rows.{RowStands, stands-left, stands-right, stands-get, stands-byte}
 use Rattle.layout.specs.Offsets.{phaseByte, slotByte, lengthByte, firstPlace, slotRoom, queueWidth}
-use Rattle.layout.specs.Offsets.{outputWidth, queueRow, outputRow, allowanceRow, entryRow, size}
+use Rattle.layout.specs.Offsets.{outputWidth, passiveRoom, queueRow, outputRow, allowanceRow, entryRow}
+use Rattle.layout.specs.Offsets.{startsRow, size}
 use Rattle.layout.specs.Codes.{phaseOf, phase-code, flagCode}
 use Rattle.layout.specs.Places.{packetBytes, placeBytes, packetAt, packet-read}
-use Rattle.layout.specs.Encode.{queueBytes, allowanceBytes, encode, encode-append, length-encode}
-use Rattle.layout.specs.Decode.{creditAt, flagAt, markAt, lengthAt, wireAt, choiceAt, entryAt}
-use Rattle.layout.proofs.Standing.{queue-stands, output-stands, allowance-stands, entry-stands}
+use Rattle.layout.specs.Encode.{queueBytes, allowanceBytes, startsOf, encode, encode-append, length-encode}
+use Rattle.layout.specs.Decode.{creditAt, flagAt, markAt, lengthAt, wireAt, choiceAt, entryAt, fourAt}
+use Rattle.layout.proofs.Standing.{queue-stands, output-stands, allowance-stands, entry-stands, starts-stands}
 use Rattle.layout.proofs.Round.{credit-read, flag-read, handled-read, output-wire-read, choice-read, entry-read}
+use Rattle.layout.proofs.Round.{starts-read}
 use Rattle.layout.proofs.Lines.{rowOf}
 
 -- ---- how many bytes
@@ -44,6 +48,10 @@ module _ (pl : Plan) where
   pub entry-inside : (r o t : ℕ) → r < R pl → o < 4 → t < slotRoom → entryRow pl r o t + 2 ≤ size pl
   unfolding entryRow size
   entry-inside r o t hr ho ht = omega arith
+
+  pub starts-inside : (a p : ℕ) → a < A pl → p < passiveRoom → startsRow pl a p + 4 ≤ size pl
+  unfolding startsRow size
+  starts-inside a p ha hp = omega arith
 
 -- ---- what is read of the bytes of a state
 module _ (pl : Plan) (s : State) (rest b : List ℕ) (e : b ≡ encode pl s rest) where
@@ -100,3 +108,12 @@ module _ (pl : Plan) (s : State) (rest b : List ℕ) (e : b ≡ encode pl s rest
   pub entry-at : (r o t : ℕ) → r < R pl → o < 4 → t < slotRoom → entryAt (entryRow pl r o t) b ≡ s .table r o t
   entry-at r o t hr ho ht =
       entry-read s b (entryRow pl r o t) (s .table r o t) (rw e (entry-stands pl s rest r o t hr ho ht))
+
+  pub starts-at : (a p : ℕ) → a < A pl → p < passiveRoom → fourAt (startsRow pl a p) b ≡ startsOf s a p
+  starts-at a p ha hp = starts-read s b (startsRow pl a p) a p (rw e (starts-stands pl s rest a p ha hp))
+
+  -- and of one start slot
+  pub connection-at : (a p t : ℕ) → a < A pl → p < passiveRoom → t < slotRoom
+      → has (fourAt (startsRow pl a p) b) t ≡ s .connections a p t
+  connection-at a p t ha hp ht =
+      ap (λ (w : ℕ). has w t) (starts-at a p ha hp) ∙ has-those slotRoom (s .connections a p) t ht

@@ -3,12 +3,14 @@
 use mathlib.Core.Path.{_≡_, refl, sym, ap, ap₂, _∙_, fun-ext}
 use mathlib.Core.Bool.{Bool, true, false}
 use mathlib.Core.List.{List, [], _∷_}
-use Prim.Native.Nat.{ℕ, _+_, _≤_}
+use Prim.Native.Nat.{ℕ, _+_, _*_, _/_, _%_, _≤_, _<_}
 use native.Mathlib.Omega.{arith}
 use lib.Dec.{ltb}
 use borrow.Author.Tests.{ltb-true, lt-ltb}
 use lib.ListN.{length}
 use Rattle.basis.specs.Choice.{pick, not-both}
+use Rattle.sets.specs.Sets.{has}
+use Rattle.sets.specs.Laws.{has-those, those-below}
 use Rattle.packets.specs.declared.Entry.{Entry}
 use Rattle.packets.specs.declared.Wire.{Wire}
 use Rattle.packets.specs.declared.Wire.the-variants.{Empty, Full}
@@ -20,17 +22,18 @@ use Rattle.machine.specs.State.{State, blank}
 use Rattle.machine.specs.Valid.{Bounded, Drives}
 use Rattle.layout.specs.Rows.{RowStands, stands-left, stands-right, stands-get, stands-byte}
 use Rattle.layout.specs.Named.{existsTest, test-exists, exists-test, drivesTest, test-drives, drives-test}
-use Rattle.layout.specs.Named.{isEntry, test-entry, entry-test}
+use Rattle.layout.specs.Named.{isEntry, test-entry, entry-test, isConnection, test-connection, connection-test}
 use Rattle.layout.specs.Offsets.{places, creditByte, flagByte, handledByte, lengthByte, wireByte, choiceByte}
-use Rattle.layout.specs.Offsets.{firstPlace, wirePacket, queueRow, outputRow, allowanceRow, entryRow}
+use Rattle.layout.specs.Offsets.{firstPlace, wirePacket, slotRoom, queueRow, outputRow, allowanceRow, entryRow}
+use Rattle.layout.specs.Offsets.{startsRow}
 use Rattle.layout.specs.Codes.{phase-code, flagCode, flagOf, flag-code, choiceCode, choiceOf, choice-code}
 use Rattle.layout.specs.Codes.{entryFrom, entry-code}
 use Rattle.layout.specs.Places.{packetBytes, placeBytes, packetAt, packet-read, packets-read}
-use Rattle.layout.specs.Encode.{queueBytes, wireBytes, outputBytes, allowanceBytes, entryBytes, encode}
-use Rattle.layout.specs.Encode.{length-wire}
-use Rattle.layout.proofs.Standing.{queue-stands, output-stands, allowance-stands, entry-stands}
+use Rattle.layout.specs.Encode.{queueBytes, wireBytes, outputBytes, allowanceBytes, entryBytes, wordBytes}
+use Rattle.layout.specs.Encode.{startsOf, encode, length-wire}
+use Rattle.layout.proofs.Standing.{queue-stands, output-stands, allowance-stands, entry-stands, starts-stands}
 use Rattle.layout.specs.Decode.{creditAt, flagAt, markAt, lengthAt, queueIn, wireFrom, wireAt, choiceAt}
-use Rattle.layout.specs.Decode.{entryAt, decode, Small}
+use Rattle.layout.specs.Decode.{entryAt, fourAt, decode, Small}
 
 -- ---- one row is read where it stands
 module _ (s : State) (b : List ℕ) (i : ℕ) where
@@ -84,6 +87,31 @@ module _ (s : State) (b : List ℕ) (i : ℕ) where
   pub entry-read : (x : Entry) → RowStands i (entryBytes x) b → entryAt i b ≡ x
   entry-read x t = ap entryFrom (stands-byte i (entryBytes x) b t (omega arith)) ∙ entry-code x
 
+-- ---- a word of four bytes
+pub word-read : (i w : ℕ) (b : List ℕ) → w < 4294967296 → RowStands i (wordBytes w) b → fourAt i b ≡ w
+unfolding fourAt
+word-read i w b l t =
+    let x = stands-byte i (wordBytes w) b t (omega arith) in
+    let y = stands-get i (wordBytes w) b t 1 (omega arith) in
+    let z = stands-get i (wordBytes w) b t 2 (omega arith) in
+    let v = stands-get i (wordBytes w) b t 3 (omega arith) in
+    rw (x, y, z, v) sum
+  where
+    sum : w % 256 + 256 * (w / 256 % 256) + 65536 * (w / 65536 % 256) + 16777216 * (w / 16777216 % 256) ≡ w
+    sum =
+        let d : w / 65536 ≡ w / 256 / 256 = omega arith in
+        let c : w / 16777216 ≡ w / 65536 / 256 = omega arith in
+        let m : w / 16777216 % 256 ≡ w / 16777216 = omega arith in
+        let n : w / 65536 % 256 + 256 * (w / 16777216) ≡ w / 65536 = omega arith in
+        let o : w / 256 % 256 + 256 * (w / 65536) ≡ w / 256 = omega arith in
+        let p : w % 256 + 256 * (w / 256) ≡ w = omega arith in
+        omega arith
+
+-- the start slots of a pair, and one of them
+pub starts-read : (s : State) (b : List ℕ) (i a p : ℕ) → RowStands i (wordBytes (startsOf s a p)) b
+    → fourAt i b ≡ startsOf s a p
+starts-read s b i a p t = word-read i (startsOf s a p) b (those-below slotRoom (s .connections a p)) t
+
 -- ---- the whole
 -- read where the plan has it, else the default
 kept : {X : Type 0} (t : Bool) (x d v : X) → (t ≡ true → x ≡ v) → (t ≡ false → v ≡ d) → pick t x d ≡ v
@@ -128,6 +156,16 @@ module _ (pl : Plan) (s : State) (rest : List ℕ) (range : InRange (pl .head)) 
       (allowance-stands pl s rest a (ltb-true a (A pl) e)) (omega arith))
       (λ e. out .allowance a (unless (ltb a (A pl)) e (lt-ltb a (A pl))))
 
+  same-connection : (a p t : ℕ) → decode pl (encode pl s rest) .connections a p t ≡ s .connections a p t
+  unfolding decode
+  same-connection a p t =
+      kept (isConnection pl a p t) _ (blank pl .connections a p t) (s .connections a p t)
+      (λ e. let h = test-connection pl a p t e in let l = range .slots .1 in let k = range .passives .1 in
+      ap (λ (w : ℕ). has w t)
+      (starts-read s (encode pl s rest) (startsRow pl a p) a p (starts-stands pl s rest a p (h .0) (omega arith)))
+      ∙ has-those slotRoom (s .connections a p) t (omega arith))
+      (λ e. out .connection a p t (unless (isConnection pl a p t) e (connection-test pl a p t)))
+
   -- the state of a state's bytes is that state
   pub decode-encode : decode pl (encode pl s rest) ≡ s
   unfolding decode encode
@@ -149,6 +187,8 @@ module _ (pl : Plan) (s : State) (rest : List ℕ) (range : InRange (pl .head)) 
       let ps : decode pl b .links .choice ≡ s .links .choice =
       fun-ext (λ o. of-output o _ _ (s .links .choice o) (choice-read s b (outputRow pl o) o) (out .choice o)) in
       let ts : decode pl b .table ≡ s .table = fun-ext (λ r. fun-ext (λ o. fun-ext (λ t. same-entry r o t))) in
+      let ac : decode pl b .connections ≡ s .connections =
+      fun-ext (λ a. fun-ext (λ p. fun-ext (λ t. same-connection a p t))) in
       let al : decode pl b .flow .allowance ≡ s .flow .allowance = fun-ext (λ a. same-allowance a) in
       let ph : decode pl b .clock .phase ≡ s .clock .phase = phase-code (s .clock .phase) in
       λ i. record {
@@ -157,4 +197,5 @@ module _ (pl : Plan) (s : State) (rest : List ℕ) (range : InRange (pl .head)) 
         flow = record { credit = cs i; flag = fs i; allowance = al i };
         links = record { wire = ws i; choice = ps i };
         table = ts i;
+        connections = ac i;
       }

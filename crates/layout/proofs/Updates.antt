@@ -8,6 +8,7 @@ use lib.Dec.{eqb}
 use lib.ListN.{length, set}
 use lib.Seq.{sets}
 use borrow.Author.Tests.{eqb-true, eq-eqb}
+use Rattle.sets.specs.Sets.{those}
 use Rattle.kinds.specs.declared.Slot.{Slot}
 use Rattle.kinds.specs.declared.Credit.{Credit}
 use Rattle.packets.specs.declared.Packet.{Packet}
@@ -22,19 +23,21 @@ use Rattle.machine.specs.Outputs.{outputs, outputAt, outputNumber}
 use Rattle.machine.specs.Store.{put, sameQueue, same-queue, queue-same, sameOutput, same-output, output-same}
 use Rattle.machine.specs.State.{State, Choice, Lines, Links, withLines, withFlow, withLinks, withPhase}
 use Rattle.machine.specs.State.{withSlot, withQueue, withHandled, withCredit, withFlag, withAllowance, withWire}
-use Rattle.machine.specs.State.{withChoice, withEntry, join}
+use Rattle.machine.specs.State.{withChoice, withEntry, withConnection, join}
 use Rattle.machine.specs.Valid.{Drives}
 use Rattle.machine.proofs.Numbers.{at-number}
 use Rattle.machine.proofs.OutNumbers.{output-at, output-below, at-output}
 use Rattle.layout.specs.Offsets.{phaseByte, slotByte, queueWidth, outputWidth, entryWidth, creditByte, flagByte}
 use Rattle.layout.specs.Offsets.{handledByte, firstPlace, choiceByte, slotRoom, routerEntries, entryIndex}
 use Rattle.layout.specs.Offsets.{queuesAt, outputsAt, allowancesAt, tableAt, queueRow, outputRow, allowanceRow}
-use Rattle.layout.specs.Offsets.{entryRow, entries, places}
+use Rattle.layout.specs.Offsets.{entryRow, entries, places, passiveRoom, startsWidth, pairs, pairIndex}
+use Rattle.layout.specs.Offsets.{connectionsAt, startsRow}
 use Rattle.layout.specs.Codes.{phaseCode, flagCode, choiceCode, entryCode}
 use Rattle.layout.specs.Places.{packetBytes, placeBytes}
 use Rattle.layout.specs.Encode.{queueBytes, wireBytes, outputBytes, allowanceBytes, entryBytes, entryOfNumber}
-use Rattle.layout.specs.Encode.{header, queuePart, outputPart, allowancePart, tablePart, encode, length-queue}
-use Rattle.layout.specs.Encode.{length-wire, length-output, length-queues, length-outputs, length-allowances}
+use Rattle.layout.specs.Encode.{wordBytes, startsOf, startsBytes, header, queuePart, outputPart, allowancePart}
+use Rattle.layout.specs.Encode.{tablePart, connectionPart, encode, length-queue, length-wire, length-output}
+use Rattle.layout.specs.Encode.{length-queues, length-outputs, length-allowances, length-table}
 use Rattle.layout.specs.Updates.{pushAt, popAt}
 use Rattle.layout.proofs.Changes.{RowChanges, changes-whole, changes-left, changes-right, changes-row}
 use Rattle.layout.proofs.Changes.{changes-store, put-unseen, on-row, store-row, store-part}
@@ -44,6 +47,10 @@ use Rattle.layout.proofs.Lines.{rowOf, row-push, row-pop}
 number-of-entry : (j r o t : ℕ) → j / routerEntries ≡ r → j % routerEntries / slotRoom ≡ o → j % slotRoom ≡ t
     → j ≡ entryIndex r o t
 number-of-entry j r o t a b c = omega arith
+
+-- and a pair's active and passive the pair's
+number-of-pair : (j a p : ℕ) → j / passiveRoom ≡ a → j % passiveRoom ≡ p → j ≡ pairIndex a p
+number-of-pair j a p c d = omega arith
 
 module _ (pl : Plan) (s : State) (rest : List ℕ) where
   abbrev bytes : List ℕ
@@ -58,7 +65,8 @@ module _ (pl : Plan) (s : State) (rest : List ℕ) where
   unfolding encode queueBytes outputBytes
   put-slot x = refl
 
-  -- ---- what stands behind the header is changed, behind the queues, behind the outputs, behind the allowances
+  -- ---- what stands behind the header is changed, behind the queues, behind the outputs, behind the allowances, behind
+  -- the table
   from-queues : (x y : List ℕ) → RowChanges queuesAt x y (header s ++ x) (header s ++ y)
   from-queues x y = changes-right 0 queuesAt (header s) x y _ _ refl (changes-whole (header s ++ x) (header s ++ y))
 
@@ -83,6 +91,14 @@ module _ (pl : Plan) (s : State) (rest : List ℕ) where
       (let l = length-allowances pl s in omega arith)
       (from-allowances (allowancePart pl s ++ x) (allowancePart pl s ++ y))
 
+  from-connections : (x y : List ℕ)
+      → RowChanges (connectionsAt pl) x y
+      (header s ++ (queuePart pl s ++ (outputPart pl s ++ (allowancePart pl s ++ (tablePart pl s ++ x)))))
+      (header s ++ (queuePart pl s ++ (outputPart pl s ++ (allowancePart pl s ++ (tablePart pl s ++ y)))))
+  from-connections x y =
+      changes-right (tableAt pl) (connectionsAt pl) (tablePart pl s) x y _ _ (rw (length-table pl s))
+      (from-table (tablePart pl s ++ x) (tablePart pl s ++ y))
+
   -- ---- queues: the state with other lines, credits and flags
   abbrev withRows : Lines → (Queue → Credit) → (Queue → Bool) → State
   withRows l c f = withLines l (withFlow (record { credit = c; flag = f; allowance = s .flow .allowance }) s)
@@ -95,7 +111,8 @@ module _ (pl : Plan) (s : State) (rest : List ℕ) where
   unfolding encode queueRow outputBytes
   queue-changes q h row m v l c f was is =
       let t : State = withRows l c f in
-      let past : List ℕ = outputPart pl s ++ (allowancePart pl s ++ (tablePart pl s ++ rest)) in
+      let past : List ℕ =
+      outputPart pl s ++ (allowancePart pl s ++ (tablePart pl s ++ (connectionPart pl s ++ rest))) in
       changes-store sameQueue queue-same same-queue (number pl) (queueAt pl) row m q v queueWidth (queues pl) queuesAt
       (queueBytes s) (queueBytes t) bytes (encode pl t rest) was is (length-queue s) (at-number pl) (queue-at pl q h)
       (number-below pl q h)
@@ -197,7 +214,7 @@ module _ (pl : Plan) (s : State) (rest : List ℕ) where
   unfolding encode outputRow queueBytes
   output-changes o h row m v l was is =
       let t : State = withLinks l s in
-      let past : List ℕ = allowancePart pl s ++ (tablePart pl s ++ rest) in
+      let past : List ℕ = allowancePart pl s ++ (tablePart pl s ++ (connectionPart pl s ++ rest)) in
       changes-store sameOutput output-same same-output (outputNumber pl) (outputAt pl) row m o v outputWidth
       (outputs pl) (outputsAt pl) (outputBytes s) (outputBytes t) bytes (encode pl t rest) was is (length-output s)
       (at-output pl) (output-at pl o h) (output-below pl o h)
@@ -231,7 +248,7 @@ module _ (pl : Plan) (s : State) (rest : List ℕ) where
   unfolding encode allowanceRow queueBytes outputBytes
   put-allowance a n h =
       let t : State = withAllowance a n s in
-      let past : List ℕ = tablePart pl s ++ rest in
+      let past : List ℕ = tablePart pl s ++ (connectionPart pl s ++ rest) in
       let e : allowancesAt pl + 1 * a ≡ allowancesAt pl + a = omega arith in
       store-row (allowanceRow pl a) (allowanceBytes s a) (n ∷ []) bytes (encode pl t rest) refl
       (subst (λ (i : ℕ). RowChanges i (allowanceBytes s a) (n ∷ []) bytes (encode pl t rest)) e
@@ -265,6 +282,7 @@ module _ (pl : Plan) (s : State) (rest : List ℕ) where
       let d : n % slotRoom ≡ t = omega arith in
       let e : entryOfNumber u n ≡ x = (λ i. u .table (a i) (c i) (d i)) ∙ entry-here r o t x in
       let old : Entry = entryOfNumber s n in
+      let past : List ℕ = connectionPart pl s ++ rest in
       store-row (entryRow pl r o t) (entryCode old ∷ []) (entryCode x ∷ []) bytes (encode pl u rest) refl
       (changes-left (entryRow pl r o t) (entryCode old ∷ []) (entryCode x ∷ []) (0 ∷ []) bytes (encode pl u rest)
       (subst (λ (y : Entry). RowChanges (entryRow pl r o t) (entryBytes old) (entryBytes y) bytes (encode pl u rest)) e
@@ -273,5 +291,33 @@ module _ (pl : Plan) (s : State) (rest : List ℕ) where
       (λ j k ne. ap entryBytes
       (entry-away r o t x (j / routerEntries) (j % routerEntries / slotRoom) (j % slotRoom)
       (λ z. ne (number-of-entry j r o t (z .0) (z .1) (z .2)))))
-      (changes-left (tableAt pl) (tablePart pl s) (tablePart pl u) rest bytes (encode pl u rest)
-      (from-table (tablePart pl s ++ rest) (tablePart pl u ++ rest))))))
+      (changes-left (tableAt pl) (tablePart pl s) (tablePart pl u) past bytes (encode pl u rest)
+      (from-table (tablePart pl s ++ past) (tablePart pl u ++ past))))))
+
+  -- ---- the accepted connections: those of all pairs but one are as they were
+  starts-away : (a p t : ℕ) (x : Bool) (c d : ℕ) → ((c ≡ a) × (d ≡ p) → ⊥)
+      → s .connections c d ≡ withConnection a p t x s .connections c d
+  starts-away a p t x c d ne =
+      put-unseen eqb eqb-true (λ (f : ℕ → ℕ → Bool). f d) (s .connections) a _ c
+      (λ ec. ap (λ (n : ℕ). s .connections n d) ec
+      ∙ put-unseen eqb eqb-true (λ (f : ℕ → Bool). f) (s .connections a) p _ d (λ ed. absurd (ne (ec, ed))))
+
+  pub put-connection : (a p t : ℕ) (x : Bool) → a < A pl → p < passiveRoom
+      → sets (encode pl s rest) (startsRow pl a p) (wordBytes (startsOf (withConnection a p t x s) a p))
+      ≡ encode pl (withConnection a p t x s) rest
+  unfolding encode startsRow queueBytes outputBytes
+  put-connection a p t x ha hp =
+      let u : State = withConnection a p t x s in
+      let n : ℕ = pairIndex a p in
+      let c : n / passiveRoom ≡ a = omega arith in
+      let d : n % passiveRoom ≡ p = omega arith in
+      let e : startsBytes u n ≡ wordBytes (startsOf u a p) = λ i. wordBytes (startsOf u (c i) (d i)) in
+      store-row (startsRow pl a p) (startsBytes s n) (wordBytes (startsOf u a p)) bytes (encode pl u rest) refl
+      (subst (λ (y : List ℕ). RowChanges (startsRow pl a p) (startsBytes s n) y bytes (encode pl u rest)) e
+      (changes-row startsWidth (pairs pl) (connectionsAt pl) (startsBytes s) (startsBytes u) bytes (encode pl u rest)
+      (λ j. refl) n (omega arith)
+      (λ j k ne. ap (λ (f : ℕ → Bool). wordBytes (those slotRoom f))
+      (starts-away a p t x (j / passiveRoom) (j % passiveRoom)
+      (λ z. ne (number-of-pair j a p (z .0) (z .1)))))
+      (changes-left (connectionsAt pl) (connectionPart pl s) (connectionPart pl u) rest bytes (encode pl u rest)
+      (from-connections (connectionPart pl s ++ rest) (connectionPart pl u ++ rest)))))

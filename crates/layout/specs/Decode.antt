@@ -3,12 +3,13 @@
 use mathlib.Core.Path.{_≡_}
 use mathlib.Core.Bool.{Bool, true, false}
 use mathlib.Core.List.{List}
-use Prim.Native.Nat.{ℕ, _+_, _≤_}
+use Prim.Native.Nat.{ℕ, _+_, _*_, _≤_}
 use native.Mathlib.Omega.{arith}
 use lib.Dec.{ltb}
 use lib.ListN.{length, getD}
 use borrow.Author.Tests.{ltb-true}
 use Rattle.basis.specs.Choice.{pick, refuted}
+use Rattle.sets.specs.Sets.{has}
 use Rattle.kinds.specs.declared.Credit.{Credit}
 use Rattle.packets.specs.declared.Packet.{Packet}
 use Rattle.packets.specs.declared.Wire.{Wire}
@@ -22,10 +23,10 @@ use Rattle.machine.specs.Capacity.{capacity}
 use Rattle.machine.specs.State.{State, Choice, blank}
 use Rattle.machine.specs.Valid.{Valid, Bounded}
 use Rattle.layout.specs.Named.{existsTest, test-exists, exists-test, drivesTest, test-drives, isEntry}
-use Rattle.layout.specs.Named.{test-entry}
+use Rattle.layout.specs.Named.{test-entry, isConnection, test-connection}
 use Rattle.layout.specs.Offsets.{phaseByte, slotByte, places, creditByte, flagByte, handledByte, lengthByte}
 use Rattle.layout.specs.Offsets.{firstPlace, wireByte, wirePacket, choiceByte, queueRow, outputRow, allowanceRow}
-use Rattle.layout.specs.Offsets.{entryRow}
+use Rattle.layout.specs.Offsets.{entryRow, startsRow}
 use Rattle.layout.specs.Codes.{phaseOf, flagOf, choiceOf, entryFrom}
 use Rattle.layout.specs.Places.{packetAt, packetsAt, packets-few}
 
@@ -58,6 +59,10 @@ choiceAt i b = choiceOf (getD b (i + choiceByte) 0)
 abbrev pub entryAt : ℕ → List ℕ → Entry
 entryAt i b = entryFrom (getD b i 0)
 
+-- four bytes as a word, the first the lowest
+unfoldable pub fourAt : ℕ → List ℕ → ℕ
+fourAt i b = getD b i 0 + 256 * getD b (i + 1) 0 + 65536 * getD b (i + 2) 0 + 16777216 * getD b (i + 3) 0
+
 -- ---- the whole
 unfoldable pub decode : Plan → List ℕ → State
 decode pl b =
@@ -77,6 +82,8 @@ decode pl b =
         choice = λ o. pick (drivesTest pl o) (choiceAt (outputRow pl o) b) (blank pl .links .choice o);
       };
       table = λ r o t. pick (isEntry pl r o t) (entryAt (entryRow pl r o t) b) (blank pl .table r o t);
+      connections = λ a p t.
+          pick (isConnection pl a p t) (has (fourAt (startsRow pl a p) b) t) (blank pl .connections a p t);
     }
 
 -- ---- outside the plan's places, what is read is blank
@@ -94,6 +101,7 @@ decode-bounded pl b =
       wire = λ o h. left (drivesTest pl o) _ _ (λ e. h (test-drives pl o e));
       choice = λ o h. left (drivesTest pl o) _ _ (λ e. h (test-drives pl o e));
       table = λ r o t h. left (isEntry pl r o t) _ _ (λ e. h (test-entry pl r o t e));
+      connection = λ a p t h. left (isConnection pl a p t) _ _ (λ e. h (test-connection pl a p t e));
       allowance = λ a h. left (ltb a (A pl)) _ _ (λ e. h (ltb-true a (A pl) e));
     }
 

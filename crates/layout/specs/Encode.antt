@@ -1,10 +1,11 @@
--- The bytes of a state: header, a row for each queue, a row for each output, the allowances, the table; and the bytes
--- past the state.
+-- The bytes of a state: header, a row for each queue, a row for each output, the allowances, the table, the accepted
+-- connections; and the bytes past the state.
 use mathlib.Core.Path.{_≡_, refl}
 use mathlib.Core.List.{List, [], _∷_, _++_, append-assoc}
 use Prim.Native.Nat.{ℕ, _*_, _/_, _%_}
 use native.Mathlib.Omega.{arith}
 use lib.ListN.{length, length-append}
+use Rattle.sets.specs.Sets.{those}
 use Rattle.packets.specs.declared.Wire.{Wire}
 use Rattle.packets.specs.declared.Wire.the-variants.{Empty, Full}
 use Rattle.packets.specs.declared.Entry.{Entry}
@@ -15,7 +16,7 @@ use Rattle.machine.specs.Outputs.{outputs, outputAt}
 use Rattle.machine.specs.State.{State}
 use Rattle.layout.specs.Rows.{rows, rows-length}
 use Rattle.layout.specs.Offsets.{places, queueWidth, outputWidth, choiceByte, entryWidth, routerEntries}
-use Rattle.layout.specs.Offsets.{slotRoom, entries, size}
+use Rattle.layout.specs.Offsets.{slotRoom, entries, passiveRoom, startsWidth, pairs, size}
 use Rattle.layout.specs.Codes.{phaseCode, flagCode, choiceCode, entryCode}
 use Rattle.layout.specs.Places.{packetBytes, noPacket, placeBytes, length-places}
 
@@ -45,6 +46,18 @@ entryBytes x = entryCode x ∷ 0 ∷ []
 abbrev pub entryOfNumber : State → ℕ → Entry
 entryOfNumber s n = s .table (n / routerEntries) (n % routerEntries / slotRoom) (n % slotRoom)
 
+-- four bytes of a word, the lowest first
+abbrev pub wordBytes : ℕ → List ℕ
+wordBytes w = w % 256 ∷ w / 256 % 256 ∷ w / 65536 % 256 ∷ w / 16777216 % 256 ∷ []
+
+-- the start slots of a pair's accepted connections, as a set in a word
+abbrev pub startsOf : State → ℕ → ℕ → ℕ
+startsOf s a p = those slotRoom (s .connections a p)
+
+-- of the pair of a number: its active, its passive
+abbrev pub startsBytes : State → ℕ → List ℕ
+startsBytes s n = wordBytes (startsOf s (n / passiveRoom) (n % passiveRoom))
+
 -- ---- the parts
 abbrev pub header : State → List ℕ
 header s = phaseCode (s .clock .phase) ∷ s .clock .slot .0 ∷ []
@@ -61,10 +74,15 @@ allowancePart pl s = rows 0 (A pl) (allowanceBytes s)
 abbrev pub tablePart : Plan → State → List ℕ
 tablePart pl s = rows 0 (entries pl) (λ n. entryBytes (entryOfNumber s n))
 
+abbrev pub connectionPart : Plan → State → List ℕ
+connectionPart pl s = rows 0 (pairs pl) (startsBytes s)
+
 -- the state's bytes, then the bytes past the state
 unfoldable pub encode : Plan → State → List ℕ → List ℕ
 encode pl s rest =
-    header s ++ (queuePart pl s ++ (outputPart pl s ++ (allowancePart pl s ++ (tablePart pl s ++ rest))))
+    header s
+    ++ (queuePart pl s
+    ++ (outputPart pl s ++ (allowancePart pl s ++ (tablePart pl s ++ (connectionPart pl s ++ rest)))))
 
 -- ---- every row has its width
 pub length-queue : (s : State) (q : Queue) → length (queueBytes s q) ≡ queueWidth
@@ -97,6 +115,9 @@ module _ (pl : Plan) (s : State) where
   pub length-table : length (tablePart pl s) ≡ entryWidth * entries pl
   length-table = rows-length entryWidth 0 (entries pl) (λ n. entryBytes (entryOfNumber s n)) (λ n. refl)
 
+  pub length-connections : length (connectionPart pl s) ≡ startsWidth * pairs pl
+  length-connections = rows-length startsWidth 0 (pairs pl) (startsBytes s) (λ n. refl)
+
   -- the bytes past the state stand behind it
   pub encode-append : (rest : List ℕ) → encode pl s rest ≡ encode pl s [] ++ rest
   unfolding encode
@@ -111,8 +132,10 @@ module _ (pl : Plan) (s : State) where
         length-append (outputPart pl s),
         length-append (allowancePart pl s),
         length-append (tablePart pl s),
+        length-append (connectionPart pl s),
         length-queues,
         length-outputs,
         length-allowances,
         length-table,
+        length-connections,
       ) (omega arith)

@@ -5,6 +5,7 @@ use mathlib.Core.Bool.{Bool, true, false}
 use mathlib.Core.List.{List, [], _∷_, _++_}
 use Prim.Native.Nat.{ℕ, zero, suc, _+_}
 use lib.ListN.{set, take}
+use Rattle.sets.specs.Sets.{has, those}
 use Rattle.fields.specs.Bits.{bitAt, fieldOf}
 use Rattle.plan.specs.Head.{capacityAt, headOf}
 use Rattle.plan.specs.Plan.{Plan, jointIn, planOf}
@@ -13,11 +14,11 @@ use Rattle.feeding.specs.Feeds.{Output, ofActive, ofPassive, ofSide, toUnit, fr
 use Rattle.machine.specs.Outputs.{outputAt, outputNumber}
 use Rattle.machine.specs.State.{blank, start}
 use Rattle.layout.specs.Rows.{rows, front}
-use Rattle.layout.specs.Offsets.{outputsAt, allowancesAt, tableAt, size, queueRow, outputRow, allowanceRow}
-use Rattle.layout.specs.Offsets.{entryRow}
+use Rattle.layout.specs.Offsets.{outputsAt, allowancesAt, tableAt, connectionsAt, size, queueRow, outputRow}
+use Rattle.layout.specs.Offsets.{allowanceRow, entryRow, startsRow}
 use Rattle.layout.specs.Places.{placeBytes, packetAt, packetsAt}
 use Rattle.layout.specs.Encode.{queueBytes, outputBytes, encode}
-use Rattle.layout.specs.Decode.{decode}
+use Rattle.layout.specs.Decode.{fourAt, decode}
 use Rattle.layout.specs.Canonical.{sameBytes, canonical}
 use Rattle.plan.specs.Samples.{planT as bytesT}
 
@@ -27,9 +28,10 @@ unfolding bitAt fieldOf capacityAt headOf jointIn planOf
 wiredT = planOf bytesT
 
 -- ---- where the parts begin, and the size
-pub t-parts : (outputsAt wiredT ≡ 977) × (allowancesAt wiredT ≡ 1033) × (tableAt wiredT ≡ 1034) × (size wiredT ≡ 1290)
+pub t-parts : (outputsAt wiredT ≡ 977) × (allowancesAt wiredT ≡ 1033) × (tableAt wiredT ≡ 1034)
+    × (connectionsAt wiredT ≡ 1290) × (size wiredT ≡ 1354)
 unfolding wiredT queues size
-t-parts = (refl, refl, refl, refl)
+t-parts = (refl, refl, refl, refl, refl)
 
 -- ---- where the rows stand
 abbrev pub queuesOf : List Queue → List ℕ
@@ -64,14 +66,19 @@ pub t-entries : (allowanceRow wiredT 0 ≡ 1033) × (entryRow wiredT 0 0 0 ≡ 1
 unfolding wiredT queues allowanceRow entryRow
 t-entries = (refl, refl, refl, refl, refl)
 
+pub t-connections : startsRow wiredT 0 0 ≡ 1290
+unfolding wiredT queues startsRow
+t-connections = refl
+
 -- ---- Start's bytes
 unfoldable pub startT : List ℕ
-unfolding wiredT rows queues queueAt outputAt start blank placeBytes queueBytes outputBytes encode
+unfolding wiredT rows queues queueAt outputAt start blank placeBytes queueBytes outputBytes encode those
 startT = encode wiredT (start wiredT) []
 
 unfoldable pub isStateT : List ℕ → Bool
 unfolding wiredT rows front size queues queueAt number queueRow outputAt outputNumber outputRow allowanceRow entryRow
-    start blank placeBytes packetAt packetsAt queueBytes outputBytes encode decode sameBytes canonical
+    startsRow start blank placeBytes packetAt packetsAt fourAt has those queueBytes outputBytes encode decode sameBytes
+    canonical
 isStateT b = canonical wiredT b
 
 -- the offsets of the bytes that are not 0, from i on
@@ -101,7 +108,7 @@ unfolding startT isStateT
 t-start = refl
 
 -- one byte too few
-pub t-short : isStateT (take 1289 startT) ≡ false
+pub t-short : isStateT (take 1353 startT) ≡ false
 unfolding startT isStateT
 t-short = refl
 
@@ -110,3 +117,8 @@ pub t-others : (isStateT (set startT 8 1) ≡ false) × (isStateT (set startT 5 
     ≡ false) × (isStateT (set startT 1035 1) ≡ false) × (isStateT (set startT 1038 1) ≡ false)
 unfolding startT isStateT
 t-others = (refl, refl, refl, refl, refl)
+
+-- a mark for a start slot from S on, and one for a passive that the plan does not have
+pub t-marks : (isStateT (set startT 1290 4) ≡ false) × (isStateT (set startT 1294 1) ≡ false)
+unfolding startT isStateT
+t-marks = (refl, refl)

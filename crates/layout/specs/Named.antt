@@ -78,6 +78,21 @@ drives-test pl (ofSide r o) (h, l) = also-of (lt-ltb r (R pl) h) (lt-ltb o 4 l)
 drives-test pl (toUnit r) h = lt-ltb r (R pl) h
 drives-test pl (fromUnit r) h = lt-ltb r (R pl) h
 
+-- ---- the plan has a connection: an active's, a passive's, a start slot's
+abbrev pub isConnection : Plan → ℕ → ℕ → ℕ → Bool
+isConnection pl a p t = also (ltb a (A pl)) (also (ltb p (P pl)) (ltb t (S pl)))
+
+abbrev pub HasConnection : Plan → ℕ → ℕ → ℕ → Type 0
+HasConnection pl a p t = (a < A pl) × (p < P pl) × (t < S pl)
+
+pub test-connection : (pl : Plan) (a p t : ℕ) → isConnection pl a p t ≡ true → HasConnection pl a p t
+test-connection pl a p t e =
+    let f = also-true e in let g = also-true (f .1) in
+    (ltb-true a (A pl) (f .0), ltb-true p (P pl) (g .0), ltb-true t (S pl) (g .1))
+
+pub connection-test : (pl : Plan) (a p t : ℕ) → HasConnection pl a p t → isConnection pl a p t ≡ true
+connection-test pl a p t (h, k, l) = also-of (lt-ltb a (A pl) h) (also-of (lt-ltb p (P pl) k) (lt-ltb t (S pl) l))
+
 -- ---- the plan has an entry: a router's, a side's, a slot's
 abbrev pub isEntry : Plan → ℕ → ℕ → ℕ → Bool
 isEntry pl r o t = also (ltb r (R pl)) (also (ltb o 4) (ltb t (S pl)))

@@ -90,6 +90,21 @@ entries pl = routerEntries * R pl
 abbrev pub entryIndex : ℕ → ℕ → ℕ → ℕ
 entryIndex r o t = routerEntries * r + slotRoom * o + t
 
+-- ---- the accepted connections: for each active room for 16 passives, and for each pair four bytes, a bit for each of
+-- 32 start slots
+abbrev pub passiveRoom : ℕ
+passiveRoom = 16
+
+abbrev pub startsWidth : ℕ
+startsWidth = 4
+
+-- pairs have numbers too, by active and passive
+abbrev pub pairs : Plan → ℕ
+pairs pl = passiveRoom * A pl
+
+abbrev pub pairIndex : ℕ → ℕ → ℕ
+pairIndex a p = passiveRoom * a + p
+
 -- ---- where each part begins
 abbrev pub outputsAt : Plan → ℕ
 outputsAt pl = queuesAt + queueWidth * queues pl
@@ -100,9 +115,12 @@ allowancesAt pl = outputsAt pl + outputWidth * outputs pl
 abbrev pub tableAt : Plan → ℕ
 tableAt pl = allowancesAt pl + A pl
 
+abbrev pub connectionsAt : Plan → ℕ
+connectionsAt pl = tableAt pl + entryWidth * entries pl
+
 -- the count of the state's bytes
 unfoldable pub size : Plan → ℕ
-size pl = tableAt pl + entryWidth * entries pl
+size pl = connectionsAt pl + startsWidth * pairs pl
 
 -- ---- where each row stands
 unfoldable pub queueRow : Plan → Queue → ℕ
@@ -117,13 +135,16 @@ allowanceRow pl a = allowancesAt pl + a
 unfoldable pub entryRow : Plan → ℕ → ℕ → ℕ → ℕ
 entryRow pl r o t = tableAt pl + entryWidth * entryIndex r o t
 
+unfoldable pub startsRow : Plan → ℕ → ℕ → ℕ
+startsRow pl a p = connectionsAt pl + startsWidth * pairIndex a p
+
 -- the size, by the plan's counts alone
-pub size-is : (pl : Plan) → size pl ≡ 2 + 39 * queues pl + 7 * outputs pl + A pl + 256 * R pl
+pub size-is : (pl : Plan) → size pl ≡ 2 + 39 * queues pl + 7 * outputs pl + 65 * A pl + 256 * R pl
 unfolding size
 size-is pl = omega arith
 
--- the state of a plan whose counts are in range is at most 20,610 bytes
-pub size-most : (pl : Plan) → InRange (pl .head) → size pl ≤ 20610
+-- the state of a plan whose counts are in range is at most 21,634 bytes
+pub size-most : (pl : Plan) → InRange (pl .head) → size pl ≤ 21634
 unfolding size queues
 size-most pl range =
     let r = range .routers .1 in let a = range .actives .1 in let p = range .passives .1 in

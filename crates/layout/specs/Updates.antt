@@ -1,13 +1,16 @@
--- What joining and leaving a queue do to its row, byte by byte: plain stores, and a loop that closes up the places.
+-- What joining and leaving a queue do to its row, byte by byte: plain stores, and a loop that closes up the places. And
+-- what a start slot does that joins a pair's, or leaves them.
 use mathlib.Core.List.{List}
 use Prim.Native.Nat.{ℕ, _+_, _*_, _-_}
 use lib.ListN.{getD, set}
 use lib.Seq.{sets}
 use Rattle.basis.specs.Fold.{upTo}
+use Rattle.sets.specs.Sets.{single, either, less}
 use Rattle.packets.specs.declared.Packet.{Packet}
 use Rattle.layout.specs.Offsets.{packetWidth, lengthByte, firstPlace}
 use Rattle.layout.specs.Places.{packetBytes, noPacket}
-use Rattle.layout.specs.Decode.{lengthAt}
+use Rattle.layout.specs.Encode.{wordBytes}
+use Rattle.layout.specs.Decode.{lengthAt, fourAt}
 
 -- the place of a number in the row at an offset
 abbrev pub placeRow : ℕ → ℕ → ℕ
@@ -35,3 +38,10 @@ unfoldable pub popAt : ℕ → List ℕ → List ℕ
 popAt at b =
     set (sets (closeUp (at + firstPlace) (lengthAt at b - 1) b) (placeRow at (lengthAt at b - 1)) noPacket)
     (at + lengthByte) (lengthAt at b - 1)
+
+-- ---- a start slot joins a pair's, whose four bytes stand at an offset, and leaves them
+unfoldable pub joinStart : ℕ → ℕ → List ℕ → List ℕ
+joinStart at t b = sets b at (wordBytes (either (fourAt at b) (single t)))
+
+unfoldable pub leaveStart : ℕ → ℕ → List ℕ → List ℕ
+leaveStart at t b = sets b at (wordBytes (less (fourAt at b) (single t)))

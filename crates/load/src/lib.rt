@@ -124,7 +124,7 @@ pub fn load(
     l
 }
 
-// Document 01's number of a refusal.
+// The documents' number of a refusal.
 pub fn refusal_number(w: Refusal) -> u8
     ensures { λ r. ⌜ r ≡ refusalNumber w ⌝ }
 {
@@ -144,6 +144,7 @@ pub fn refusal_number(w: Refusal) -> u8
         Refusal::QueueEmpty => 13,
         Refusal::FlagUp => 14,
         Refusal::Unmarked => 15,
+        Refusal::NotAccepted => 16,
     }
 }
 

@@ -1,4 +1,4 @@
--- The calls. Each has its refusals in document 01's order and, where none applies, what it gives. A refusal leaves the
+-- The calls. Each has its refusals in the documents' order and, where none applies, what it gives. A refusal leaves the
 -- state.
 use mathlib.Core.Bool.{Bool, true, false, not, _&&_}
 use mathlib.Core.List.{List, [], _∷_}
@@ -7,7 +7,7 @@ use Prim.Native.Nat.{ℕ}
 use lib.Dec.{eqb, ltb, leb}
 use Rattle.kinds.specs.declared.Refusal.{Refusal}
 use Rattle.kinds.specs.declared.Refusal.the-variants.{WrongPhase, BadNumber, NotServed, NoAllowance, QueueFull}
-use Rattle.kinds.specs.declared.Refusal.the-variants.{QueueEmpty, FlagUp, Unmarked}
+use Rattle.kinds.specs.declared.Refusal.the-variants.{QueueEmpty, FlagUp, Unmarked, NotAccepted}
 use Rattle.packets.specs.declared.Packet.{Packet}
 use Rattle.packets.specs.declared.Phase.{Phase}
 use Rattle.packets.specs.declared.Phase.the-variants.{Read, Execute, Write}
@@ -20,7 +20,8 @@ use Rattle.machine.specs.State.{State}
 use Rattle.machine.specs.Read.{doRead}
 use Rattle.machine.specs.Execute.{doExecute, hasRoom}
 use Rattle.machine.specs.Write.{doWrite}
-use Rattle.machine.specs.Visits.{launched, replyKind, replied, removed, isEmpty, headUnmarked}
+use Rattle.machine.specs.Visits.{launched, replyKind, replied, removed, noted, closed}
+use Rattle.machine.specs.Visits.{isEmpty, headUnmarked}
 use Rattle.machine.specs.Guards.{Guard, guard, refusalOf}
 
 -- ---- which call
@@ -29,6 +30,7 @@ pub data Visit : Type 0 where
   ofLaunch : ℕ → ℕ → ℕ → Visit
   ofReply : ℕ → ℕ → Visit
   ofConsume : ℕ → Visit
+  ofClose : ℕ → ℕ → ℕ → Visit
   ofEntry : ℕ → ℕ → ℕ → Visit
 
 -- 'the calls Read, Execute, Write', which turn the phase, and the others
@@ -56,6 +58,10 @@ reply p c = visit (ofReply p c)
 -- Consume (active)
 abbrev pub consume : ℕ → Call
 consume a = visit (ofConsume a)
+
+-- Close (active, passive, start slot)
+abbrev pub close : ℕ → ℕ → ℕ → Call
+close a p t = visit (ofClose a p t)
 
 -- Entry (router, side, slot)
 abbrev pub entry : ℕ → ℕ → ℕ → Call
@@ -113,6 +119,17 @@ consumeGuards pl a s =
     ∷ guard Unmarked (headUnmarked (s .lines .queue (activeIn a)))
     ∷ []
 
+-- Document 02 (a): 'Close (active, passive, start slot) in READ .. refuses 8, 9, 10, then 16 for a connection not
+-- accepted, then 12'
+abbrev pub closeGuards : Plan → ℕ → ℕ → ℕ → State → List Guard
+closeGuards pl a p t s =
+    guard WrongPhase (not (isPhase (s .clock .phase) Read))
+    ∷ guard BadNumber (not (ltb a (A pl) && ltb p (P pl) && ltb t (S pl)))
+    ∷ guard NotServed (not (served pl a p))
+    ∷ guard NotAccepted (not (s .connections a p t))
+    ∷ guard QueueFull (not (hasRoom pl (activeOut a) s))
+    ∷ []
+
 -- '**Entry** (router, side, slot): 9'
 abbrev pub entryGuards : Plan → ℕ → ℕ → ℕ → List Guard
 entryGuards pl r o t = guard BadNumber (not (ltb r (R pl) && ltb o 4 && ltb t (S pl))) ∷ []
@@ -123,6 +140,7 @@ guards pl (turn x) s = guard WrongPhase (not (isPhase (s .clock .phase) x)) ∷ 
 guards pl (visit (ofLaunch a p t)) s = launchGuards pl a p t s
 guards pl (visit (ofReply p c)) s = replyGuards pl p c s
 guards pl (visit (ofConsume a)) s = consumeGuards pl a s
+guards pl (visit (ofClose a p t)) s = closeGuards pl a p t s
 guards pl (visit (ofEntry r o t)) s = entryGuards pl r o t
 
 -- ---- what each call gives where no refusal applies
@@ -132,15 +150,16 @@ phaseStep pl Execute s = doExecute pl s
 phaseStep pl Write s = doWrite pl s
 
 -- 'the packet is returned and removed'; an empty in-queue has been refused
-abbrev pub consumed : ℕ → List Packet → State → Outcome
-consumed a [] s = gives (Refused QueueEmpty) s
-consumed a (x ∷ rest) s = gives (Taken x) (removed a rest s)
+abbrev pub consumed : Plan → ℕ → List Packet → State → Outcome
+consumed pl a [] s = gives (Refused QueueEmpty) s
+consumed pl a (x ∷ rest) s = gives (Taken x) (noted pl x (removed a rest s))
 
 abbrev pub accepted : Plan → Call → State → Outcome
 accepted pl (turn x) s = gives Done (phaseStep pl x s)
 accepted pl (visit (ofLaunch a p t)) s = gives Done (launched a p t s)
 accepted pl (visit (ofReply p c)) s = gives Done (replied p (replyKind c) (s .lines .queue (passiveIn p)) s)
-accepted pl (visit (ofConsume a)) s = consumed a (s .lines .queue (activeIn a)) s
+accepted pl (visit (ofConsume a)) s = consumed pl a (s .lines .queue (activeIn a)) s
+accepted pl (visit (ofClose a p t)) s = gives Done (closed pl a p t s)
 accepted pl (visit (ofEntry r o t)) s = gives (Holds (s .table r o t)) s
 
 -- ---- a call

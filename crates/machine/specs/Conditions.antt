@@ -1,13 +1,13 @@
--- The conditions of the refusals 8 to 15, call by call, in document 01's words and order. claims/proofs/Tests shows
+-- The conditions of the refusals 8 to 16, call by call, in the documents' words and order. claims/proofs/Tests shows
 -- that the tests of specs/Calls hold exactly where these do.
 use mathlib.Core.Path.{_≡_}
 use mathlib.Core.Logic.{_⊎_, _≢_}
-use mathlib.Core.Bool.{true}
+use mathlib.Core.Bool.{true, false}
 use mathlib.Core.List.{List, [], _∷_}
 use Prim.Native.Nat.{_≤_}
 use lib.ListN.{length}
 use Rattle.kinds.specs.declared.Refusal.the-variants.{WrongPhase, BadNumber, NotServed, NoAllowance, QueueFull}
-use Rattle.kinds.specs.declared.Refusal.the-variants.{QueueEmpty, FlagUp, Unmarked}
+use Rattle.kinds.specs.declared.Refusal.the-variants.{QueueEmpty, FlagUp, Unmarked, NotAccepted}
 use Rattle.kinds.specs.Conditions.{Condition, condition}
 use Rattle.packets.specs.declared.Kind.the-variants.{Nack}
 use Rattle.packets.specs.declared.Packet.{Packet}
@@ -17,7 +17,7 @@ use Rattle.paths.specs.Served.{Served}
 use Rattle.feeding.specs.Queue.{Queue, activeOut, activeIn, passiveIn, passiveOut}
 use Rattle.machine.specs.Capacity.{capacity}
 use Rattle.machine.specs.State.{State}
-use Rattle.machine.specs.Calls.{ofLaunch, ofReply, ofConsume, ofEntry, Call, turn, visit}
+use Rattle.machine.specs.Calls.{ofLaunch, ofReply, ofConsume, ofClose, ofEntry, Call, turn, visit}
 
 -- 'out-queue full'
 abbrev pub QueueIsFull : Plan → Queue → State → Type 0
@@ -59,6 +59,14 @@ conditions pl (visit (ofConsume a)) s =
     ∷ condition FlagUp (s .flow .flag (activeIn a) ≡ true)
     ∷ condition QueueEmpty (s .lines .queue (activeIn a) ≡ [])
     ∷ condition Unmarked (UnmarkedHead (activeIn a) s)
+    ∷ []
+-- 'Close (active, passive, start slot) in READ .. refuses 8, 9, 10, then 16 for a connection not accepted, then 12'
+conditions pl (visit (ofClose a p t)) s =
+    condition WrongPhase (s .clock .phase ≢ Read)
+    ∷ condition BadNumber ((A pl ≤ a) ⊎ (P pl ≤ p) ⊎ (S pl ≤ t))
+    ∷ condition NotServed (Served pl a p → ⊥)
+    ∷ condition NotAccepted (s .connections a p t ≡ false)
+    ∷ condition QueueFull (QueueIsFull pl (activeOut a) s)
     ∷ []
 -- '**Entry** (router, side, slot): 9'
 conditions pl (visit (ofEntry r o t)) s = condition BadNumber ((R pl ≤ r) ⊎ (4 ≤ o) ⊎ (S pl ≤ t)) ∷ []

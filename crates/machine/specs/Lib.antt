@@ -1,6 +1,7 @@
 pub mod Capacity
 pub mod Store
 pub mod Outputs
+pub mod Connections
 pub mod State
 pub mod Read
 pub mod Execute

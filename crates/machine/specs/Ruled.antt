@@ -1,16 +1,25 @@
 -- Demand 3 on the rules alone: what is to be shown of every list of calls on the abstract state. The claim on bytes
 -- follows from it.
 use mathlib.Core.Path.{_≡_}
-use mathlib.Core.Bool.{Bool, true, _&&_}
+use mathlib.Core.Bool.{true, _&&_}
 use mathlib.Core.List.{List, [], _∷_, _++_}
 use Prim.Native.Nat.{ℕ, _+_, _≤_}
 use lib.Dec.{eqb}
 use Rattle.basis.specs.Choice.{pick}
+use Rattle.basis.specs.Among.{In}
+use Rattle.kinds.specs.declared.Refusal.{Refusal}
+use Rattle.packets.specs.declared.Kind.{Kind}
+use Rattle.packets.specs.declared.Kind.the-variants.{Setup, Tdown, Ack, Nack}
+use Rattle.packets.specs.declared.Packet.{Packet}
+use Rattle.packets.specs.declared.Entry.{Entry}
 use Rattle.packets.specs.declared.Answer.{Answer}
+use Rattle.packets.specs.declared.Answer.the-variants.{Refused, Done, Taken, Holds}
 use Rattle.plan.specs.Plan.{Plan, S}
-use Rattle.machine.specs.State.{State, start}
-use Rattle.machine.specs.Calls.{Visit, ofLaunch, ofReply, ofConsume, ofEntry, Call, turn, visit, call}
-use Rattle.machine.specs.Accepted.{Connection, accept, MadeBy}
+use Rattle.machine.specs.Connections.{Connection, connectionOf, sameConnection, MadeBy}
+use Rattle.machine.specs.State.{State, start, hasConnection}
+use Rattle.machine.specs.Calls.{Visit, ofLaunch, ofReply, ofConsume, ofClose, ofEntry, Call, turn, visit}
+use Rattle.machine.specs.Calls.{call}
+use Rattle.machine.specs.Accepted.{accept}
 use Rattle.machine.specs.Valid.{Valid, Bounded}
 use Rattle.machine.specs.Progress.{Quiet, Waits, Moved, isTimed, isDone, endsRound}
 
@@ -19,7 +28,7 @@ abbrev pub ruledAfter : Plan → List Call → State → State
 ruledAfter pl [] s = s
 ruledAfter pl (c ∷ cs) s = ruledAfter pl cs (call pl c s .state)
 
--- the connections accepted, told by the calls and their answers
+-- the connections accepted and not closed since, told by the calls and their answers
 abbrev pub acceptedAfter : Plan → List Call → State → List Connection → List Connection
 acceptedAfter pl [] s acc = acc
 acceptedAfter pl (c ∷ cs) s acc = acceptedAfter pl cs (call pl c s .state) (accept pl c (call pl c s .answer) acc)
@@ -34,6 +43,7 @@ abbrev pub launchesVisit : Connection → Visit → Answer → ℕ
 launchesVisit d (ofLaunch a q t) x = pick (eqb a (d .active) && eqb q (d .passive) && eqb t (d .start .0)) (isDone x) 0
 launchesVisit d (ofReply q c) x = 0
 launchesVisit d (ofConsume a) x = 0
+launchesVisit d (ofClose a q t) x = 0
 launchesVisit d (ofEntry r o t) x = 0
 
 abbrev pub launchesCall : Connection → Call → Answer → ℕ
@@ -44,13 +54,38 @@ abbrev pub launches : Plan → Connection → List Call → State → ℕ
 launches pl d [] s = 0
 launches pl d (c ∷ cs) s = launchesCall d c (call pl c s .answer) + launches pl d cs (call pl c s .state)
 
--- how many times a connection was accepted
-abbrev pub sameConnection : Connection → Connection → Bool
-sameConnection c d = eqb (c .active) (d .active) && eqb (c .passive) (d .passive) && eqb (c .start .0) (d .start .0)
+-- accepted Consumes of a triple's ACK, closed since or not: in one call, in a list
+abbrev pub acceptsKind : Plan → Connection → Kind → Packet → ℕ
+acceptsKind pl d Setup x = 0
+acceptsKind pl d Tdown x = 0
+acceptsKind pl d Ack x = pick (sameConnection (connectionOf pl x) d) 1 0
+acceptsKind pl d Nack x = 0
 
-abbrev pub times : Connection → List Connection → ℕ
-times d [] = 0
-times d (c ∷ cs) = pick (sameConnection c d) 1 0 + times d cs
+abbrev pub acceptsTaken : Plan → Connection → Answer → ℕ
+acceptsTaken pl d (Refused w) = 0
+acceptsTaken pl d Done = 0
+acceptsTaken pl d (Holds e) = 0
+acceptsTaken pl d (Taken x) = acceptsKind pl d (x .kind) x
+
+abbrev pub acceptsVisit : Plan → Connection → Visit → Answer → ℕ
+acceptsVisit pl d (ofLaunch a q t) x = 0
+acceptsVisit pl d (ofReply q c) x = 0
+acceptsVisit pl d (ofConsume a) x = acceptsTaken pl d x
+acceptsVisit pl d (ofClose a q t) x = 0
+acceptsVisit pl d (ofEntry r o t) x = 0
+
+abbrev pub acceptsCall : Plan → Connection → Call → Answer → ℕ
+acceptsCall pl d (turn x) a = 0
+acceptsCall pl d (visit v) a = acceptsVisit pl d v a
+
+abbrev pub acceptances : Plan → Connection → List Call → State → ℕ
+acceptances pl d [] s = 0
+acceptances pl d (c ∷ cs) s = acceptsCall pl d c (call pl c s .answer) + acceptances pl d cs (call pl c s .state)
+
+-- the state's connections are those of a list
+pub record Remembers (cs : List Connection) (s : State) : Type 0 where
+  pub has : (c : Connection) → In c cs → hasConnection s c ≡ true
+  pub only : (c : Connection) → hasConnection s c ≡ true → In c cs
 
 -- a call of the list that takes a packet out of its queue or wire
 pub record Moves (pl : Plan) (cs : List Call) (s : State) : Type 0 where
@@ -75,7 +110,9 @@ pub record Ruled (pl : Plan) : Type 1 where
   pub good : (s : State) → Reached s → Good pl s
   pub table : (cs : List Call) → Quiet pl (ruledAfter pl cs (start pl))
       → MadeBy pl (acceptedAfter pl cs (start pl) []) (ruledAfter pl cs (start pl) .table)
+  -- the connections accepted and not closed since are those that the state keeps
+  pub told : (cs : List Call) → Remembers (acceptedAfter pl cs (start pl) []) (ruledAfter pl cs (start pl))
   -- from every valid state
   pub progress : (s : State) → Good pl s → Waits pl s → (cs : List Call) → S pl ≤ rounds pl cs s → Moves pl cs s
   pub launched : (cs : List Call) (d : Connection)
-      → times d (acceptedAfter pl cs (start pl) []) ≤ launches pl d cs (start pl)
+      → acceptances pl d cs (start pl) ≤ launches pl d cs (start pl)

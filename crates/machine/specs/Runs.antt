@@ -12,3 +12,4 @@ pub mod Wrap
 pub mod Capacities
 pub mod Entries
 pub mod Refusals
+pub mod Closed

@@ -18,6 +18,7 @@ use Rattle.feeding.specs.Queue.{Queue, activeOut}
 use Rattle.feeding.specs.Feeds.{Output}
 use Rattle.machine.specs.Capacity.{capacity}
 use Rattle.machine.specs.Store.{put, sameQueue, sameOutput}
+use Rattle.machine.specs.Connections.{Connection}
 
 -- an output's choice: nobody, or the sender of a rank in its order
 pub data Choice : Type 0 where
@@ -53,13 +54,15 @@ pub record State : Type 0 where
   pub links : Links
   -- by router, side and slot
   pub table : ℕ → ℕ → ℕ → Entry
+  -- 'the state now keeps the accepted connections' (document 02 (a)): by active, passive and start slot
+  pub connections : ℕ → ℕ → ℕ → Bool
 
 -- 'each active's allowance = the smaller of its two capacities'
 abbrev pub startAllowance : Plan → ℕ
 startAllowance pl = min (pl .head .aout .0) (pl .head .ain .0)
 
 -- nothing anywhere: 'READ, queues, wires and table empty, flags down, no choices, credit of each queue fed by a wire =
--- its capacity'
+-- its capacity'; no connection is accepted
 unfoldable pub blank : Plan → State
 blank pl =
     record {
@@ -72,6 +75,7 @@ blank pl =
       };
       links = record { wire = λ o. Empty; choice = λ o. nobody };
       table = λ r o t. Free;
+      connections = λ a p t. false;
     }
 
 -- '*Start*'
@@ -80,19 +84,70 @@ start pl = blank pl
 
 -- ---- one group changed
 abbrev pub withClock : Clock → State → State
-withClock x s = record { clock = x; lines = s .lines; flow = s .flow; links = s .links; table = s .table }
+withClock x s =
+    record {
+      clock = x;
+      lines = s .lines;
+      flow = s .flow;
+      links = s .links;
+      table = s .table;
+      connections = s .connections;
+    }
 
 abbrev pub withLines : Lines → State → State
-withLines x s = record { clock = s .clock; lines = x; flow = s .flow; links = s .links; table = s .table }
+withLines x s =
+    record {
+      clock = s .clock;
+      lines = x;
+      flow = s .flow;
+      links = s .links;
+      table = s .table;
+      connections = s .connections;
+    }
 
 abbrev pub withFlow : Flow → State → State
-withFlow x s = record { clock = s .clock; lines = s .lines; flow = x; links = s .links; table = s .table }
+withFlow x s =
+    record {
+      clock = s .clock;
+      lines = s .lines;
+      flow = x;
+      links = s .links;
+      table = s .table;
+      connections = s .connections;
+    }
 
 abbrev pub withLinks : Links → State → State
-withLinks x s = record { clock = s .clock; lines = s .lines; flow = s .flow; links = x; table = s .table }
+withLinks x s =
+    record {
+      clock = s .clock;
+      lines = s .lines;
+      flow = s .flow;
+      links = x;
+      table = s .table;
+      connections = s .connections;
+    }
 
 abbrev pub withTable : (ℕ → ℕ → ℕ → Entry) → State → State
-withTable x s = record { clock = s .clock; lines = s .lines; flow = s .flow; links = s .links; table = x }
+withTable x s =
+    record {
+      clock = s .clock;
+      lines = s .lines;
+      flow = s .flow;
+      links = s .links;
+      table = x;
+      connections = s .connections;
+    }
+
+abbrev pub withConnections : (ℕ → ℕ → ℕ → Bool) → State → State
+withConnections x s =
+    record {
+      clock = s .clock;
+      lines = s .lines;
+      flow = s .flow;
+      links = s .links;
+      table = s .table;
+      connections = x;
+    }
 
 -- ---- one part changed
 abbrev pub withPhase : Phase → State → State
@@ -131,6 +186,16 @@ withChoice o x s = withLinks (record { wire = s .links .wire; choice = put sameO
 -- the one change of the table
 abbrev pub withEntry : ℕ → ℕ → ℕ → Entry → State → State
 withEntry r o t x s = withTable (put eqb (s .table) r (put eqb (s .table r) o (put eqb (s .table r o) t x))) s
+
+-- the one change of the accepted connections
+abbrev pub withConnection : ℕ → ℕ → ℕ → Bool → State → State
+withConnection a p t x s =
+    withConnections
+    (put eqb (s .connections) a (put eqb (s .connections a) p (put eqb (s .connections a p) t x))) s
+
+-- the state has a connection among the accepted ones
+abbrev pub hasConnection : State → Connection → Bool
+hasConnection s c = s .connections (c .active) (c .passive) (c .start .0)
 
 -- ---- queues, first in first out
 -- a packet joins a queue

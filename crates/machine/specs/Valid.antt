@@ -26,7 +26,8 @@ use Rattle.feeding.specs.Feeds.{Output, ofActive, ofPassive, ofSide, toUnit, fr
 use Rattle.machine.specs.Capacity.{capacity}
 use Rattle.machine.specs.Store.{sameQueue}
 use Rattle.machine.specs.Outputs.{nextBy, senders, outputs, outputAt}
-use Rattle.machine.specs.State.{State, Choice, sender, blank, startAllowance}
+use Rattle.machine.specs.Connections.{Connection, Makes}
+use Rattle.machine.specs.State.{State, Choice, sender, blank, startAllowance, hasConnection}
 use Rattle.machine.specs.Execute.{candidate}
 use Rattle.machine.specs.Write.{ofRank}
 
@@ -129,6 +130,16 @@ fed pl (Q r) = true
 fed pl (F r o) = true
 fed pl (K r i o) = isJoined (pl .joint r i)
 
+-- ---- accepted connections: 'refusal 7 covers a mark for an unserved pair, one lacking any of its entries, or two that
+-- share an entry' (document 02 (a)). They tie the accepted connections to the table; nothing ties the packets to it, so
+-- these three are kept along a list from Start and not by each call alone.
+pub record Ties (pl : Plan) (s : State) : Type 0 where
+  pub serves : (c : Connection) → hasConnection s c ≡ true → Served pl (c .active) (c .passive)
+  pub booked : (c : Connection) → hasConnection s c ≡ true → (r o t i : ℕ) → Makes pl c r o t i
+      → s .table r o t ≡ Booked i
+  pub apart : (c d : Connection) → hasConnection s c ≡ true → hasConnection s d ≡ true → (r o t i j : ℕ)
+      → Makes pl c r o t i → Makes pl d r o t j → c ≡ d
+
 -- ---- a state
 pub record Valid (pl : Plan) (s : State) : Type 0 where
   -- 'phase, slot .. out of range'
@@ -163,6 +174,8 @@ pub record Valid (pl : Plan) (s : State) : Type 0 where
   pub out-credits : (q : Queue) → Exists pl q → fed pl q ≡ false → s .flow .credit q .0 ≡ capacity (pl .head) q
   -- 'an active's allowance + its SETUPs, ACKs and NACKs ≠ its start allowance'
   pub allowances : (a : ℕ) → a < A pl → s .flow .allowance a + total pl (spends a) s ≡ startAllowance pl
+  -- the accepted connections and the table
+  pub ties : Ties pl s
 
 -- what lies outside the plan's places is blank
 pub record Bounded (pl : Plan) (s : State) : Type 0 where
@@ -173,4 +186,6 @@ pub record Bounded (pl : Plan) (s : State) : Type 0 where
   pub wire : (o : Output) → (Drives pl o → ⊥) → s .links .wire o ≡ blank pl .links .wire o
   pub choice : (o : Output) → (Drives pl o → ⊥) → s .links .choice o ≡ blank pl .links .choice o
   pub table : (r o t : ℕ) → ((r < R pl) × (o < 4) × (t < S pl) → ⊥) → s .table r o t ≡ blank pl .table r o t
+  pub connection : (a p t : ℕ) → ((a < A pl) × (p < P pl) × (t < S pl) → ⊥)
+      → s .connections a p t ≡ blank pl .connections a p t
   pub allowance : (a : ℕ) → (a < A pl → ⊥) → s .flow .allowance a ≡ blank pl .flow .allowance a

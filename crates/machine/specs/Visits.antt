@@ -1,14 +1,17 @@
--- What the accepted calls of the interfaces do: Launch, Reply and Consume.
+-- What the accepted calls of the interfaces do: Launch, Reply, Consume and Close.
 use mathlib.Core.Bool.{Bool, true, false}
 use mathlib.Core.List.{List, [], _∷_}
 use Prim.Native.Nat.{ℕ, _+_, _-_}
 use lib.Dec.{eqb}
 use Rattle.basis.specs.Choice.{pick}
 use Rattle.packets.specs.declared.Kind.{Kind}
-use Rattle.packets.specs.declared.Kind.the-variants.{Setup, Ack, Nack}
+use Rattle.packets.specs.declared.Kind.the-variants.{Setup, Tdown, Ack, Nack}
 use Rattle.packets.specs.declared.Packet.{Packet}
+use Rattle.plan.specs.Plan.{Plan}
 use Rattle.feeding.specs.Queue.{activeOut, activeIn, passiveIn, passiveOut}
-use Rattle.machine.specs.State.{State, withQueue, withFlag, withAllowance, join}
+use Rattle.feeding.specs.Feeds.{span}
+use Rattle.machine.specs.Connections.{Connection, connectionOf}
+use Rattle.machine.specs.State.{State, withQueue, withFlag, withAllowance, withConnection, join}
 use Rattle.machine.specs.Execute.{unmarked}
 
 -- ---- 'a SETUP, hub 0, joins and the allowance falls by one'
@@ -37,6 +40,28 @@ replied p k (x ∷ rest) s =
 unfoldable pub removed : ℕ → List Packet → State → State
 removed a rest s =
     withAllowance a (s .flow .allowance a + 1) (withFlag (activeIn a) true (withQueue (activeIn a) rest s))
+
+-- 'the accepted connections, set when an ACK is consumed': the packet's pair, and slot minus hub
+abbrev pub accepting : Connection → State → State
+accepting c s = withConnection (c .active) (c .passive) (c .start .0) true s
+
+abbrev pub notedKind : Plan → Kind → Packet → State → State
+notedKind pl Setup x s = s
+notedKind pl Tdown x s = s
+notedKind pl Ack x s = accepting (connectionOf pl x) s
+notedKind pl Nack x s = s
+
+unfoldable pub noted : Plan → Packet → State → State
+noted pl x s = notedKind pl (x .kind) x s
+
+-- ---- 'it puts a TDOWN in the active's out-queue, slot the start slot, hub the number of routers on the walk, and the
+-- connection leaves the accepted ones'
+abbrev pub closingOf : Plan → ℕ → ℕ → ℕ → Packet
+closingOf pl a p t =
+    record { kind = Tdown; active = a; passive = p; slot = record { 0 = t }; hub = record { 0 = span pl a p } }
+
+unfoldable pub closed : Plan → ℕ → ℕ → ℕ → State → State
+closed pl a p t s = withConnection a p t false (join (activeOut a) (closingOf pl a p t) s)
 
 -- ---- the head of a queue
 abbrev pub isEmpty : List Packet → Bool

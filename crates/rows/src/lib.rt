@@ -1,4 +1,7 @@
 // One row of a state's bytes: the bytes of its values, packets and wires, and what joins and leaves a queue, in place.
+// The start slots of a pair's accepted connections.
+pub mod starts;
+
 use kinds::Hub;
 use kinds::Slot;
 use packets::Entry;

@@ -6,7 +6,7 @@ use lib.ListN.{getD}
 use Rattle.kinds.specs.declared.Refusal.{Refusal}
 use Rattle.kinds.specs.declared.Refusal.the-variants.{TooShort, OutOfRange, WrongLength, BadField, BadJoint, HasRing}
 use Rattle.kinds.specs.declared.Refusal.the-variants.{NotState, WrongPhase, BadNumber, NotServed, NoAllowance}
-use Rattle.kinds.specs.declared.Refusal.the-variants.{QueueFull, QueueEmpty, FlagUp, Unmarked}
+use Rattle.kinds.specs.declared.Refusal.the-variants.{QueueFull, QueueEmpty, FlagUp, Unmarked, NotAccepted}
 use Rattle.kinds.specs.Refusals.{refusalNumber}
 use Rattle.packets.specs.declared.Kind.{Kind}
 use Rattle.packets.specs.declared.Packet.{Packet}
@@ -16,7 +16,7 @@ use Rattle.layout.specs.Codes.{kindCode, kindOf, kind-code}
 refusals : List Refusal
 refusals =
     TooShort ∷ TooShort ∷ OutOfRange ∷ WrongLength ∷ BadField ∷ BadJoint ∷ HasRing ∷ NotState ∷ WrongPhase ∷ BadNumber
-    ∷ NotServed ∷ NoAllowance ∷ QueueFull ∷ QueueEmpty ∷ FlagUp ∷ Unmarked ∷ []
+    ∷ NotServed ∷ NoAllowance ∷ QueueFull ∷ QueueEmpty ∷ FlagUp ∷ Unmarked ∷ NotAccepted ∷ []
 
 of-number : (w : Refusal) → getD refusals (refusalNumber w) TooShort ≡ w
 unfolding refusals
@@ -35,6 +35,7 @@ of-number QueueFull = refl
 of-number QueueEmpty = refl
 of-number FlagUp = refl
 of-number Unmarked = refl
+of-number NotAccepted = refl
 
 pub same-number : (v w : Refusal) → refusalNumber v ≡ refusalNumber w → v ≡ w
 same-number v w e = sym (of-number v) ∙ ap (λ (n : ℕ). getD refusals n TooShort) e ∙ of-number w

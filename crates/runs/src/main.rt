@@ -1,5 +1,5 @@
-// Document 01's 'Runs to compare', done by the calls on byte arrays: every call is written with its answer, and after
-// each run whether the answers are those of document 01.
+// Document 01's 'Runs to compare' and one of document 02, done by the calls on byte arrays: every call is written with
+// its answer, and after each run whether the answers are those of the document.
 use kinds::Hub;
 use kinds::Refusal;
 use kinds::Slot;
@@ -12,6 +12,7 @@ use words::say;
 ghost use mathlib.Core.Path.{_≡_};
 ghost use lib.ListN.{length};
 
+mod closed;
 mod rounds;
 mod same;
 mod told;
@@ -32,15 +33,21 @@ fn room() -> [u8; 4096]
     io::buffer()
 }
 
-// Ends a run: whether the answers were those of document 01, and what it says.
-fn verdict(ok: bool, words: &[u8]) {
-    if ok {
-        say(b"as document 01 says: ");
-    } else {
-        say(b"NOT as document 01 says: ");
+// Ends a run: whether the answers were those of a document, and what it says.
+fn verdict_of(ok: bool, document: &[u8], words: &[u8]) {
+    if !ok {
+        say(b"NOT ");
     }
+    say(b"as document ");
+    say(document);
+    say(b" says: ");
     say(words);
     say(b"\n");
+}
+
+// The same of document 01.
+fn verdict(ok: bool, words: &[u8]) {
+    verdict_of(ok, b"01", words);
 }
 
 // A packet of passive 0.
@@ -317,6 +324,26 @@ fn allowance_spent(plan: &[u8]) {
     verdict(ok, b"11.");
 }
 
+// The first run, and then the connection is closed.
+fn sixth_run(plan: &[u8], s: &mut [u8]) -> bool {
+    let first = first_run(plan, s);
+    let freed = closed::freed_in_round_10(plan, s);
+    first & freed
+}
+
+// Document 02 (a): 'it puts a TDOWN in the active's out-queue, slot the start slot, hub the number of routers on the
+// walk, and the connection leaves the accepted ones'.
+fn closed_again(plan: &[u8]) {
+    say(b"\nPlan T, Close (0,0,0) after that ACK is consumed\n");
+    let mut s = room();
+    let ok = sixth_run(plan, &mut s);
+    verdict_of(
+        ok,
+        b"02 (a)",
+        b"accepted once, then 16; the entry is free when the TDOWN has come by, in round 10.",
+    );
+}
+
 // 'Two routers, each with an active and a passive, set-ups crossing both ways: 6.'
 fn crossing(plan: &[u8]) {
     say(b"\nTwo routers, each with an active and a passive, set-ups crossing both ways\n");
@@ -324,7 +351,7 @@ fn crossing(plan: &[u8]) {
     verdict(ok, b"6.");
 }
 
-// All runs, in document 01's order, on plan T and two others.
+// All runs, in the documents' order, on plan T and two others.
 fn all(t: &[u8], two: &[u8], crossed: &[u8]) {
     loads();
     launch_in_round_0(t);
@@ -333,6 +360,7 @@ fn all(t: &[u8], two: &[u8], crossed: &[u8]) {
     declined(two);
     allowance_spent(t);
     crossing(crossed);
+    closed_again(t);
 }
 
 // Runs all on plan T, the plan of two routers, and the one in which set-ups cross.

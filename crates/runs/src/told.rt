@@ -69,6 +69,12 @@ pub fn consume(plan: &[u8], s: &mut [u8], a: usize, want: Answer) -> bool {
     answered(calls::consume(plan, s, a), want)
 }
 
+// Close.
+pub fn close(plan: &[u8], s: &mut [u8], a: usize, p: usize, t: usize, want: Answer) -> bool {
+    super::words::say_three(b" Close", a, p, t);
+    answered(calls::close(plan, s, a, p, t), want)
+}
+
 // Entry.
 pub fn entry(plan: &[u8], s: &[u8], r: usize, o: usize, t: usize, want: Entry) -> bool {
     super::words::say_three(b" Entry", r, o, t);

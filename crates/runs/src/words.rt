@@ -81,6 +81,7 @@ fn say_reason(w: Refusal) {
         Refusal::QueueEmpty => say(b"in-queue empty"),
         Refusal::FlagUp => say(b"in-queue flag up"),
         Refusal::Unmarked => say(b"head is an unmarked NACK"),
+        Refusal::NotAccepted => say(b"connection not accepted"),
     }
 }
 

@@ -6,6 +6,7 @@ use native.Mathlib.Nat.{one-mul, zero-add}
 use native.Mathlib.Omega.{arith}
 use lib.ListN.{length, getD, set, length-append}
 use Rattle.basis.specs.Fold.{upTo, up-same}
+use Rattle.sets.specs.Sets.{those}
 use Rattle.plan.specs.declared.Head.{Head}
 use Rattle.plan.specs.Head.{InRange, Counts, destinations}
 use Rattle.plan.specs.Plan.{Plan, R, A}
@@ -13,22 +14,26 @@ use Rattle.feeding.specs.Queue.{queues, queueAt}
 use Rattle.machine.specs.Outputs.{outputs}
 use Rattle.machine.specs.State.{blank, start, startAllowance}
 use Rattle.layout.specs.Rows.{rows, rows-same, rows-length, past}
-use Rattle.layout.specs.Offsets.{size, entries, allowancesAt}
+use Rattle.layout.specs.Offsets.{size, entries, pairs, allowancesAt}
 use Rattle.layout.specs.Places.{placeBytes}
-use Rattle.layout.specs.Encode.{queueBytes, outputBytes, encode}
-use Rattle.acts.specs.Counts.{queueCount, allowancesFrom, tableFrom, stateSize, queues-by, size-by, allowances-at}
-use Rattle.starting.specs.Starting.{Started, zeros, cleared, laid, credits, freeEntries, freed, sixteen}
-use Rattle.starting.specs.Starting.{routerCredits, innerCredits, creditOf, credited, allowanceOf}
-use Rattle.starting.proofs.Zeros.{length-zeros, zeros-split, zeros-rows, freed-zero}
+use Rattle.layout.specs.Encode.{queueBytes, outputBytes, startsBytes, connectionPart, encode}
+use Rattle.acts.specs.Counts.{queueCount, allowancesFrom, tableFrom, connectionsFrom, stateSize, queues-by, size-by}
+use Rattle.acts.specs.Counts.{allowances-at}
+use Rattle.starting.specs.Starting.{Started, zeros, cleared, laid, repeated, credits, freeEntries, freed}
+use Rattle.starting.specs.Starting.{noStarts, noConnections, sixteen, routerCredits, innerCredits, creditOf}
+use Rattle.starting.specs.Starting.{credited, allowanceOf}
+use Rattle.starting.proofs.Zeros.{length-zeros, zeros-split, zeros-rows, repeated-zero}
 use Rattle.starting.proofs.Fills.{filled}
-use Rattle.starting.proofs.Credits.{sixteen-at, free-at, credit-of, active-out-credit, passive-out-credit}
+use Rattle.starting.proofs.Credits.{sixteen-at, free-at, no-starts-at, credit-of, active-out-credit}
+use Rattle.starting.proofs.Credits.{passive-out-credit}
 use Rattle.starting.proofs.Credits.{active-in-credit, passive-in-credit, credited-none, credited-more}
 use Rattle.starting.proofs.Credits.{credited-inner}
 
 module _ (pl : Plan) (rest : List ℕ) where
-  -- ---- the parts of a state's bytes: the header, the queues' rows, the outputs' rows, the allowances, the table
+  -- ---- the parts of a state's bytes: the header, the queues' rows, the outputs' rows, the allowances, the table, the
+  -- accepted connections
   abbrev tail : List ℕ
-  tail = zeros (256 * R pl) ++ rest
+  tail = zeros (256 * R pl) ++ (zeros (64 * A pl) ++ rest)
 
   abbrev wires : List ℕ
   wires = rows 0 (outputs pl) (λ j. zeros 7)
@@ -40,15 +45,18 @@ module _ (pl : Plan) (rest : List ℕ) where
   cleared-parts : zeros (size pl) ++ rest ≡ parts (λ j. 0 ∷ zeros 38) (λ j. 0 ∷ [])
   unfolding size zeros
   cleared-parts =
-      let e : size pl ≡ 2 + (39 * queues pl + (7 * outputs pl + (1 * A pl + 256 * R pl))) = omega arith in
+      let last : ℕ = 256 * R pl + 64 * A pl in
+      let e : size pl ≡ 2 + (39 * queues pl + (7 * outputs pl + (1 * A pl + last))) = omega arith in
       ap (λ (n : ℕ). zeros n ++ rest) e
-      ∙ zeros-split 2 (39 * queues pl + (7 * outputs pl + (1 * A pl + 256 * R pl))) rest
+      ∙ zeros-split 2 (39 * queues pl + (7 * outputs pl + (1 * A pl + last))) rest
       ∙ ap (λ (x : List ℕ). zeros 2 ++ x)
-      (zeros-split (39 * queues pl) (7 * outputs pl + (1 * A pl + 256 * R pl)) rest
+      (zeros-split (39 * queues pl) (7 * outputs pl + (1 * A pl + last)) rest
       ∙ ap (λ (x : List ℕ). zeros (39 * queues pl) ++ x)
-      (zeros-split (7 * outputs pl) (1 * A pl + 256 * R pl) rest
+      (zeros-split (7 * outputs pl) (1 * A pl + last) rest
       ∙ ap (λ (x : List ℕ). zeros (7 * outputs pl) ++ x)
-      (zeros-split (1 * A pl) (256 * R pl) rest ∙ sym (zeros-rows 1 0 (A pl) tail))
+      (zeros-split (1 * A pl) last rest
+      ∙ ap (λ (x : List ℕ). zeros (1 * A pl) ++ x) (zeros-split (256 * R pl) (64 * A pl) rest)
+      ∙ sym (zeros-rows 1 0 (A pl) tail))
       ∙ sym (zeros-rows 7 0 (outputs pl) (rows 0 (A pl) (λ j. zeros 1) ++ tail)))
       ∙ sym (zeros-rows 39 0 (queues pl) (wires ++ (rows 0 (A pl) (λ j. zeros 1) ++ tail))))
 
@@ -103,14 +111,28 @@ module _ (pl : Plan) (rest : List ℕ) where
       ∙ sym (group (rows 0 (A pl) allowance ++ tail))
 
   -- ---- Start's state
+  -- no connection is accepted
+  no-starts : (n : ℕ) → startsBytes (start pl) n ≡ zeros 4
+  unfolding start blank those zeros
+  no-starts n = refl
+
+  start-connections : connectionPart pl (start pl) ++ rest ≡ zeros (64 * A pl) ++ rest
+  start-connections =
+      let e : 4 * pairs pl ≡ 64 * A pl = omega arith in
+      ap (λ (x : List ℕ). x ++ rest) (rows-same 0 (pairs pl) (startsBytes (start pl)) (λ j. zeros 4)
+      (λ j a b. no-starts j))
+      ∙ zeros-rows 4 0 (pairs pl) rest ∙ ap (λ (n : ℕ). zeros n ++ rest) e
+
   start-parts : encode pl (start pl) rest ≡ parts credit allowance
   unfolding encode queueBytes outputBytes placeBytes start blank zeros
   start-parts =
+      let more : List ℕ = connectionPart pl (start pl) ++ rest in
       ap₂ (λ (x y : List ℕ). zeros 2 ++ (x ++ (wires ++ (rows 0 (A pl) allowance ++ y))))
       (rows-same 0 (queues pl) (λ n. queueBytes (start pl) (queueAt pl n)) credit
       (λ j a b. ap (λ (x : ℕ). x ∷ zeros 38) (sym (credit-of pl j))))
-      (zeros-rows 2 0 (entries pl) rest
-      ∙ (let e : 2 * entries pl ≡ 256 * R pl = omega arith in ap (λ (n : ℕ). zeros n ++ rest) e))
+      (zeros-rows 2 0 (entries pl) more
+      ∙ (let e : 2 * entries pl ≡ 256 * R pl = omega arith in ap (λ (n : ℕ). zeros n ++ more) e)
+      ∙ ap (λ (x : List ℕ). zeros (256 * R pl) ++ x) start-connections)
 
 -- ---- the whole
 module _ (pl : Plan) (few : A pl ≤ 16) (b : List ℕ) where
@@ -146,13 +168,13 @@ pub laid-as : (n : ℕ) (b : List ℕ) {at from : ℕ} {t u d : List ℕ} → at
     → d ≡ laid from u n b
 laid-as n b e f g = g ∙ ap₂ (λ (i : ℕ) (x : List ℕ). laid i x n b) e f
 
--- the entries of the routers one after the other
-pub freed-as : (n : ℕ) (b : List ℕ) {at from i : ℕ} {t d : List ℕ} → at ≡ from → t ≡ freeEntries
-    → d ≡ upTo (λ r x. laid (at + 256 * r) t 256 x) i b → i ≡ n → d ≡ freed from n b
-unfolding freed
-freed-as n b {at} {from} {i} {t} e f g q =
-    g ∙ ap (λ (k : ℕ). upTo (λ r x. laid (at + 256 * r) t 256 x) k b) q
-    ∙ ap₂ (λ (a : ℕ) (u : List ℕ). upTo (λ r x. laid (a + 256 * r) u 256 x) n b) e f
+-- an array one after the other
+pub repeated-as : (w n : ℕ) (b : List ℕ) {at from i : ℕ} {t u d : List ℕ} → at ≡ from → t ≡ u
+    → d ≡ upTo (λ r x. laid (at + w * r) t w x) i b → i ≡ n → d ≡ repeated w u from n b
+unfolding repeated
+repeated-as w n b {at} {from} {i} {t} e f g q =
+    g ∙ ap (λ (k : ℕ). upTo (λ r x. laid (at + w * r) t w x) k b) q
+    ∙ ap₂ (λ (a : ℕ) (u : List ℕ). upTo (λ r x. laid (a + w * r) u w x) n b) e f
 
 -- and the credits of their queues
 pub inner-as : (h : Head) (n : ℕ) (b : List ℕ) {i : ℕ} {t d : List ℕ} → t ≡ routerCredits h
@@ -197,16 +219,22 @@ all-groups h few b {c} p r i =
     five ∙ ap (λ (n : ℕ). credited h n b) count
 
 -- all of Start
-pub start-made : {h : Head} → InRange h → {at : ℕ} {b c d e f : List ℕ} → stateSize h ≤ length b → at ≡ tableFrom h
-    → c ≡ cleared at b → d ≡ freed (tableFrom h) (h .routers) c → e ≡ credited h (queueCount h) d
+pub start-made : {h : Head} → InRange h → {at : ℕ} {b c d m e f : List ℕ} → stateSize h ≤ length b → at ≡ tableFrom h
+    → c ≡ cleared at b → d ≡ freed (tableFrom h) (h .routers) c → m ≡ noConnections (connectionsFrom h) (h .actives) d
+    → e ≡ credited h (queueCount h) m
     → f ≡ laid (allowancesFrom h) (sixteen (allowanceOf h)) (h .actives) e → Started h b f
-start-made {h} range {at} {b} long i p q r s =
-    let zero-table : freed (tableFrom h) (h .routers) (cleared (tableFrom h) b) ≡ cleared (stateSize h) b =
-    freed-zero (tableFrom h) (h .routers) b free-at long in
+start-made {h} range {at} {b} {c} {d} {m} long i p q none r s =
+    let zero-table : freed (tableFrom h) (h .routers) (cleared (tableFrom h) b) ≡ cleared (connectionsFrom h) b =
+    repeated-zero 256 freeEntries (tableFrom h) (h .routers) b free-at (omega arith) in
+    let zero-starts : noConnections (connectionsFrom h) (h .actives) (cleared (connectionsFrom h) b)
+    ≡ cleared (stateSize h) b =
+    repeated-zero 64 noStarts (connectionsFrom h) (h .actives) b no-starts-at long in
+    let table : d ≡ cleared (connectionsFrom h) b =
+    q ∙ ap (freed (tableFrom h) (h .routers)) (p ∙ ap (λ (n : ℕ). cleared n b) i) ∙ zero-table in
     started range
     (s ∙ ap (laid (allowancesFrom h) (sixteen (allowanceOf h)) (h .actives))
     (r ∙ ap (credited h (queueCount h))
-    (q ∙ ap (freed (tableFrom h) (h .routers)) (p ∙ ap (λ (n : ℕ). cleared n b) i) ∙ zero-table)))
+    (none ∙ ap (noConnections (connectionsFrom h) (h .actives)) table ∙ zero-starts)))
 
 -- what the steps ask: counts that are few, and a length that stays
 pub few-counts : {h : Head} → InRange h → Counts h

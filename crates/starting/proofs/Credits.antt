@@ -15,8 +15,8 @@ use Rattle.plan.specs.Plan.{Plan, A}
 use Rattle.feeding.specs.Queue.{Queue, activeOut, activeIn, passiveIn, passiveOut, U, Q, outs, inBase, senderAt}
 use Rattle.feeding.specs.Queue.{inRouter, queueAt}
 use Rattle.machine.specs.Capacity.{capacity}
-use Rattle.starting.specs.Starting.{credits, freeEntries, sixteen, routerCredit, routerCredits, innerCredits}
-use Rattle.starting.specs.Starting.{creditOf, credited}
+use Rattle.starting.specs.Starting.{credits, freeEntries, noStarts, sixteen, routerCredit, routerCredits}
+use Rattle.starting.specs.Starting.{innerCredits, creditOf, credited}
 
 -- ---- equal bytes
 same-at : (n : ℕ) (v i : ℕ) → i < n → getD (replicate n v) i 0 ≡ v
@@ -39,6 +39,14 @@ free-at i l = same-at 256 0 i l
 pub length-free : length freeEntries ≡ 256
 unfolding freeEntries
 length-free = length-replicate {A = ℕ} 256 0
+
+pub no-starts-at : (i : ℕ) → i < 64 → getD noStarts i 0 ≡ 0
+unfolding noStarts
+no-starts-at i l = same-at 64 0 i l
+
+pub length-no-starts : length noStarts ≡ 64
+unfolding noStarts
+length-no-starts = length-replicate {A = ℕ} 64 0
 
 -- ---- capacities by number
 module _ (h : Head) where

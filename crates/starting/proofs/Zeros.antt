@@ -2,7 +2,7 @@
 use mathlib.Core.Path.{_≡_, refl, sym, ap, _∙_}
 use mathlib.Core.List.{List, _∷_, _++_, append-assoc}
 use Prim.Native.Nat.{ℕ, zero, suc, _+_, _*_, _≤_, _<_}
-use native.Mathlib.Nat.{zero-add, suc-add, add-zero, mul-zero, mul-suc}
+use native.Mathlib.Nat.{zero-add, suc-add, add-zero, mul-zero, mul-suc, mul-le-mul-left}
 use native.Mathlib.Numerals.{add-one}
 use native.Mathlib.Omega.{arith}
 use lib.ListN.{length, getD, set, drop, length-replicate}
@@ -10,7 +10,7 @@ use lib.Seq.{drop-cons}
 use Rattle.basis.specs.Fold.{upTo, up-keeps-at}
 use Rattle.layout.specs.Rows.{rows, past}
 use Rattle.layout.proofs.Lines.{set-behind}
-use Rattle.starting.specs.Starting.{zeros, cleared, laid, freeEntries, freed}
+use Rattle.starting.specs.Starting.{zeros, cleared, laid, repeated}
 
 pub length-zeros : (n : ℕ) → length (zeros n) ≡ n
 unfolding zeros
@@ -68,14 +68,15 @@ laid-zero at t (suc n) b z l =
     ∙ ap (λ (v : ℕ). set (cleared (at + n) b) (at + n) v) (z n (omega arith))
     ∙ cleared-more (at + n) b (omega arith) ∙ ap (λ (k : ℕ). cleared k b) e
 
--- a router's entries after the other's
-pub freed-zero : (at n : ℕ) (b : List ℕ) → ((i : ℕ) → i < 256 → getD freeEntries i 0 ≡ 0) → at + 256 * n ≤ length b
-    → freed at n (cleared at b) ≡ cleared (at + 256 * n) b
-unfolding freed
-freed-zero at n b z l =
-    up-keeps-at (λ r x. x ≡ cleared (at + 256 * r) b) (λ r x. laid (at + 256 * r) freeEntries 256 x) n (cleared at b)
+-- an array of zero bytes after the other
+pub repeated-zero : (w : ℕ) (t : List ℕ) (at n : ℕ) (b : List ℕ) → ((i : ℕ) → i < w → getD t i 0 ≡ 0)
+    → at + w * n ≤ length b → repeated w t at n (cleared at b) ≡ cleared (at + w * n) b
+unfolding repeated
+repeated-zero w t at n b z l =
+    up-keeps-at (λ r x. x ≡ cleared (at + w * r) b) (λ r x. laid (at + w * r) t w x) n (cleared at b)
     (λ r x g q.
-    let k : at + 256 * r + 256 ≡ at + 256 * suc r = omega arith in
-    ap (laid (at + 256 * r) freeEntries 256) q ∙ laid-zero (at + 256 * r) freeEntries 256 b z (omega arith)
+    let k : at + w * r + w ≡ at + w * suc r = omega (arith, mul-suc w r) in
+    let m = mul-le-mul-left w g in
+    ap (laid (at + w * r) t w) q ∙ laid-zero (at + w * r) t w b z (omega arith)
     ∙ ap (λ (m : ℕ). cleared m b) k)
-    (ap (λ (m : ℕ). cleared m b) (sym (add-zero at)))
+    (ap (λ (m : ℕ). cleared m b) (let e : at ≡ at + w * 0 = omega (arith, mul-zero w) in e))

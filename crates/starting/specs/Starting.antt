@@ -1,5 +1,5 @@
--- Start on bytes: zero bytes, then arrays of equal bytes for the table and for the credits, which are stored queue by
--- queue, and the allowances.
+-- Start on bytes: zero bytes, then arrays of equal bytes for the table, for the accepted connections and for the
+-- credits, which are stored queue by queue, and the allowances.
 use mathlib.Core.Path.{_≡_}
 use mathlib.Core.List.{List, _++_}
 use Prim.Native.Nat.{ℕ, _+_, _*_, _-_, _%_, min}
@@ -35,13 +35,24 @@ laid at t n b = upTo (λ i c. set c (at + i) (getD t i 0)) n b
 unfoldable pub credits : ℕ → List ℕ → ℕ → List ℕ → List ℕ
 credits from t n b = upTo (λ i c. set c (2 + 39 * (from + i)) (getD t i 0)) n b
 
+-- ---- an array of w bytes, n times one after another from an offset on
+unfoldable pub repeated : ℕ → List ℕ → ℕ → ℕ → List ℕ → List ℕ
+repeated w t at n b = upTo (λ r c. laid (at + w * r) t w c) n b
+
 -- ---- the arrays
 -- 'table empty': two bytes for each of 32 slots on four sides of a router; and for each of n routers from an offset on
 unfoldable pub freeEntries : List ℕ
 freeEntries = replicate 256 0
 
-unfoldable pub freed : ℕ → ℕ → List ℕ → List ℕ
-freed at n b = upTo (λ r c. laid (at + 256 * r) freeEntries 256 c) n b
+abbrev pub freed : ℕ → ℕ → List ℕ → List ℕ
+freed at n b = repeated 256 freeEntries at n b
+
+-- no connection is accepted: four bytes for each of an active's 16 pairs; and for each of n actives from an offset on
+unfoldable pub noStarts : List ℕ
+noStarts = replicate 64 0
+
+abbrev pub noConnections : ℕ → ℕ → List ℕ → List ℕ
+noConnections at n b = repeated 64 noStarts at n b
 
 -- one value for each of 16 interfaces
 unfoldable pub sixteen : ℕ → List ℕ

@@ -5,9 +5,10 @@ ghost use mathlib.Core.Path.{_≡_};
 ghost use Prim.Native.Nat.{_+_, _*_, _≤_, _<_, min};
 ghost use lib.ListN.{length};
 ghost use Rattle.plan.specs.Head.{InRange, Counts, destinations};
-ghost use Rattle.acts.specs.Counts.{queueCount, allowancesFrom, tableFrom, stateSize};
-ghost use Rattle.starting.specs.Starting.{Started, cleared, laid, credits, freeEntries, freed, sixteen};
-ghost use Rattle.starting.specs.Starting.{routerCredits, innerCredits, credited, allowanceOf};
+ghost use Rattle.acts.specs.Counts.{queueCount, allowancesFrom, tableFrom, connectionsFrom, stateSize};
+ghost use Rattle.starting.specs.Starting.{Started, cleared, laid, credits, freeEntries, freed, noStarts};
+ghost use Rattle.starting.specs.Starting.{noConnections, sixteen, routerCredits, innerCredits, credited};
+ghost use Rattle.starting.specs.Starting.{allowanceOf};
 
 // A free entry's byte.
 const FREE: u8 = 0;
@@ -49,6 +50,13 @@ fn free_entries() -> [u8; 256]
     [FREE; 256]
 }
 
+// No connection is accepted: the start slots of an active's 16 pairs.
+fn no_starts() -> [u8; 64]
+    ensures { λ t. ⌜ t ≡ noStarts ⌝ }
+{
+    [0; 64]
+}
+
 // One value for each of 16 interfaces.
 fn same(v: u8) -> [u8; 16]
     ensures { λ t. ⌜ t ≡ sixteen v ⌝ }
@@ -83,6 +91,19 @@ fn free_table(h: Head, s: &mut [u8])
     let n = h.routers;
     for r in 0..n {
         lay(s, at + 256 * r, &t, 256);
+    }
+}
+
+// No connection is accepted, active by active.
+fn no_connections(h: Head, s: &mut [u8])
+    requires { ⌜ Counts h × (stateSize h ≤ length (now s)) ⌝ }
+    ensures { λ _. ⌜ now (s .exit) ≡ noConnections (connectionsFrom h) (h .actives) (now (s .entry)) ⌝ }
+{
+    let t = no_starts();
+    let at = acts::connections_row(h);
+    let n = h.actives;
+    for a in 0..n {
+        lay(s, at + 64 * a, &t, 64);
     }
 }
 
@@ -154,13 +175,14 @@ fn all_credits(h: Head, s: &mut [u8])
 }
 
 // '*Start*: READ, queues, wires and table empty, flags down, no choices, credit of each queue fed by a wire = its
-// capacity, each active's allowance = the smaller of its two capacities.'
+// capacity, each active's allowance = the smaller of its two capacities.' No connection is accepted.
 pub fn start(h: Head, s: &mut [u8])
     requires { ⌜ InRange h × (stateSize h ≤ length (now s)) ⌝ }
     ensures { λ _. ⌜ Started h (now (s .entry)) (now (s .exit)) ⌝ }
 {
     clear(s, acts::table_row(h));
     free_table(h, s);
+    no_connections(h, s);
     all_credits(h, s);
     allow(h, s);
 }

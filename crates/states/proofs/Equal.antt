@@ -13,16 +13,17 @@ use Rattle.feeding.specs.Queue.{Queue, Exists}
 use Rattle.feeding.specs.Feeds.{Output}
 use Rattle.machine.specs.Valid.{Drives}
 use Rattle.wiring.proofs.Heads.{and-both, and-of}
+use Rattle.valid.specs.Ties.{pairTies}
 use Rattle.valid.specs.Test.{slotTest, allowancesTest, validTest}
-use Rattle.valid.proofs.Decides.{Decides, so, most, both}
+use Rattle.valid.proofs.Decides.{Decides, so, most, both, all-below}
 use Rattle.valid.proofs.Parts.{every-queue, every-output}
-use Rattle.layout.specs.Offsets.{phaseByte, slotByte, size, queueRow, outputRow}
+use Rattle.layout.specs.Offsets.{phaseByte, slotByte, pairs, size, queueRow, outputRow}
 use Rattle.layout.specs.Decode.{decode}
 use Rattle.layout.specs.Canonical.{canonical}
-use Rattle.states.specs.Forms.{headerForm, queueForm, outputForm, sideForm}
+use Rattle.states.specs.Forms.{headerForm, queueForm, outputForm, sideForm, startsForm}
 use Rattle.states.specs.Parts.{queueTest, outputTest, pickTest, sideTest}
 use Rattle.states.specs.Check.{outputRowTest, queueRowTest, sideRowTest, outputsPart, queuesPart, picksPart}
-use Rattle.states.specs.Check.{allowancesPart, tablesPart, checkOf}
+use Rattle.states.specs.Check.{allowancesPart, tablesPart, pairTest, connectionsPart, checkOf}
 use Rattle.states.proofs.Forms.{Formed, formed-canonical}
 use Rattle.states.proofs.Standing.{canonical-formed}
 use Rattle.states.proofs.Gathered.{every-side, each-output, Parts, valid-parts, parts-valid}
@@ -64,6 +65,13 @@ module _ (pl : Plan) (b : List ℕ) where
       every-side pl (sideRowTest pl b) (λ r o. (sideForm pl r o b ≡ true) × (sideTest pl (decode pl b) r o ≡ true))
       (λ r o h k. both (so (sideForm pl r o b)) (λ x. so (sideTest pl (decode pl b) r o)))
 
+  connections-decide : Decides (connectionsPart pl b)
+      ((n : ℕ) → n < pairs pl → (startsForm pl b n ≡ true) × (pairTies pl (decode pl b) n ≡ true))
+  unfolding connectionsPart pairTest
+  connections-decide =
+      all-below (pairs pl) (pairTest pl b) (λ n. (startsForm pl b n ≡ true) × (pairTies pl (decode pl b) n ≡ true))
+      (λ n h. both (so (startsForm pl b n)) (λ x. so (pairTies pl (decode pl b) n)))
+
   -- the test tells the forms, and what is asked of each place
   pub check-parts : checkOf pl b ≡ true → Formed pl b × Parts pl (decode pl b)
   unfolding checkOf
@@ -74,16 +82,19 @@ module _ (pl : Plan) (b : List ℕ) where
       let f = also-true (d .1) in
       let g = also-true (f .1) in
       let h = also-true (g .1) in
+      let i = also-true (h .1) in
       let first = header-decides .holds (c .0) in
       let outputs = outputs-decide .holds (d .0) in
       let queues = queues-decide .holds (f .0) in
-      let tables = tables-decide .holds (h .1) in (
+      let tables = tables-decide .holds (i .0) in
+      let connections = connections-decide .holds (i .1) in (
         record {
           long = leb-true (size pl) (length b) (a .0);
           phase = first .0;
           queue = λ q x. queues q x .0;
           output = λ o x. outputs o x .0;
           side = λ r o x y. tables r o x y .0;
+          starts = λ n x. connections n x .0;
         },
         record {
           slot = first .1;
@@ -92,6 +103,7 @@ module _ (pl : Plan) (b : List ℕ) where
           choice = picks-decide .holds (g .0);
           side = λ r o x y. tables r o x y .1;
           allowance = allowances-decide .holds (h .0);
+          pair = λ n x. connections n x .1;
         },
       )
 
@@ -105,7 +117,8 @@ module _ (pl : Plan) (b : List ℕ) where
       (also-of (queues-decide .passes (λ q h. (f .queue q h, p .queue q h)))
       (also-of (picks-decide .passes (p .choice))
       (also-of (allowances-decide .passes (p .allowance))
-      (tables-decide .passes (λ r o h k. (f .side r o h k, p .side r o h k))))))))
+      (also-of (tables-decide .passes (λ r o h k. (f .side r o h k, p .side r o h k)))
+      (connections-decide .passes (λ n h. (f .starts n h, p .pair n h)))))))))
 
 -- the two tests are one
 pub check-equal : (pl : Plan) → InRange (pl .head) → (b : List ℕ)

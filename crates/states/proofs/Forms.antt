@@ -17,18 +17,19 @@ use Rattle.machine.proofs.OutNumbers.{drives-at, at-output}
 use Rattle.layout.specs.Rows.{front}
 use Rattle.layout.specs.Offsets.{phaseByte, queueWidth, outputWidth, entryWidth, routerEntries, slotRoom, entries}
 use Rattle.layout.specs.Offsets.{queuesAt, outputsAt, allowancesAt, tableAt, size, queueRow, outputRow, allowanceRow}
-use Rattle.layout.specs.Offsets.{entryRow}
+use Rattle.layout.specs.Offsets.{entryRow, connectionsAt, startsWidth, pairs, startsRow}
 use Rattle.layout.specs.Encode.{queueBytes, outputBytes, allowanceBytes, entryBytes, entryOfNumber, header, queuePart}
-use Rattle.layout.specs.Encode.{outputPart, allowancePart, tablePart, encode, length-queue, length-output}
-use Rattle.layout.specs.Encode.{length-queues, length-outputs, length-allowances, length-table, length-encode}
+use Rattle.layout.specs.Encode.{startsBytes, outputPart, allowancePart, tablePart, connectionPart, encode}
+use Rattle.layout.specs.Encode.{length-queue, length-output, length-queues, length-outputs, length-allowances}
+use Rattle.layout.specs.Encode.{length-table, length-connections, length-encode}
 use Rattle.layout.specs.Decode.{decode}
 use Rattle.layout.specs.Canonical.{canonical}
 use Rattle.layout.proofs.Numbering.{entry-named}
 use Rattle.layout.proofs.StateBytes.{bytes-same}
-use Rattle.states.specs.Forms.{queueForm, outputForm, sideForm}
+use Rattle.states.specs.Forms.{queueForm, outputForm, sideForm, pairRow, startsForm}
 use Rattle.states.proofs.Agree.{Agrees, agrees-at, agrees-none, agrees-append, agrees-all, agrees-front}
 use Rattle.states.proofs.Bytes.{phase-byte}
-use Rattle.states.proofs.Rows.{queue-agrees, output-agrees, allowance-agrees, entry-agrees}
+use Rattle.states.proofs.Rows.{queue-agrees, output-agrees, allowance-agrees, entry-agrees, starts-agrees}
 
 -- what of the bytes themselves must hold
 pub record Formed (pl : Plan) (b : List ℕ) : Type 0 where
@@ -37,6 +38,7 @@ pub record Formed (pl : Plan) (b : List ℕ) : Type 0 where
   pub queue : (q : Queue) → Exists pl q → queueForm (queueRow pl q) b ≡ true
   pub output : (o : Output) → Drives pl o → outputForm (outputRow pl o) b ≡ true
   pub side : (r o : ℕ) → r < R pl → o < 4 → sideForm pl r o b ≡ true
+  pub starts : (n : ℕ) → n < pairs pl → startsForm pl b n ≡ true
 
 module _ (pl : Plan) (b : List ℕ) (f : Formed pl b) where
   header-agrees : Agrees 0 (header (decode pl b)) b
@@ -81,37 +83,57 @@ module _ (pl : Plan) (b : List ℕ) (f : Formed pl b) where
       (entry-agrees pl b (n / routerEntries) (n % routerEntries / slotRoom) (n % slotRoom) (e .0) (e .1) (e .2)
       (f .side (n / routerEntries) (n % routerEntries / slotRoom) (e .0) (e .1))))
 
+  connections-agree : Agrees (connectionsAt pl) (connectionPart pl (decode pl b)) b
+  unfolding startsRow
+  connections-agree =
+      agrees-all startsWidth (pairs pl) (connectionsAt pl) (startsBytes (decode pl b)) b (λ n. refl)
+      (λ n h. agrees-at (pairRow pl n) (connectionsAt pl + startsWidth * n) (startsBytes (decode pl b) n) b
+      (omega arith) (starts-agrees pl b n (f .starts n h)))
+
   -- the parts, one behind the other
-  from-table : Agrees (tableAt pl) (tablePart pl (decode pl b) ++ []) b
+  abbrev fifth : List ℕ
+  fifth = connectionPart pl (decode pl b) ++ []
+
+  abbrev fourth : List ℕ
+  fourth = tablePart pl (decode pl b) ++ fifth
+
+  abbrev third : List ℕ
+  third = allowancePart pl (decode pl b) ++ fourth
+
+  abbrev second : List ℕ
+  second = outputPart pl (decode pl b) ++ third
+
+  from-connections : Agrees (connectionsAt pl) fifth b
   unfolding size
+  from-connections =
+      agrees-append (connectionsAt pl) (size pl) (connectionPart pl (decode pl b)) [] b
+      (let l = length-connections pl (decode pl b) in omega arith) connections-agree (agrees-none (size pl) b)
+
+  from-table : Agrees (tableAt pl) fourth b
   from-table =
-      agrees-append (tableAt pl) (size pl) (tablePart pl (decode pl b)) [] b
-      (let l = length-table pl (decode pl b) in omega arith) table-agrees (agrees-none (size pl) b)
+      agrees-append (tableAt pl) (connectionsAt pl) (tablePart pl (decode pl b)) fifth b
+      (rw (length-table pl (decode pl b))) table-agrees from-connections
 
-  from-allowances : Agrees (allowancesAt pl) (allowancePart pl (decode pl b) ++ (tablePart pl (decode pl b) ++ [])) b
+  from-allowances : Agrees (allowancesAt pl) third b
   from-allowances =
-      agrees-append (allowancesAt pl) (tableAt pl) (allowancePart pl (decode pl b)) (tablePart pl (decode pl b) ++ [])
-      b (let l = length-allowances pl (decode pl b) in omega arith) allowances-agree from-table
+      agrees-append (allowancesAt pl) (tableAt pl) (allowancePart pl (decode pl b)) fourth b
+      (let l = length-allowances pl (decode pl b) in omega arith) allowances-agree from-table
 
-  from-outputs : Agrees (outputsAt pl)
-      (outputPart pl (decode pl b) ++ (allowancePart pl (decode pl b) ++ (tablePart pl (decode pl b) ++ []))) b
+  from-outputs : Agrees (outputsAt pl) second b
   from-outputs =
-      agrees-append (outputsAt pl) (allowancesAt pl) (outputPart pl (decode pl b))
-      (allowancePart pl (decode pl b) ++ (tablePart pl (decode pl b) ++ [])) b (rw (length-outputs pl (decode pl b)))
-      outputs-agree from-allowances
+      agrees-append (outputsAt pl) (allowancesAt pl) (outputPart pl (decode pl b)) third b
+      (rw (length-outputs pl (decode pl b))) outputs-agree from-allowances
 
-  from-queues : Agrees queuesAt (queuePart pl (decode pl b) ++ (outputPart pl (decode pl b)
-      ++ (allowancePart pl (decode pl b) ++ (tablePart pl (decode pl b) ++ [])))) b
+  from-queues : Agrees queuesAt (queuePart pl (decode pl b) ++ second) b
   from-queues =
-      agrees-append queuesAt (outputsAt pl) (queuePart pl (decode pl b))
-      (outputPart pl (decode pl b) ++ (allowancePart pl (decode pl b) ++ (tablePart pl (decode pl b) ++ []))) b
-      (rw (length-queues pl (decode pl b))) queues-agree from-outputs
+      agrees-append queuesAt (outputsAt pl) (queuePart pl (decode pl b)) second b (rw (length-queues pl (decode pl b)))
+      queues-agree from-outputs
 
   state-agrees : Agrees 0 (encode pl (decode pl b) []) b
   unfolding encode
   state-agrees =
-      agrees-append 0 queuesAt (header (decode pl b)) (queuePart pl (decode pl b) ++ (outputPart pl (decode pl b)
-      ++ (allowancePart pl (decode pl b) ++ (tablePart pl (decode pl b) ++ [])))) b refl header-agrees from-queues
+      agrees-append 0 queuesAt (header (decode pl b)) (queuePart pl (decode pl b) ++ second) b refl header-agrees
+      from-queues
 
   -- so they are those of the state that they tell
   pub formed-canonical : canonical pl b ≡ true

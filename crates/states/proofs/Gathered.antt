@@ -1,16 +1,17 @@
 -- Refusal 7's tests gathered by place: what they ask of all queues, outputs, choices and sides, of each by itself.
 use mathlib.Core.Path.{_≡_, refl}
 use mathlib.Core.Bool.{Bool, true, false, not, _||_}
-use Prim.Native.Nat.{ℕ, _<_}
+use Prim.Native.Nat.{ℕ, _*_, _<_}
 use Rattle.basis.specs.Choice.{also-true, also-of}
 use Rattle.basis.specs.Bounded.{anyBelow, allBelow}
 use Rattle.packets.specs.declared.Phase.the-variants.{Read, Execute, Write}
-use Rattle.plan.specs.Plan.{Plan, R, S}
+use Rattle.plan.specs.Plan.{Plan, R, A, S}
 use Rattle.feeding.specs.Queue.{Queue, Exists}
 use Rattle.feeding.specs.Feeds.{Output}
 use Rattle.machine.specs.State.{State, isFree, isFull}
 use Rattle.machine.specs.Calls.{isPhase}
 use Rattle.machine.specs.Valid.{Drives}
+use Rattle.valid.specs.Ties.{passiveRoom, pairTies, tiesTest}
 use Rattle.valid.specs.Test.{wireTest, choiceTest, pickedTest, entryTest, everyQueue, everyOutput, slotTest}
 use Rattle.valid.specs.Test.{entriesTest, capacitiesTest, placesTest, wiresTest, wiresEmptyTest, choicesTest}
 use Rattle.valid.specs.Test.{flagsDownTest, pickedDownTest, outFlagsTest, marksTest, freeEntryTest, creditsTest}
@@ -59,8 +60,9 @@ pub record Parts (pl : Plan) (s : State) : Type 0 where
   pub choice : (o : Output) → Drives pl o → pickTest pl s o ≡ true
   pub side : (r o : ℕ) → r < R pl → o < 4 → sideTest pl s r o ≡ true
   pub allowance : allowancesTest pl s ≡ true
+  pub pair : (n : ℕ) → n < passiveRoom * A pl → pairTies pl s n ≡ true
 
--- the fifteen tests, each as what it tells of the places
+-- the sixteen tests, each as what it tells of the places
 module _ (pl : Plan) (s : State) where
   capacities-each : Decides (capacitiesTest pl s) ((q : Queue) → Exists pl q → roomed pl s q ≡ true)
   unfolding capacitiesTest
@@ -121,6 +123,10 @@ module _ (pl : Plan) (s : State) where
   unfolding freeEntryTest
   free-each = each-side pl (λ r o. anyBelow (S pl) (λ t. isFree (s .table r o t)))
 
+  ties-each : Decides (tiesTest pl s) ((n : ℕ) → n < passiveRoom * A pl → pairTies pl s n ≡ true)
+  unfolding tiesTest
+  ties-each = all-below (passiveRoom * A pl) (pairTies pl s) (λ n. pairTies pl s n ≡ true) (λ n h. so (pairTies pl s n))
+
 -- the test of a state tells what is asked of each place
 module _ (pl : Plan) (s : State) where
   pub valid-parts : validTest pl s ≡ true → Parts pl s
@@ -140,6 +146,7 @@ module _ (pl : Plan) (s : State) where
       let m = also-true (l .1) in
       let n = also-true (m .1) in
       let o = also-true (n .1) in
+      let p = also-true (o .1) in
       record {
         slot = a .0;
         queue = λ q x. queue-passes pl s q .passes (record {
@@ -158,7 +165,8 @@ module _ (pl : Plan) (s : State) where
         choice = λ y x. choice-gathers pl s y (s .links .choice y) (choices-each pl s .holds (h .0) y x)
             (picked-each pl s .holds (j .0) y x) .1;
         side = λ r y x z. also-of (entries-each pl s .holds (b .0) r y x z) (free-each pl s .holds (m .0) r y x z);
-        allowance = o .1;
+        allowance = p .0;
+        pair = ties-each pl s .holds (p .1);
       }
 
 module _ (pl : Plan) (s : State) (p : Parts pl s) where
@@ -198,4 +206,5 @@ module _ (pl : Plan) (s : State) (p : Parts pl s) where
       (also-of (marks-each pl s .passes (λ q h. of-queue q h .mark))
       (also-of (free-each pl s .passes (λ r o h k. of-side r o h k .1))
       (also-of (credits-each pl s .passes (λ q h. of-queue q h .account))
-      (also-of (out-credits-each pl s .passes (λ q h. of-queue q h .unspend)) (p .allowance))))))))))))))
+      (also-of (out-credits-each pl s .passes (λ q h. of-queue q h .unspend))
+      (also-of (p .allowance) (ties-each pl s .passes (p .pair))))))))))))))))

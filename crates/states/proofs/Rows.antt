@@ -1,29 +1,34 @@
 -- A row that has its form agrees with the bytes that the layout gives to what is read from it.
-use mathlib.Core.Path.{_≡_, refl, sym, ap, subst⁻¹}
+use mathlib.Core.Path.{_≡_, refl, sym, ap, subst⁻¹, _∙_}
 use mathlib.Core.Logic.{_⊎_, inl, inr}
-use mathlib.Core.Bool.{true, false, _||_}
+use mathlib.Core.Bool.{Bool, true, false, not, _||_}
 use mathlib.Core.List.{List, [], _∷_}
-use Prim.Native.Nat.{ℕ, zero, suc, _+_, _≤_, _<_}
+use Prim.Native.Nat.{ℕ, zero, suc, _+_, _/_, _%_, _≤_, _<_}
 use native.Mathlib.Nat.{add-zero}
 use native.Mathlib.Omega.{arith}
 use lib.Dec.{eqb, ltb, leb}
 use lib.ListN.{length, getD}
 use borrow.Author.Tests.{lt-ltb, leb-true, eqb-true}
 use Rattle.basis.specs.Choice.{pick, test, also-true}
-use Rattle.basis.specs.Bounded.{all-at}
+use Rattle.basis.specs.Bounded.{allBelow, all-at}
+use Rattle.sets.specs.Sets.{has, those}
+use Rattle.sets.specs.Laws.{same-set, has-those, those-below}
 use Rattle.plan.specs.Plan.{Plan, A, R, S}
 use Rattle.feeding.specs.Queue.{Queue, Exists}
 use Rattle.feeding.specs.Feeds.{Output}
 use Rattle.machine.specs.State.{blank}
 use Rattle.machine.specs.Valid.{Drives}
-use Rattle.layout.specs.Named.{exists-test, drives-test}
+use Rattle.layout.specs.Named.{exists-test, drives-test, isConnection}
 use Rattle.layout.specs.Offsets.{places, packetKind, packetWidth, flagByte, handledByte, firstPlace, wireByte}
 use Rattle.layout.specs.Offsets.{wirePacket, choiceByte, slotRoom, queueRow, outputRow, allowanceRow, entryRow}
+use Rattle.layout.specs.Offsets.{passiveRoom}
 use Rattle.layout.specs.Codes.{flagCode, flagOf, choiceCode}
 use Rattle.layout.specs.Places.{packetBytes, noPacket, placeBytes, packetAt, packetsAt}
-use Rattle.layout.specs.Encode.{queueBytes, wireBytes, outputBytes, allowanceBytes, entryBytes, length-wire}
-use Rattle.layout.specs.Decode.{flagAt, markAt, lengthAt, queueIn, wireFrom, wireAt, choiceAt, decode}
-use Rattle.states.specs.Forms.{zeros, placesForm, queueForm, outputForm, sideForm}
+use Rattle.layout.specs.Encode.{queueBytes, wireBytes, outputBytes, allowanceBytes, entryBytes, wordBytes, startsOf}
+use Rattle.layout.specs.Encode.{startsBytes, length-wire}
+use Rattle.layout.specs.Decode.{flagAt, markAt, lengthAt, queueIn, wireFrom, wireAt, choiceAt, fourAt, decode}
+use Rattle.states.specs.Forms.{zeros, placesForm, queueForm, outputForm, sideForm, pairRow, wordForm, startForm}
+use Rattle.states.specs.Forms.{startsForm}
 use Rattle.states.proofs.Agree.{Agrees, agrees-none, agrees-append}
 use Rattle.states.proofs.Bytes.{kind-byte, flag-byte, choice-byte, entry-byte, zeros-get}
 
@@ -171,3 +176,73 @@ entry-agrees pl b r o t hr ho ht e zero l =
 entry-agrees pl b r o t hr ho ht e (suc zero) l =
     eqb-true (getD b (entryRow pl r o t + 1) 0) 0 (side-entry pl b r o t e ht .0)
 entry-agrees pl b r o t hr ho ht e (suc (suc k)) l = absurd (omega arith)
+
+-- ---- a pair's start slots
+-- the four bytes of a word
+word-byte : (i : ℕ) (b : List ℕ) → wordForm i b ≡ true → (k : ℕ) → k < 4 → getD b (i + k) 0 ≤ 255
+unfolding wordForm
+word-byte i b e k h = leb-true (getD b (i + k) 0) 255 (all-at 4 (λ j. leb (getD b (i + j) 0) 255) e k h)
+
+word-small : (i : ℕ) (b : List ℕ) → wordForm i b ≡ true → fourAt i b < 4294967296
+unfolding fourAt
+word-small i b e =
+    let x = rw (add-zero i) at (word-byte i b e 0 (omega arith)) in
+    let y = word-byte i b e 1 (omega arith) in
+    let z = word-byte i b e 2 (omega arith) in
+    let v = word-byte i b e 3 (omega arith) in
+    omega arith
+
+word-agrees : (i : ℕ) (b : List ℕ) → wordForm i b ≡ true → Agrees i (wordBytes (fourAt i b)) b
+unfolding fourAt
+word-agrees i b e = by
+  where
+    x : getD b i 0 ≤ 255
+    x = rw (add-zero i) at (word-byte i b e 0 (omega arith))
+
+    y : getD b (i + 1) 0 ≤ 255
+    y = word-byte i b e 1 (omega arith)
+
+    z : getD b (i + 2) 0 ≤ 255
+    z = word-byte i b e 2 (omega arith)
+
+    v : getD b (i + 3) 0 ≤ 255
+    v = word-byte i b e 3 (omega arith)
+
+    by : Agrees i (wordBytes (fourAt i b)) b
+    by zero l = rw (add-zero i) (omega (arith, x))
+    by (suc zero) l = omega (arith, x, y)
+    by (suc (suc zero)) l = omega (arith, x, y, z)
+    by (suc (suc (suc zero))) l = omega (arith, x, y, z, v)
+    by (suc (suc (suc (suc k)))) l = absurd (omega arith)
+
+-- what the form says
+starts-parts : (pl : Plan) (b : List ℕ) (n : ℕ) → startsForm pl b n ≡ true
+    → (wordForm (pairRow pl n) b ≡ true) × (allBelow slotRoom (startForm pl b n) ≡ true)
+unfolding startsForm
+starts-parts pl b n e = also-true e
+
+-- a bit that is not the plan's is not set, so every bit is read as it stands
+start-read : (pl : Plan) (b : List ℕ) (n t : ℕ) → startForm pl b n t ≡ true
+    → decode pl b .connections (n / passiveRoom) (n % passiveRoom) t ≡ has (fourAt (pairRow pl n) b) t
+unfolding decode blank
+start-read pl b n t e = by (isConnection pl (n / passiveRoom) (n % passiveRoom) t) (has (fourAt (pairRow pl n) b) t) e
+  where
+    by : (c h : Bool) → (c || not h) ≡ true → pick c h false ≡ h
+    by true h q = refl
+    by false true q = q
+    by false false q = refl
+
+starts-read : (pl : Plan) (b : List ℕ) (n : ℕ) → startsForm pl b n ≡ true
+    → startsOf (decode pl b) (n / passiveRoom) (n % passiveRoom) ≡ fourAt (pairRow pl n) b
+starts-read pl b n e =
+    let p = starts-parts pl b n e in
+    let f : ℕ → Bool = decode pl b .connections (n / passiveRoom) (n % passiveRoom) in
+    same-set slotRoom (those slotRoom f) (fourAt (pairRow pl n) b) (those-below slotRoom f)
+    (word-small (pairRow pl n) b (p .0))
+    (λ t h. has-those slotRoom f t h ∙ start-read pl b n t (all-at slotRoom (startForm pl b n) (p .1) t h))
+
+pub starts-agrees : (pl : Plan) (b : List ℕ) (n : ℕ) → startsForm pl b n ≡ true
+    → Agrees (pairRow pl n) (startsBytes (decode pl b) n) b
+starts-agrees pl b n e =
+    subst⁻¹ (λ (w : ℕ). Agrees (pairRow pl n) (wordBytes w) b) (starts-read pl b n e)
+    (word-agrees (pairRow pl n) b (starts-parts pl b n e .0))

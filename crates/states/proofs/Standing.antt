@@ -1,15 +1,17 @@
 -- The bytes of a state have the forms of their rows.
 use mathlib.Core.Path.{_≡_, refl, ap, _∙_}
 use mathlib.Core.Logic.{_⊎_, inl, inr}
-use mathlib.Core.Bool.{true, _||_}
+use mathlib.Core.Bool.{true, false, _||_}
 use mathlib.Core.List.{List, [], _∷_}
-use Prim.Native.Nat.{ℕ, zero, suc, _+_, _≤_, _<_}
+use Prim.Native.Nat.{ℕ, zero, suc, _+_, _/_, _%_, _≤_, _<_}
 use native.Mathlib.Omega.{arith}
 use lib.Dec.{eqb, ltb, leb}
 use lib.ListN.{length, getD, length-append}
 use borrow.Author.Tests.{lt-ltb, le-leb, eq-eqb}
-use Rattle.basis.specs.Choice.{also-of}
+use Rattle.basis.specs.Choice.{test, not-both, also-of}
 use Rattle.basis.specs.Bounded.{all-of, lt-or-ge, or-right}
+use Rattle.sets.specs.Sets.{has}
+use Rattle.sets.specs.Laws.{has-those}
 use Rattle.packets.specs.declared.Packet.{Packet}
 use Rattle.packets.specs.declared.Wire.{Wire}
 use Rattle.packets.specs.declared.Wire.the-variants.{Empty, Full}
@@ -19,16 +21,20 @@ use Rattle.feeding.specs.Feeds.{Output}
 use Rattle.machine.specs.State.{State, blank}
 use Rattle.machine.specs.Valid.{Bounded}
 use Rattle.layout.specs.Rows.{RowStands, stands-left, stands-right, stands-get, stands-byte}
+use Rattle.layout.specs.Named.{isConnection, connection-test}
 use Rattle.layout.specs.Offsets.{phaseByte, places, packetKind, packetWidth, flagByte, handledByte, lengthByte}
-use Rattle.layout.specs.Offsets.{firstPlace, wireByte, wirePacket, slotRoom, size, entryRow}
+use Rattle.layout.specs.Offsets.{firstPlace, wireByte, wirePacket, slotRoom, size, entryRow, passiveRoom, pairs}
 use Rattle.layout.specs.Codes.{flagCode, choiceCode, entryCode, phase-small, kind-small, flag-small}
 use Rattle.layout.specs.Places.{packetBytes, noPacket, placeBytes}
-use Rattle.layout.specs.Encode.{queueBytes, wireBytes, outputBytes, entryBytes, encode, encode-append, length-encode}
-use Rattle.layout.specs.Decode.{Small}
+use Rattle.layout.specs.Encode.{queueBytes, wireBytes, outputBytes, entryBytes, wordBytes, startsOf, encode}
+use Rattle.layout.specs.Encode.{encode-append, length-encode}
+use Rattle.layout.specs.Decode.{fourAt, Small}
 use Rattle.layout.specs.Canonical.{canonical}
-use Rattle.layout.proofs.Standing.{queue-stands, output-stands, entry-stands}
+use Rattle.layout.proofs.Standing.{queue-stands, output-stands, entry-stands, starts-stands}
+use Rattle.layout.proofs.Readings.{starts-at}
 use Rattle.layout.proofs.StateBytes.{states}
-use Rattle.states.specs.Forms.{zeros, placesForm, queueForm, outputForm, sideForm}
+use Rattle.states.specs.Forms.{zeros, placesForm, queueForm, outputForm, sideForm, pairRow, wordForm}
+use Rattle.states.specs.Forms.{startForm, startsForm}
 use Rattle.states.proofs.Forms.{Formed}
 
 -- ---- places
@@ -96,6 +102,21 @@ unfolding outputBytes
 output-form s o i b t = wire-form (s .links .wire o) i b
     (stands-left i (wireBytes (s .links .wire o)) (choiceCode (s .links .choice o) ∷ []) b t)
 
+-- ---- a word's bytes
+word-form : (i w : ℕ) (b : List ℕ) → RowStands i (wordBytes w) b → wordForm i b ≡ true
+unfolding wordForm
+word-form i w b s = all-of 4 (λ k. leb (getD b (i + k) 0) 255) (λ k h. le-leb (getD b (i + k) 0) 255 (at k h))
+  where
+    small : (k : ℕ) → k < 4 → getD (wordBytes w) k 0 ≤ 255
+    small zero h = omega arith
+    small (suc zero) h = omega arith
+    small (suc (suc zero)) h = omega arith
+    small (suc (suc (suc zero))) h = omega arith
+    small (suc (suc (suc (suc k)))) h = absurd (omega arith)
+
+    at : (k : ℕ) → k < 4 → getD b (i + k) 0 ≤ 255
+    at k h = rw (stands-get i (wordBytes w) b s k h) (small k h)
+
 -- ---- the whole
 module _ (pl : Plan) (s : State) (rest : List ℕ) (out : Bounded pl s) (small : Small pl s) where
   phase-form : getD (encode pl s rest) phaseByte 0 ≤ 2
@@ -129,6 +150,35 @@ module _ (pl : Plan) (s : State) (rest : List ℕ) (out : Bounded pl s) (small :
       (entry-stands pl s rest r o t hr ho h) 1 (omega arith)))
       (past-form r o t hr ho h))
 
+  -- a connection that is not the plan's is not accepted, and its bit not set
+  start-form : (n t : ℕ) → n < pairs pl → t < slotRoom → startForm pl (encode pl s rest) n t ≡ true
+  unfolding blank
+  start-form n t hn ht = by (test (isConnection pl (n / passiveRoom) (n % passiveRoom) t))
+    where
+      a : ℕ
+      a = n / passiveRoom
+
+      p : ℕ
+      p = n % passiveRoom
+
+      read : has (fourAt (pairRow pl n) (encode pl s rest)) t ≡ s .connections a p t
+      read =
+          ap (λ (w : ℕ). has w t) (starts-at pl s rest (encode pl s rest) refl a p (omega arith) (omega arith))
+          ∙ has-those slotRoom (s .connections a p) t ht
+
+      by : (isConnection pl a p t ≡ true) ⊎ (isConnection pl a p t ≡ false)
+          → startForm pl (encode pl s rest) n t ≡ true
+      by (inl e) = rw e
+      by (inr e) = rw (e, read, out .connection a p t (λ h. not-both (connection-test pl a p t h) e))
+
+  starts-form : (n : ℕ) → n < pairs pl → startsForm pl (encode pl s rest) n ≡ true
+  unfolding startsForm
+  starts-form n h =
+      also-of
+      (word-form (pairRow pl n) (startsOf s (n / passiveRoom) (n % passiveRoom)) (encode pl s rest)
+      (starts-stands pl s rest (n / passiveRoom) (n % passiveRoom) (omega arith) (omega arith)))
+      (all-of slotRoom (startForm pl (encode pl s rest) n) (λ t l. start-form n t h l))
+
   encode-formed : Formed pl (encode pl s rest)
   encode-formed =
       record {
@@ -137,6 +187,7 @@ module _ (pl : Plan) (s : State) (rest : List ℕ) (out : Bounded pl s) (small :
         queue = λ q h. queue-form s q _ _ (small .few q h) (queue-stands pl s rest q h);
         output = λ o h. output-form s o _ _ (output-stands pl s rest o h);
         side = side-form;
+        starts = starts-form;
       }
 
 -- so bytes that are a state's have them

@@ -9,10 +9,11 @@ use Rattle.basis.specs.Bounded.{allBelow}
 use Rattle.plan.specs.Plan.{Plan, R}
 use Rattle.feeding.specs.Queue.{Queue}
 use Rattle.feeding.specs.Feeds.{Output}
+use Rattle.valid.specs.Ties.{pairTies}
 use Rattle.valid.specs.Test.{everyQueue, everyOutput, allowancesTest}
-use Rattle.layout.specs.Offsets.{size, queueRow, outputRow}
+use Rattle.layout.specs.Offsets.{pairs, size, queueRow, outputRow}
 use Rattle.layout.specs.Decode.{decode}
-use Rattle.states.specs.Forms.{headerForm, queueForm, outputForm, sideForm}
+use Rattle.states.specs.Forms.{headerForm, queueForm, outputForm, sideForm, startsForm}
 use Rattle.states.specs.Parts.{queueTest, outputTest, pickTest, sideTest}
 
 -- one output's row, one queue's row, one side's entries
@@ -41,9 +42,17 @@ allowancesPart pl b = allowancesTest pl (decode pl b)
 unfoldable pub tablesPart : Plan → List ℕ → Bool
 tablesPart pl b = allBelow (R pl) (λ r. allBelow 4 (λ o. sideRowTest pl b r o))
 
+-- one pair's accepted connections
+unfoldable pub pairTest : Plan → List ℕ → ℕ → Bool
+pairTest pl b n = also (startsForm pl b n) (pairTies pl (decode pl b) n)
+
+unfoldable pub connectionsPart : Plan → List ℕ → Bool
+connectionsPart pl b = allBelow (pairs pl) (pairTest pl b)
+
 unfoldable pub checkOf : Plan → List ℕ → Bool
 checkOf pl b =
     also (leb (size pl) (length b))
     (also (headerForm pl b)
     (also (outputsPart pl b)
-    (also (queuesPart pl b) (also (picksPart pl b) (also (allowancesPart pl b) (tablesPart pl b))))))
+    (also (queuesPart pl b) (also (picksPart pl b)
+    (also (allowancesPart pl b) (also (tablesPart pl b) (connectionsPart pl b)))))))

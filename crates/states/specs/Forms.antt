@@ -1,14 +1,18 @@
 -- The one form in which the layout writes a row: what of the bytes themselves must hold so that they are some state's.
-use mathlib.Core.Bool.{Bool, true, false, _||_}
+use mathlib.Core.Bool.{Bool, true, not, _||_}
 use mathlib.Core.List.{List}
-use Prim.Native.Nat.{ℕ, zero, suc, _+_}
+use Prim.Native.Nat.{ℕ, zero, suc, _+_, _/_, _%_}
 use lib.Dec.{eqb, ltb, leb}
 use lib.ListN.{getD}
 use Rattle.basis.specs.Choice.{pick, also}
 use Rattle.basis.specs.Bounded.{allBelow}
+use Rattle.sets.specs.Sets.{has}
 use Rattle.plan.specs.Plan.{Plan, S}
+use Rattle.layout.specs.Named.{isConnection}
 use Rattle.layout.specs.Offsets.{phaseByte, slotByte, places, packetKind, packetWidth, flagByte, handledByte}
 use Rattle.layout.specs.Offsets.{lengthByte, firstPlace, wireByte, wirePacket, slotRoom, entryRow}
+use Rattle.layout.specs.Offsets.{passiveRoom, startsWidth, startsRow}
+use Rattle.layout.specs.Decode.{fourAt}
 
 -- n zero bytes from i on
 unfoldable pub zeros : ℕ → ℕ → List ℕ → Bool
@@ -45,3 +49,20 @@ unfoldable pub sideForm : Plan → ℕ → ℕ → List ℕ → Bool
 sideForm pl r o b =
     allBelow slotRoom
     (λ t. also (eqb (getD b (entryRow pl r o t + 1) 0) 0) (ltb t (S pl) || eqb (getD b (entryRow pl r o t) 0) 0))
+
+-- ---- the start slots of the pair of a number
+-- where they stand
+abbrev pub pairRow : Plan → ℕ → ℕ
+pairRow pl n = startsRow pl (n / passiveRoom) (n % passiveRoom)
+
+-- a word is four bytes
+unfoldable pub wordForm : ℕ → List ℕ → Bool
+wordForm i b = allBelow startsWidth (λ k. leb (getD b (i + k) 0) 255)
+
+-- the bit of a start slot is set only where the pair and the slot are the plan's
+abbrev pub startForm : Plan → List ℕ → ℕ → ℕ → Bool
+startForm pl b n t =
+    isConnection pl (n / passiveRoom) (n % passiveRoom) t || not (has (fourAt (pairRow pl n) b) t)
+
+unfoldable pub startsForm : Plan → List ℕ → ℕ → Bool
+startsForm pl b n = also (wordForm (pairRow pl n) b) (allBelow slotRoom (startForm pl b n))

@@ -1,5 +1,5 @@
 -- What each step of the rules does, by cases, each with the state that it leaves: a wire's delivery, a unit's turn, an
--- active's tear-down, a sending.
+-- active's tear-down, a sending, what a Consume notes.
 use mathlib.Core.Path.{_≡_, refl, ap, ap₂, _∙_}
 use mathlib.Core.Logic.{_⊎_, inl, inr}
 use mathlib.Core.Bool.{Bool, true, false, _&&_, false≢true}
@@ -26,6 +26,8 @@ use Rattle.machine.specs.Execute.{cameIn, declined, booked, freed, mayBook, han
 use Rattle.machine.specs.Execute.{handle, atUnit, unit, hasCredit, mayLeave, headReady, candidate, unmarkedKind}
 use Rattle.machine.specs.Execute.{unmarked, torn, hasRoom, answer, atActive, undo}
 use Rattle.machine.specs.Write.{ofRank, raise, spend, sendHead, sendFrom, sendBy, send}
+use Rattle.machine.specs.Visits.{accepting, notedKind, noted}
+use Rattle.machine.specs.Connections.{connectionOf}
 use Rattle.theory.specs.Invariant.{Sendable}
 
 -- ---- a wire
@@ -244,3 +246,16 @@ module _ (pl : Plan) (o : Output) (s : State) where
       by : (c : Choice) → s .links .choice o ≡ c → SendDoes
       by nobody e = none-sent (send-nobody e)
       by (sender k) e = let d = ready k e in sent k (d .queue) e (d .rank) (candidate-heads (d .queue) (d .ready))
+
+-- ---- a Consume's packet
+-- What a consumed packet notes keeps what the setting of an ACK's connection keeps: any other packet notes nothing.
+pub noted-keeps : (pl : Plan) (x : Packet) (s : State) (P : State → Type 0)
+    → (x .kind ≡ Ack → P (accepting (connectionOf pl x) s)) → P s → P (noted pl x s)
+unfolding noted
+noted-keeps pl x s P set old = by (x .kind) refl
+  where
+    by : (k : Kind) → x .kind ≡ k → P (notedKind pl k x s)
+    by Setup e = old
+    by Tdown e = old
+    by Ack e = set e
+    by Nack e = old

@@ -1,4 +1,4 @@
--- What refusal 7 asks is a core with a shape.
+-- What refusal 7 asks is a core with a shape, and connections that are tied to the table.
 use mathlib.Core.Path.{_≡_, refl, sym, ap, _∙_}
 use mathlib.Core.Logic.{_⊎_, inl, inr, _≢_}
 use mathlib.Core.Bool.{Bool, true, false}
@@ -21,7 +21,7 @@ use Rattle.machine.specs.Outputs.{senders}
 use Rattle.machine.specs.State.{State, Choice, nobody, sender}
 use Rattle.machine.specs.Execute.{candidate}
 use Rattle.machine.specs.Write.{ofRank}
-use Rattle.machine.specs.Valid.{Drives, fed, Valid, Bounded}
+use Rattle.machine.specs.Valid.{Drives, fed, Ties, Valid, Bounded}
 use Rattle.machine.specs.Progress.{HasWire}
 use Rattle.theory.specs.Invariant.{account, Core, Shape, in-read, in-execute, in-write}
 use Rattle.machine.proofs.Apart.{nobody-not, read-execute, read-write, execute-write}
@@ -68,9 +68,9 @@ shape-of pl s v = by (phases (s .clock .phase))
         (λ o k h c. let d = v .choices o k h c .1 in
         record { queue = d .0; rank = d .1; ready = d .2; down = v .picked-down o k (d .0) h c (d .1) })
 
-pub valid-of : (pl : Plan) (s : State) → Core pl s → Shape pl s → Valid pl s
+pub valid-of : (pl : Plan) (s : State) → Core pl s → Shape pl s → Ties pl s → Valid pl s
 unfolding account
-valid-of pl s c t =
+valid-of pl s c t y =
     record {
       slot = c .slot;
       entries = c .entries;
@@ -87,6 +87,7 @@ valid-of pl s c t =
       credits = c .credits;
       out-credits = c .out-credits;
       allowances = c .allowances;
+      ties = y;
     }
   where
     within : (q : Queue) → Exists pl q → (fed pl q ≡ true) ⊎ (fed pl q ≡ false)

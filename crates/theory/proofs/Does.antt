@@ -22,12 +22,12 @@ use Rattle.feeding.specs.Queue.{activeIn, passiveIn}
 use Rattle.wiring.proofs.Heads.{and-both}
 use Rattle.journeys.proofs.Places.{some-not-none}
 use Rattle.machine.specs.State.{State}
-use Rattle.machine.specs.Visits.{isEmpty, headUnmarked}
+use Rattle.machine.specs.Visits.{closed, isEmpty, headUnmarked}
 use Rattle.machine.specs.Guards.{Guard, refusalOf, Passed}
-use Rattle.machine.specs.Calls.{Visit, ofLaunch, ofReply, ofConsume, ofEntry, Call, turn, visit, Outcome, isPhase}
-use Rattle.machine.specs.Calls.{launchGuards, replyGuards, consumeGuards, entryGuards, guards, consumed, accepted}
-use Rattle.machine.specs.Calls.{decided, call}
-use Rattle.theory.specs.Does.{MayLaunch, MayLook, Visited, launches, replies, consumes}
+use Rattle.machine.specs.Calls.{Visit, ofLaunch, ofReply, ofConsume, ofClose, ofEntry, Call, turn, visit, close}
+use Rattle.machine.specs.Calls.{Outcome, isPhase, launchGuards, replyGuards, consumeGuards, closeGuards, entryGuards}
+use Rattle.machine.specs.Calls.{guards, consumed, accepted, decided, call}
+use Rattle.theory.specs.Does.{MayLaunch, MayClose, MayLook, Visited, launches, replies, consumes, closes}
 use Rattle.theory.specs.Does.{looks, Does, refuses, turns, visits}
 use Rattle.machine.specs.Progress.{turnsCall}
 use Rattle.machine.proofs.Apart.{phase-of}
@@ -91,7 +91,7 @@ module _ (pl : Plan) (s : State) where
       }))
 
   consumes-from : (a : ℕ) (l : List Packet) → s .lines .queue (activeIn a) ≡ l → Passed (consumeGuards pl a s)
-      → Visited pl s (ofConsume a) (consumed a (s .lines .queue (activeIn a)) s)
+      → Visited pl s (ofConsume a) (consumed pl a (s .lines .queue (activeIn a)) s)
   consumes-from a [] q (e, (f, (g, (h, (u, n))))) = absurd (true≢false (sym (ap isEmpty q) ∙ h))
   consumes-from a (x ∷ rest) q (e, (f, (g, (h, (u, n))))) =
       rw q
@@ -104,6 +104,20 @@ module _ (pl : Plan) (s : State) where
         marked = sym (ap headUnmarked q) ∙ u;
       }))
 
+  may-close : (a p t : ℕ) → Passed (closeGuards pl a p t s) → MayClose pl s a p t
+  may-close a p t (e, (f, (g, (h, (r, n))))) =
+      let x = and-both (not-false _ f) in
+      let y = and-both (x .0) in
+      record {
+        phase = phase-of (s .clock .phase) Read e;
+        active = ltb-true a (A pl) (y .0);
+        passive = ltb-true p (P pl) (y .1);
+        slot = ltb-true t (S pl) (x .1);
+        serves = not-false _ g;
+        accepted = not-false _ h;
+        room = not-false _ r;
+      }
+
   looks-at : (r o t : ℕ) → Passed (entryGuards pl r o t) → MayLook pl r o t
   looks-at r o t (f, n) =
       let x = and-both (not-false _ f) in
@@ -115,6 +129,7 @@ module _ (pl : Plan) (s : State) where
   accepted-visits (ofLaunch a p t) g = launches a p t (may-launch a p t g)
   accepted-visits (ofReply p c) g = replies-to p c (s .lines .queue (passiveIn p)) refl g
   accepted-visits (ofConsume a) g = consumes-from a (s .lines .queue (activeIn a)) refl g
+  accepted-visits (ofClose a p t) g = closes a p t (may-close a p t g)
   accepted-visits (ofEntry r o t) g = looks r o t (looks-at r o t g)
 
   accepted-does : (c : Call) → Passed (guards pl c s) → Does pl s c (accepted pl c s)
@@ -126,6 +141,7 @@ module _ (pl : Plan) (s : State) where
   never-7 (visit (ofLaunch a p t)) = refl
   never-7 (visit (ofReply p c)) = refl
   never-7 (visit (ofConsume a)) = refl
+  never-7 (visit (ofClose a p t)) = refl
   never-7 (visit (ofEntry r o t)) = refl
 
   -- Every call is refused or accepted so.
@@ -150,6 +166,7 @@ module _ {pl : Plan} {s : State} where
   visit-not-refused (launches a p t m) e = done-not e
   visit-not-refused (replies p c x rest m) e = done-not e
   visit-not-refused (consumes a x rest m) e = let z : _≡_ {A = ℕ} 0 1 = cc in omega arith
+  visit-not-refused (closes a p t m) e = done-not e
   visit-not-refused (looks r q t m) e = let z : _≡_ {A = ℕ} 0 1 = cc in omega arith
 
   -- a refused call leaves the state, and is not refused 7
@@ -158,6 +175,31 @@ module _ {pl : Plan} {s : State} where
   refused-leaves (refuses d v n) {w} e = let same : v ≡ w = cc in (refl, λ k. n (same ∙ k))
   refused-leaves (turns x f) e = absurd (done-not e)
   refused-leaves (visits v o d) e = absurd (visit-not-refused d e)
+
+-- ---- an accepted Close
+module _ (pl : Plan) (s : State) (a p t : ℕ) where
+  -- found what it asks, and left the closed state
+  abbrev Closed : State → Type 0
+  Closed u = MayClose pl s a p t × (u ≡ closed pl a p t s)
+
+  visit-closed : {v : Visit} {o : Outcome} → Visited pl s v o → v ≡ ofClose a p t → Closed (o .state)
+  visit-closed (launches b q u m) e = absurd (let z : _≡_ {A = ℕ} 0 1 = cc in omega arith)
+  visit-closed (replies q c x rest m) e = absurd (let z : _≡_ {A = ℕ} 0 1 = cc in omega arith)
+  visit-closed (consumes b x rest m) e = absurd (let z : _≡_ {A = ℕ} 0 1 = cc in omega arith)
+  visit-closed (closes b q u m) e =
+      let x : b ≡ a = cc in
+      let y : q ≡ p = cc in
+      let z : u ≡ t = cc in
+      (rw (x, y, z) at m, rw (x, y, z))
+  visit-closed (looks r q u m) e = absurd (let z : _≡_ {A = ℕ} 0 1 = cc in omega arith)
+
+  does-closed : {c : Call} {o : Outcome} → Does pl s c o → c ≡ close a p t → o .answer ≡ Done → Closed (o .state)
+  does-closed (refuses d w n) e f = absurd (done-not (sym f))
+  does-closed (turns x g) e f = absurd (let z : _≡_ {A = ℕ} 0 1 = cc in omega arith)
+  does-closed (visits v o d) e f = let same : v ≡ ofClose a p t = cc in visit-closed d same
+
+  pub close-done : call pl (close a p t) s .answer ≡ Done → Closed (call pl (close a p t) s .state)
+  close-done f = does-closed (call-does pl s (close a p t)) refl f
 
 -- ---- a call whose refusals do not apply
 passed-none : (gs : List Guard) → refusalOf gs ≡ none → Passed gs

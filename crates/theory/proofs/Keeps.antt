@@ -1,7 +1,9 @@
--- What refusal 7 asks is kept by every call, from every valid state: the core by each step, the shape by each phase.
+-- Core and shape are kept by every call, from every valid state: the core by each step, the shape by each phase. With
+-- connections that are tied to the table they are what refusal 7 asks; the ties are kept along a list from Start
+-- (proofs/Own/Ties), and not by each call alone.
 use mathlib.Core.Path.{_≡_, refl}
 use mathlib.Core.Logic.{_⊎_, inl, inr}
-use mathlib.Core.Bool.{Bool, true, false}
+use mathlib.Core.Bool.{Bool, true, false, false≢true}
 use mathlib.Core.List.{List}
 use Prim.Native.Nat.{ℕ, _<_}
 use lib.Dec.{eqb}
@@ -17,18 +19,19 @@ use Rattle.packets.specs.Counters.{slotNext}
 use Rattle.plan.specs.Head.{InRange}
 use Rattle.plan.specs.Plan.{Plan, R, A, S}
 use Rattle.paths.specs.Served.{Served}
-use Rattle.feeding.specs.Queue.{Queue, Q, Exists}
-use Rattle.feeding.specs.Feeds.{Output}
+use Rattle.feeding.specs.Queue.{Queue, activeIn, Q, Exists}
+use Rattle.feeding.specs.Feeds.{Output, Place, inQueue}
 use Rattle.wiring.specs.Wired.{Wired}
 use Rattle.journeys.proofs.Walks.{served-of}
 use Rattle.machine.specs.State.{State, sender, blank, start, withPhase, withSlot}
 use Rattle.machine.specs.Read.{deliver, settle, doRead}
 use Rattle.machine.specs.Execute.{unit, choose, undo, doExecute}
 use Rattle.machine.specs.Write.{send, doWrite}
-use Rattle.machine.specs.Visits.{replyKind}
+use Rattle.machine.specs.Visits.{replyKind, removed, noted}
 use Rattle.machine.specs.Calls.{Visit, Call, Outcome, phaseStep, call}
-use Rattle.theory.specs.Does.{Visited, launches, replies, consumes, looks, Does, refuses, turns, visits}
-use Rattle.machine.specs.Valid.{Drives, Valid}
+use Rattle.theory.specs.Does.{Visited, launches, replies, consumes, closes, looks, Does, refuses, turns}
+use Rattle.theory.specs.Does.{visits}
+use Rattle.machine.specs.Valid.{Belongs, Drives, Ties, Valid}
 use Rattle.machine.specs.Ruled.{Good}
 use Rattle.theory.proofs.Does.{call-does}
 use Rattle.theory.specs.Invariant.{Inv, Core, Shape, in-read, Sendable}
@@ -39,21 +42,23 @@ use Rattle.theory.proofs.Weights.Allowance.{start-allowances, phase-all
 use Rattle.theory.proofs.Weights.Allowance.{deliver-allowances, settle-allowances, unit-allowances}
 use Rattle.theory.proofs.Weights.Allowance.{choose-allowances, undo-allowances, send-allowances}
 use Rattle.theory.proofs.Weights.Allowance.{launched-allowances, replied-allowances, removed-allowances}
+use Rattle.theory.proofs.Weights.Allowance.{noted-allowances, closed-allowances}
+use Rattle.theory.proofs.Weights.Moves.{core-head}
 use Rattle.theory.proofs.Kept.Parts.{Kept, kept-of, start-kept, phase-kept, slot-kept}
 use Rattle.theory.proofs.Kept.Read.{deliver-kept, settle-kept}
 use Rattle.theory.proofs.Kept.Execute.{unit-kept, choose-kept, undo-kept}
 use Rattle.theory.proofs.Kept.Write.{send-kept, turn-kept}
-use Rattle.theory.proofs.Kept.Calls.{launched-kept, replied-kept, removed-kept}
+use Rattle.theory.proofs.Kept.Calls.{launched-kept, replied-kept, removed-kept, noted-kept, closed-kept}
 use Rattle.theory.proofs.Account.Paid.{Paid, start-paid, phase-paid, slot-paid}
 use Rattle.theory.proofs.Account.Read.{deliver-paid, settle-paid}
 use Rattle.theory.proofs.Account.Execute.{unit-paid, choose-paid, undo-paid}
 use Rattle.theory.proofs.Account.Write.{send-paid}
-use Rattle.theory.proofs.Account.Calls.{launched-paid, replied-paid, removed-paid}
+use Rattle.theory.proofs.Account.Calls.{launched-paid, replied-paid, removed-paid, noted-paid, closed-paid}
 use Rattle.theory.proofs.Shape.Read.{read-shape}
 use Rattle.theory.proofs.Shape.Execute.{execute-shape}
 use Rattle.theory.proofs.Shape.Write.{write-shape}
 use Rattle.theory.proofs.Shape.Calls.{read-has, execute-has, write-has, launched-shape, replied-shape}
-use Rattle.theory.proofs.Shape.Calls.{removed-shape}
+use Rattle.theory.proofs.Shape.Calls.{removed-shape, noted-shape, closed-shape}
 use Rattle.theory.proofs.Shape.Phases.{read-keeps, execute-keeps, write-keeps}
 
 -- the core from its parts
@@ -77,8 +82,8 @@ core-by k p a =
 pub inv-of : (pl : Plan) (s : State) → Good pl s → Inv pl s
 inv-of pl s g = record { core = core-of pl s (g .valid) (g .bounded); shape = shape-of pl s (g .valid) }
 
-pub good-of : (pl : Plan) (s : State) → Inv pl s → Good pl s
-good-of pl s i = record { valid = valid-of pl s (i .core) (i .shape); bounded = i .core .bounded }
+pub good-of : (pl : Plan) (s : State) → Inv pl s → Ties pl s → Good pl s
+good-of pl s i t = record { valid = valid-of pl s (i .core) (i .shape) t; bounded = i .core .bounded }
 
 module _ {pl : Plan} (wired : Wired pl) (range : InRange (pl .head)) where
   -- ---- the core is kept by each step
@@ -149,6 +154,15 @@ module _ {pl : Plan} (wired : Wired pl) (range : InRange (pl .head)) where
       let h = write-has s e (i .shape) in
       record { core = write-core s (i .core) (h .0) (h .1); shape = write-shape pl s }
 
+  -- what a consumed packet notes
+  noted-inv : (x : Packet) (at : Place) (s : State) → Belongs pl at x → Inv pl s → Inv pl (noted pl x s)
+  noted-inv x at s b i =
+      record {
+        core = core-by (noted-kept wired range x at s b (kept-of pl s (i .core))) (noted-paid s (i .core) x)
+            (noted-allowances (i .core) x);
+        shape = noted-shape s x (i .shape);
+      }
+
   visit-inv : (v : Visit) (o : Outcome) (s : State) → Visited pl s v o → Inv pl s → Inv pl (o .state)
   visit-inv v o s (launches a p t m) i =
       record {
@@ -169,11 +183,21 @@ module _ {pl : Plan} (wired : Wired pl) (range : InRange (pl .head)) where
         shape = replied-shape s p (replyKind c) x rest (m .phase) (i .shape);
       }
   visit-inv v o s (consumes a x rest m) i =
-      record {
+      noted-inv x (inQueue (activeIn a)) (removed a rest s)
+      (core-head (i .core) (activeIn a) (m .active) x rest (m .line))
+      (record {
         core = core-by (removed-kept wired range a x rest s (m .active) (m .line) (kept-of pl s (i .core)))
             (removed-paid s (i .core) a x rest (m .line) (m .down))
             (removed-allowances (i .core) wired a (m .active) x rest (m .line));
         shape = removed-shape s a rest (m .phase) (i .shape);
+      })
+  visit-inv v o s (closes a p t m) i =
+      record {
+        core = core-by
+            (closed-kept wired range a p t s (m .active) (m .passive) (m .slot)
+            (served-of wired a p (m .active) (m .serves)) (kept-of pl s (i .core)))
+            (closed-paid s (i .core) a p t (m .room)) (closed-allowances (i .core) a p t (m .active));
+        shape = closed-shape s a p t (m .phase) (i .shape);
       }
   visit-inv v o s (looks r q t m) i = i
 
@@ -189,9 +213,16 @@ module _ {pl : Plan} (wired : Wired pl) (range : InRange (pl .head)) where
   unfolding start blank
   start-inv = record { core = start-core; shape = in-read refl (λ o d. refl) }
 
-  -- no state reached from Start, and none reached from a valid state, is refused 7
-  pub starts-good : Good pl (start pl)
-  starts-good = good-of pl (start pl) start-inv
+  -- Start has no connection to be tied
+  start-ties : Ties pl (start pl)
+  unfolding start blank
+  start-ties =
+      record {
+        serves = λ c h. absurd (false≢true h);
+        booked = λ c h r o t i m. absurd (false≢true h);
+        apart = λ c d h g r o t i j m n. absurd (false≢true h);
+      }
 
-  pub keeps-good : (c : Call) (s : State) → Good pl s → Good pl (call pl c s .state)
-  keeps-good c s g = good-of pl (call pl c s .state) (call-inv c s (inv-of pl s g))
+  -- Start is not refused 7
+  pub starts-good : Good pl (start pl)
+  starts-good = good-of pl (start pl) start-inv start-ties

@@ -11,3 +11,4 @@ pub mod Keeps
 pub mod Progress
 pub mod Own
 pub mod Tracked
+pub mod Closes

@@ -16,9 +16,9 @@ use Rattle.paths.specs.Served.{served}
 use Rattle.feeding.specs.Queue.{activeOut, activeIn, passiveIn, passiveOut}
 use Rattle.machine.specs.State.{State}
 use Rattle.machine.specs.Execute.{hasRoom, unmarked}
-use Rattle.machine.specs.Visits.{launched, replyKind, replied, removed}
-use Rattle.machine.specs.Calls.{Visit, ofLaunch, ofReply, ofConsume, ofEntry, Call, turn, visit, Outcome, gives}
-use Rattle.machine.specs.Calls.{phaseStep}
+use Rattle.machine.specs.Visits.{launched, replyKind, replied, removed, noted, closed}
+use Rattle.machine.specs.Calls.{Visit, ofLaunch, ofReply, ofConsume, ofClose, ofEntry, Call, turn, visit, Outcome}
+use Rattle.machine.specs.Calls.{gives, phaseStep}
 
 -- ---- what an accepted visit found
 pub record MayLaunch (pl : Plan) (s : State) (a p t : ℕ) : Type 0 where
@@ -45,6 +45,15 @@ pub record MayConsume (pl : Plan) (s : State) (a : ℕ) (x : Packet) (rest : Lis
   pub line : s .lines .queue (activeIn a) ≡ x ∷ rest
   pub marked : unmarked x ≡ false
 
+pub record MayClose (pl : Plan) (s : State) (a p t : ℕ) : Type 0 where
+  pub phase : s .clock .phase ≡ Read
+  pub active : a < A pl
+  pub passive : p < P pl
+  pub slot : t < S pl
+  pub serves : served pl a p ≡ true
+  pub accepted : s .connections a p t ≡ true
+  pub room : hasRoom pl (activeOut a) s ≡ true
+
 pub record MayLook (pl : Plan) (r o t : ℕ) : Type 0 where
   pub router : r < R pl
   pub side : o < 4
@@ -56,7 +65,8 @@ pub data Visited (pl : Plan) (s : State) : Visit → Outcome → Type 0 where
   replies : (p c : ℕ) (x : Packet) (rest : List Packet) → MayReply pl s p c x rest
       → Visited pl s (ofReply p c) (gives Done (replied p (replyKind c) (x ∷ rest) s))
   consumes : (a : ℕ) (x : Packet) (rest : List Packet) → MayConsume pl s a x rest
-      → Visited pl s (ofConsume a) (gives (Taken x) (removed a rest s))
+      → Visited pl s (ofConsume a) (gives (Taken x) (noted pl x (removed a rest s)))
+  closes : (a p t : ℕ) → MayClose pl s a p t → Visited pl s (ofClose a p t) (gives Done (closed pl a p t s))
   looks : (r o t : ℕ) → MayLook pl r o t → Visited pl s (ofEntry r o t) (gives (Holds (s .table r o t)) s)
 
 -- ---- a call: refused (7 is asked before it), a phase turned, a visit

@@ -1,6 +1,7 @@
 -- What every state along a list has, in two parts. The core holds at every moment, also inside a phase: ranges,
 -- places, credits, allowances, one free entry a side. The shape depends on the phase: empty wires, choices and flags.
--- Together they are what refusal 7 asks (proofs/Core), and every call keeps them (proofs/Keeps).
+-- Every call keeps them, from every valid state (proofs/Keeps). Together with connections that are tied to the table
+-- they are what refusal 7 asks (proofs/Core).
 use mathlib.Core.Path.{_≡_}
 use mathlib.Core.Logic.{_≢_}
 use mathlib.Core.Bool.{true, false}

@@ -26,7 +26,7 @@ use Rattle.feeding.specs.Queue.{activeOut, activeIn, passiveIn, passiveOut, U, 
 use Rattle.feeding.specs.Feeds.{Place, inQueue, handledAt, span}
 use Rattle.machine.specs.State.{State}
 use Rattle.machine.specs.Execute.{cameIn}
-use Rattle.machine.specs.Accepted.{Connection}
+use Rattle.machine.specs.Connections.{Connection}
 use Rattle.machine.specs.Valid.{bit}
 use Rattle.theory.specs.Weights.{Weight, weighed}
 

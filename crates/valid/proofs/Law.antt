@@ -11,6 +11,7 @@ use Rattle.packets.specs.declared.Packet.{Packet}
 use Rattle.packets.specs.declared.Wire.the-variants.{Empty, Full}
 use Rattle.packets.specs.declared.Phase.the-variants.{Read, Execute, Write}
 use Rattle.packets.specs.declared.Entry.the-variants.{Free, Booked}
+use Rattle.plan.specs.Head.{InRange}
 use Rattle.plan.specs.Plan.{Plan, R, A, S}
 use Rattle.feeding.specs.Queue.{Queue, Q, Exists}
 use Rattle.feeding.specs.Feeds.{Output}
@@ -19,7 +20,7 @@ use Rattle.machine.specs.Outputs.{senders}
 use Rattle.machine.specs.State.{State, sender, startAllowance}
 use Rattle.machine.specs.Execute.{candidate}
 use Rattle.machine.specs.Write.{ofRank}
-use Rattle.machine.specs.Valid.{Lined, Drives, Carries, bit, onWires, total, spends, fed, Valid}
+use Rattle.machine.specs.Valid.{Lined, Drives, Carries, bit, onWires, total, spends, fed, Valid, Bounded}
 use Rattle.wiring.specs.Wired.{Wired}
 use Rattle.valid.proofs.Decides.{Decides, like, not-so, less, most, same, if-so, if-not, all-below, any-below}
 use Rattle.valid.specs.Test.{slotTest, entriesTest, capacitiesTest, placesTest, wiresTest, wiresEmptyTest}
@@ -28,6 +29,7 @@ use Rattle.valid.specs.Test.{creditsTest, outCreditsTest, allowancesTest
 use Rattle.valid.proofs.Packets.{lined-decides, wire-decides}
 use Rattle.valid.proofs.Parts.{every-queue, every-output, in-phase, out-of-phase, empty-decides, choice-decides}
 use Rattle.valid.proofs.Parts.{picked-decides, mark-decides, entry-decides, free-decides}
+use Rattle.valid.proofs.Ties.{ties-decide}
 
 -- ---- the parts of Valid, in its order
 module _ (pl : Plan) (s : State) where
@@ -149,11 +151,11 @@ module _ (pl : Plan) (s : State) where
       (λ a h. same (s .flow .allowance a + total pl (spends a) s) (startAllowance pl))
 
 -- ---- the law
-module _ (pl : Plan) (wired : Wired pl) where
+module _ (pl : Plan) (wired : Wired pl) (range : InRange (pl .head)) where
   -- a state that passes the test is valid
-  pub test-valid : (s : State) → validTest pl s ≡ true → Valid pl s
+  pub test-valid : (s : State) → Bounded pl s → validTest pl s ≡ true → Valid pl s
   unfolding validTest
-  test-valid s e =
+  test-valid s bounded e =
       let a = also-true e in
       let b = also-true (a .1) in
       let c = also-true (b .1) in
@@ -168,6 +170,7 @@ module _ (pl : Plan) (wired : Wired pl) where
       let m = also-true (l .1) in
       let n = also-true (m .1) in
       let o = also-true (n .1) in
+      let p = also-true (o .1) in
       record {
         slot = slot-decides pl s .holds (a .0);
         entries = entries-decide pl s .holds (b .0);
@@ -183,13 +186,14 @@ module _ (pl : Plan) (wired : Wired pl) where
         free-entry = free-entry-decides pl s .holds (m .0);
         credits = credits-decide pl s .holds (n .0);
         out-credits = out-credits-decide pl s .holds (o .0);
-        allowances = allowances-decide pl s .holds (o .1);
+        allowances = allowances-decide pl s .holds (p .0);
+        ties = ties-decide wired range bounded .holds (p .1);
       }
 
   -- a valid state passes the test
-  pub valid-test : (s : State) → Valid pl s → validTest pl s ≡ true
+  pub valid-test : (s : State) → Bounded pl s → Valid pl s → validTest pl s ≡ true
   unfolding validTest
-  valid-test s v =
+  valid-test s bounded v =
       also-of (slot-decides pl s .passes (v .slot))
       (also-of (entries-decide pl s .passes (v .entries))
       (also-of (capacities-decide pl s .passes (v .capacities))
@@ -204,4 +208,5 @@ module _ (pl : Plan) (wired : Wired pl) where
       (also-of (free-entry-decides pl s .passes (v .free-entry))
       (also-of (credits-decide pl s .passes (v .credits))
       (also-of (out-credits-decide pl s .passes (v .out-credits))
-      (allowances-decide pl s .passes (v .allowances)))))))))))))))
+      (also-of (allowances-decide pl s .passes (v .allowances))
+      (ties-decide wired range bounded .passes (v .ties))))))))))))))))

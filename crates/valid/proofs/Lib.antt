@@ -2,4 +2,5 @@ pub mod Decides
 pub mod Fitting
 pub mod Packets
 pub mod Parts
+pub mod Ties
 pub mod Law

@@ -31,7 +31,7 @@ module _ {pl : Plan} (wired : Wired pl) where
       (λ f. record { active = f .0; passive = f .1 .0; slot = f .1 .1 .0; hub = f .1 .1 .1 })
       (λ k. (k .active, (k .passive, (k .slot, k .hub))))
 
-  served-decides : (a p : ℕ) → a < A pl → Decides (served pl a p) (Served pl a p)
+  pub served-decides : (a p : ℕ) → a < A pl → Decides (served pl a p) (Served pl a p)
   served-decides a p h = record { holds = served-of wired a p h; passes = serves-of wired a p h }
 
   -- at a place where a journey of its served pair puts it, with a hub that fits

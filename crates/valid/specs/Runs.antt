@@ -10,7 +10,7 @@ use Rattle.basis.specs.Fold.{upTo}
 use Rattle.basis.specs.Walk.{spot, onCount}
 use Rattle.fields.specs.Bits.{bitAt, fieldOf}
 use Rattle.packets.specs.declared.Kind.{Kind}
-use Rattle.packets.specs.declared.Kind.the-variants.{Setup, Tdown, Nack}
+use Rattle.packets.specs.declared.Kind.the-variants.{Setup, Tdown, Ack, Nack}
 use Rattle.packets.specs.declared.Packet.{Packet}
 use Rattle.packets.specs.declared.Wire.the-variants.{Full}
 use Rattle.packets.specs.declared.Phase.the-variants.{Execute, Write}
@@ -23,23 +23,24 @@ use Rattle.plan.specs.Rules.{portsOf, home}
 use Rattle.paths.specs.Walk.{onward, arrives, walkSize}
 use Rattle.paths.specs.Served.{backsArrive, servedFrom}
 use Rattle.paths.specs.Steps.{indexIn, indexOn}
-use Rattle.feeding.specs.Queue.{Queue, activeOut, U, Q, K, queues, queueAt}
+use Rattle.feeding.specs.Queue.{Queue, activeOut, activeIn, U, Q, K, queues, queueAt}
 use Rattle.feeding.specs.Feeds.{ofActive}
 use Rattle.machine.specs.Outputs.{outputAt}
 use Rattle.machine.specs.State.{State, sender, blank, start, withPhase, withSlot, withQueue, withWire, withCredit}
-use Rattle.machine.specs.State.{withFlag, withHandled, withChoice, withEntry, withAllowance, join}
+use Rattle.machine.specs.State.{withFlag, withHandled, withChoice, withEntry, withConnection, withAllowance, join}
 use Rattle.machine.specs.Read.{arrive, deliver, lower, settle, doRead}
 use Rattle.machine.specs.Execute.{cameIn, otherFree, mayBook, setUp, tearOne, tearDown, handle, atUnit, unit}
 use Rattle.machine.specs.Execute.{candidate, firstOf, picked, choose, answer, atActive, undo, doExecute}
 use Rattle.machine.specs.Write.{sendHead, sendBy, send, doWrite}
-use Rattle.machine.specs.Visits.{launched, removed}
-use Rattle.machine.specs.Calls.{Call, read, execute, write, launch, reply, consume, call}
+use Rattle.machine.specs.Visits.{launched, removed, noted, closed}
+use Rattle.machine.specs.Calls.{Call, read, execute, write, launch, reply, consume, close, call}
 use Rattle.machine.specs.Valid.{bit, sum, onWires, total}
+use Rattle.valid.specs.Ties.{numbered, makesTest, claimedBefore, tieTest, pairTies, tiesTest}
 use Rattle.valid.specs.Test.{meetsTest, aheadTest, returnsTest, backTest, fitsTest, packetTest, belongsTest}
 use Rattle.valid.specs.Test.{slotTest, entriesTest, capacitiesTest, placesTest, wiresTest, wiresEmptyTest}
 use Rattle.valid.specs.Test.{choicesTest, flagsDownTest, pickedDownTest, outFlagsTest, marksTest, freeEntryTest}
 use Rattle.valid.specs.Test.{creditsTest, outCreditsTest, allowancesTest, validTest}
-use Rattle.plan.specs.Samples.{planT as bytesT}
+use Rattle.plan.specs.Samples.{planT as bytesT, allSides}
 
 -- plan T of document 01
 abbrev planT : Plan
@@ -63,12 +64,13 @@ allValid pl (c ∷ cs) s =
 -- from Start on plan T
 unfoldable pub valid : List Call → Bool
 unfolding anyBelow allBelow upTo spot onCount bitAt fieldOf capacityAt headOf jointIn planOf portsOf home onward
-    arrives walkSize backsArrive servedFrom indexIn indexOn queues queueAt outputAt launched removed call arrive
-    deliver lower settle doRead start blank join cameIn otherFree mayBook setUp tearOne tearDown handle atUnit unit
-    candidate firstOf picked choose answer atActive undo doExecute sendHead sendBy send doWrite sum onWires total
+    arrives walkSize backsArrive servedFrom indexIn indexOn queues queueAt outputAt launched removed noted closed call
+    arrive deliver lower settle doRead start blank join cameIn otherFree mayBook setUp tearOne tearDown handle atUnit
+    unit candidate firstOf picked choose answer atActive undo doExecute sendHead sendBy send doWrite sum onWires total
     meetsTest aheadTest returnsTest backTest fitsTest packetTest belongsTest slotTest entriesTest capacitiesTest
     placesTest wiresTest wiresEmptyTest choicesTest flagsDownTest pickedDownTest outFlagsTest marksTest freeEntryTest
-    creditsTest outCreditsTest allowancesTest validTest allValid
+    creditsTest outCreditsTest allowancesTest numbered makesTest claimedBefore tieTest pairTies tiesTest validTest
+    allValid
 valid cs = allValid planT cs (start planT)
 
 -- 'Launch (0,0,0) in round 0: booked in round 2, waits at the passive from round 4; isAccepted there, consumed in
@@ -83,6 +85,12 @@ pub t-declines : valid (launch 0 0 0 ∷ round ++ round ++ round ++ round ++ (re
     ++ round ++ (read ∷ execute ∷ consume 0 ∷ write ∷ round) ++ round ++ round ++ round) ≡ true
 unfolding valid
 t-declines = refl
+
+-- the connection is closed: a TDOWN frees its entry
+pub t-closes : valid (launch 0 0 0 ∷ round ++ round ++ round ++ round ++ (read ∷ execute ∷ reply 0 1 ∷ write ∷ round)
+    ++ round ++ (read ∷ execute ∷ consume 0 ∷ write ∷ close 0 0 0 ∷ round) ++ round ++ round ++ round) ≡ true
+unfolding valid
+t-closes = refl
 
 -- ---- one part of Start's state is spoilt, or one part of a state that is Start's but for a packet
 abbrev packet : Kind → ℕ → Packet
@@ -99,11 +107,15 @@ inUnit done s =
     withHandled (Q 0) done
     (withQueue (Q 0) (packet Nack 0 ∷ []) (withCredit (Q 0) (record { 0 = 0 }) (withAllowance 0 0 s)))
 
--- how many of the changes leave a state
-unfoldable pub countValid : List (State → State) → ℕ
+-- how many of the changes of a plan's Start leave a state; of plan T's
+unfoldable pub countOn : Plan → List (State → State) → ℕ
 unfolding valid
-countValid [] = 0
-countValid (f ∷ fs) = bit (validTest planT (f (start planT))) + countValid fs
+countOn pl [] = 0
+countOn pl (f ∷ fs) = bit (validTest pl (f (start pl))) + countOn pl fs
+
+unfoldable pub countValid : List (State → State) → ℕ
+unfolding countOn
+countValid fs = countOn planT fs
 
 pub t-packets : countValid
     ((λ s. s) ∷ underWay 0 ∷ (λ s. withQueue (activeOut 0) (packet Tdown 1 ∷ []) s) ∷ inUnit true ∷ []) ≡ 4
@@ -153,3 +165,72 @@ pub t-unfed : countValid (
     ) ≡ 0
 unfolding countValid
 t-unfed = refl
+
+-- ---- accepted connections: 'a mark for an unserved pair, one lacking any of its entries, or two that share an entry'
+-- one more is accepted
+abbrev mark : ℕ → ℕ → ℕ → State → State
+mark a p t s = withConnection a p t true s
+
+-- its entry is there
+pub t-marked : countValid ((λ s. mark 0 0 0 (withEntry 0 1 0 (Booked 0) s)) ∷ []) ≡ 1
+unfolding countValid
+t-marked = refl
+
+-- its entry is free, in another slot, or holds another side
+pub t-unmade : countValid (
+    mark 0 0 0
+    ∷ (λ s. mark 0 0 0 (withEntry 0 1 1 (Booked 0) s))
+    ∷ (λ s. mark 0 0 0 (withEntry 0 1 0 (Booked 2) s))
+    ∷ []
+    ) ≡ 0
+unfolding countValid
+t-unmade = refl
+
+-- active 2 is served with passive 1, active 0 is not
+pub sides-served : countOn (planOf allSides) ((λ s. mark 2 1 0 (withEntry 1 0 0 (Booked 2) s)) ∷ []) ≡ 1
+unfolding countOn
+sides-served = refl
+
+pub sides-unserved : countOn (planOf allSides)
+    (mark 0 1 0 ∷ (λ s. mark 0 1 0 (withEntry 1 0 1 (Booked 3) s)) ∷ []) ≡ 0
+unfolding countOn
+sides-unserved = refl
+
+-- two routers, S=2, capacities 1. Router 0: side 0 to active 0, side 1 to side 0 of router 1. Router 1: side 1 to
+-- passive 0, side 2 to passive 1. Routes: the shortest. At router 0 the walks to both passives leave by side 1.
+-- 10 44 11 24 92 4C 02 20 00 02 0E 06 20 00 24 14
+abbrev planFork : Plan
+planFork = planOf
+    (16 ∷ 68 ∷ 17 ∷ 36 ∷ 146 ∷ 76 ∷ 2 ∷ 32 ∷ 0 ∷ 2 ∷ 14 ∷ 6 ∷ 32 ∷ 0 ∷ 36 ∷ 20 ∷ [])
+
+-- the entries of both connections in slot 0, the first of which they share
+abbrev forked : State → State
+forked s = withEntry 0 1 0 (Booked 0) (withEntry 1 1 1 (Booked 0) (withEntry 1 2 1 (Booked 0) s))
+
+-- each may be accepted, not both
+pub fork-one : countOn planFork ((λ s. mark 0 0 0 (forked s)) ∷ (λ s. mark 0 1 0 (forked s)) ∷ []) ≡ 2
+unfolding countOn
+fork-one = refl
+
+pub fork-both : countOn planFork ((λ s. mark 0 0 0 (mark 0 1 0 (forked s))) ∷ []) ≡ 0
+unfolding countOn
+fork-both = refl
+
+-- ---- document 02 (a): this part of 7 is not kept by each call alone, since nothing ties the packets to the table; it
+-- is kept along a list from Start
+-- An ACK waits at its active in WRITE, and its entry is not booked. No list from Start comes there.
+abbrev answered : State → State
+answered s =
+    withPhase Write
+    (withQueue (activeIn 0)
+    (record { kind = Ack; active = 0; passive = 0; slot = record { 0 = 1 }; hub = record { 0 = 1 } } ∷ [])
+    (withCredit (activeIn 0) (record { 0 = 0 }) (withAllowance 0 0 s)))
+
+-- the state passes, Consume is accepted, and what it leaves does not pass
+unfoldable pub passesThen : Plan → Call → State → List Bool
+unfolding valid
+passesThen pl c s = validTest pl s ∷ isAccepted (call pl c s .answer) ∷ validTest pl (call pl c s .state) ∷ []
+
+pub valid-then-not : passesThen planT (consume 0) (answered (start planT)) ≡ true ∷ true ∷ false ∷ []
+unfolding passesThen
+valid-then-not = refl

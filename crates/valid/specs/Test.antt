@@ -32,6 +32,7 @@ use Rattle.machine.specs.Write.{ofRank}
 use Rattle.machine.specs.Visits.{isEmpty}
 use Rattle.machine.specs.Calls.{isPhase}
 use Rattle.machine.specs.Valid.{bit, onWires, total, spends, fed}
+use Rattle.valid.specs.Ties.{tiesTest}
 
 -- every one of a list passes
 abbrev pub allIn : {X : Type 0} → (X → Bool) → List X → Bool
@@ -230,4 +231,5 @@ validTest pl s =
     (also (wiresEmptyTest pl s)
     (also (choicesTest pl s) (also (flagsDownTest pl s) (also (pickedDownTest pl s) (also (outFlagsTest pl s)
     (also (marksTest pl s)
-    (also (freeEntryTest pl s) (also (creditsTest pl s) (also (outCreditsTest pl s) (allowancesTest pl s))))))))))))))
+    (also (freeEntryTest pl s) (also (creditsTest pl s) (also (outCreditsTest pl s)
+    (also (allowancesTest pl s) (tiesTest pl s)))))))))))))))

@@ -8,10 +8,11 @@ use Rattle.plan.specs.declared.Head.{Head}
 use Rattle.plan.specs.Head.{InRange, Counts}
 use Rattle.plan.specs.Plan.{Plan, R, A, P, S}
 use Rattle.feeding.specs.Queue.{activeOut, activeIn, passiveIn, passiveOut, number}
-use Rattle.layout.specs.Offsets.{queueRow, allowanceRow, entryRow}
+use Rattle.layout.specs.Offsets.{queueRow, allowanceRow, entryRow, startsRow}
 use Rattle.layout.proofs.Readings.{length-bytes}
-use Rattle.acts.specs.Counts.{stateSize, tableFrom, size-by, allowances-at, table-at}
+use Rattle.acts.specs.Counts.{stateSize, tableFrom, size-by, allowances-at, table-at, connections-at}
 use Rattle.visits.specs.Visits.{Ready, activeOutRow, passiveOutRow, activeInRow, passiveInRow, allowanceByte}
+use Rattle.visits.specs.Visits.{startsByte}
 
 -- ---- rows by the head alone
 module _ {h : Head} (pl : Plan) (head : pl .head ≡ h) where
@@ -66,6 +67,10 @@ module _ {h : Head} (pl : Plan) (head : pl .head ≡ h) where
   unfolding entryRow
   entry-byte r o t = rw (← head) (ap (λ (n : ℕ). n + 2 * (128 * r + 32 * o + t)) (sym (table-at pl)))
 
+  pub starts-byte : (a p : ℕ) → startsByte h a p ≡ startsRow pl a p
+  unfolding startsRow
+  starts-byte a p = rw (← head) (ap (λ (n : ℕ). n + 4 * (16 * a + p)) (sym (connections-at pl)))
+
 -- ---- inside
 module _ {h : Head} {b : List ℕ} (ready : Ready h b) where
   pub long : stateSize h ≤ length b
@@ -98,6 +103,13 @@ module _ {h : Head} {b : List ℕ} (ready : Ready h b) where
   pub entry-inside : (r o t i : ℕ) → r < h .routers → o < 4 → t < 32
       → i ≡ tableFrom h + 2 * (128 * r + 32 * o + t) → i < length b
   entry-inside r o t i hr ho ht at = omega (arith, long)
+
+  pub starts-inside : (a p i : ℕ) → a < h .actives → p < 16 → i ≡ startsByte h a p → i + 4 ≤ length b
+  starts-inside a p i ha hp at = omega (arith, long)
+
+-- a length that stays
+pub long-still : {n m k : ℕ} → n ≤ k → m ≡ k → n ≤ m
+long-still l e = omega arith
 
 -- ---- what the code's offsets ask
 pub few-counts : {h : Head} → InRange h → Counts h

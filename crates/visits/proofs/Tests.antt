@@ -7,6 +7,7 @@ use native.Mathlib.Omega.{arith}
 use lib.Dec.{eqb}
 use lib.ListN.{length, getD}
 use borrow.Author.Tests.{lt-ltb, le-ltb, eq-eqb, ne-eqb}
+use Rattle.sets.specs.Sets.{has}
 use Rattle.packets.specs.declared.Packet.{Packet}
 use Rattle.packets.specs.declared.Phase.{Phase}
 use Rattle.packets.specs.declared.Phase.the-variants.{Read, Execute, Write}
@@ -17,12 +18,12 @@ use Rattle.machine.specs.State.{State}
 use Rattle.machine.specs.Execute.{unmarked, hasRoom}
 use Rattle.machine.specs.Visits.{isEmpty, headUnmarked}
 use Rattle.machine.specs.Calls.{isPhase}
-use Rattle.layout.specs.Offsets.{firstPlace, queueRow, allowanceRow}
+use Rattle.layout.specs.Offsets.{firstPlace, queueRow, allowanceRow, startsRow}
 use Rattle.layout.specs.Codes.{phaseCode}
 use Rattle.layout.specs.Places.{packetAt}
 use Rattle.layout.specs.Encode.{encode}
-use Rattle.layout.specs.Decode.{flagAt, lengthAt}
-use Rattle.layout.proofs.Readings.{flag-at, length-at, head-at, allowance-at}
+use Rattle.layout.specs.Decode.{flagAt, lengthAt, fourAt}
+use Rattle.layout.proofs.Readings.{flag-at, length-at, head-at, allowance-at, connection-at}
 
 -- ---- the phase
 not-read : (x : Phase) → (phaseCode x ≡ 0 → ⊥) → not (isPhase x Read) ≡ true
@@ -123,3 +124,8 @@ module _ (pl : Plan) (s : State) (rest b : List ℕ) (same : b ≡ encode pl s r
 
     pub left-tells : (getD b byte 0 ≡ 0 → ⊥) → eqb (s .flow .allowance a) 0 ≡ false
     left-tells n = ne-eqb (s .flow .allowance a) 0 (λ e. n (allowed ∙ e))
+
+  module _ (a p t : ℕ) (la : a < A pl) (lp : p < 16) (lt : t < 32) (at : ℕ) (of : at ≡ startsRow pl a p) where
+    pub accepted-tells : {f : Bool} → has (fourAt at b) t ≡ f → s .connections a p t ≡ f
+    accepted-tells e =
+        sym (connection-at pl s rest b same a p t la lp lt) ∙ ap (λ (i : ℕ). has (fourAt i b) t) (sym of) ∙ e

@@ -16,7 +16,7 @@ use Rattle.layout.specs.Offsets.{flagByte}
 use Rattle.layout.specs.Codes.{flagCode}
 use Rattle.layout.specs.Updates.{popAt}
 use Rattle.acts.specs.Acts.{Holds, Acts}
-use Rattle.acts.specs.Counts.{allowancesFrom}
+use Rattle.acts.specs.Counts.{allowancesFrom, connectionsFrom}
 
 -- the bytes of a good state of a plan that has this head
 pub record Ready (h : Head) (b : List ℕ) : Type 0 where
@@ -48,6 +48,10 @@ passiveInRow h p = 2 + 39 * (destinations h + 21 * h .routers + h .actives + p)
 
 abbrev pub allowanceByte : Head → ℕ → ℕ
 allowanceByte h a = allowancesFrom h + a
+
+-- and the four bytes of a pair's start slots
+abbrev pub startsByte : Head → ℕ → ℕ → ℕ
+startsByte h a p = connectionsFrom h + 4 * (16 * a + p)
 
 -- ---- a queue's head leaves and its flag rises
 unfoldable pub takenAt : ℕ → List ℕ → List ℕ

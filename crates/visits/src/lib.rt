@@ -1,13 +1,14 @@
-// What Launch, Reply, Consume and Entry share on the bytes of a good state: the rows of the interfaces' queues, what is
-// read of them, and the head that leaves a queue.
+// What Launch, Reply, Consume, Close and Entry share on the bytes of a good state: the rows of the interfaces' queues,
+// what is read of them, the head that leaves a queue, and the walks' lengths.
 use plan::Head;
 ghost use mathlib.Core.Path.{_≡_};
 ghost use Prim.Native.Nat.{_+_, _≤_, _<_};
-ghost use lib.ListN.{length};
+ghost use mathlib.Core.List.{[]};
+ghost use lib.ListN.{getD, length};
 ghost use Rattle.plan.specs.Head.{Counts};
 ghost use Rattle.layout.specs.Decode.{flagAt, lengthAt};
 ghost use Rattle.visits.specs.Visits.{activeOutRow, passiveOutRow, activeInRow, passiveInRow, allowanceByte};
-ghost use Rattle.visits.specs.Visits.{takenAt};
+ghost use Rattle.visits.specs.Visits.{startsByte, takenAt};
 
 // The byte of the phase, and its values in READ and in WRITE.
 pub const PHASE_BYTE: usize = 0;
@@ -76,6 +77,22 @@ pub fn allowance(h: Head, a: usize) -> usize
     ensures { λ i. ⌜ i ≡ allowanceByte h a ⌝ }
 {
     acts::allowance_row(h, a)
+}
+
+// The bytes of a pair's start slots.
+pub fn starts(h: Head, a: usize, p: usize) -> usize
+    requires { ⌜ Counts h × (a < 16) × (p < 16) ⌝ }
+    ensures { λ i. ⌜ i ≡ startsByte h a p ⌝ }
+{
+    acts::starts_row(h, a, p)
+}
+
+// The length of a pair's walk, 0 where it is not served.
+pub fn walk_length(lengths: &[[u8; 16]; 16], a: usize, p: usize) -> u8
+    requires { ⌜ (a < 16) × (p < 16) ⌝ }
+    ensures { λ v. ⌜ v ≡ getD (getD (now (lengths .entry)) a []) p 0 ⌝ }
+{
+    lengths[a][p]
 }
 
 // Whether the flag is up of the queue whose row is at an offset.

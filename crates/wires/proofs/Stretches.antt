@@ -13,7 +13,7 @@ use Rattle.basis.specs.Choice.{refuted}
 use Rattle.basis.specs.Bounded.{all-of, lt-or-ge}
 use Rattle.states.specs.Forms.{zeros}
 use Rattle.states.proofs.Bytes.{zeros-byte}
-use Rattle.forms.specs.Bytes.{fourAt}
+use Rattle.layout.specs.Decode.{fourAt}
 use Rattle.wires.specs.Outputs.{fullAt}
 
 -- bytes that are zero

@@ -22,6 +22,8 @@ pub struct Calls {
     pub write: fn(&[u8], &mut [u8]) -> u32,
     /// Launch: active, passive, slot.
     pub launch: fn(&[u8], &mut [u8], u32, u32, u32) -> u32,
+    /// Close: active, passive, start slot.
+    pub close: fn(&[u8], &mut [u8], u32, u32, u32) -> u32,
     /// Reply: passive, choice.
     pub reply: fn(&[u8], &mut [u8], u32, u32) -> u32,
     /// Consume: active.
@@ -41,6 +43,9 @@ impl Calls {
             Call::Launch { active, passive, slot } => {
                 (self.launch)(plan, state, n(active), n(passive), n(slot))
             }
+            Call::Close { active, passive, slot } => {
+                (self.close)(plan, state, n(active), n(passive), n(slot))
+            }
             Call::Reply { passive, choice } => (self.reply)(plan, state, n(passive), n(choice)),
             Call::Consume { active } => (self.consume)(plan, state, n(active), out),
             Call::Entry { router, side, slot } => {
@@ -57,6 +62,9 @@ pub fn narrow(call: Call) -> Call {
         Call::Read | Call::Execute | Call::Write => call,
         Call::Launch { active, passive, slot } => {
             Call::Launch { active: n(active), passive: n(passive), slot: n(slot) }
+        }
+        Call::Close { active, passive, slot } => {
+            Call::Close { active: n(active), passive: n(passive), slot: n(slot) }
         }
         Call::Reply { passive, choice } => Call::Reply { passive: n(passive), choice: n(choice) },
         Call::Consume { active } => Call::Consume { active: n(active) },

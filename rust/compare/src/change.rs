@@ -2,7 +2,7 @@
 
 use model::generate::states::{jam, CHANGES};
 use model::generate::Random;
-use model::machine::{Network, State};
+use model::machine::{Connection, Network, Slot, State};
 use model::SIDES;
 
 /// The bytes of a state, changed a little: as a state in one or two ways, or as bytes.
@@ -26,7 +26,7 @@ pub fn changed(random: &mut Random, network: &Network, state: &State) -> Vec<u8>
 /// A small change of bytes.
 type Change = fn(&mut Random, &Network, &mut [u8]);
 
-const BYTES: [Change; 10] = [
+const BYTES: [Change; 12] = [
     any_byte,
     queue_byte,
     head_byte,
@@ -37,6 +37,8 @@ const BYTES: [Change; 10] = [
     spare_byte,
     nearly_full_side,
     behind_the_packets,
+    mark_bit,
+    mark_byte,
 ];
 
 /// Another byte: 0, 1, small, a neighbour or any.
@@ -139,4 +141,24 @@ fn behind_the_packets(random: &mut Random, network: &Network, bytes: &mut [u8]) 
         let at = row + 4 + random.within(5 * length..=34);
         tweak(random, &mut bytes[at]);
     }
+}
+
+/// A mark comes or goes: of a pair and a slot of the plan, or of one past them.
+fn mark_bit(random: &mut Random, network: &Network, bytes: &mut [u8]) {
+    let plan = network.plan();
+    let active = random.below(plan.actives());
+    let in_plan = [random.below(plan.passives()), random.below(network.slots())];
+    let past = [plan.passives().min(15), network.slots().min(31)];
+    let [passive, start] = match random.below(4) {
+        0 => [past[0], in_plan[1]],
+        1 => [in_plan[0], past[1]],
+        _ => in_plan,
+    };
+    let (at, bit) = network.mark_at(Connection { active, passive, start: Slot(start) });
+    bytes[at] ^= bit;
+}
+
+fn mark_byte(random: &mut Random, network: &Network, bytes: &mut [u8]) {
+    let at = network.marks_at(random.below(network.plan().actives())) + random.below(64);
+    tweak(random, &mut bytes[at]);
 }

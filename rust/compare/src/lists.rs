@@ -4,7 +4,8 @@ use model::generate::calls::{stray, Caller};
 use model::generate::states::{jam, scramble};
 use model::generate::{damage, good, rings, Random};
 use model::machine::bytes::packet_bytes;
-use model::machine::{Answer, Call, Network, Phase, State};
+use model::machine::{Answer, Call, Connection, Network, Phase, State};
+use model::refusal::NOT_A_STATE;
 use model::{named, Plan, Queue};
 
 use crate::calls::{narrow, Calls, Out};
@@ -125,9 +126,10 @@ impl<'c> List<'c> {
         let active = self.some(random, plan.actives(), |list, n| list.is_active_refused(n));
         let passive = self.some(random, plan.passives(), |list, n| list.is_passive_refused(n));
         match (self.state.phase, random.below(2)) {
-            (Phase::Read, _) => {
+            (Phase::Read, 0) => {
                 Call::Launch { active, passive, slot: random.below(self.network.slots()) }
             }
+            (Phase::Read, _) => close(random, &self.network, &self.state),
             (Phase::Write, 0) => Call::Reply { passive, choice: random.below(2) },
             (Phase::Write, _) => Call::Consume { active },
             (Phase::Execute, _) => narrow(stray(random, &self.network)),
@@ -175,6 +177,12 @@ impl<'c> List<'c> {
         self.compared(random, call, expected, &bytes, tally);
         tally.listed += 1;
         tally.packets = tally.packets.max(self.network.packets(&self.state).count());
+        tally.accepted = tally.accepted.max(self.state.marks.len());
+        // From a state that no list reaches, a call may leave none: then the list goes on elsewhere.
+        if expected == Err(NOT_A_STATE) {
+            self.state = self.network.start();
+            self.elsewhere(random);
+        }
     }
 
     fn with_damaged_plan(&mut self, random: &mut Random, call: Call, tally: &mut Tally) {
@@ -198,9 +206,14 @@ impl<'c> List<'c> {
         if random.chance(1, 30) {
             bytes.truncate(random.below(self.network.size()));
         }
-        let call = self.next_call(random);
-        let mut after = bytes.clone();
         let decoded = self.network.decode(&bytes);
+        let call = match &decoded {
+            Some(state) if state.phase == Phase::Read && random.chance(1, 2) => {
+                close(random, &self.network, state)
+            }
+            _ => self.next_call(random),
+        };
+        let mut after = bytes.clone();
         let is_state = decoded.as_ref().is_some_and(|state| self.network.is_state(state));
         let expected = decoded.ok_or(7).and_then(|mut state| {
             let answer = self.network.call(&mut state, call)?;
@@ -243,6 +256,25 @@ impl<'c> List<'c> {
 
     fn same(&self, expected: &[u8], what: &str) {
         assert!(self.bytes == expected, "{what} of {:02X?}", self.plan);
+    }
+}
+
+/// A Close of an accepted connection, mostly one whose out-queue is full, if there is one; now and
+/// then of any other.
+fn close(random: &mut Random, network: &Network, state: &State) -> Call {
+    let marks: Vec<Connection> = state.marks.iter().copied().collect();
+    let full = |mark: &Connection| network.is_full(state, Queue::ActiveOut(mark.active));
+    let held: Vec<Connection> = marks.iter().copied().filter(full).collect();
+    let held = random.pick(&held).filter(|_| random.chance(3, 4));
+    match held.or(random.pick(&marks)).filter(|_| !random.chance(1, 4)) {
+        Some(Connection { active, passive, start }) => {
+            Call::Close { active, passive, slot: start.0 }
+        }
+        None => {
+            let plan = network.plan();
+            let (active, passive) = (random.below(plan.actives()), random.below(plan.passives()));
+            Call::Close { active, passive, slot: random.below(network.slots()) }
+        }
     }
 }
 

@@ -5,13 +5,15 @@ use std::fmt;
 use model::machine::Call;
 
 /// The calls by name; Start stands before those on a state.
-const NAMES: [&str; 8] =
-    ["Start", "Read", "Execute", "Write", "Launch", "Reply", "Consume", "Entry"];
+const NAMES: [&str; 9] =
+    ["Start", "Read", "Execute", "Write", "Launch", "Reply", "Consume", "Entry", "Close"];
+/// Accepted, and the refusals 1 to 16.
+const ANSWERS: usize = 17;
 
 /// By call and answer.
 #[derive(Clone, Copy, Debug, Default, PartialEq, Eq)]
 pub struct Tally {
-    answers: [[usize; 16]; 8],
+    answers: [[usize; ANSWERS]; NAMES.len()],
     /// Plans.
     pub plans: usize,
     /// Calls in lists.
@@ -22,6 +24,8 @@ pub struct Tally {
     pub states: usize,
     /// The most packets that were under way at once.
     pub packets: usize,
+    /// The most connections that were accepted at once.
+    pub accepted: usize,
 }
 
 impl Tally {
@@ -40,6 +44,7 @@ impl Tally {
             Call::Reply { .. } => 5,
             Call::Consume { .. } => 6,
             Call::Entry { .. } => 7,
+            Call::Close { .. } => 8,
         };
         self.answers[row][answer as usize] += 1;
     }
@@ -59,26 +64,28 @@ impl Tally {
         self.changed += other.changed;
         self.states += other.states;
         self.packets = self.packets.max(other.packets);
+        self.accepted = self.accepted.max(other.accepted);
     }
 
-    /// The refusals, 1 to 15, that were met less often than that.
+    /// The refusals, 1 to 16, that were met less often than that.
     pub fn rarer_than(&self, least: usize) -> Vec<usize> {
-        (1..16).filter(|&answer| self.met(answer) < least).collect()
+        (1..ANSWERS).filter(|&answer| self.met(answer) < least).collect()
     }
 }
 
 impl fmt::Display for Tally {
     fn fmt(&self, f: &mut fmt::Formatter) -> fmt::Result {
-        let Tally { plans, listed, changed, states, packets, .. } = self;
+        let Tally { plans, listed, changed, states, packets, accepted, .. } = self;
         writeln!(f, "{plans} plans, {listed} calls in lists, {changed} on changed bytes")?;
-        writeln!(f, "{states} changed bytes were a state's; most packets at once: {packets}")?;
+        writeln!(f, "{states} changed bytes were a state's")?;
+        writeln!(f, "most at once: {packets} packets, {accepted} accepted connections")?;
         write!(f, "{:>8}", "answer")?;
-        (0..16).try_for_each(|answer| write!(f, " {answer:>7}"))?;
+        (0..ANSWERS).try_for_each(|answer| write!(f, " {answer:>7}"))?;
         for (name, row) in NAMES.iter().zip(&self.answers) {
             write!(f, "\n{name:>8}")?;
             row.iter().try_for_each(|count| write!(f, " {count:>7}"))?;
         }
         write!(f, "\n{:>8}", "in all")?;
-        (0..16).try_for_each(|answer| write!(f, " {:>7}", self.met(answer)))
+        (0..ANSWERS).try_for_each(|answer| write!(f, " {:>7}", self.met(answer)))
     }
 }

@@ -5,6 +5,7 @@
 
 use crate::layout::*;
 use crate::load::Net;
+use crate::marks::marks_fit;
 use crate::walks::{numbers, Numbers, Walks, NO_QUEUE};
 
 /// What the check finds, for the phases.
@@ -91,7 +92,7 @@ pub fn check(net: &Net, state: &[u8], found: &mut Found, to: &mut [u16]) -> bool
     if busy && !Busy::new(net, state, &mut counts).check(found, to) {
         return false;
     }
-    allowances_add_up(net, state, &counts) && table_is_one(net, state)
+    allowances_add_up(net, state, &counts) && table_is_one(net, state) && marks_fit(net, state)
 }
 
 /// Whether any output has something; then which.
@@ -168,7 +169,7 @@ fn allowances_add_up(net: &Net, state: &[u8], counts: &[u8; 16]) -> bool {
 #[inline(always)]
 fn table_is_one(net: &Net, state: &[u8]) -> bool {
     let Some(limits) = LIMITS[64 - 2 * net.s..].first_chunk::<64>() else { return false };
-    for side in state[net.table_at()..].chunks_exact(64) {
+    for side in state[net.table_at()..net.marks_at()].chunks_exact(64) {
         let any = (0..8).fold(0, |any, w| any | word(side, 8 * w));
         if any != 0 && !side_is_one(side, limits) {
             return false;

@@ -63,10 +63,29 @@ impl Net {
         self.allowances_at() + self.a
     }
 
+    /// The first byte of the marks.
+    #[inline(always)]
+    pub(crate) fn marks_at(&self) -> usize {
+        self.table_at() + 256 * self.r
+    }
+
+    /// The byte of a mark, and its bit there.
+    #[inline(always)]
+    pub(crate) fn mark_at(&self, a: usize, p: usize, slot: usize) -> (usize, u8) {
+        (self.marks_at() + 64 * a + 4 * p + slot / 8, 1 << (slot % 8))
+    }
+
     /// The state's bytes.
     #[inline(always)]
     pub(crate) fn size(&self) -> usize {
-        self.table_at() + 256 * self.r
+        self.marks_at() + 64 * self.a
+    }
+
+    /// Slot minus hub modulo S.
+    #[inline(always)]
+    pub(crate) fn minus(&self, slot: u8, hub: u8) -> u8 {
+        let s = self.s as u8;
+        (slot + s - hub % s) % s
     }
 
     /// What an active may have under way.

@@ -3,7 +3,8 @@
 //!
 //! * [`load`](mod@load): Load, with sets of destinations in words.
 //! * `layout`: where things stand in the state's bytes. `walks`: where a packet may be.
-//! * `check`: refusal 7. `phases`: Read, Execute, Write. `visits`: Start and the other calls.
+//! * `check`: refusal 7, with `marks` for the accepted connections. `phases`: Read, Execute, Write.
+//!   `visits`: Start and the other calls.
 
 #![forbid(unsafe_code)]
 #![no_std]
@@ -11,6 +12,7 @@
 mod check;
 mod layout;
 pub mod load;
+mod marks;
 mod phases;
 mod visits;
 mod walks;
@@ -105,6 +107,12 @@ pub fn write(plan: &[u8], state: &mut [u8]) -> u32 {
 pub fn launch(plan: &[u8], state: &mut [u8], active: u32, passive: u32, slot: u32) -> u32 {
     open!(plan, state, Some(READ), net, found, to: NO_ROWS);
     visits::launch(&net, &mut state[..net.size()], active, passive, slot)
+}
+
+/// Close: 1 to 10, 16, 12, or 0.
+pub fn close(plan: &[u8], state: &mut [u8], active: u32, passive: u32, slot: u32) -> u32 {
+    open!(plan, state, Some(READ), net, found, to: NO_ROWS);
+    visits::close(&net, &mut state[..net.size()], active, passive, slot)
 }
 
 /// Reply: 1 to 9, 12 to 14, or 0.

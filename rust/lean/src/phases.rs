@@ -124,8 +124,7 @@ fn tear_down(net: &Net, state: &mut [u8], active: usize) {
     let &[kind, a, p, slot, hub] = place(row(state, at), 0);
     if kind == NACK && hub != 0 && state[out + 3] != net.cap[CAP_ACTIVE_OUT] {
         state[at + 8] = 0;
-        let s = net.s as u8;
-        push(state, out, [TDOWN, a, p, (slot + s - hub % s) % s, hub]);
+        push(state, out, [TDOWN, a, p, net.minus(slot, hub), hub]);
     }
 }
 

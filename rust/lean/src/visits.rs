@@ -1,4 +1,4 @@
-//! Start, and what Launch, Reply, Consume and Entry do to a state.
+//! Start, and what Launch, Close, Reply, Consume and Entry do to a state.
 
 use crate::layout::*;
 use crate::load::Net;
@@ -66,6 +66,29 @@ pub fn launch(net: &Net, state: &mut [u8], active: u32, passive: u32, slot: u32)
     0
 }
 
+/// Close: 9, 10, 16, 12, else a TDOWN joins and the mark goes.
+#[inline(always)]
+pub fn close(net: &Net, state: &mut [u8], active: u32, passive: u32, slot: u32) -> u32 {
+    let (a, p, t) = (active as usize, passive as usize, slot as usize);
+    if a >= net.a || p >= net.p || t >= net.s {
+        return 9;
+    }
+    if net.served[a & 15] >> p & 1 == 0 {
+        return 10;
+    }
+    let (mark, bit) = net.mark_at(a, p, t);
+    if state[mark] & bit == 0 {
+        return 16;
+    }
+    let out = net.group_at(ACTIVE_OUT) + ROW * a;
+    if state[out + 3] == net.cap[CAP_ACTIVE_OUT] {
+        return 12;
+    }
+    push(state, out, [TDOWN, a as u8, p as u8, t as u8, walk(net, a, p) as u8]);
+    state[mark] &= !bit;
+    0
+}
+
 /// 14 or 13, where an in-queue has no head to take.
 #[inline(always)]
 fn waiting(state: &[u8], at: usize) -> u32 {
@@ -100,7 +123,7 @@ pub fn reply(net: &Net, state: &mut [u8], passive: u32, choice: u32) -> u32 {
     0
 }
 
-/// Consume: 9, 14, 13, 15, else the head is taken.
+/// Consume: 9, 14, 13, 15, else the head is taken; an ACK's connection is marked.
 #[inline(always)]
 pub fn consume(net: &Net, state: &mut [u8], active: u32, out: &mut [u8; 8]) -> u32 {
     let a = active as usize;
@@ -119,6 +142,11 @@ pub fn consume(net: &Net, state: &mut [u8], active: u32, out: &mut [u8; 8]) -> u
     state[at + 1] = 1;
     state[net.allowances_at() + a] += 1;
     out[..5].copy_from_slice(&packet);
+    let [kind, _, p, slot, hub] = packet;
+    if kind == ACK {
+        let (mark, bit) = net.mark_at(a, p as usize, net.minus(slot, hub) as usize);
+        state[mark] |= bit;
+    }
     0
 }
 

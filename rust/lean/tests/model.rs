@@ -10,6 +10,7 @@ const LEAN: Calls = Calls {
     execute: lean::execute,
     write: lean::write,
     launch: lean::launch,
+    close: lean::close,
     reply: lean::reply,
     consume: lean::consume,
     entry: lean::entry,

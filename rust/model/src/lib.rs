@@ -1,5 +1,5 @@
-//! An independent model of the arm controller's reservation network, written from document 01
-//! alone and compared with the proved code in tests.
+//! An independent model of the arm controller's reservation network, written from documents 01 and
+//! 02 alone and compared with the proved code in tests.
 //!
 //! * [`Fields`]: what the plan bytes say, one number after the other (refusals 1 to 4).
 //! * [`Plan`]: a plan that obeys every plan rule (refusals 5 and 6), its walks and served pairs.

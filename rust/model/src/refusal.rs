@@ -1,4 +1,4 @@
-//! The refusals' numbers, in document 01's order.
+//! The refusals' numbers, in the order of document 01; those of document 02 join its list.
 
 /// Load: "fewer than six bytes".
 pub const SHORT: u32 = 1;
@@ -31,3 +31,5 @@ pub const EMPTY: u32 = 13;
 pub const FLAG_UP: u32 = 14;
 /// "Head is an unmarked NACK."
 pub const UNMARKED: u32 = 15;
+/// "A connection not accepted."
+pub const NOT_ACCEPTED: u32 = 16;

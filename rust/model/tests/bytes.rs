@@ -3,14 +3,14 @@
 use model::generate::calls::Caller;
 use model::generate::states::scramble;
 use model::generate::{good, Random};
-use model::machine::{Link, Network};
+use model::machine::{Connection, Link, Network, Slot};
 use model::{named, Port, Queue};
 
 fn t() -> Network {
     Network::load(&named::T).expect("loads")
 }
 
-/// "R = A = P = 1, S = 2: 25 queues, 8 outputs, 1,290 bytes."
+/// "R = A = P = 1, S = 2: 25 queues, 8 outputs, 1,354 bytes."
 #[test]
 fn figures_of_plan_t() {
     let network = t();
@@ -45,7 +45,41 @@ fn figures_of_plan_t() {
     }
     assert_eq!(network.allowance_at(0), 1033);
     assert_eq!([0, 1, 2, 3].map(|side| network.entry_at(0, side, 0)), [1034, 1098, 1162, 1226]);
-    assert_eq!(network.size(), 1290);
+    assert_eq!(network.marks_at(0), 1290);
+    assert_eq!(network.size(), 1354);
+}
+
+/// The mark of (a, p, t) is bit t%8 of byte begin + 64a + 4p + t/8, where the part begins at
+/// 2 + 86A + 85P + 1117R.
+#[test]
+fn figures_of_the_marks() {
+    let network = Network::load(&named::largest().encode()).expect("loads");
+    let begin = 2 + (86 + 85 + 1117) * 16;
+    let at = |active, passive, start| {
+        network.mark_at(Connection { active, passive, start: Slot(start) })
+    };
+    assert_eq!(at(0, 0, 0), (begin, 1));
+    assert_eq!(at(0, 0, 7), (begin, 128));
+    assert_eq!(at(0, 0, 8), (begin + 1, 1));
+    assert_eq!(at(3, 5, 30), (begin + 3 * 64 + 5 * 4 + 3, 1 << 6));
+    assert_eq!(at(15, 15, 31), (network.size() - 1, 128));
+}
+
+/// Every bit of the marks' part is one mark's, also those that the plan has no use for.
+#[test]
+fn every_bit_is_a_mark() {
+    let (network, start) = (t(), t().encode(&t().start()));
+    for passive in 0..16 {
+        for slot in (0..32).map(Slot) {
+            let mark = Connection { active: 0, passive, start: slot };
+            let mut bytes = start.clone();
+            let (at, bit) = network.mark_at(mark);
+            bytes[at] |= bit;
+            let state = network.decode(&bytes).expect("has a state's form");
+            assert_eq!(state.marks.iter().collect::<Vec<_>>(), [&mark]);
+            assert!(!network.is_state(&state));
+        }
+    }
 }
 
 /// "After Start all bytes are 0 but the credits and the allowance; these 26 are 1."
@@ -53,19 +87,19 @@ fn figures_of_plan_t() {
 fn start_of_plan_t() {
     let bytes = t().encode(&t().start());
     let rows = (2..=938).step_by(39).chain([1033]);
-    let mut expected = vec![0; 1290];
+    let mut expected = vec![0; 1354];
     rows.for_each(|at| expected[at] = 1);
     assert_eq!(bytes, expected);
 }
 
-/// "At most 20,610 bytes (R, A, P = 16)."
+/// "At most 21,634 bytes (R, A, P = 16)."
 #[test]
 fn largest_state() {
     let network = Network::load(&named::largest().encode()).expect("loads");
-    assert_eq!(network.size(), 20_610);
+    assert_eq!(network.size(), 21_634);
 }
 
-/// Rows of queues and outputs, allowances and tables fill the state, none on another.
+/// Rows of queues and outputs, allowances, tables and marks fill the state, none on another.
 #[test]
 fn every_byte_has_one_place() {
     let mut random = Random::new(61);
@@ -78,6 +112,7 @@ fn every_byte_has_one_place() {
         network.links().iter().for_each(|&link| put(network.output_at(link), 7));
         (0..network.plan().actives()).for_each(|active| put(network.allowance_at(active), 1));
         (0..network.plan().routers()).for_each(|router| put(network.entry_at(router, 0, 0), 256));
+        (0..network.plan().actives()).for_each(|active| put(network.marks_at(active), 64));
         assert!(places.iter().all(|&count| count == 1));
     }
 }

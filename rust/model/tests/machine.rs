@@ -3,7 +3,7 @@
 use model::generate::calls::Caller;
 use model::generate::{good, Draft, Random};
 use model::machine::claims::Claims;
-use model::machine::{Answer, Call, Hub, Kind, Network};
+use model::machine::{Answer, Call, Hub, Kind, Network, Rules};
 use model::{named, Plan};
 
 /// What a run met, so that a run without traffic is not taken for a good one.
@@ -13,10 +13,12 @@ struct Met {
     rounds: usize,
     launches: usize,
     accepted: usize,
+    closed: usize,
+    reopened: usize,
     declined: usize,
     torn_down: usize,
     replies: usize,
-    refusals: [usize; 16],
+    refusals: [usize; 17],
     tables_compared: usize,
     longest_wait: usize,
 }
@@ -52,6 +54,7 @@ fn try_run(
         }
     }
     met.tables_compared += claims.tables_compared;
+    met.reopened += claims.reopened;
     met.longest_wait = met.longest_wait.max(claims.longest_wait);
     Ok(())
 }
@@ -63,6 +66,7 @@ impl Met {
             (_, Err(refusal)) => self.refusals[refusal as usize] += 1,
             (Call::Write, Ok(_)) => self.rounds += 1,
             (Call::Launch { .. }, Ok(_)) => self.launches += 1,
+            (Call::Close { .. }, Ok(_)) => self.closed += 1,
             (Call::Reply { .. }, Ok(_)) => self.replies += 1,
             (Call::Consume { .. }, Ok(Answer::Packet(packet))) => {
                 assert!(packet.is_answer());
@@ -96,10 +100,11 @@ fn random_lists_on_random_plans() {
         run(&mut random, &network, count, &mut met);
     }
     println!("{plans} plans, {met:?}");
-    for refusal in [8, 9, 10, 11, 12, 13, 14, 15] {
+    for refusal in [8, 9, 10, 11, 12, 13, 14, 15, 16] {
         assert!(met.refusals[refusal] >= 20, "refusal {refusal}: {met:?}");
     }
     assert!(met.accepted > 2_000 && met.declined > 10_000 && met.torn_down > 10_000, "{met:?}");
+    assert!(met.closed > 2_000 && met.reopened > 300, "{met:?}");
     assert!(met.tables_compared > 1_000, "{met:?}");
 }
 
@@ -142,4 +147,32 @@ fn crossing_with_actives_first() -> Draft {
 fn rings_stand_still() {
     assert!(stands_still(crossing_with_actives_first()));
     assert!(stands_still(named::answers_ring()));
+}
+
+/// The first claim that fails by a student's rule, in lists on plans of all sizes.
+fn fault_by(set: fn(&mut Rules)) -> Option<String> {
+    let mut rules = Rules::default();
+    set(&mut rules);
+    let mut random = Random::new(34);
+    let mut lists = (0..60).map(|_| {
+        let network = Network::of(good::loadable(&mut random)).with_rules(rules);
+        try_run(&mut random, &network, 1_000, &mut Met::default()).err()
+    });
+    lists.find_map(|fault| fault)
+}
+
+/// A Close that clears the table at once keeps every claim of demand 3: only the rules, run beside
+/// it, tell it apart.
+#[test]
+fn students_rules_of_closing_are_found() {
+    let fault = fault_by(|rules| rules.close_one_too_far = true).expect("found");
+    assert!(fault.starts_with("not a state: a packet out of range or out of place"), "{fault}");
+    let others = "the state keeps other connections than the calls tell";
+    let fault = fault_by(|rules| rules.accepted_until_torn_down = true).expect("found");
+    assert!(fault.starts_with(others), "{fault}");
+    let fault = fault_by(|rules| rules.accepted_at_the_arrival = true).expect("found");
+    assert!(fault.starts_with(others), "{fault}");
+    let fault = fault_by(|rules| rules.close_frees_early = true).expect("found");
+    assert!(fault.starts_with("not a state: a mark that lacks an entry"), "{fault}");
+    assert_eq!(fault_by(|rules| rules.close_clears_at_once = true), None);
 }

@@ -1,7 +1,7 @@
-//! The runs of document 01, round by round, and more of the same kind: those that are proved by
-//! evaluation.
+//! The runs of document 01 and of document 02's requests, round by round, and more of the same
+//! kind: those that are proved by evaluation.
 
-use model::machine::{Hub, Kind, Network, Packet, Slot, State};
+use model::machine::{Connection, Hub, Kind, Network, Packet, Rules, Slot, State};
 use model::{named, Queue};
 
 /// A network that is run in whole rounds; the round's number is told by the rounds run so far.
@@ -13,13 +13,52 @@ struct Run {
 
 impl Run {
     fn new(bytes: &[u8]) -> Run {
-        let network = Network::load(bytes).expect("loads");
+        Run::with_rules(bytes, Rules::default())
+    }
+
+    /// By other rules than the documents'.
+    fn with_rules(bytes: &[u8], rules: Rules) -> Run {
+        let network = Network::load(bytes).expect("loads").with_rules(rules);
         let state = network.start();
         Run { network, state, round: 0 }
     }
 
     fn launch(&mut self, active: usize, passive: usize, slot: usize) -> Result<(), u32> {
         self.network.launch(&mut self.state, active, passive, slot)
+    }
+
+    fn close(&mut self, active: usize, passive: usize, slot: usize) -> Result<(), u32> {
+        self.network.close(&mut self.state, active, passive, slot)
+    }
+
+    /// The accepted connections, each as active, passive and start slot.
+    fn accepted(&self) -> Vec<(usize, usize, usize)> {
+        let numbers =
+            |&Connection { active, passive, start }: &Connection| (active, passive, start.0);
+        self.state.marks.iter().map(numbers).collect()
+    }
+
+    /// Launches and runs until the ACK is consumed and its round ends; what waits at the passive is
+    /// accepted.
+    fn open(&mut self, active: usize, passive: usize, slot: usize) {
+        assert_eq!(self.launch(active, passive, slot), Ok(()));
+        loop {
+            self.run_to_write();
+            let _ = self.reply(passive, 1);
+            let answer = self.consume(active);
+            self.end();
+            if let Ok(packet) = answer {
+                assert_eq!(packet.kind, Kind::Ack);
+                return;
+            }
+        }
+    }
+
+    /// Whole rounds until no packet is left.
+    fn run_empty(&mut self) {
+        while !self.no_packets() {
+            self.up_to(self.round + 1);
+        }
     }
 
     /// Read and Execute: the round's WRITE comes next.
@@ -498,4 +537,219 @@ fn no_second_head_in_a_round() {
     run.end();
     run.run_to_write();
     assert_eq!((run.queue(q), run.entry(0, 0, 4)), (vec![packet(Kind::Setup, 5, 1)], 1));
+}
+
+/// "S=4, two routers": the entries that a connection from slot 3 makes.
+fn opened_from_3() -> [Vec<u32>; 2] {
+    [vec![4, 4, 4, 0], vec![0, 4, 4, 4]]
+}
+
+#[test]
+fn opened_closed_and_opened_again() {
+    let mut run = Run::new(&named::two_routers().encode());
+    run.open(0, 0, 3);
+    assert_eq!((run.round, run.accepted()), (13, vec![(0, 0, 3)]));
+    assert_eq!([run.side(0, 1), run.side(1, 1)], opened_from_3());
+    // "A TDOWN in the active's out-queue, slot the start slot, hub the number of routers on the
+    // walk, and the connection leaves the accepted ones"; the allowance stays, and the table too.
+    assert_eq!(run.close(0, 0, 3), Ok(()));
+    assert_eq!(run.queue(Queue::ActiveOut(0)), [packet(Kind::Tdown, 3, 2)]);
+    assert_eq!((run.accepted(), run.state.allowances[0]), (vec![], 1));
+    assert_eq!([run.side(0, 1), run.side(1, 1)], opened_from_3());
+    // Freed router by router, in rounds 15 and 18.
+    run.read_of(15);
+    assert_eq!([run.side(0, 1), run.side(1, 1)], opened_from_3());
+    run.execute();
+    assert_eq!([run.side(0, 1), run.side(1, 1)], [vec![4; 4], vec![0, 4, 4, 4]]);
+    run.end();
+    run.read_of(18);
+    assert_eq!(run.queue(Queue::Q { router: 1 }), [packet(Kind::Tdown, 0, 1)]);
+    run.execute();
+    assert_eq!([run.side(0, 1), run.side(1, 1)], [vec![4; 4], vec![4; 4]]);
+    assert!(run.no_packets());
+    run.end();
+    // The same start again.
+    run.open(0, 0, 3);
+    assert_eq!((run.round, run.accepted()), (31, vec![(0, 0, 3)]));
+    assert_eq!([run.side(0, 1), run.side(1, 1)], opened_from_3());
+    assert!(run.no_packets());
+}
+
+/// A set-up that follows the tear-down may ask for the same slots: it comes after it everywhere.
+#[test]
+fn opened_again_behind_the_tear_down() {
+    let mut run = Run::new(&named::two_routers().encode());
+    run.open(0, 0, 3);
+    assert_eq!((run.close(0, 0, 3), run.launch(0, 0, 3)), (Ok(()), Err(12)));
+    run.up_to(run.round + 1);
+    run.open(0, 0, 3);
+    assert_eq!(run.accepted(), [(0, 0, 3)]);
+    assert_eq!([run.side(0, 1), run.side(1, 1)], opened_from_3());
+}
+
+#[test]
+fn closed_twice() {
+    let mut run = Run::new(&named::two_routers().encode());
+    run.open(0, 0, 3);
+    assert_eq!(run.close(0, 0, 3), Ok(()));
+    // 16 comes before 12: the out-queue is full.
+    assert_eq!((run.len(Queue::ActiveOut(0)), run.close(0, 0, 3)), (1, Err(16)));
+    while !run.no_packets() {
+        run.up_to(run.round + 1);
+        assert_eq!(run.close(0, 0, 3), Err(16));
+    }
+    assert_eq!([run.side(0, 1), run.side(1, 1)], [vec![4; 4], vec![4; 4]]);
+}
+
+#[test]
+fn closed_before_the_ack_is_consumed() {
+    let mut run = Run::new(&named::two_routers().encode());
+    assert_eq!(run.launch(0, 0, 3), Ok(()));
+    while run.queue(Queue::ActiveIn(0)).is_empty() {
+        assert_eq!(run.close(0, 0, 3), Err(16));
+        run.run_to_write();
+        let _ = run.reply(0, 1);
+        run.end();
+    }
+    // The ACK has arrived and waits.
+    assert_eq!((run.close(0, 0, 3), run.accepted()), (Err(16), vec![]));
+    run.run_to_write();
+    assert_eq!(run.close(0, 0, 3), Err(8));
+    assert_eq!(run.consume(0), Ok(packet(Kind::Ack, 1, 2)));
+    assert_eq!((run.close(0, 0, 3), run.accepted()), (Err(8), vec![(0, 0, 3)]));
+    run.end();
+    assert_eq!((run.close(0, 0, 2), run.close(0, 0, 3)), (Err(16), Ok(())));
+}
+
+#[test]
+fn closed_with_the_out_queue_full() {
+    let mut run = Run::new(&named::two_routers().encode());
+    run.open(0, 0, 3);
+    assert_eq!(run.launch(0, 0, 1), Ok(()));
+    // A refusal alters nothing: the connection stays accepted.
+    assert_eq!((run.close(0, 0, 3), run.accepted()), (Err(12), vec![(0, 0, 3)]));
+    run.up_to(run.round + 1);
+    assert_eq!((run.close(0, 0, 3), run.accepted()), (Ok(()), vec![]));
+    // The allowance is spent by the set-up, not by the Close.
+    assert_eq!(run.state.allowances[0], 0);
+}
+
+#[test]
+fn refusals_of_close_come_in_order() {
+    let mut run = Run::new(&named::all_sides().encode());
+    for (active, passive, slot) in [(3, 0, 0), (0, 2, 0), (0, 0, 4), (99, 99, 99)] {
+        assert_eq!(run.close(active, passive, slot), Err(9));
+    }
+    assert_eq!((run.close(0, 1, 0), run.close(0, 0, 0)), (Err(10), Err(16)));
+    run.run_to_write();
+    assert_eq!(run.close(99, 99, 99), Err(8));
+}
+
+/// Two actives with a connection each; one is closed, then the other.
+#[test]
+fn every_other_connection_keeps_its_entries() {
+    let mut run = Run::new(&named::declining().encode());
+    run.open(1, 0, 0);
+    run.open(0, 0, 0);
+    assert_eq!(run.accepted(), [(0, 0, 0), (1, 0, 0)]);
+    assert_eq!([run.side(0, 1), run.side(1, 1)], [vec![0, 4, 4, 4], vec![2, 0, 4, 4]]);
+    assert_eq!(run.close(0, 0, 0), Ok(()));
+    while !run.no_packets() {
+        assert_eq!(run.entry(1, 1, 0), 2);
+        run.up_to(run.round + 1);
+    }
+    assert_eq!(run.accepted(), [(1, 0, 0)]);
+    assert_eq!([run.side(0, 1), run.side(1, 1)], [vec![4; 4], vec![2, 4, 4, 4]]);
+    run.open(0, 0, 2);
+    assert_eq!(run.close(1, 0, 0), Ok(()));
+    run.run_empty();
+    assert_eq!(run.accepted(), [(0, 0, 2)]);
+    assert_eq!([run.side(0, 1), run.side(1, 1)], [vec![4, 4, 0, 4], vec![4, 4, 4, 0]]);
+}
+
+/// Four routers and S=3: the tear-down's slot goes round, and the last free entries are free again.
+#[test]
+fn a_walk_that_wraps_is_closed() {
+    let mut run = Run::new(&named::row_of_four().encode());
+    run.open(0, 0, 2);
+    assert_eq!(run.accepted(), [(0, 0, 2)]);
+    assert_eq!(run.close(0, 0, 2), Ok(()));
+    assert_eq!(run.queue(Queue::ActiveOut(0)), [packet(Kind::Tdown, 2, 4)]);
+    run.run_empty();
+    assert_eq!([0, 1, 2, 3].map(|router| run.side(router, 1)), [(); 4].map(|()| vec![4; 3]));
+}
+
+/// The run of a student's rule up to an opened connection from slot 3 over two routers.
+fn students(set: fn(&mut Rules)) -> Run {
+    let mut rules = Rules::default();
+    set(&mut rules);
+    let mut run = Run::with_rules(&named::two_routers().encode(), rules);
+    run.open(0, 0, 3);
+    assert_eq!(run.accepted(), [(0, 0, 3)]);
+    run
+}
+
+#[test]
+fn a_close_with_hub_one_too_many() {
+    let mut run = students(|rules| rules.close_one_too_far = true);
+    assert_eq!(run.close(0, 0, 3), Ok(()));
+    assert_eq!(run.queue(Queue::ActiveOut(0)), [packet(Kind::Tdown, 3, 3)]);
+    run.up_to(run.round + 8);
+    // Past the last router it comes to the passive, which knows of no tear-downs.
+    assert_eq!(run.queue(Queue::PassiveIn(0)), [packet(Kind::Tdown, 1, 1)]);
+}
+
+#[test]
+fn a_close_that_clears_at_once() {
+    let mut run = students(|rules| rules.close_clears_at_once = true);
+    assert_eq!(run.launch(0, 0, 1), Ok(()));
+    // No packet is made, so a full out-queue does not matter; routers far away lose their entries.
+    assert_eq!((run.close(0, 0, 3), run.len(Queue::ActiveOut(0))), (Ok(()), 1));
+    assert_eq!([run.side(0, 1), run.side(1, 1)], [vec![4; 4], vec![4; 4]]);
+}
+
+#[test]
+fn a_close_that_frees_early() {
+    let rules = Rules { close_frees_early: true, ..Rules::default() };
+    let mut run = Run::with_rules(&named::declining().encode(), rules);
+    run.open(0, 0, 3);
+    assert_eq!([run.side(0, 1), run.side(1, 1)], [vec![4, 4, 4, 0], vec![0, 4, 4, 4]]);
+    assert_eq!(run.close(0, 0, 3), Ok(()));
+    assert_eq!(run.queue(Queue::ActiveOut(0)), [packet(Kind::Tdown, 3, 2)]);
+    assert_eq!([run.side(0, 1), run.side(1, 1)], [vec![4; 4], vec![4; 4]]);
+    // The other active books the entry, and the tear-down that comes after it frees it.
+    run.open(1, 0, 0);
+    run.run_empty();
+    assert_eq!((run.accepted(), run.side(1, 1)), (vec![(1, 0, 0)], vec![4; 4]));
+}
+
+#[test]
+fn a_connection_accepted_until_torn_down() {
+    let mut run = students(|rules| rules.accepted_until_torn_down = true);
+    assert_eq!((run.close(0, 0, 3), run.accepted()), (Ok(()), vec![(0, 0, 3)]));
+    run.up_to(run.round + 3);
+    // The first router has freed its entry: by the documents' rules this is no state.
+    let network = Run::new(&named::two_routers().encode()).network;
+    assert_eq!(network.fault(&run.state), Some("a mark that lacks an entry"));
+    // Closed again, a second tear-down follows the first.
+    assert_eq!(run.close(0, 0, 3), Ok(()));
+    run.run_empty();
+    assert_eq!(run.accepted(), []);
+}
+
+#[test]
+fn a_connection_accepted_at_the_arrival() {
+    let rules = Rules { accepted_at_the_arrival: true, ..Rules::default() };
+    let mut run = Run::with_rules(&named::two_routers().encode(), rules);
+    assert_eq!(run.launch(0, 0, 3), Ok(()));
+    while run.queue(Queue::ActiveIn(0)).is_empty() {
+        run.run_to_write();
+        let _ = run.reply(0, 1);
+        run.end();
+    }
+    // Closed before anybody was told: the ACK that is consumed then tells of nothing.
+    assert_eq!(run.close(0, 0, 3), Ok(()));
+    run.run_to_write();
+    assert_eq!(run.consume(0), Ok(packet(Kind::Ack, 1, 2)));
+    assert_eq!(run.accepted(), []);
 }

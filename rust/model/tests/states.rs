@@ -1,10 +1,14 @@
 //! Refusal 7, condition by condition, and states that no list reaches.
 
+use std::collections::BTreeMap;
+
 use model::generate::calls::Caller;
 use model::generate::states::{scramble, CHANGES};
 use model::generate::{good, Random};
 use model::machine::claims::Claims;
-use model::machine::{Call, Credit, Hub, Kind, Link, Network, Packet, Phase, Slot, State};
+use model::machine::{
+    Call, Connection, Credit, Hub, Kind, Link, Network, Packet, Phase, Slot, State,
+};
 use model::{named, Port, Queue};
 
 const Q: Queue = Queue::Q { router: 0 };
@@ -43,6 +47,7 @@ fn refused(phases: usize, fault: &str, change: impl Fn(&Network, &mut State)) {
         Call::Execute,
         Call::Write,
         Call::Launch { active: 0, passive: 0, slot: 0 },
+        Call::Close { active: 9, passive: 0, slot: 0 },
         Call::Reply { passive: 0, choice: 1 },
         Call::Consume { active: 9 },
         Call::Entry { router: 0, side: 9, slot: 0 },
@@ -177,6 +182,96 @@ fn queues_that_no_wire_feeds() {
     }
 }
 
+/// Plan T's one connection from slot 0, and its entry of router 0, side 1.
+const FROM_0: Connection = Connection { active: 0, passive: 0, start: Slot(0) };
+
+/// "Refusal 7 covers a mark for an unserved pair, one lacking any of its entries"; and a bit for no
+/// passive or slot of the plan.
+#[test]
+fn accepted_connections() {
+    let (network, mut state) = t_after(0);
+    state.marks.insert(FROM_0);
+    state.table.set(0, 1, Slot(0), Some(0));
+    assert_eq!(network.fault(&state), None);
+    refused(0, "lacks an entry", |_, state| {
+        state.marks.insert(FROM_0);
+    });
+    for other in 1..4 {
+        refused(0, "lacks an entry", |_, state| {
+            state.marks.insert(FROM_0);
+            state.table.set(0, 1, Slot(0), Some(other));
+        });
+    }
+    refused(0, "lacks an entry", |_, state| {
+        state.marks.insert(Connection { start: Slot(1), ..FROM_0 });
+        state.table.set(0, 1, Slot(0), Some(0));
+    });
+    for mark in [
+        Connection { start: Slot(2), ..FROM_0 },
+        Connection { start: Slot(31), ..FROM_0 },
+        Connection { passive: 1, ..FROM_0 },
+        Connection { passive: 15, ..FROM_0 },
+    ] {
+        refused(0, "mark out of range", |_, state| {
+            state.marks.insert(mark);
+        });
+    }
+    for mark in [
+        Connection { active: 1, ..FROM_0 },
+        Connection { passive: 16, ..FROM_0 },
+        Connection { start: Slot(32), ..FROM_0 },
+    ] {
+        refused(0, "no state", |_, state| {
+            state.marks.insert(mark);
+        });
+    }
+}
+
+/// Actives 0 and 1 come in by sides 0 and 1; neither is served with passive 1.
+#[test]
+fn a_mark_for_an_unserved_pair() {
+    let network = Network::load(&named::all_sides().encode()).expect("loads");
+    for (active, served) in [(0, false), (1, false), (2, true)] {
+        let mut state = network.start();
+        let mark = Connection { active, passive: 1, start: Slot(3) };
+        state.marks.insert(mark);
+        for entry in network.entries_of(mark).into_iter().flatten() {
+            entry.put(&mut state.table);
+        }
+        assert_eq!(network.fault(&state), (!served).then_some("a mark for an unserved pair"));
+    }
+}
+
+/// The fault of a state where these are accepted, one booked after the other.
+fn fault_of(network: &Network, accepted: [(usize, usize, usize); 2]) -> Option<&'static str> {
+    let mut state = network.start();
+    for (active, passive, start) in accepted {
+        let mark = Connection { active, passive, start: Slot(start) };
+        state.marks.insert(mark);
+        for entry in network.entries_of(mark).expect("served") {
+            entry.put(&mut state.table);
+        }
+    }
+    network.fault(&state)
+}
+
+/// "Or two that share an entry": the walks of active 0 to passives 0 and 1 leave the first two
+/// routers by the same sides. Each of two from one start slot has all its entries.
+#[test]
+fn two_marks_that_share_an_entry() {
+    let network = Network::load(&named::four_routers().encode()).expect("loads");
+    for start in 0..8 {
+        let shares = (start == 3).then_some("two marks that share an entry");
+        assert_eq!(fault_of(&network, [(0, 0, 3), (0, 1, start)]), shares);
+        // Active 1 comes into the first router by another side, so one of the two lacks an entry.
+        let lacks = (start == 3).then_some("a mark that lacks an entry");
+        assert_eq!(fault_of(&network, [(0, 0, 3), (1, 0, start)]), lacks);
+    }
+    // By another side of the router in the middle: the first router's entry is shared all the same.
+    assert_eq!(fault_of(&network, [(0, 0, 3), (0, 2, 3)]), Some("two marks that share an entry"));
+    assert_eq!(fault_of(&network, [(0, 0, 3), (2, 0, 3)]), None);
+}
+
 #[test]
 fn a_candidate_may_stand_without_a_choice() {
     let (network, mut state) = t_after(2);
@@ -207,13 +302,29 @@ fn refusals_come_in_order() {
     assert_eq!(network.launch(&mut network.start(), 0, 0, 0), Err(10));
 }
 
-/// Every call on a state leaves a state, and packets go on moving, also from states that no list
-/// reaches; what is no state is refused with 7 by every call.
+/// What was met on states that no list reaches.
+#[derive(Debug, Default)]
+struct Met {
+    calls: usize,
+    /// Changes that left a state.
+    kept: usize,
+    /// Changes that left none, by their fault.
+    faults: BTreeMap<&'static str, usize>,
+    /// States with a mark, after the changes.
+    marked: usize,
+    /// Calls that parted the accepted connections from the table.
+    parted: usize,
+    longest_wait: usize,
+}
+
+/// Every call on a state leaves one but for what ties the accepted connections to the table, and
+/// packets go on moving, also from states that no list reaches; what is no state is refused with 7
+/// by every call.
 #[test]
 fn states_that_no_list_reaches() {
     let mut random = Random::new(41);
-    let (mut calls, mut kept, mut no_states, mut longest) = (0, 0, 0, 0);
-    while calls < 400_000 {
+    let mut met = Met::default();
+    while met.calls < 400_000 {
         let network = Network::of(good::loadable(&mut random));
         let mut caller = Caller::new(&mut random, &network);
         if caller.pairs() < 2 {
@@ -221,34 +332,64 @@ fn states_that_no_list_reaches() {
         }
         let mut state = network.start();
         for _ in 0..20 {
-            kept += scramble(&mut random, &network, &mut state, 60);
-            no_states += usize::from(refuses_a_change(&mut random, &network, &state));
-            let mut claims = Claims::new(&network, &state);
-            for _ in 0..random.within(1..=150) {
-                let call = caller.next(&mut random, &network, &state);
-                let before = state.clone();
-                let answer = network.call(&mut state, call);
-                let claim = claims.after_from_any_state(call, answer, &before, &state);
-                let plan = network.plan();
-                claim.unwrap_or_else(|fault| panic!("{fault} after {call:?}: {plan:?} {before:?}"));
-                calls += 1;
+            met.kept += scramble(&mut random, &network, &mut state, 60);
+            met.marked += usize::from(!state.marks.is_empty());
+            if let Some(fault) = refuses_a_change(&mut random, &network, &state) {
+                *met.faults.entry(fault).or_default() += 1;
             }
-            longest = longest.max(claims.longest_wait);
+            run_from(&mut random, &network, &mut caller, &mut state, &mut met);
         }
     }
-    println!("{calls} calls, {kept} changes, {no_states} refused, longest wait {longest}");
-    assert!(kept > 10_000 && no_states > 1_000);
+    println!("{met:?}");
+    let no_states: usize = met.faults.values().sum();
+    assert!(met.kept > 10_000 && no_states > 1_000 && met.marked > 1_000, "{met:?}");
+    assert!(met.parted > 100, "{met:?}");
+    for fault in [
+        "slot, entry or mark out of range",
+        "a mark for an unserved pair",
+        "a mark that lacks an entry",
+        "two marks that share an entry",
+    ] {
+        assert!(met.faults.get(fault).is_some_and(|&count| count > 10), "{fault}: {met:?}");
+    }
 }
 
-/// Changes a state once; if that leaves no state, a call refuses it with 7 and alters nothing.
-fn refuses_a_change(random: &mut Random, network: &Network, state: &State) -> bool {
+/// Some calls from a state. One that leaves no state is undone, after every call refused what it
+/// left.
+fn run_from(
+    random: &mut Random,
+    network: &Network,
+    caller: &mut Caller,
+    state: &mut State,
+    met: &mut Met,
+) {
+    let mut claims = Claims::new(network, state);
+    for _ in 0..random.within(1..=150) {
+        let call = caller.next(random, network, state);
+        let before = state.clone();
+        let answer = network.call(state, call);
+        let claim = claims.after_from_any_state(call, answer, &before, state);
+        let plan = network.plan();
+        claim.unwrap_or_else(|fault| panic!("{fault} after {call:?}: {plan:?} {before:?}"));
+        met.calls += 1;
+        if !network.is_state(state) {
+            assert_eq!(network.call(state, Call::Read), Err(7));
+            met.parted += 1;
+            *state = before;
+            return;
+        }
+    }
+    met.longest_wait = met.longest_wait.max(claims.longest_wait);
+}
+
+/// Changes a state once; if that leaves no state, a call refuses it with 7 and alters nothing. The
+/// fault, then.
+fn refuses_a_change(random: &mut Random, network: &Network, state: &State) -> Option<&'static str> {
     let mut changed = state.clone();
     CHANGES[random.below(CHANGES.len())](random, network, &mut changed);
-    if network.is_state(&changed) {
-        return false;
-    }
+    let fault = network.fault(&changed)?;
     let before = changed.clone();
     assert_eq!(network.call(&mut changed, Call::Read), Err(7));
     assert_eq!(changed, before);
-    true
+    Some(fault)
 }

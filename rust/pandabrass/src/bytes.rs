@@ -21,6 +21,15 @@ extern "C" {
         passive: u32,
         slot: u32,
     ) -> u32;
+    fn pandabrass_close(
+        plan: *const u8,
+        n: usize,
+        state: *mut u8,
+        l: usize,
+        active: u32,
+        passive: u32,
+        slot: u32,
+    ) -> u32;
     fn pandabrass_reply(
         plan: *const u8,
         n: usize,
@@ -102,6 +111,13 @@ pub fn launch(plan: &[u8], state: &mut [u8], active: u32, passive: u32, slot: u3
     let (n, l) = (plan.len(), state.len());
     // SAFETY: as for `read`; any three numbers are allowed.
     unsafe { pandabrass_launch(plan.as_ptr(), n, state.as_mut_ptr(), l, active, passive, slot) }
+}
+
+/// Close of the connection with this start slot: 0, or 1 to 10, 16, 12.
+pub fn close(plan: &[u8], state: &mut [u8], active: u32, passive: u32, slot: u32) -> u32 {
+    let (n, l) = (plan.len(), state.len());
+    // SAFETY: as for `launch`.
+    unsafe { pandabrass_close(plan.as_ptr(), n, state.as_mut_ptr(), l, active, passive, slot) }
 }
 
 /// Reply, 1 accept or 0 decline: 0, or 1 to 9, 12 to 14.

@@ -2,7 +2,7 @@
 //!
 //! A [`Plan`] is plan bytes that load; a [`State`] is the bytes of a network that was started on
 //! it. Every call gives what it returns or a [`Refusal`], and a refusal alters no byte. The rules
-//! are document 01's, the state's bytes are those of docs/STATE.md.
+//! are those of documents 01 and 02, the state's bytes are those of docs/STATE.md.
 //!
 //! Document 01's first run: a launch in round 0 waits at the passive from round 4 on, is accepted
 //! there, and its ACK is consumed in round 7 with slot 1 and hub 1.
@@ -29,6 +29,16 @@
 //! // The connection stays: router 0 sends slot 0 out by side 1, as it came in by side 0.
 //! assert_eq!(state.entry(0, 1, 0)?, Entry::Booked(0));
 //! assert_eq!(state.entry(0, 1, 1)?, Entry::Free);
+//! // Closed in the next READ, it is freed two rounds later by a tear-down.
+//! state.write()?;
+//! state.close(0, 0, 0)?;
+//! assert_eq!(state.close(0, 0, 0), Err(Refusal::NotAccepted));
+//! for _ in 0..3 {
+//!     state.read()?;
+//!     state.execute()?;
+//!     state.write()?;
+//! }
+//! assert_eq!(state.entry(0, 1, 0)?, Entry::Free);
 //! # Ok::<(), Refusal>(())
 //! ```
 //!

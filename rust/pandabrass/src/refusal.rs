@@ -26,11 +26,11 @@ pub enum Refusal {
     WrongPhase,
     /// 9: a number out of range.
     BadNumber,
-    /// 10, of Launch: pair not served.
+    /// 10, of Launch and Close: pair not served.
     NotServed,
     /// 11, of Launch: allowance 0.
     NoAllowance,
-    /// 12, of Launch and Reply: out-queue full.
+    /// 12, of Launch, Close and Reply: out-queue full.
     QueueFull,
     /// 13, of Reply and Consume: in-queue empty.
     QueueEmpty,
@@ -38,11 +38,13 @@ pub enum Refusal {
     FlagUp,
     /// 15, of Consume: head is an unmarked NACK.
     Unmarked,
+    /// 16, of Close: connection not accepted.
+    NotAccepted,
 }
 
 impl Refusal {
     /// All refusals, by their numbers.
-    pub const ALL: [Refusal; 15] = [
+    pub const ALL: [Refusal; 16] = [
         Refusal::TooShort,
         Refusal::OutOfRange,
         Refusal::WrongLength,
@@ -58,20 +60,21 @@ impl Refusal {
         Refusal::QueueEmpty,
         Refusal::FlagUp,
         Refusal::Unmarked,
+        Refusal::NotAccepted,
     ];
 
-    /// Document 01's number.
+    /// Its number in document 01's list.
     pub fn number(self) -> u32 {
         self as u32
     }
 
-    /// The refusal of that number, 1 to 15.
+    /// The refusal of that number, 1 to 16.
     pub fn of(number: u32) -> Option<Refusal> {
         let at = (number as usize).checked_sub(1)?;
         Refusal::ALL.get(at).copied()
     }
 
-    /// Document 01's words.
+    /// The documents' words.
     pub fn sentence(self) -> &'static str {
         match self {
             Refusal::TooShort => "fewer than six bytes",
@@ -92,6 +95,7 @@ impl Refusal {
             Refusal::QueueEmpty => "in-queue empty",
             Refusal::FlagUp => "in-queue flag up",
             Refusal::Unmarked => "head is an unmarked NACK",
+            Refusal::NotAccepted => "connection not accepted",
         }
     }
 
@@ -99,7 +103,7 @@ impl Refusal {
     pub(crate) fn result(answer: u32) -> Result<(), Refusal> {
         match answer {
             0 => Ok(()),
-            _ => Err(Refusal::of(answer).expect("the library answers 0 to 15")),
+            _ => Err(Refusal::of(answer).expect("the library answers 0 to 16")),
         }
     }
 }
@@ -122,11 +126,12 @@ mod tests {
             assert_eq!(refusal.number() as usize, at + 1);
             assert_eq!(Refusal::of(refusal.number()), Some(refusal));
         }
-        assert_eq!((Refusal::of(0), Refusal::of(16)), (None, None));
+        assert_eq!((Refusal::of(0), Refusal::of(17)), (None, None));
     }
 
     #[test]
     fn a_refusal_is_told_by_number_and_sentence() {
         assert_eq!(Refusal::HasRing.to_string(), "6: a ring");
+        assert_eq!(Refusal::NotAccepted.to_string(), "16: connection not accepted");
     }
 }

@@ -16,7 +16,7 @@ pub struct State<'p> {
 pub enum Kind {
     /// Books a slot at each router.
     Setup,
-    /// Frees what a declined set-up had booked.
+    /// Frees what a declined set-up or a closed connection had booked.
     Tdown,
     /// The far end accepts.
     Ack,
@@ -96,6 +96,13 @@ impl<'p> State<'p> {
     pub fn launch(&mut self, active: u32, passive: u32, slot: u32) -> Result<(), Refusal> {
         let plan = self.plan.bytes();
         Refusal::result(bytes::launch(plan, &mut self.bytes, active, passive, slot))
+    }
+
+    /// Close: a connection that was accepted leaves the accepted ones, and a TDOWN that frees its
+    /// entries joins the active's out-queue. Its start slot is the one it was launched with.
+    pub fn close(&mut self, active: u32, passive: u32, start: u32) -> Result<(), Refusal> {
+        let plan = self.plan.bytes();
+        Refusal::result(bytes::close(plan, &mut self.bytes, active, passive, start))
     }
 
     /// Reply: the head of the passive's in-queue becomes an ACK or a NACK in its out-queue.

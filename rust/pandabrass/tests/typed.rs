@@ -1,4 +1,4 @@
-//! The typed calls on document 01's runs.
+//! The typed calls on runs of documents 01 and 02.
 
 use pandabrass::{Choice, Entry, Kind, Packet, Plan, Refusal, State};
 
@@ -25,7 +25,7 @@ fn round(state: &mut State) -> Result<Option<Packet>, Refusal> {
 #[test]
 fn loads_and_starts() -> Result<(), Refusal> {
     let plan = Plan::load(&T)?;
-    assert_eq!((plan.bytes(), plan.state_size()), (&T[..], 1290));
+    assert_eq!((plan.bytes(), plan.state_size()), (&T[..], 1354));
     assert_eq!((plan.walk(0, 0), plan.walk(0, 1)), (Some(1), None));
     let state = plan.start();
     assert_eq!(state.bytes().iter().filter(|&&byte| byte == 1).count(), 26);
@@ -67,6 +67,32 @@ fn a_second_launch_is_declined() -> Result<(), Refusal> {
     Ok(())
 }
 
+/// A connection is opened, closed, and opened again from the same slot.
+#[test]
+fn closed_and_opened_again() -> Result<(), Refusal> {
+    let plan = Plan::load(&T)?;
+    let mut state = plan.start();
+    let open = |state: &mut State| -> Result<(), Refusal> {
+        state.launch(0, 0, 0)?;
+        while round(state)?.is_none() {
+            assert_eq!(state.close(0, 0, 0), Err(Refusal::NotAccepted));
+        }
+        Ok(())
+    };
+    open(&mut state)?;
+    let opened = state.clone();
+    state.close(0, 0, 0)?;
+    assert_eq!(state.close(0, 0, 0), Err(Refusal::NotAccepted));
+    assert_eq!(state.launch(0, 0, 1), Err(Refusal::QueueFull));
+    for _ in 0..8 {
+        assert_eq!(round(&mut state)?, None);
+    }
+    assert_eq!(state, plan.start());
+    open(&mut state)?;
+    assert_eq!(state, opened);
+    Ok(())
+}
+
 #[test]
 fn refusals_alter_no_byte() -> Result<(), Refusal> {
     let plan = Plan::load(&T)?;
@@ -75,6 +101,8 @@ fn refusals_alter_no_byte() -> Result<(), Refusal> {
     assert_eq!(state.execute(), Err(Refusal::WrongPhase));
     assert_eq!(state.write(), Err(Refusal::WrongPhase));
     assert_eq!(state.launch(0, 1, 0), Err(Refusal::BadNumber));
+    assert_eq!(state.close(0, 1, 0), Err(Refusal::BadNumber));
+    assert_eq!(state.close(0, 0, 1), Err(Refusal::NotAccepted));
     assert_eq!(state.reply(0, Choice::Decline), Err(Refusal::WrongPhase));
     assert_eq!(state.consume(0), Err(Refusal::WrongPhase));
     assert_eq!(state.entry(0, 4, 0), Err(Refusal::BadNumber));

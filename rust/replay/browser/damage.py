@@ -5,9 +5,11 @@ import re
 REPORT = 'document.querySelector(".failure")?.textContent ?? ""'
 
 CASES = [
-    ("newer data", '"format":"pandabrass-run/1"', '"format":"pandabrass-run/2"',
-     "The data is newer than this page: format 2, this page knows formats up to 1."),
-    ("other data", '"format":"pandabrass-run/1"', '"format":"song"',
+    ("newer data", '"format":"pandabrass-run/2"', '"format":"pandabrass-run/3"',
+     "The data is newer than this page: format 3, this page shows format 2."),
+    ("older data", '"format":"pandabrass-run/2"', '"format":"pandabrass-run/1"',
+     "The data is older than this page: format 1, this page shows format 2."),
+    ("other data", '"format":"pandabrass-run/2"', '"format":"song"',
      "The data is no recorded run: its format is 'song'"),
     ("a broken block", '"note":', '"note"',
      "The data block of the page is damaged"),
@@ -37,9 +39,11 @@ CASES = [
      "Line 4 of the recording is damaged: there is no place 1295."),
     ("an argument missing", "L1,0,0 ", "L1,0 ",
      "Line 1 of the recording is damaged: its call has another number of arguments."),
-    ("a check sum that is none", "R dacca713", "R xyz",
+    ("a connection that is none", " c0,1", " c9,1",
+     "Line 26 of the recording is damaged: there is no connection 9."),
+    ("a check sum that is none", "R fd55fe3", "R xyz",
      "Line 2 of the recording is damaged: its call or its check sum is not readable."),
-    ("an empty line", "\\nX 7ec6956d p2 *0", "\\n",
+    ("an empty line", "\\nX b8cc09ea p2 *0", "\\n",
      "Line 3 of the recording is damaged: its call or its check sum is not readable."),
 ]
 

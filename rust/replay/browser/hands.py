@@ -21,6 +21,7 @@ def test(browser, pages, tally):
     address(browser, pages, tally)
     odd_signs(browser, pages, tally)
     refusals(browser, pages, tally)
+    closing(browser, pages, tally)
     phone(browser, pages, tally)
     browser.size(1280, 800)
 
@@ -66,7 +67,7 @@ def lanes(browser, tally):
     browser.click('[data-lane="decline"]')
     tally.equal("button decline", browser.run(POSITION), 48)
     counts = browser.run("LANES.map((lane) => run.lanes[lane.id].length)")
-    tally.equal("calls on each lane", counts, [2, 1, 1, 2, 0])
+    tally.equal("calls on each lane", counts, [2, 1, 0, 1, 2, 0])
 
 
 def decline_is_told(browser, tally):
@@ -221,6 +222,35 @@ def refusals(browser, pages, tally):
     press(browser, "End")
     tally.check("a booked entry", "booked, came in by side 0" in browser.run("callLine(run.calls[45])"))
     tally.check("a free entry", "free" in browser.run(NOW))
+
+
+def closing(browser, pages, tally):
+    browser.open(pages / "closed.html")
+    press(browser, "r")
+    text = browser.run(NOW)
+    tally.check("closed too early", "refused 16: camera → drive from slot 3 is not accepted" in text, text)
+    press(browser, "c")
+    tally.equal("key c", browser.run(POSITION), 44)
+    text = browser.run(NOW)
+    told = "camera closes the connection with tear-down A: slot 3, hub 2. It will free exactly 2 routers (r0, r1)"
+    tally.check("a close", told in text, text)
+    strip = browser.run(STRIP)
+    tally.check("closed, still booked", "A is closed, booked until its tear-down has passed" in strip, strip)
+    tally.check("it is not accepted", "1 packet under way, 0 accepted" in strip, strip)
+    tally.equal("its cells", browser.run('document.querySelectorAll("td.closing").length'), 2)
+    pane = 'document.getElementById("connections").textContent'
+    browser.click('[data-pane="connections"]')
+    tally.check("the connection is closed", "closed, being torn down" in browser.run(pane), browser.run(pane))
+    browser.click("td.closing")
+    tally.check("its tear-down", "made to close the connection of its ACK" in browser.run(DETAILS))
+    browser.click("[data-journey]")
+    tally.check("its ACK", "see its tear-down" in browser.run(DETAILS))
+    press(browser, "l", "ArrowLeft")
+    tally.check("all free", "exactly that of 0 accepted connections" in browser.run(STRIP), browser.run(STRIP))
+    browser.click('[data-pane="connections"]')
+    tally.check("closed and free", "closed, all free" in browser.run(pane), browser.run(pane))
+    press(browser, "End")
+    tally.check("opened again", "exactly that of 1 accepted connection" in browser.run(STRIP), browser.run(STRIP))
 
 
 def phone(browser, pages, tally):

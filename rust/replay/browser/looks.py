@@ -49,7 +49,7 @@ WITHOUT_COLOURS = """(() => {
 
 def test(browser, pages, tally):
     for theme in ["light", "dark"]:
-        for name, at in [("declined", 48), ("declined", 57), ("t", 2), ("largest", 400), ("arm", 200)]:
+        for name, at in [("declined", 48), ("declined", 57), ("closed", 46), ("t", 2), ("largest", 400), ("arm", 200)]:
             for pane in ["calls", "connections"]:
                 browser.size(1280, 800)
                 browser.open(pages / f"{name}.html", f"{at}&theme={theme}&pane={pane}&view=both")
@@ -58,7 +58,7 @@ def test(browser, pages, tally):
         tally.equal(f"contrast of the question, {theme}", browser.run(CONTRAST), [])
     tally.check("letters on their colours", min(browser.run(COLOURS)) >= 4.5, browser.run(COLOURS))
     looks = browser.run(WITHOUT_COLOURS)
-    tally.check("cells differ without colours", len(set(looks)) == 4, looks)
+    tally.check("cells differ without colours", len(set(looks)) == 5, looks)
     for width, height in [(1280, 800), (1600, 900), (1024, 700), (390, 844), (360, 640)]:
         browser.size(width, height, width < 820)
         browser.open(pages / "arm.html", "200")

@@ -15,14 +15,17 @@ DATA = [
     ("a flag not raised", " ^q", ""),
     ("a mark not set", " h7,1", ""),
     ("a packet not picked", "=1,S,0,1 *1", "=1,S,0,1"),
-    ("a line left out", "\\nX 7ec6956d p2 *0", ""),
+    ("a line left out", "\\nX b8cc09ea p2 *0", ""),
     ("another owner", " o7,1,w", " o7,0,w"),
     ("an owner too early accepted", " o7,1,l", " o7,1,a"),
     ("an owner not told", " o7,1,w", ""),
     ("another pair's connection", "+1,S,0,0,3,0,0,1", "+1,S,0,0,3,0,0,0"),
     ("another start slot", '[0,0,3,"B"]', '[0,0,2,"B"]'),
-    ("a refusal that changes something", "E0,1,3=4 6fafa66d", "E0,1,3!9 6fafa66d s2"),
-    ("another check sum", "X ade8bb18", "X ade8bb19"),
+    ("a refusal that changes something", "E0,1,3=4 b6c6831", "E0,1,3!9 b6c6831 s2"),
+    ("another check sum", "X 5c797e84", "X 5c797e85"),
+    ("a connection not accepted", " c0,1", ""),
+    ("a closed connection that stays accepted", " c0,0", ""),
+    ("an entry of a closed connection held as declined", " o7,0,c", " o7,0,d"),
 ]
 
 # Changes of the page's scripts and styles.
@@ -42,6 +45,9 @@ DRAWING = [
      "kind.onward ? OUTLINES.back : OUTLINES.onward"),
     ("picked packets not marked", '+ (picked ? " picked" : "")', ""),
     ("old packets left on the map", "entry.group.remove();", ""),
+    ("accepted connections that are shared", "accepted: new Set(state.accepted)", "accepted: state.accepted"),
+    ("what is closed drawn as declined", 'sign: "−", style: "closing"', 'sign: "−", style: "teardown"'),
+    ("closings left out", 'call.letter === "K" && !call.refusal', "false"),
     ("what is left behind drawn as accepted", 'sign: "✕", style: "leftover"', 'sign: "", style: "accepted"'),
     ("letters of another connection", 'hold.sign + (owner < 0 ? "" : letterOf(owner))', "hold.sign + letterOf(0)"),
     ("freed cells stay drawn", "if (item.look === look) return;", 'if (item.look === look || look === "") return;'),
@@ -73,6 +79,9 @@ REPORT = 'document.getElementById("selftest")?.textContent ?? "no report"'
 # The pages on which a change shows, where it does not on the declined run.
 BASE = {
     "a ring at the wrong entry": "t", "refusals left out": "t", "free entries counted wrong": "t",
+    "a closed connection that stays accepted": "closed", "an entry of a closed connection held as declined": "closed",
+    "accepted connections that are shared": "closed", "what is closed drawn as declined": "closed",
+    "closings left out": "closed",
     "names over one another": "mesh", "a question about all that is booked": "mesh", "letters too small": "largest",
 }
 

@@ -29,6 +29,7 @@ pub fn tokens(before: &Seen, after: &Seen, run: &Run, places: &Places) -> Vec<St
             tokens.push(format!("a{active},{new}"));
         }
     }
+    accepted(before, after, &mut tokens);
     tokens
 }
 
@@ -53,11 +54,12 @@ fn packets(before: &Seen, after: &Seen, run: &Run, tokens: &mut Vec<String>) {
     }
 }
 
-/// A packet that was made, with its connection, and a tear-down with the NACK it answers.
+/// A packet that was made, with its connection, and a tear-down with the NACK it answers or with
+/// the ACK whose connection it closes.
 fn made(one: &Standing, run: &Run) -> String {
     let packet = one.packet;
     let parent = run.book().packets[one.id].parent;
-    let parent = parent.map(|nack| format!(",{}", base36(nack.0))).unwrap_or_default();
+    let parent = parent.map(|answer| format!(",{}", base36(answer.0))).unwrap_or_default();
     let connection = run.book().connection_of(Id(one.id));
     format!(
         "+{},{},{},{},{},{},{},{}{parent}",
@@ -121,6 +123,16 @@ fn table(before: &Seen, after: &Seen, tokens: &mut Vec<String>) {
                 tokens.push(format!("o{},{},{hold}", base36(entry), base36(*set_up)));
             }
         }
+    }
+}
+
+/// Connections that are accepted now, and those that no longer are.
+fn accepted(before: &Seen, after: &Seen, tokens: &mut Vec<String>) {
+    for number in before.accepted.iter().filter(|number| !after.accepted.contains(number)) {
+        tokens.push(format!("c{},0", base36(*number)));
+    }
+    for number in after.accepted.iter().filter(|number| !before.accepted.contains(number)) {
+        tokens.push(format!("c{},1", base36(*number)));
     }
 }
 

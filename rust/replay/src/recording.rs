@@ -8,8 +8,8 @@ use crate::check;
 use crate::places::Places;
 use crate::seen::Seen;
 
-/// The format of the data, with its number. A page refuses a number above the one it knows.
-pub const FORMAT: &str = "pandabrass-run/1";
+/// The format of the data, with its number. A page refuses every number but its own.
+pub const FORMAT: &str = "pandabrass-run/2";
 
 /// A run as the page needs it.
 #[derive(Clone, Debug)]
@@ -75,6 +75,7 @@ fn call_text(step: &Step) -> String {
         Call::Execute => "X".to_string(),
         Call::Write => "W".to_string(),
         Call::Launch { active, passive, slot } => format!("L{active},{passive},{slot}"),
+        Call::Close { active, passive, slot } => format!("K{active},{passive},{slot}"),
         Call::Reply { passive, choice } => format!("P{passive},{choice}"),
         Call::Consume { active } => format!("C{active}"),
         Call::Entry { router, side, slot } => format!("E{router},{side},{slot}"),

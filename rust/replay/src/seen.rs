@@ -42,6 +42,8 @@ pub struct Seen {
     pub owners: Vec<Option<(usize, char)>>,
     /// The allowances, by active.
     pub allowances: Vec<usize>,
+    /// The accepted connections that the state keeps, by their numbers.
+    pub accepted: Vec<usize>,
 }
 
 impl Seen {
@@ -60,6 +62,7 @@ impl Seen {
             table: net.entries().iter().map(|&entry| entry_number(entry)).collect(),
             owners: owners(run),
             allowances: net.allowances.clone(),
+            accepted: run.book().accepted.clone(),
         }
     }
 
@@ -80,6 +83,7 @@ impl Seen {
             list(numbered(&self.owners).filter_map(owner_text)),
             list(picked),
             list(&self.allowances),
+            list(&self.accepted),
         ]
         .join("|")
     }
@@ -151,6 +155,7 @@ fn owners(run: &Run) -> Vec<Option<(usize, char)>> {
 fn hold_letter(hold: Hold) -> char {
     match hold {
         Hold::Accepted => 'a',
+        Hold::Closing => 'c',
         Hold::UnderWay => 'w',
         Hold::LeftBehind => 'l',
         Hold::TearingDown => 'd',

@@ -50,6 +50,9 @@ fn same(call: model::machine::Call) -> Call {
         Model::Launch { active, passive, slot } => {
             Call::Launch { active: n(active), passive: n(passive), slot: n(slot) }
         }
+        Model::Close { active, passive, slot } => {
+            Call::Close { active: n(active), passive: n(passive), slot: n(slot) }
+        }
         Model::Reply { passive, choice } => Call::Reply { passive: n(passive), choice: n(choice) },
         Model::Consume { active } => Call::Consume { active: n(active) },
         Model::Entry { router, side, slot } => {
@@ -83,13 +86,19 @@ fn random_runs_of_library_and_model_are_recorded_alike() {
     }
     // Every token of the format was met.
     let met: String = signs.into_iter().collect();
-    assert_eq!(met, "*+-=>^_ahopst");
+    assert_eq!(met, "*+-=>^_achopst");
 }
 
 #[test]
 fn a_run_on_the_largest_plan_is_recorded_alike() {
     let plan = plan(&named::largest().encode());
     compare(&mut Random::new(11), &plan, 600);
+}
+
+/// A line without its check sum.
+fn told(line: &String) -> String {
+    let parts: Vec<&str> = line.split(' ').collect();
+    [&parts[..1], &parts[2..]].concat().join(" ")
 }
 
 #[test]
@@ -102,11 +111,6 @@ fn lines_of_the_first_run() {
     list.extend(round.repeat(3));
     list.extend([Call::Entry { router: 0, side: 1, slot: 0 }, Call::Consume { active: 0 }]);
     let (lines, _) = record(&plan, &proved, &list);
-    // A line without its check sum.
-    let told = |line: &String| {
-        let parts: Vec<&str> = line.split(' ').collect();
-        [&parts[..1], &parts[2..]].concat().join(" ")
-    };
     let told: Vec<String> = lines.iter().map(told).collect();
     let wanted = [
         "L0,0,0 +0,S,0,0,0,0,0,0 a0,0",
@@ -124,4 +128,38 @@ fn lines_of_the_first_run() {
         "C0!8",
     ];
     assert_eq!(told, wanted);
+}
+
+/// An accepted connection is closed: the entry is held for its tear-down until this has freed it.
+#[test]
+fn lines_of_a_closed_connection() {
+    let plan = plan(&named::T);
+    let proved = Proved::new(&plan);
+    let round = [Call::Read, Call::Execute, Call::Write];
+    let close = Call::Close { active: 0, passive: 0, slot: 0 };
+    let mut list = vec![Call::Launch { active: 0, passive: 0, slot: 0 }];
+    list.extend(round.repeat(4));
+    list.extend([Call::Read, Call::Execute, Call::Reply { passive: 0, choice: 1 }, Call::Write]);
+    list.extend(round.repeat(2));
+    list.extend([Call::Read, Call::Execute, Call::Consume { active: 0 }, Call::Write]);
+    let opened = list.len();
+    list.extend([close, close]);
+    list.extend(round.repeat(3));
+    let (lines, _) = record(&plan, &proved, &list);
+    let told: Vec<String> = lines.iter().map(told).collect();
+    assert_eq!(told[opened - 2], "C0=A,0,0,1,1 -0 ^n o2,0,a a0,1 c0,1");
+    let wanted = [
+        "K0,0,0 +1,T,0,0,0,1,0,0,0 o2,0,c c0,0",
+        "K0,0,0!16",
+        "R p1 _",
+        "X p2 *1",
+        "W p0 s1 >1,p,2 *",
+        "R p1 >1,2",
+        "X p2 *1",
+        "W p0 s0 >1,t,6 * ^2",
+        "R p1 >1,6 _",
+        "X p2 -1 ^6 t2,4 o2",
+        "W p0 s1",
+    ];
+    assert_eq!(told[opened..], wanted);
 }

@@ -24,6 +24,15 @@ pub enum Call {
         /// The start slot.
         slot: u32,
     },
+    /// Close.
+    Close {
+        /// The connection's active.
+        active: u32,
+        /// Its passive.
+        passive: u32,
+        /// Its start slot.
+        slot: u32,
+    },
     /// Reply.
     Reply {
         /// The passive that replies.
@@ -94,6 +103,9 @@ impl Calls for Proved {
             Call::Launch { active, passive, slot } => {
                 bytes::launch(plan, state, active, passive, slot)
             }
+            Call::Close { active, passive, slot } => {
+                bytes::close(plan, state, active, passive, slot)
+            }
             Call::Reply { passive, choice } => bytes::reply(plan, state, passive, choice),
             Call::Consume { active } => bytes::consume(plan, state, active, &mut out),
             Call::Entry { router, side, slot } => {
@@ -113,7 +125,7 @@ impl Calls for Proved {
     }
 }
 
-/// The model, by the rules of document 01 or by others.
+/// The model, by the rules of documents 01 and 02 or by others.
 #[derive(Clone, Debug)]
 pub struct Modelled {
     network: Network,
@@ -165,6 +177,9 @@ fn modelled(call: Call) -> machine::Call {
         Call::Write => machine::Call::Write,
         Call::Launch { active, passive, slot } => {
             machine::Call::Launch { active: n(active), passive: n(passive), slot: n(slot) }
+        }
+        Call::Close { active, passive, slot } => {
+            machine::Call::Close { active: n(active), passive: n(passive), slot: n(slot) }
         }
         Call::Reply { passive, choice } => {
             machine::Call::Reply { passive: n(passive), choice: n(choice) }

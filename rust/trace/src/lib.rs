@@ -5,7 +5,7 @@
 //! * [`place`]: queues, outputs and wires, numbered as in docs/STATE.md. [`names`]: their names.
 //! * [`net`]: [`Net`], a state read from its bytes.
 //! * [`calls`]: the calls as values, and [`Calls`], who answers them: the proved library
-//!   ([`Proved`]) or the model by the rules of document 01 or by a student's ([`Modelled`]).
+//!   ([`Proved`]) or the model by the documents' rules or by a student's ([`Modelled`]).
 //! * [`run`]: [`Run`] makes calls from Start on and follows every packet, every connection and the
 //!   owner of every booked entry. Each call gives a [`Step`] with its [`Event`]s.
 //! * [`words`]: what happened in a step, as sentences.

@@ -4,6 +4,7 @@ use pandabrass::{Entry, Kind, Packet};
 
 use crate::place::{Output, Place, Port, Queue, SIDES};
 use crate::plan::Plan;
+use crate::run::Connection;
 
 /// "Phase and slot": two bytes, then the queues' rows.
 const CLOCK: usize = 2;
@@ -15,6 +16,9 @@ const OUTPUT_ROW: usize = 7;
 /// Room for 32 slots on each side, two bytes for each.
 const SIDE_ROW: usize = 64;
 const ENTRY: usize = 2;
+/// The marks of an active: room for 16 passives, four bytes for each, a bit for each of 32 slots.
+const MARK_ROW: usize = 64;
+const MARKS: usize = 4;
 
 /// "The phase is READ, EXECUTE, WRITE in turn."
 #[derive(Clone, Copy, Debug, PartialEq, Eq)]
@@ -62,6 +66,8 @@ pub struct Net {
     pub outputs: Vec<Out>,
     /// By active.
     pub allowances: Vec<usize>,
+    /// The accepted connections that the state keeps, by active, passive and start slot.
+    pub accepted: Vec<Connection>,
     slots: usize,
     table: Vec<Entry>,
 }
@@ -85,7 +91,8 @@ impl Net {
         let (rows, rest) = rest.split_at_checked(QUEUE_ROW * queues)?;
         let (outs, rest) = rest.split_at_checked(OUTPUT_ROW * outputs)?;
         let (allowances, rest) = rest.split_at_checked(plan.actives())?;
-        let (tables, _) = rest.split_at_checked(SIDE_ROW * SIDES * plan.routers())?;
+        let (tables, rest) = rest.split_at_checked(SIDE_ROW * SIDES * plan.routers())?;
+        let (marks, _) = rest.split_at_checked(MARK_ROW * plan.actives())?;
         let phase = [Phase::Read, Phase::Execute, Phase::Write].get(usize::from(clock[0]))?;
         Some(Net {
             phase: *phase,
@@ -93,6 +100,7 @@ impl Net {
             queues: rows.chunks_exact(QUEUE_ROW).map(row).collect::<Option<_>>()?,
             outputs: outs.chunks_exact(OUTPUT_ROW).map(out).collect::<Option<_>>()?,
             allowances: allowances.iter().map(|&byte| byte.into()).collect(),
+            accepted: accepted(marks, plan),
             slots: plan.slots(),
             table: table(tables, plan.slots())?,
         })
@@ -177,4 +185,17 @@ fn table(bytes: &[u8], slots: usize) -> Option<Vec<Entry>> {
         _ => None,
     };
     entries.map(entry).collect()
+}
+
+/// "The mark of (a, p, t) is bit t%8 of byte 64a + 4p + t/8."
+fn accepted(bytes: &[u8], plan: &Plan) -> Vec<Connection> {
+    let mut accepted = Vec::new();
+    for (active, row) in bytes.chunks_exact(MARK_ROW).enumerate() {
+        for (passive, marks) in row.chunks_exact(MARKS).enumerate().take(plan.passives()) {
+            let marked = |start: &usize| marks[start / 8] >> (start % 8) & 1 == 1;
+            let starts = (0..plan.slots()).filter(marked);
+            accepted.extend(starts.map(|start| Connection { active, passive, start }));
+        }
+    }
+    accepted
 }

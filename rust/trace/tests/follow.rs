@@ -1,13 +1,15 @@
 //! Random runs: every packet is followed, and every booked entry has exactly one owner, the one
 //! that the packets and the accepted connections tell.
 
-use std::collections::HashMap;
+use std::collections::{BTreeSet, HashMap};
 
 use model::generate::{calls::Caller, good, Random};
 use model::machine::{self, Network, Rules};
 use trace::place::SIDES;
 use trace::run::{Cell, Seated};
-use trace::{words, Call, Calls, Entry, Hold, Kind, Modelled, Names, Plan, Port, Proved, Run};
+use trace::{
+    words, Answer, Call, Calls, Entry, Hold, Kind, Modelled, Names, Plan, Port, Proved, Run, Step,
+};
 
 /// The same call of the crate `trace`.
 fn call(call: machine::Call) -> Call {
@@ -18,6 +20,9 @@ fn call(call: machine::Call) -> Call {
         machine::Call::Write => Call::Write,
         machine::Call::Launch { active, passive, slot } => {
             Call::Launch { active: n(active), passive: n(passive), slot: n(slot) }
+        }
+        machine::Call::Close { active, passive, slot } => {
+            Call::Close { active: n(active), passive: n(passive), slot: n(slot) }
         }
         machine::Call::Reply { passive, choice } => {
             Call::Reply { passive: n(passive), choice: n(choice) }
@@ -57,10 +62,11 @@ fn told(run: &Run, seated: &Seated) -> Vec<Cell> {
 }
 
 /// How a packet's launch holds what the packet tells of.
-fn hold(kind: Kind) -> Hold {
-    match kind {
+fn hold(run: &Run, seated: &Seated) -> Hold {
+    match seated.packet.kind {
         Kind::Setup | Kind::Ack => Hold::UnderWay,
         Kind::Nack => Hold::LeftBehind,
+        Kind::Tdown if run.book().launch_of(seated.id).closed => Hold::Closing,
         Kind::Tdown => Hold::TearingDown,
     }
 }
@@ -71,7 +77,7 @@ fn check_owners(run: &Run) {
     for seated in run.packets() {
         let connection = run.book().connection_of(seated.id);
         for cell in told(run, &seated) {
-            let other = owners.insert(cell, (connection, hold(seated.packet.kind)));
+            let other = owners.insert(cell, (connection, hold(run, &seated)));
             assert_eq!(other, None, "two packets own {cell:?}");
         }
     }
@@ -95,7 +101,7 @@ fn check_owners(run: &Run) {
 #[test]
 fn random_runs_are_followed() {
     let mut random = Random::new(10);
-    let (mut declined, mut left, mut accepted) = (0, 0, 0);
+    let (mut declined, mut left, mut accepted, mut closed) = (0, 0, 0, 0);
     for _ in 0..150 {
         let (plan, network) = random_plan(&mut random);
         if plan.slots() <= plan.routers() {
@@ -107,6 +113,7 @@ fn random_runs_are_followed() {
         let mut run = Run::new(&plan, &proved);
         let mut other = Run::new(&plan, &modelled);
         let mut caller = Caller::new(&mut random, &network);
+        let mut told = BTreeSet::new();
         for _ in 0..400 {
             let state = network.decode(run.bytes()).unwrap();
             let next = call(caller.next(&mut random, &network, &state));
@@ -115,13 +122,33 @@ fn random_runs_are_followed() {
             assert_eq!(run.bytes(), other.bytes());
             assert!(!words::step(&run, &step).is_empty());
             check_owners(&run);
+            tell(&mut told, &plan, &step);
+            let kept = run.net().accepted.iter().map(|c| (c.active, c.passive, c.start));
+            assert!(kept.eq(told.iter().copied()));
         }
         let book = run.book();
         accepted += book.accepted.len();
+        closed += book.launches.iter().filter(|launch| launch.closed).count();
         declined += book.launches.iter().filter(|launch| launch.declined.is_some()).count();
         left += book.packets.iter().filter(|made| made.parent.is_some()).count();
     }
-    assert!(accepted > 60 && declined > 400 && left > 50, "{accepted} {declined} {left}");
+    assert!(accepted > 30 && closed > 40, "{accepted} {closed}");
+    assert!(declined > 400 && left > 50, "{declined} {left}");
+}
+
+/// The accepted connections as the calls and their answers tell them.
+fn tell(told: &mut BTreeSet<(usize, usize, usize)>, plan: &Plan, step: &Step) {
+    match (step.call, step.answer) {
+        (_, Ok(Answer::Packet(packet))) if packet.kind == Kind::Ack => {
+            let (slots, hub) = (plan.slots(), usize::from(packet.hub));
+            let start = (usize::from(packet.slot) + slots - hub % slots) % slots;
+            told.insert((packet.active.into(), packet.passive.into(), start));
+        }
+        (Call::Close { active, passive, slot }, Ok(_)) => {
+            assert!(told.remove(&(active as usize, passive as usize, slot as usize)));
+        }
+        _ => {}
+    }
 }
 
 #[test]
@@ -141,20 +168,39 @@ fn every_place_has_its_number() {
     }
 }
 
-#[test]
-fn another_rule_is_followed_too() {
+/// Two routers by a student's rule: launched again and again, the passive accepts or declines, what
+/// is accepted is closed in every READ.
+fn follow_rule(set: fn(&mut Rules), choice: u32) -> usize {
     let bytes = model::named::two_routers().encode();
     let plan = Plan::load(&bytes, Names::numbered(2, 1, 1)).unwrap();
-    let rules = Rules { tear_down_one_too_far: true, ..Rules::default() };
+    let mut rules = Rules::default();
+    set(&mut rules);
     let modelled = Modelled::new(&plan, rules);
     assert_eq!(modelled.start(), Proved::new(&plan).start());
     let mut run = Run::new(&plan, &modelled);
-    run.call(Call::Launch { active: 0, passive: 0, slot: 0 });
-    for _ in 0..40 {
-        for call in [Call::Read, Call::Execute, Call::Reply { passive: 0, choice: 0 }, Call::Write]
-        {
-            run.call(call);
+    let (mut closed, slots) = (0, 0..4);
+    for round in 0..60 {
+        let launch = Call::Launch { active: 0, passive: 0, slot: round % 4 };
+        let closes = slots.clone().map(|slot| Call::Close { active: 0, passive: 0, slot });
+        let reply = Call::Reply { passive: 0, choice };
+        let rest = [launch, Call::Read, Call::Execute, reply, Call::Consume { active: 0 }];
+        for call in closes.chain(rest).chain([Call::Write]) {
+            let step = run.call(call);
+            assert!(!words::step(&run, &step).is_empty());
+            closed += usize::from(step.answer.is_ok() && matches!(call, Call::Close { .. }));
         }
     }
-    assert!(run.round() == 40);
+    assert_eq!(run.round(), 60);
+    closed
+}
+
+#[test]
+fn another_rule_is_followed_too() {
+    assert_eq!(follow_rule(|rules| rules.tear_down_one_too_far = true, 0), 0);
+    assert!(follow_rule(|rules| rules.close_one_too_far = true, 1) > 1);
+    assert!(follow_rule(|rules| rules.close_clears_at_once = true, 1) > 1);
+    assert!(follow_rule(|rules| rules.close_frees_early = true, 1) > 1);
+    assert!(follow_rule(|rules| rules.accepted_until_torn_down = true, 1) > 1);
+    assert!(follow_rule(|rules| rules.accepted_at_the_arrival = true, 1) > 1);
+    assert!(follow_rule(|_| {}, 1) > 1);
 }

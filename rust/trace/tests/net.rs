@@ -43,6 +43,9 @@ fn compare(plan: &Plan, network: &Network, state: &machine::State) {
     let net = Net::decode(plan, &network.encode(state)).unwrap();
     assert_eq!((net.phase as u8, net.slot), (state.phase as u8, state.slot.0));
     assert_eq!(net.allowances, state.allowances);
+    let kept = net.accepted.iter().map(|told| (told.active, told.passive, told.start));
+    let marks = state.marks.iter().map(|mark| (mark.active, mark.passive, mark.start.0));
+    assert!(kept.eq(marks));
     for place in plan.queues() {
         let (row, at) = (net.row(plan, place), network.queue_index(queue(place)));
         let packets: Vec<_> = row.packets.iter().map(told).collect();

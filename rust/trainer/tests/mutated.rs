@@ -39,6 +39,7 @@ const WORDS: &[&str] = &[
     "to",
     "plan",
     "launch",
+    "close",
     "reply",
     "consume",
     "entry",

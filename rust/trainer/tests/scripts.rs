@@ -1,4 +1,4 @@
-//! The scripts of the repository: document 01's runs and the lessons.
+//! The scripts of the repository: runs of documents 01 and 02, and the lessons.
 
 mod common;
 
@@ -69,6 +69,27 @@ fn every_wrong_rule_is_seen() {
         let mut player = Player::new(&script, &modelled);
         player.play(&[], &mut Silent).unwrap();
         assert!(player.failed > 0, "{}: nobody sees that {name}", lesson.file);
+    }
+}
+
+/// What students write instead of Close: the script of closing sees each of them.
+#[test]
+fn every_wrong_close_is_seen() {
+    let wrong: [(&str, fn(&mut Rules)); 5] = [
+        ("the tear-down's hub is one too many", |rules| rules.close_one_too_far = true),
+        ("the table is cleared at once", |rules| rules.close_clears_at_once = true),
+        ("the entries are freed before the tear-down", |rules| rules.close_frees_early = true),
+        ("it is accepted until torn down", |rules| rules.accepted_until_torn_down = true),
+        ("it is accepted at the ACK's arrival", |rules| rules.accepted_at_the_arrival = true),
+    ];
+    let script = open("scripts/close.run");
+    for (name, set) in wrong {
+        let mut rules = Rules::default();
+        set(&mut rules);
+        let modelled = Modelled::new(&script.plan, rules);
+        let mut player = Player::new(&script, &modelled);
+        player.play(&[], &mut Silent).unwrap();
+        assert!(player.failed > 0, "nobody sees that {name}");
     }
 }
 

@@ -1,7 +1,7 @@
 use mathlib.Core.Path.{sym, _∙_}
 use native.Mathlib.Omega.{arith}
-use Rattle.visits.proofs.Rows.{phase-inside, few-counts, active-few, active-in-inside}
-use Rattle.consuming.proofs.Steps.{consume-ready}
+use Rattle.visits.proofs.Rows.{long, long-still, phase-inside, few-counts, active-few, active-in-inside}
+use Rattle.consuming.proofs.Steps.{consume-ready, head-named}
 use Rattle.consuming.proofs.Exits.{consume-phase, consume-active, consume-flag, consume-empty, consume-unmarked}
 use Rattle.consuming.proofs.Exits.{consumes}
 use borrow.Author.Needs.{needs}
@@ -16,6 +16,7 @@ use Rattle.consuming.proofs.consume_step.Reads as consume-step-reads
 use Rattle.visits.proofs.flag_up.Reads as flag-up-reads
 use Rattle.consuming.proofs.is_unmarked.Reads as is-unmarked-reads
 use Rattle.visits.proofs.queued.Reads as queued-reads
+use Rattle.consuming.proofs.note.Reads as note-reads
 
 slice-read-if1 : tie.Need-slice-read-if1
 slice-read-if1 c = phase-inside (c .before .before .pre .1)
@@ -112,8 +113,23 @@ consume-step-requires c κs =
     (c10 .before .before .active-in .ensures .0) (c .before .allowance .ensures)
     (λ z. c5 .before .if4 .left (c5 .before .before .queued .ensures ∙ z))
 
+note-requires : tie.Need-note-requires
+note-requires c κs =
+    let c5 = c .before .before .before .before .before in
+    let c10 = c5 .before .before .before .before .before in
+    let c15 = c10 .before .before .before .before .before in
+    let c20 = c15 .before .before .before .before .before in (
+      c20 .before .before .pre .0,
+      head-named (c20 .before .before .pre .0) (c20 .before .before .pre .1) _ _ (c15 .before .before .if2 .left)
+          (c15 .before .active-in .ensures .0)
+          (λ z. c10 .if4 .left (c10 .before .queued .ensures ∙ z)) _ (c5 .before .before .before .packet-at .ensures),
+      long-still (long (c20 .before .before .pre .1)) (c .before .before .before .consume-step .kept .0),
+    )
+
 same-length-4 : tie.Need-same-length-4
-same-length-4 c = c .before .before .consume-step .kept .0
+same-length-4 c =
+    let c5 = c .before .before .before .before .before in
+    c .before .before .note .kept .1 .0 ∙ c5 .before .consume-step .kept .0
 
 returns-6 : tie.Need-returns-6
 returns-6 c =
@@ -121,12 +137,15 @@ returns-6 c =
     let c10 = c5 .before .before .before .before .before in
     let c15 = c10 .before .before .before .before .before in
     let c20 = c15 .before .before .before .before .before in
-    consumes _ _ _ (c15 .before .before .before .if1 .left) (c15 .before .if2 .left) _ (c15 .active-in .ensures .0)
-    (sym (c10 .before .before .before .flag-up .ensures) ∙ c10 .before .before .if3 .left)
-    (λ z. c5 .before .before .before .before .if4 .left (c10 .queued .ensures ∙ z)) _
-    (c5 .before .before .packet-at .ensures) (c20 .before .pre .0)
-    (sym (c5 .before .is-unmarked .ensures) ∙ c5 .if5 .left) _
-    (c .before .before .before .before .allowance .ensures) _ (c .before .before .consume-step .ensures)
+    let c25 = c20 .before .before .before .before .before in
+    consumes _ _ _ (c20 .before .before .if1 .left) (c20 .if2 .left) _
+    (c15 .before .before .before .before .active-in .ensures .0)
+    (sym (c15 .before .before .flag-up .ensures) ∙ c15 .before .if3 .left)
+    (λ z. c10 .before .before .before .if4 .left (c10 .before .before .before .before .queued .ensures ∙ z)) _
+    (c10 .before .packet-at .ensures) (c25 .pre .0)
+    (sym (c10 .is-unmarked .ensures) ∙ c5 .before .before .before .before .if5 .left) _
+    (c5 .before .before .before .allowance .ensures) _ _ (c5 .before .consume-step .ensures)
+    (c .before .before .note .ensures)
 
 pub consume-spec : {M : Type 1} → statement M
 consume-spec =
@@ -149,5 +168,6 @@ consume-spec =
     returns-5
     allowance-requires
     consume-step-requires
+    note-requires
     same-length-4
     returns-6)

@@ -1,7 +1,8 @@
 use mathlib.Core.Path.{_∙_, sym, ap}
 use native.Mathlib.Omega.{arith}
 use borrow.Author.Tests.{not-true, not-false}
-use Rattle.inspect.proofs.Together.{body-places, body-allowances, body-tables, whole-few, phase-few}
+use Rattle.inspect.proofs.Together.{body-places, body-allowances, body-tables, body-ties, whole-few, phase-few}
+use Rattle.inspect.proofs.Together.{lent-given}
 use borrow.Author.Needs.{needs}
 use Rattle.inspect.proofs.body_ok.Statement.{statement}
 use Rattle.inspect.proofs.body_ok.Tie as tie
@@ -15,6 +16,7 @@ use Rattle.inspect.proofs.index.Reads as index-reads
 use Rattle.inspect.proofs.none_spent.Reads as none-spent-reads
 use Rattle.inspect.proofs.places_ok.Reads as places-ok-reads
 use Rattle.inspect.proofs.whole.Reads as whole-reads
+use Rattle.ties.proofs.ties_ok.Reads as ties-ok-reads
 
 -- src/lib.rt:134:21
 none-spent-requires : tie.Need-none-spent-requires
@@ -98,17 +100,40 @@ sides-ok-requires c κs =
     let k = c .index .ensures .0 in
     (omega arith, omega arith, omega arith)
 
--- src/lib.rt:121:1
+-- src/lib.rt:142:9
 returns-3 : tie.Need-returns-3
 returns-3 c =
     let c5 = c .before .before .before .before .before in
     let c10 = c5 .before .before .before .before .before in
-    let p = c10 .before .before .before .before .pre in
-    body-tables _ _ _ (p .0 .range) _ (p .1) (p .2) (c10 .places-ok .ensures) (not-false _
-    (c5 .before .before .before .before .if1 .left)) (rw
-    (c5 .before .before .before .allowance-row .ensures, c5 .before .before .whole .ensures) at
-    (c5 .allowances-ok .ensures)) (not-false _ (c .before .before .before .before .if2 .left)) (rw
-    (c .before .before .before .table-row .ensures, c .before .index .ensures .0) at (c .sides-ok .ensures))
+    let p = c10 .before .before .before .before .before .pre in
+    body-tables _ _ _ (p .0 .range) _ (p .1) (p .2) (c10 .before .places-ok .ensures) (not-false _
+    (c10 .if1 .left)) (rw
+    (c5 .before .before .before .before .allowance-row .ensures, c5 .before .before .before .whole .ensures) at
+    (c5 .before .allowances-ok .ensures)) (not-false _ (c5 .if2 .left)) (rw
+    (c .before .before .before .before .table-row .ensures, c .before .before .index .ensures .0) at
+    (c .before .sides-ok .ensures)) (not-true _ (c .if3 .taken))
+
+-- src/lib.rt:144:5
+ties-ok-requires : tie.Need-ties-ok-requires
+ties-ok-requires c κs =
+    let c5 = c .before .before .before .before .before in
+    let c10 = c5 .before .before .before .before .before in
+    let p = c10 .before .before .before .before .before .pre in
+    lent-given _ _ _ _ _ _ _ (p .0) (p .1)
+
+-- src/lib.rt:121:1
+returns-4 : tie.Need-returns-4
+returns-4 c =
+    let here = c .before in
+    let c5 = here .before .before .before .before .before in
+    let c10 = c5 .before .before .before .before .before in
+    let p = c10 .before .before .before .before .before .pre in
+    body-ties _ _ _ (p .0 .range) _ (p .1) (p .2) (c10 .before .places-ok .ensures) (not-false _
+    (c10 .if1 .left)) (rw
+    (c5 .before .before .before .before .allowance-row .ensures, c5 .before .before .before .whole .ensures) at
+    (c5 .before .allowances-ok .ensures)) (not-false _ (c5 .if2 .left)) (rw
+    (here .before .before .before .before .table-row .ensures, here .before .before .index .ensures .0) at
+    (here .before .sides-ok .ensures)) (not-false _ (here .if3 .left)) (c .ties-ok .ensures)
 
 pub body-ok-spec : {M : Type 1} → statement M
 body-ok-spec =
@@ -125,4 +150,6 @@ body-ok-spec =
     mul-sides-ok
     index-requires
     sides-ok-requires
-    returns-3)
+    returns-3
+    ties-ok-requires
+    returns-4)

@@ -2,9 +2,9 @@ use mathlib.Core.Path.{sym, _∙_}
 use native.Mathlib.Omega.{arith}
 use Rattle.visits.proofs.Rows.{phase-inside, few-counts, active-few, passive-few, active-out-inside}
 use Rattle.visits.proofs.Rows.{allowance-inside}
+use Rattle.visits.proofs.Pairs.{phase-refused, active-refused, passive-refused, slot-refused, pair-refused}
 use Rattle.launching.proofs.Steps.{launch-ready}
-use Rattle.launching.proofs.Exits.{launch-phase, launch-active, launch-passive, launch-slot, launch-pair}
-use Rattle.launching.proofs.Exits.{launch-allowance, launch-full, launched}
+use Rattle.launching.proofs.Exits.{launchBegins, launch-allowance, launch-full, launched}
 use borrow.Author.Needs.{needs}
 use Rattle.launching.proofs.launch.Statement.{statement}
 use Rattle.launching.proofs.launch.Tie as tie
@@ -15,21 +15,21 @@ use Rattle.visits.proofs.allowance.Reads as allowance-reads
 use Rattle.visits.proofs.index.Reads as index-reads
 use Rattle.launching.proofs.launch_step.Reads as launch-step-reads
 use Rattle.visits.proofs.queued.Reads as queued-reads
-use Rattle.launching.proofs.walk_length.Reads as walk-length-reads
+use Rattle.visits.proofs.walk_length.Reads as walk-length-reads
 
 slice-read-if1 : tie.Need-slice-read-if1
 slice-read-if1 c = phase-inside (c .before .before .pre .1)
 
 returns : tie.Need-returns
-returns c = launch-phase _ _ _ _ _ _ (c .if1 .taken)
+returns c = phase-refused (launchBegins _ _ _) _ _ _ (c .if1 .taken)
 
 returns-2 : tie.Need-returns-2
-returns-2 c = launch-active _ _ _ _ _ _ (c .before .before .if1 .left) (c .if2 .taken)
+returns-2 c = active-refused (launchBegins _ _ _) _ _ _ (c .before .before .if1 .left) (c .if2 .taken)
 
 returns-3 : tie.Need-returns-3
 returns-3 c =
-    launch-passive _ _ _ _ _ _ (c .before .before .before .before .if1 .left) (c .before .before .if2 .left)
-    (c .if3 .taken)
+    passive-refused (launchBegins _ _ _) _ _ _ (c .before .before .before .before .if1 .left)
+    (c .before .before .if2 .left) (c .if3 .taken)
 
 index-requires : tie.Need-index-requires
 index-requires c κs = search needs
@@ -37,7 +37,7 @@ index-requires c κs = search needs
 returns-4 : tie.Need-returns-4
 returns-4 c =
     let c5 = c .before .before .before .before .before in
-    launch-slot _ _ _ _ _ _ (c5 .before .if1 .left) (c .before .before .before .before .if2 .left)
+    slot-refused (launchBegins _ _ _) _ _ _ (c5 .before .if1 .left) (c .before .before .before .before .if2 .left)
     (c .before .before .if3 .left) (omega (arith, c .before .index .ensures))
 
 walk-length-requires : tie.Need-walk-length-requires
@@ -51,7 +51,7 @@ returns-5 : tie.Need-returns-5
 returns-5 c =
     let c5 = c .before .before .before .before .before in
     let c10 = c5 .before .before .before .before .before in
-    launch-pair _ _ _ _ _ _ (c5 .before .before .before .if1 .left) (c5 .before .if2 .left)
+    pair-refused (launchBegins _ _ _) _ _ _ (c5 .before .before .before .if1 .left) (c5 .before .if2 .left)
     (c .before .before .before .before .if3 .left) (omega (arith, c .before .before .before .index .ensures))
     (c10 .before .pre .0) (sym (c .before .walk-length .ensures) ∙ c .if5 .taken)
 

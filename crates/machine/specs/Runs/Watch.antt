@@ -7,7 +7,7 @@ use lib.ListN.{length}
 use Rattle.basis.specs.Choice.{pick}
 use Rattle.basis.specs.Bounded.{anyBelow, allBelow}
 use Rattle.basis.specs.Fold.{upTo}
-use Rattle.basis.specs.Walk.{spot}
+use Rattle.basis.specs.Walk.{spot, onCount}
 use Rattle.fields.specs.Bits.{bitAt, fieldOf}
 use Rattle.packets.specs.declared.Kind.{Kind}
 use Rattle.packets.specs.declared.Packet.{Packet}
@@ -15,7 +15,7 @@ use Rattle.packets.specs.Answers.{entryNumber, Value, refused, done, taken, hol
 use Rattle.plan.specs.Head.{capacityAt, headOf}
 use Rattle.plan.specs.Plan.{Plan, jointIn, planOf}
 use Rattle.plan.specs.Rules.{portsOf, home}
-use Rattle.paths.specs.Walk.{onward, arrives}
+use Rattle.paths.specs.Walk.{onward, arrives, walkSize}
 use Rattle.paths.specs.Served.{backsArrive, servedFrom}
 use Rattle.paths.specs.Steps.{indexIn, indexOn}
 use Rattle.feeding.specs.Queue.{Queue, queueAt, queues}
@@ -25,9 +25,9 @@ use Rattle.machine.specs.Read.{arrive, deliver, lower, settle, doRead}
 use Rattle.machine.specs.Execute.{cameIn, otherFree, mayBook, setUp, tearOne, tearDown, handle, atUnit, unit}
 use Rattle.machine.specs.Execute.{candidate, firstOf, picked, choose, answer, atActive, undo, doExecute}
 use Rattle.machine.specs.Write.{sendHead, sendBy, send, doWrite}
-use Rattle.machine.specs.Visits.{launched, removed}
+use Rattle.machine.specs.Visits.{launched, removed, noted, closed}
 use Rattle.machine.specs.Calls.{Outcome, Call, read, execute, write, call}
-use Rattle.machine.specs.Accepted.{Connection}
+use Rattle.machine.specs.Connections.{Connection}
 use Rattle.machine.specs.Ruled.{acceptedAfter}
 
 -- ---- calls
@@ -72,6 +72,10 @@ creditIn s q = s .flow .credit q .0
 
 abbrev pub flagIn : State → Queue → ℕ
 flagIn s q = pick (s .flow .flag q) 1 0
+
+-- a connection, by active, passive and start slot: 1 accepted, 0 not
+abbrev pub connectionIn : State → ℕ → ℕ → ℕ → ℕ
+connectionIn s a p t = pick (s .connections a p t) 1 0
 
 -- an answer, and in the state then left the numbers and the queues that are looked at
 pub record After : Type 0 where
@@ -120,10 +124,10 @@ watching pl look qs (cs ∷ more) s =
 -- a run from Start of the plan that the bytes give: what numbers and what queues are looked at, and the calls, up to
 -- each moment at which they are looked at
 unfoldable pub moments : List ℕ → (State → List ℕ) → List Queue → List (List Call) → List After
-unfolding anyBelow allBelow upTo spot bitAt fieldOf capacityAt headOf jointIn planOf portsOf home onward arrives
-    backsArrive servedFrom indexIn indexOn queueAt queues outputAt start blank join arrive deliver lower settle doRead
-    cameIn otherFree mayBook setUp tearOne tearDown handle atUnit unit candidate firstOf picked choose answer atActive
-    undo doExecute sendHead sendBy send doWrite launched removed call
+unfolding anyBelow allBelow upTo spot onCount walkSize bitAt fieldOf capacityAt headOf jointIn planOf portsOf home
+    onward arrives backsArrive servedFrom indexIn indexOn queueAt queues outputAt start blank join arrive deliver
+    lower settle doRead cameIn otherFree mayBook setUp tearOne tearDown handle atUnit unit candidate firstOf picked
+    choose answer atActive undo doExecute sendHead sendBy send doWrite launched removed noted closed call
 moments b look qs css = let pl : Plan = planOf b in watching pl look qs css (start pl)
 
 -- the same, looked at after each call

@@ -6,7 +6,7 @@ use borrow.Author.Needs.{needs}
 use Rattle.basis.specs.Fold.{upTo, up-none, up-more}
 use Rattle.starting.specs.Starting.{laid}
 use Rattle.starting.proofs.Credits.{length-free}
-use Rattle.starting.proofs.Begins.{freed-as}
+use Rattle.starting.proofs.Begins.{repeated-as}
 use Rattle.starting.proofs.free_table.Statement.{statement}
 use Rattle.starting.proofs.free_table.Tie as tie
 
@@ -68,7 +68,7 @@ same-length c = c .before .loop .inv .2
 
 returns : tie.Need-returns Inv-loop μ-loop
 returns c =
-    freed-as _ _ (c .before .before .table-row .ensures) (c .before .before .before .free-entries .ensures)
+    repeated-as _ _ _ (c .before .before .table-row .ensures) (c .before .before .before .free-entries .ensures)
     (c .before .loop .inv .1) (omega arith)
 
 pub free-table-spec : {M : Type 1} → statement M

@@ -10,6 +10,7 @@ use Rattle.starting.proofs.all_credits.Reads as all-credits-reads
 use Rattle.starting.proofs.allow.Reads as allow-reads
 use Rattle.starting.proofs.clear.Reads as clear-reads
 use Rattle.starting.proofs.free_table.Reads as free-table-reads
+use Rattle.starting.proofs.no_connections.Reads as no-connections-reads
 
 table-row-requires : tie.Need-table-row-requires
 table-row-requires c κs = few-counts (c .before .before .pre .0)
@@ -24,8 +25,8 @@ free-table-requires c κs =
       long-still (c5 .before .before .pre .1) (c .before .before .before .clear .kept .0),
     )
 
-all-credits-requires : tie.Need-all-credits-requires
-all-credits-requires c κs =
+no-connections-requires : tie.Need-no-connections-requires
+no-connections-requires c κs =
     let c5 = c .before .before .before .before .before in
     let c10 = c5 .before .before .before .before .before in (
       few-counts (c10 .before .pre .0),
@@ -33,31 +34,46 @@ all-credits-requires c κs =
           (c .before .before .before .free-table .kept .1 .0 ∙ c5 .before .before .clear .kept .0),
     )
 
-allow-requires : tie.Need-allow-requires
-allow-requires c κs =
+all-credits-requires : tie.Need-all-credits-requires
+all-credits-requires c κs =
     let c5 = c .before .before .before .before .before in
     let c10 = c5 .before .before .before .before .before in
     let c15 = c10 .before .before .before .before .before in (
       few-counts (c15 .pre .0),
       long-still (c15 .pre .1)
-          (c .before .before .before .all-credits .kept .1 .0 ∙ c5 .before .before .free-table .kept .1 .0
+          (c .before .before .before .no-connections .kept .1 .0 ∙ c5 .before .before .free-table .kept .1 .0
           ∙ c10 .before .clear .kept .0),
+    )
+
+allow-requires : tie.Need-allow-requires
+allow-requires c κs =
+    let c5 = c .before .before .before .before .before in
+    let c10 = c5 .before .before .before .before .before in
+    let c15 = c10 .before .before .before .before .before in
+    let first = c15 .before .before .before .before in (
+      few-counts (first .pre .0),
+      long-still (first .pre .1)
+          (c .before .before .before .all-credits .kept .1 .0 ∙ c5 .before .before .no-connections .kept .1 .0
+          ∙ c10 .before .free-table .kept .1 .0 ∙ c15 .clear .kept .0),
     )
 
 same-length : tie.Need-same-length
 same-length c =
     let c5 = c .before .before .before .before .before in
     let c10 = c5 .before .before .before .before .before in
-    c .before .before .allow .kept .1 .0 ∙ c5 .before .all-credits .kept .1 .0 ∙ c10 .free-table .kept .1 .0
-    ∙ c10 .before .before .before .before .clear .kept .0
+    let c15 = c10 .before .before .before .before .before in
+    c .before .before .allow .kept .1 .0 ∙ c5 .before .all-credits .kept .1 .0 ∙ c10 .no-connections .kept .1 .0
+    ∙ c10 .before .before .before .before .free-table .kept .1 .0 ∙ c15 .before .before .before .clear .kept .0
 
 returns : tie.Need-returns
 returns c =
     let c5 = c .before .before .before .before .before in
     let c10 = c5 .before .before .before .before .before in
     let c15 = c10 .before .before .before .before .before in
-    start-made (c15 .before .before .before .pre .0) (c15 .before .before .before .pre .1) (c15 .table-row .ensures)
-    (c10 .before .before .before .before .clear .ensures) (c10 .free-table .ensures)
+    let row = c15 .before .before .before .before in
+    let first = row .before .before .before in
+    start-made (first .pre .0) (first .pre .1) (row .table-row .ensures) (c15 .before .before .before .clear .ensures)
+    (c10 .before .before .before .before .free-table .ensures) (c10 .no-connections .ensures)
     (c5 .before .all-credits .ensures) (c .before .before .allow .ensures)
 
 pub start-spec : {M : Type 1} → statement M
@@ -67,6 +83,7 @@ start-spec =
     table-row-requires
     clear-requires
     free-table-requires
+    no-connections-requires
     all-credits-requires
     allow-requires
     same-length

@@ -1,4 +1,4 @@
--- Launch, Reply and Consume keep the credits' part of the core.
+-- Launch, Reply, Consume and Close keep the credits' part of the core.
 use mathlib.Core.Path.{_≡_, refl}
 use mathlib.Core.Bool.{true, false}
 use mathlib.Core.List.{List, _∷_}
@@ -13,10 +13,11 @@ use Rattle.machine.specs.Capacity.{capacity}
 use Rattle.machine.specs.Store.{put, sameQueue}
 use Rattle.machine.specs.State.{State, withQueue, withFlag, join}
 use Rattle.machine.specs.Execute.{hasRoom}
-use Rattle.machine.specs.Visits.{setupOf, launched, repliedAs, replied, removed}
+use Rattle.machine.specs.Visits.{setupOf, launched, repliedAs, replied, removed, noted, closingOf, closed}
 use Rattle.theory.specs.Invariant.{Core}
 use Rattle.theory.proofs.Ground.Cells.{queue-away, fed-apart}
-use Rattle.theory.proofs.Account.Paid.{Paid, paid-of, paid-alike, left-paid, join-paid}
+use Rattle.theory.proofs.Account.Paid.{Paid, paid-of, paid-alike, left-paid, join-paid, connection-paid}
+use Rattle.theory.proofs.Cases.{noted-keeps}
 
 module _ {pl : Plan} (s : State) (c : Core pl s) where
   -- a SETUP joins an active's out-queue
@@ -45,3 +46,16 @@ module _ {pl : Plan} (s : State) (c : Core pl s) where
   removed-paid a x rest e down =
       paid-alike (withFlag (activeIn a) true (withQueue (activeIn a) rest s)) (removed a rest s) refl refl refl refl
       (left-paid s (paid-of c) (activeIn a) x rest refl e down)
+
+  -- and notes its connection
+  pub noted-paid : (x : Packet) → Paid pl (noted pl x s)
+  noted-paid x = noted-keeps pl x s (Paid pl) (λ e. connection-paid (x .active) (x .passive) _ true (paid-of c))
+      (paid-of c)
+
+  -- a closing TDOWN joins an active's out-queue
+  pub closed-paid : (a p t : ℕ) → hasRoom pl (activeOut a) s ≡ true → Paid pl (closed pl a p t s)
+  unfolding closed
+  closed-paid a p t room =
+      connection-paid a p t false
+      (join-paid s (paid-of c) (activeOut a) (closingOf pl a p t) refl
+      (ltb-true (length (s .lines .queue (activeOut a))) (capacity (pl .head) (activeOut a)) room))

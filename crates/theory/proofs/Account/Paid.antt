@@ -2,10 +2,10 @@
 -- no other queue's credit or flag changes.
 use mathlib.Core.Path.{_≡_, refl, sym, ap, _∙_}
 use mathlib.Core.Logic.{_⊎_, inl, inr, _≢_}
-use mathlib.Core.Bool.{true, false}
+use mathlib.Core.Bool.{Bool, true, false}
 use mathlib.Core.List.{List, [], _∷_, _++_}
 use mathlib.Core.Option.{some}
-use Prim.Native.Nat.{_+_, _≤_, _<_}
+use Prim.Native.Nat.{ℕ, _+_, _≤_, _<_}
 use native.Mathlib.Omega.{arith}
 use lib.ListN.{length, length-append}
 use Rattle.basis.specs.Choice.{not-both}
@@ -20,7 +20,7 @@ use Rattle.wiring.specs.Wired.{Wired}
 use Rattle.machine.specs.Capacity.{capacity}
 use Rattle.machine.specs.Store.{put, sameQueue}
 use Rattle.machine.specs.Outputs.{nextBy, outputs, outputAt}
-use Rattle.machine.specs.State.{State, blank, start, withPhase, withSlot, withQueue, withFlag, join}
+use Rattle.machine.specs.State.{State, blank, start, withPhase, withSlot, withConnection, withQueue, withFlag, join}
 use Rattle.machine.specs.Valid.{Drives, bit, brings, onWires, fed}
 use Rattle.theory.proofs.Ground.Sums.{sum-nought}
 use Rattle.theory.proofs.Ground.Cells.{queue-here, queue-away, queue-or, cell-sum, fed-apart}
@@ -153,3 +153,7 @@ phase-paid {pl} {s} x c = paid-alike s (withPhase x s) refl refl refl refl (paid
 -- another slot
 pub slot-paid : {pl : Plan} {s : State} (x : Slot) → Core pl s → Paid pl (withSlot x s)
 slot-paid {pl} {s} x c = paid-alike s (withSlot x s) refl refl refl refl (paid-of c)
+
+-- a connection set or cleared
+pub connection-paid : {pl : Plan} {s : State} (a p t : ℕ) (x : Bool) → Paid pl s → Paid pl (withConnection a p t x s)
+connection-paid {pl} {s} a p t x c = paid-alike s (withConnection a p t x s) refl refl refl refl c

@@ -6,7 +6,6 @@ use Prim.Native.Nat.{ℕ}
 use lib.Dec.{eqb}
 use borrow.Author.Tests.{eqb-true, eq-eqb}
 use Rattle.basis.specs.Choice.{test, not-both}
-use Rattle.packets.specs.declared.Entry.{Entry}
 use Rattle.machine.specs.Store.{put, put-here, put-away}
 
 module _ {X A : Type 0} (same : X → X → Bool) (one : (x : X) → same x x ≡ true)
@@ -43,14 +42,14 @@ put-both {X} {A} {B} same one same-one H m n k a b here away =
 pub number-one : (x : ℕ) → eqb x x ≡ true
 number-one x = eq-eqb x x refl
 
--- the same for the entry of a router, side and slot
-pub entry-cases : (H : ℕ → ℕ → ℕ → Entry → Type 0) (m : ℕ → ℕ → ℕ → Entry) (r o t : ℕ) (x : Entry) → H r o t x
+-- the same for a store by three numbers: an entry of a router, side and slot, a connection of two interfaces and a slot
+pub entry-cases : {A : Type 0} (H : ℕ → ℕ → ℕ → A → Type 0) (m : ℕ → ℕ → ℕ → A) (r o t : ℕ) (x : A) → H r o t x
     → ((r′ o′ t′ : ℕ) → H r′ o′ t′ (m r′ o′ t′))
     → (r′ o′ t′ : ℕ) → H r′ o′ t′ (put eqb m r (put eqb (m r) o (put eqb (m r o) t x)) r′ o′ t′)
-entry-cases H m r o t x here away =
-    put-cases eqb number-one eqb-true (λ (r′ : ℕ) (v : ℕ → ℕ → Entry). (o′ t′ : ℕ) → H r′ o′ t′ (v o′ t′)) m r
+entry-cases {A} H m r o t x here away =
+    put-cases eqb number-one eqb-true (λ (r′ : ℕ) (v : ℕ → ℕ → A). (o′ t′ : ℕ) → H r′ o′ t′ (v o′ t′)) m r
     (put eqb (m r) o (put eqb (m r o) t x))
-    (put-cases eqb number-one eqb-true (λ (o′ : ℕ) (v : ℕ → Entry). (t′ : ℕ) → H r o′ t′ (v t′)) (m r) o
+    (put-cases eqb number-one eqb-true (λ (o′ : ℕ) (v : ℕ → A). (t′ : ℕ) → H r o′ t′ (v t′)) (m r) o
     (put eqb (m r o) t x)
     (put-cases eqb number-one eqb-true (H r o) (m r o) t x here (λ t′ ne. away r o t′)) (λ o′ ne t′. away r o′ t′))
     (λ r′ ne o′ t′. away r′ o′ t′)

@@ -1,10 +1,11 @@
--- Launch, Reply and Consume keep the places: a SETUP belongs in its active's out-queue, an answer in its passive's,
--- and what is consumed goes.
+-- Launch, Reply, Consume and Close keep the places: a SETUP and a closing TDOWN belong in their active's out-queue, an
+-- answer in its passive's, and what is consumed goes.
 use mathlib.Core.Path.{_≡_, refl}
 use mathlib.Core.Logic.{_⊎_}
 use mathlib.Core.Bool.{true, false}
 use mathlib.Core.List.{List, _∷_}
 use Prim.Native.Nat.{ℕ, _+_, _-_, _<_}
+use native.Mathlib.Omega.{arith}
 use Rattle.packets.specs.declared.Kind.{Kind}
 use Rattle.packets.specs.declared.Kind.the-variants.{Ack, Nack}
 use Rattle.packets.specs.declared.Packet.{Packet}
@@ -12,14 +13,17 @@ use Rattle.plan.specs.Head.{InRange}
 use Rattle.plan.specs.Plan.{Plan, A, P, S}
 use Rattle.paths.specs.Served.{Served}
 use Rattle.feeding.specs.Queue.{Queue, activeOut, activeIn, passiveIn, passiveOut, Exists}
-use Rattle.feeding.specs.Feeds.{inQueue}
+use Rattle.feeding.specs.Feeds.{Place, inQueue}
 use Rattle.feeding.specs.Role.{isUnit}
 use Rattle.wiring.specs.Wired.{Wired}
 use Rattle.machine.specs.State.{State, withQueue, withFlag}
-use Rattle.machine.specs.Visits.{setupOf, launched, repliedAs, replied, removed}
+use Rattle.machine.specs.Visits.{setupOf, launched, repliedAs, replied, removed, noted, closingOf, closed}
+use Rattle.machine.specs.Valid.{Belongs}
 use Rattle.theory.proofs.Places.Lines.{no-mark}
-use Rattle.theory.proofs.Places.Makes.{setup-belongs, replied-belongs}
-use Rattle.theory.proofs.Kept.Parts.{Kept, flag-kept, allowance-kept}
+use Rattle.theory.proofs.Places.Makes.{setup-belongs, closing-belongs, replied-belongs}
+use Rattle.theory.proofs.Places.Slots.{start-below}
+use Rattle.theory.proofs.Cases.{noted-keeps}
+use Rattle.theory.proofs.Kept.Parts.{Kept, flag-kept, connection-kept, allowance-kept}
 use Rattle.theory.proofs.Kept.Lines.{head-belongs, join-kept, gone-kept}
 
 -- the head of an in-queue is taken, and its flag rises
@@ -51,3 +55,18 @@ module _ {pl : Plan} (wired : Wired pl) (range : InRange (pl .head)) where
   unfolding removed
   removed-kept a x rest s ha e k =
       allowance-kept (taken-kept pl (activeIn a) x rest s ha refl e k) a (s .flow .allowance a + 1) ha
+
+  -- and an ACK's connection is set: its pair is the plan's, and its start a slot
+  pub noted-kept : (x : Packet) (at : Place) (s : State) → Belongs pl at x → Kept pl s → Kept pl (noted pl x s)
+  noted-kept x at s b k =
+      noted-keeps pl x s (Kept pl) (λ e. connection-kept k (x .active) (x .passive) _ true (b .ranges .active)
+      (b .ranges .passive) (start-below (S pl) (x .slot) (x .hub) (let l = b .ranges .slot in omega arith))) k
+
+  -- Close: a TDOWN joins its active's out-queue, and its connection is cleared
+  pub closed-kept : (a p t : ℕ) (s : State) → a < A pl → p < P pl → t < S pl → Served pl a p → Kept pl s
+      → Kept pl (closed pl a p t s)
+  unfolding closed
+  closed-kept a p t s ha hp ht served k =
+      connection-kept
+      (join-kept k (activeOut a) (closingOf pl a p t) ha (closing-belongs wired range a p t ha hp ht served)) a p t
+      false ha hp ht

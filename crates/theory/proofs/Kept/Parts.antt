@@ -17,12 +17,12 @@ use Rattle.packets.specs.declared.Phase.{Phase}
 use Rattle.packets.specs.declared.Entry.{Entry}
 use Rattle.packets.specs.declared.Entry.the-variants.{Free, Booked}
 use Rattle.plan.specs.Head.{InRange}
-use Rattle.plan.specs.Plan.{Plan, R, A, S}
+use Rattle.plan.specs.Plan.{Plan, R, A, P, S}
 use Rattle.feeding.specs.Queue.{Queue, Exists, Q}
 use Rattle.feeding.specs.Feeds.{Output}
 use Rattle.machine.specs.Store.{put, sameQueue, same-queue, queue-same, sameOutput, same-output, output-same}
 use Rattle.machine.specs.State.{State, Lines, Choice, blank, start, withPhase, withSlot, withWire, withCredit}
-use Rattle.machine.specs.State.{withFlag, withChoice, withEntry, withAllowance, withLines}
+use Rattle.machine.specs.State.{withFlag, withChoice, withEntry, withConnection, withAllowance, withLines}
 use Rattle.machine.specs.Valid.{Drives, Carries, Bounded, Lined}
 use Rattle.machine.proofs.Apart.{full-not, booked-not}
 use Rattle.theory.proofs.Ground.Puts.{put-cases, put-outside, number-one, entry-cases}
@@ -70,6 +70,7 @@ start-kept pl range =
         wire = λ o n. refl;
         choice = λ o n. refl;
         table = λ r o t n. refl;
+        connection = λ a p t n. refl;
         allowance = λ a n. refl;
       };
     }
@@ -98,10 +99,14 @@ abbrev TableKept : Plan → State → Type 0
 TableKept pl s = EntriesIn pl s × FreeEntry pl s
     × ((r o t : ℕ) → ((r < R pl) × (o < 4) × (t < S pl) → ⊥) → s .table r o t ≡ blank pl .table r o t)
 
+abbrev ConnectionsKept : Plan → State → Type 0
+ConnectionsKept pl s =
+    (a p t : ℕ) → ((a < A pl) × (p < P pl) × (t < S pl) → ⊥) → s .connections a p t ≡ blank pl .connections a p t
+
 -- a state is kept as its groups are
 by-groups : (pl : Plan) (s : State) → SlotIn pl s → LinesKept pl s → FlowKept pl s → LinksKept pl s → TableKept pl s
-    → Kept pl s
-by-groups pl s slot lines flow links table =
+    → ConnectionsKept pl s → Kept pl s
+by-groups pl s slot lines flow links table connections =
     record {
       slot = slot;
       entries = table .0;
@@ -118,6 +123,7 @@ by-groups pl s slot lines flow links table =
             wire = links .1;
             choice = links .2;
             table = table .2;
+            connection = connections;
             allowance = flow .2;
           };
     }
@@ -138,14 +144,17 @@ module _ {pl : Plan} {s : State} (k : Kept pl s) where
   abbrev table-of : TableKept pl s
   table-of = (k .entries, k .free-entry, b .table)
 
+  abbrev connections-of : ConnectionsKept pl s
+  connections-of = b .connection
+
   -- ---- a change of one part
   -- any phase
   pub phase-kept : (x : Phase) → Kept pl (withPhase x s)
-  phase-kept x = by-groups pl (withPhase x s) (k .slot) lines-of flow-of links-of table-of
+  phase-kept x = by-groups pl (withPhase x s) (k .slot) lines-of flow-of links-of table-of connections-of
 
   -- a slot of the plan
   pub slot-kept : (x : Slot) → x .0 < S pl → Kept pl (withSlot x s)
-  slot-kept x h = by-groups pl (withSlot x s) h lines-of flow-of links-of table-of
+  slot-kept x h = by-groups pl (withSlot x s) h lines-of flow-of links-of table-of connections-of
 
   -- the lines, and the marks of their heads
   pub lines-kept : (l : Lines) → ((q : Queue) → Exists pl q → Lined pl q (l .handled q) (l .queue q))
@@ -153,7 +162,7 @@ module _ {pl : Plan} {s : State} (k : Kept pl s) where
       → Outside (Exists pl) (l .queue) (blank pl .lines .queue)
       → Outside (Exists pl) (l .handled) (blank pl .lines .handled) → Kept pl (withLines l s)
   lines-kept l places marks lines heads =
-      by-groups pl (withLines l s) (k .slot) (places, marks, lines, heads) flow-of links-of table-of
+      by-groups pl (withLines l s) (k .slot) (places, marks, lines, heads) flow-of links-of table-of connections-of
 
   -- a wire of the plan, what it carries being on its way
   pub wire-kept : (o : Output) (x : Wire) → Drives pl o → ((y : Packet) → x ≡ Full y → Carries pl o y)
@@ -166,7 +175,7 @@ module _ {pl : Plan} {s : State} (k : Kept pl s) where
             (b .wire),
         b .choice,
       )
-      table-of
+      table-of connections-of
 
   -- a choice of an output, blank if the output is not the plan's
   pub choice-kept : (o : Output) (x : Choice) → ((Drives pl o → ⊥) → x ≡ blank pl .links .choice o)
@@ -177,7 +186,7 @@ module _ {pl : Plan} {s : State} (k : Kept pl s) where
         b .wire,
         put-cases sameOutput output-same same-output (λ (u : Output) (v : Choice). (Drives pl u → ⊥)
             → v ≡ blank pl .links .choice u) (s .links .choice) o x h (λ u ne. b .choice u),
-      ) table-of
+      ) table-of connections-of
 
   -- a credit of a queue of the plan
   pub credit-kept : (q : Queue) (x : Credit) → Exists pl q → Kept pl (withCredit q x s)
@@ -187,7 +196,7 @@ module _ {pl : Plan} {s : State} (k : Kept pl s) where
             (b .credit),
         b .flag,
         b .allowance,
-      ) links-of table-of
+      ) links-of table-of connections-of
 
   -- its flag
   pub flag-kept : (q : Queue) (x : Bool) → Exists pl q → Kept pl (withFlag q x s)
@@ -197,7 +206,7 @@ module _ {pl : Plan} {s : State} (k : Kept pl s) where
         put-outside sameQueue queue-same same-queue (Exists pl) (s .flow .flag) (blank pl .flow .flag) q x h
             (b .flag),
         b .allowance,
-      ) links-of table-of
+      ) links-of table-of connections-of
 
   -- an allowance of an active of the plan
   pub allowance-kept : (a x : ℕ) → a < A pl → Kept pl (withAllowance a x s)
@@ -207,7 +216,7 @@ module _ {pl : Plan} {s : State} (k : Kept pl s) where
         b .flag,
         put-outside eqb number-one eqb-true (λ (c : ℕ). c < A pl) (s .flow .allowance)
             (blank pl .flow .allowance) a x h (b .allowance),
-      ) links-of table-of
+      ) links-of table-of connections-of
 
   -- an entry of the plan, booked if at all with one of the four sides, where its side keeps a free entry u
   pub entry-kept : (r o t : ℕ) (x : Entry) → r < R pl → o < 4 → t < S pl → ((i : ℕ) → x ≡ Booked i → i < 4) → (u : ℕ)
@@ -225,4 +234,12 @@ module _ {pl : Plan} {s : State} (k : Kept pl s) where
             (λ r′ ne o′. k .free-entry r′ o′),
         entry-cases (λ (r′ o′ t′ : ℕ) (v : Entry). ((r′ < R pl) × (o′ < 4) × (t′ < S pl) → ⊥)
             → v ≡ blank pl .table r′ o′ t′) (s .table) r o t x (λ out. absurd (out (hr, ho, ht))) (b .table),
-      )
+      ) connections-of
+
+  -- a connection of the plan's interfaces and slots, set or cleared
+  pub connection-kept : (a p t : ℕ) (x : Bool) → a < A pl → p < P pl → t < S pl → Kept pl (withConnection a p t x s)
+  connection-kept a p t x ha hp ht =
+      by-groups pl (withConnection a p t x s) (k .slot) lines-of flow-of links-of table-of
+      (entry-cases (λ (a′ p′ t′ : ℕ) (v : Bool). ((a′ < A pl) × (p′ < P pl) × (t′ < S pl) → ⊥)
+      → v ≡ blank pl .connections a′ p′ t′) (s .connections) a p t x (λ out. absurd (out (ha, hp, ht)))
+      (b .connection))

@@ -49,6 +49,11 @@ pub bit-true : (b : Bool) → 0 < bit b → b ≡ true
 bit-true true h = refl
 bit-true false h = absurd (omega arith)
 
+-- A bit is at most 1.
+pub bit-most : (b : Bool) → bit b ≤ 1
+bit-most true = omega arith
+bit-most false = omega arith
+
 -- What holds a holder is that holder.
 pub held : (m : Option Holder) (v : Holder) → 0 < holds m v → m ≡ some v
 held none v h = absurd (omega arith)
@@ -138,6 +143,16 @@ module _ (pl : Plan) (r o t : ℕ) (v : Holder) (a p : ℕ) (start : Slot) where
   owning-none first past h =
       piece-none (S pl) t start (eqb o (routeTo pl (passive p) r)) (bit (sameHolder (holderOf pl a p r) v)) first past
       (indexOf pl a p r) (λ k e l m. omega arith)
+
+  -- An entry is owned once at most.
+  pub owning-most : (first past : ℕ) → owning pl r o t v a p start first past ≤ 1
+  unfolding owning
+  owning-most first past =
+      by (also (eqb o (routeTo pl (passive p) r)) (reaches (S pl) t start first past (indexOf pl a p r)))
+    where
+      by : (b : Bool) → pick b (bit (sameHolder (holderOf pl a p r) v)) 0 ≤ 1
+      by true = bit-most (sameHolder (holderOf pl a p r) v)
+      by false = omega arith
 
   -- Two pieces put together own what both own.
   pub owning-sum : (first mid past : ℕ) → first ≤ mid → mid ≤ past

@@ -3,7 +3,7 @@
 use mathlib.Core.Path.{_≡_, refl, sym, ap, ap₂, subst, _∙_}
 use mathlib.Core.Logic.{_⊎_, inl, inr}
 use mathlib.Core.Option.{some}
-use Prim.Native.Nat.{ℕ, _+_, _-_, _<_}
+use Prim.Native.Nat.{ℕ, _+_, _-_, _≤_, _<_}
 use native.Mathlib.Omega.{arith}
 use Rattle.basis.specs.Choice.{pick}
 use Rattle.kinds.specs.declared.Slot.{Slot}
@@ -28,7 +28,7 @@ use Rattle.theory.proofs.Places.Slots.{start-below, after-start, start-
 use Rattle.theory.proofs.Places.Indices.{index-is}
 use Rattle.theory.specs.Owners.{Holder, sameHolder, holderOf, indexOf, indexNumber, owning, behind, ownsUp}
 use Rattle.theory.specs.Owners.{ownsDown, ownsKind, owns}
-use Rattle.theory.proofs.Own.Owning.{sameEntry, owning-none, owning-sum, owning-one}
+use Rattle.theory.proofs.Own.Owning.{sameEntry, owning-none, owning-most, owning-sum, owning-one}
 
 -- ---- the routers behind a packet
 module _ {pl : Plan} (wired : Wired pl) (a p : ℕ) (ha : a < A pl) (hp : p < P pl) (s : Served pl a p) where
@@ -65,6 +65,20 @@ module _ (pl : Plan) (r o t : ℕ) (v : Holder) where
   pub owns-of : (k : Kind) (at : Place) (x : Packet) → x .kind ≡ k → owns pl r o t v at x ≡ ownsKind pl r o t v at k x
   unfolding owns
   owns-of k at x e = ap (λ (k : Kind). ownsKind pl r o t v at k x) e
+
+  -- A packet owns an entry once at most.
+  pub owns-most : (at : Place) (x : Packet) → owns pl r o t v at x ≤ 1
+  unfolding owns
+  owns-most at x = by (x .kind)
+    where
+      up : ownsUp pl r o t v x ≤ 1
+      up = owning-most pl r o t v (x .active) (x .passive) (startSlot (x .slot) (x .hub) (S pl)) 0 (x .hub .0)
+
+      by : (k : Kind) → ownsKind pl r o t v at k x ≤ 1
+      by Setup = up
+      by Tdown = owning-most pl r o t v (x .active) (x .passive) _ _ _
+      by Ack = up
+      by Nack = up
 
   -- A packet other than a tear-down owns nothing with hub 0.
   pub up-none : (x : Packet) → x .hub .0 ≡ 0 → ownsUp pl r o t v x ≡ 0

@@ -1,7 +1,7 @@
 -- The steps that leave the table keep every entry owned: READ, choices, WRITE, tear-downs at an active, and the calls.
 use mathlib.Core.Path.{_≡_, refl, sym, ap, subst, _∙_}
 use mathlib.Core.Logic.{_⊎_, inl, inr}
-use mathlib.Core.Bool.{false}
+use mathlib.Core.Bool.{Bool, true, false}
 use mathlib.Core.List.{List, [], _∷_}
 use mathlib.Core.Option.{none}
 use Prim.Native.Nat.{ℕ, _+_, _<_}
@@ -21,24 +21,26 @@ use Rattle.plan.specs.Plan.{Plan, R, A, P, S}
 use Rattle.feeding.specs.Queue.{Queue, activeOut, activeIn, passiveIn, passiveOut}
 use Rattle.feeding.specs.Feeds.{Output, inQueue}
 use Rattle.wiring.specs.Wired.{Wired}
-use Rattle.machine.specs.State.{State, sender, blank, start, withPhase, withSlot, join}
+use Rattle.machine.specs.State.{State, sender, blank, start, withPhase, withSlot, withConnection, join}
 use Rattle.machine.specs.Read.{deliver, settle}
 use Rattle.machine.specs.Execute.{choose, unmarked, undo}
 use Rattle.machine.specs.Write.{send}
-use Rattle.machine.specs.Visits.{launched, replied, removed}
-use Rattle.machine.specs.Accepted.{Connection, connectionOf, acceptKind}
+use Rattle.machine.specs.Visits.{launched, replied, removed, noted}
+use Rattle.machine.specs.Connections.{Connection, connectionOf}
+use Rattle.machine.specs.Accepted.{acceptKind}
 use Rattle.machine.specs.Valid.{Belongs, Drives}
 use Rattle.theory.proofs.Places.Closure.{passive-setup, active-answer}
 use Rattle.theory.specs.Invariant.{Core, Sendable}
 use Rattle.theory.specs.Weights.{weighed}
 use Rattle.theory.proofs.Weights.Total.{start-weighed}
-use Rattle.theory.proofs.Cases.{unmarked-nack, ActiveDoes, waits, tears, undo-does}
-use Rattle.theory.proofs.Weights.Moves.{core-head, phase-weighed, slot-weighed, settle-weighed}
-use Rattle.theory.proofs.Weights.Moves.{choose-weighed, deliver-weighed, send-weighed}
+use Rattle.theory.proofs.Cases.{unmarked-nack, ActiveDoes, waits, tears, undo-does, noted-keeps}
+use Rattle.theory.proofs.Weights.Moves.{core-head, phase-weighed, slot-weighed, connection-weighed}
+use Rattle.theory.proofs.Weights.Moves.{settle-weighed, choose-weighed, deliver-weighed, send-weighed}
 use Rattle.theory.proofs.Weights.Changes.{torn-weighed, launched-weighed, replied-weighed, removed-weighed}
 use Rattle.theory.proofs.Places.Slots.{start-below}
 use Rattle.theory.specs.Owners.{Holder, owning, ownsUp, owns, ownsMade, made, holds, Agreed, Owned}
-use Rattle.theory.proofs.Own.Same.{deliver-table, settle-table, choose-table, send-table, undo-table}
+use Rattle.theory.proofs.Own.Same.{table-apart, deliver-leaves, settle-leaves, choose-leaves, send-leaves}
+use Rattle.theory.proofs.Own.Same.{undo-leaves}
 use Rattle.theory.proofs.Own.Packets.{fits-as, owns-of, up-none, launched-owns, replied-owns, torn-owns}
 use Rattle.theory.proofs.Own.Packets.{owns-steady}
 
@@ -73,31 +75,41 @@ module _ {pl : Plan} {acc : List Connection} (s : State) (k : Owned pl acc s) wh
   pub slot-owned : (x : Slot) → Owned pl acc (withSlot x s)
   slot-owned x = owned-same s (withSlot x s) k refl (λ r o u v. slot-weighed pl (owns pl r o u v) x s)
 
+  -- So does a connection set or cleared.
+  pub connection-owned : (a p t : ℕ) (x : Bool) → Owned pl acc (withConnection a p t x s)
+  connection-owned a p t x = owned-same s (withConnection a p t x s) k refl
+      (λ r o u v. connection-weighed pl (owns pl r o u v) a p t x s)
+
+  -- So does what a consumed packet notes.
+  pub noted-owned : (x : Packet) → Owned pl acc (noted pl x s)
+  noted-owned x = noted-keeps pl x s (Owned pl acc) (λ e. connection-owned (x .active) (x .passive) _ true) k
+
   -- So does the settling of a flag.
   pub settle-owned : (q : Queue) → Owned pl acc (settle q s)
-  settle-owned q =
-      owned-same s (settle q s) k (settle-table pl s q) (λ r o u v. settle-weighed pl (owns pl r o u v) q s)
+  settle-owned q = owned-same s (settle q s) k (settle-leaves table-apart pl s q)
+      (λ r o u v. settle-weighed pl (owns pl r o u v) q s)
 
   -- So does a choice.
   pub choose-owned : (o : Output) → Owned pl acc (choose pl o s)
-  choose-owned w =
-      owned-same s (choose pl w s) k (choose-table pl s w) (λ r o u v. choose-weighed pl (owns pl r o u v) w s)
+  choose-owned w = owned-same s (choose pl w s) k (choose-leaves table-apart pl s w)
+      (λ r o u v. choose-weighed pl (owns pl r o u v) w s)
 
 module _ {pl : Plan} (wired : Wired pl) {acc : List Connection} (s : State) (c : Core pl s) (k : Owned pl acc s) where
   -- A delivery keeps the ownership.
   pub deliver-owned : (w : Output) → Drives pl w → Owned pl acc (deliver pl w s)
-  deliver-owned w d = owned-same s (deliver pl w s) k (deliver-table pl s w)
+  deliver-owned w d = owned-same s (deliver pl w s) k (deliver-leaves table-apart pl s w)
       (λ r o u v. deliver-weighed pl (owns pl r o u v) wired c w d)
 
   -- So does a sending.
   pub send-owned : (w : Output) → Drives pl w → ((n : ℕ) → s .links .choice w ≡ sender n → Sendable pl s w n)
       → s .links .wire w ≡ Empty → Owned pl acc (send pl w s)
-  send-owned w d ready z = owned-same s (send pl w s) k (send-table pl s w)
+  send-owned w d ready z = owned-same s (send pl w s) k (send-leaves table-apart pl s w)
       (λ r o u v. send-weighed pl (owns pl r o u v) wired c w d (owns-steady pl r o u v wired) ready z)
 
   -- So does an active that tears down: the tear-down owns what the NACK owned.
   pub undo-owned : (a : ℕ) → a < A pl → Owned pl acc (undo pl a s)
-  undo-owned a h = owned-same s (undo pl a s) k (undo-table pl s a) (λ r o u v. by r o u v (undo-does pl a s))
+  undo-owned a h = owned-same s (undo pl a s) k (undo-leaves table-apart pl s a)
+      (λ r o u v. by r o u v (undo-does pl a s))
     where
       by : (r o u : ℕ) (v : Holder) → ActiveDoes pl a s
           → weighed pl (owns pl r o u v) (undo pl a s) ≡ weighed pl (owns pl r o u v) s

@@ -20,7 +20,7 @@ use Rattle.feeding.specs.Feeds.{inQueue, handledAt, Fits, headPlace}
 use Rattle.wiring.specs.Wired.{Wired}
 use Rattle.machine.specs.State.{State, isFree}
 use Rattle.machine.specs.Execute.{cameIn, otherFree, mayBook, unit}
-use Rattle.machine.specs.Accepted.{Connection}
+use Rattle.machine.specs.Connections.{Connection}
 use Rattle.machine.specs.Valid.{Belongs}
 use Rattle.theory.proofs.Places.Closure.{unit-setup}
 use Rattle.theory.specs.Invariant.{Core}
@@ -33,7 +33,8 @@ use Rattle.theory.proofs.Weights.Changes.{booked-weighed, declined-weig
 use Rattle.theory.specs.Promises.{OwnEntry}
 use Rattle.theory.specs.Owners.{Holder, holderOf, owns, made, heldEntry, holds, Owned}
 use Rattle.theory.proofs.Own.Owning.{holder-same, held, free-none, put3, sameEntry, put3-at, entry-same}
-use Rattle.theory.proofs.Own.Packets.{fits-as, declined-owns, oneAt, booked-owns, freed-owns, ended-owns}
+use Rattle.theory.proofs.Own.Packets.{fits-as, owns-most, declined-owns, oneAt, booked-owns, freed-owns}
+use Rattle.theory.proofs.Own.Packets.{ended-owns}
 use Rattle.theory.proofs.Own.Steps.{owned-same}
 
 -- an entry that may be booked is free
@@ -190,7 +191,14 @@ module _ {pl : Plan} (wired : Wired pl) {acc : List Connection} (s : State) (c :
     -- A tear-down owns the entry that it frees: it is held for its own pair, and holds the side that the pair's walk
     -- came in by.
     pub tdown-own : x .kind ≡ Tdown → OwnEntry pl acc s k i x
-    tdown-own q = record { holder = tdown-holder q; entry = tdown-entry q }
+    tdown-own q = record { holder = tdown-holder q; entry = tdown-entry q; own = own′ }
+      where
+        own′ : owns pl i exit (x .slot .0) own (inQueue (Q i)) x ≡ 1
+        own′ =
+            let all = freed-owns pl i exit (x .slot .0) own wired i x q here in
+            let one : oneAt pl i exit (x .slot .0) own i x ≡ 1 = rw (entry-same i exit (x .slot .0), holder-same own) in
+            let most = owns-most pl i exit (x .slot .0) own (inQueue (Q i)) x in
+            omega arith
 
     torn-owned : x .kind ≡ Tdown → unit pl i s .table ≡ put3 (s .table) i exit (x .slot .0) Free
         → Owned pl acc (unit pl i s)

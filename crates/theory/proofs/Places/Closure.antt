@@ -36,6 +36,14 @@ module _ {pl : Plan} (wired : Wired pl) (a p : ℕ) (ha : a < A pl) (hp : p < P 
   pub stands-below : (n : ℕ) (x : Port) → walked pl (passive p) n start ≡ on x → n < span pl a p
   stands-below n x e = rw span-is (way-on (onward pl (passive p)) routerOf (s .ahead) n x e .0)
 
+  -- the walk begins at the active's router
+  pub stands-first : walked pl (passive p) 0 start ≡ on start
+  stands-first = spot-none (onward pl (passive p)) (on start)
+
+  -- the walk has a router
+  pub span-some : 1 ≤ span pl a p
+  span-some = stands-below 0 start stands-first
+
   -- the walk has at most R routers
   pub span-short : span pl a p ≤ R pl
   span-short = rw span-is (walk-short wired (passive p) start inside (s .ahead))

@@ -19,11 +19,12 @@ use Rattle.feeding.specs.Feeds.{Output, next, outputOf, Place, inQueue, handled
 use Rattle.wiring.specs.Wired.{Wired}
 use Rattle.machine.specs.Outputs.{nextBy}
 use Rattle.machine.specs.Execute.{cameIn, declined, booked, freed, marked, tdownOf}
-use Rattle.machine.specs.Visits.{setupOf, repliedAs}
+use Rattle.machine.specs.Visits.{setupOf, repliedAs, closingOf}
 use Rattle.machine.specs.Valid.{Belongs}
-use Rattle.theory.proofs.Places.Closure.{stands-below, span-short, fits-next, unit-setup, unit-booked}
-use Rattle.theory.proofs.Places.Closure.{unit-declined, unit-freed, unit-no-answer, passive-setup, passive-ack}
-use Rattle.theory.proofs.Places.Closure.{passive-nack, active-answer, active-tdown, active-marked, active-setup}
+use Rattle.theory.proofs.Places.Closure.{stands-below, span-some, span-short, fits-next, unit-setup}
+use Rattle.theory.proofs.Places.Closure.{unit-booked, unit-declined, unit-freed, unit-no-answer, passive-setup}
+use Rattle.theory.proofs.Places.Closure.{passive-ack, passive-nack, active-answer, active-tdown, active-marked}
+use Rattle.theory.proofs.Places.Closure.{active-setup}
 use Rattle.theory.proofs.Places.CameIn.{stands-inside, stands-exit, came-in}
 
 -- what keeps a packet's pair belongs where its kind and hub fit
@@ -50,6 +51,17 @@ module _ {pl : Plan} (wired : Wired pl) (range : InRange (pl .head)) where
         ranges = record { active = ha; passive = hp; slot = ht; hub = omega arith };
         serves = s;
         fits = active-setup wired a p ha hp s;
+      }
+
+  -- a closing TDOWN belongs there too: the whole walk is ahead of it
+  pub closing-belongs : (a p t : ℕ) → a < A pl → p < P pl → t < S pl → Served pl a p
+      → Belongs pl (inQueue (activeOut a)) (closingOf pl a p t)
+  closing-belongs a p t ha hp ht s =
+      let short = span-short wired a p ha hp s in
+      record {
+        ranges = record { active = ha; passive = hp; slot = ht; hub = omega (arith, range .routers) };
+        serves = s;
+        fits = active-tdown wired a p ha hp s (span pl a p) (span-some wired a p ha hp s) (omega arith);
       }
 
   module _ (x : Packet) (from : Place) (here : Belongs pl from x) where

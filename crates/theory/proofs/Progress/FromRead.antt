@@ -1,5 +1,5 @@
--- Progress from READ: until the first Read only Launches change the state; a full wire moves at that Read, else
--- EXECUTE begins with the same queues.
+-- Progress from READ: until the first Read only Launches and Closes change the state; a full wire moves at that Read,
+-- else EXECUTE begins with the same queues.
 use mathlib.Core.Path.{_≡_, refl, sym, ap, _∙_}
 use mathlib.Core.Logic.{_⊎_, inl, inr, _≢_}
 use mathlib.Core.Bool.{Bool, true, false, true≢false, false≢true}
@@ -22,9 +22,10 @@ use Rattle.machine.specs.Store.{put, sameQueue, same-queue}
 use Rattle.machine.specs.Outputs.{outputs, outputAt, outputNumber}
 use Rattle.machine.specs.State.{State, isFull, join}
 use Rattle.machine.specs.Read.{deliver, settle, lower, doRead}
-use Rattle.machine.specs.Visits.{setupOf, launched}
+use Rattle.machine.specs.Visits.{setupOf, launched, closingOf, closed}
 use Rattle.machine.specs.Calls.{Visit, Call, turn, visit, read, execute, write, Outcome, call}
-use Rattle.theory.specs.Does.{Visited, launches, replies, consumes, looks, Does, refuses, turns, visits}
+use Rattle.theory.specs.Does.{Visited, launches, replies, consumes, closes, looks, Does, refuses, turns}
+use Rattle.theory.specs.Does.{visits}
 use Rattle.machine.specs.Valid.{Drives}
 use Rattle.machine.specs.Progress.{isInQueue, UnderWay, Waits, endsRound}
 use Rattle.machine.specs.Ruled.{rounds, Moves, Good}
@@ -80,6 +81,12 @@ launched-before a q t s =
     let j = joined-before (activeOut a) (setupOf a q t) s refl in
     record { phase = j .phase; wire = j .wire; ins = j .ins; held = j .held }
 
+closed-before : (pl : Plan) (a q t : ℕ) (s : State) → Before s (closed pl a q t s)
+unfolding closed
+closed-before pl a q t s =
+    let j = joined-before (activeOut a) (closingOf pl a q t) s refl in
+    record { phase = j .phase; wire = j .wire; ins = j .ins; held = j .held }
+
 module _ (pl : Plan) (s : State) (e : s .clock .phase ≡ Read) where
   only : (c : Call) (o : Outcome) → Does pl s c o → c ≢ read → Before s (o .state) × (endsRound c (o .answer) ≡ 0)
   only c o (refuses d w n) ne = (unchanged s, refused-turns Write d w)
@@ -90,6 +97,7 @@ module _ (pl : Plan) (s : State) (e : s .clock .phase ≡ Read) where
       by v r (launches a q t m) = (launched-before a q t s, refl)
       by v r (replies q c x rest m) = absurd (read-write (sym e ∙ m .phase))
       by v r (consumes a x rest m) = absurd (read-write (sym e ∙ m .phase))
+      by v r (closes a q t m) = (closed-before pl a q t s, refl)
       by v r (looks i q t m) = (unchanged s, refl)
 
   only-read : (c : Call) → c ≢ read → Before s (call pl c s .state) × (endsRound c (call pl c s .answer) ≡ 0)

@@ -24,11 +24,12 @@ use Rattle.feeding.specs.Feeds.{Output}
 use Rattle.machine.specs.Store.{put, sameQueue, same-queue, sameOutput, same-output, output-same}
 use Rattle.machine.specs.Outputs.{outputs, outputAt}
 use Rattle.machine.specs.State.{State, Choice, nobody, join, withPhase, withQueue, withFlag, withChoice}
+use Rattle.machine.specs.State.{withConnection}
 use Rattle.machine.specs.Read.{arrive, deliver, lower, settle, doRead}
 use Rattle.machine.specs.Execute.{unit, atUnit, picked}
 use Rattle.machine.specs.Execute.{choose, answer, atActive, undo, doExecute, hasRoom, unmarked}
 use Rattle.machine.specs.Write.{sendBy, send, doWrite}
-use Rattle.machine.specs.Visits.{launched, replied, removed}
+use Rattle.machine.specs.Visits.{launched, replied, removed, closed}
 use Rattle.machine.specs.Progress.{isInQueue}
 use Rattle.machine.proofs.OutNumbers.{drives-at}
 use Rattle.theory.proofs.Ground.Cells.{queue-away}
@@ -362,3 +363,20 @@ remove-same pl p s a l d =
       credit = i .credit;
       wires = i .wires;
     }
+
+-- a connection set or cleared
+pub connection-same : (pl : Plan) (p s : State) (a q t : ℕ) (x : Bool) → Same pl p s
+    → Same pl p (withConnection a q t x s)
+connection-same pl p s a q t x k =
+    record {
+      inner = k .inner;
+      outs = k .outs;
+      handled = k .handled;
+      table = k .table;
+      credit = k .credit;
+      wires = k .wires;
+    }
+
+pub close-same : (pl : Plan) (p s : State) (a q t : ℕ) → Same pl p s → Same pl p (closed pl a q t s)
+unfolding closed
+close-same pl p s a q t k = connection-same pl p _ a q t false (join-same pl p s k (activeOut a) _ refl)

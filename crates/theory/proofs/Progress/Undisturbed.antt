@@ -2,21 +2,24 @@
 -- allows.
 use mathlib.Core.Path.{_≡_, refl, sym, ap, _∙_}
 use mathlib.Core.Logic.{_≢_}
-use mathlib.Core.Bool.{false, true≢false}
+use mathlib.Core.Bool.{true, false, true≢false}
 use Rattle.basis.specs.Choice.{refuted}
 use Rattle.kinds.specs.declared.Refusal.the-variants.{WrongPhase}
+use Rattle.packets.specs.declared.Packet.{Packet}
 use Rattle.packets.specs.declared.Phase.{Phase}
 use Rattle.packets.specs.declared.Phase.the-variants.{Execute, Write}
 use Rattle.packets.specs.declared.Answer.the-variants.{Refused, Done}
 use Rattle.plan.specs.Plan.{Plan}
 use Rattle.machine.specs.State.{State, join}
-use Rattle.machine.specs.Visits.{launched, replyKind, removed}
+use Rattle.machine.specs.Visits.{launched, replyKind, removed, noted, closed}
 use Rattle.machine.specs.Calls.{Visit, Call, turn, visit, execute, Outcome, gives, isPhase, phaseStep, call}
-use Rattle.theory.specs.Does.{Visited, launches, replies, consumes, looks, Does, refuses, turns, visits}
+use Rattle.theory.specs.Does.{Visited, launches, replies, consumes, closes, looks, Does, refuses, turns}
+use Rattle.theory.specs.Does.{visits}
 use Rattle.machine.specs.Progress.{isTimed, endsRound}
 use Rattle.machine.proofs.Apart.{phase-of, phase-is, read-execute, execute-write}
 use Rattle.theory.proofs.Does.{call-does, refused-turns}
-use Rattle.theory.proofs.Progress.Still.{Same, launch-same, reply-same, remove-same}
+use Rattle.theory.proofs.Progress.Still.{Same, launch-same, reply-same, remove-same, connection-same, close-same}
+use Rattle.theory.proofs.Cases.{noted-keeps}
 
 -- ---- the three timed calls, in their phase and outside it
 module _ (pl : Plan) (s : State) (x : Phase) where
@@ -39,14 +42,28 @@ module _ (pl : Plan) (p s : State) (k : Same pl p s) where
   pub still : Undisturbed pl p s s
   still = record { same = k; slot = refl; phase = refl; choice = refl }
 
+  -- what a consumed packet notes disturbs nothing
+  noted-undisturbed : (x : Packet) (t : State) → Undisturbed pl p s t → Undisturbed pl p s (noted pl x t)
+  noted-undisturbed x t u =
+      noted-keeps pl x t (Undisturbed pl p s)
+      (λ e. record {
+        same = connection-same pl p t (x .active) (x .passive) _ true (u .same);
+        slot = u .slot;
+        phase = u .phase;
+        choice = u .choice;
+      }) u
+
   visits-undisturbed : (v : Visit) (o : Outcome) → Visited pl s v o → Undisturbed pl p s (o .state)
-  unfolding launched join removed
+  unfolding launched join removed closed
   visits-undisturbed v o (launches a q t m) =
       record { same = launch-same pl p s a q t k; slot = refl; phase = refl; choice = refl }
   visits-undisturbed v o (replies q c x rest m) =
       record { same = reply-same pl p s q (replyKind c) x rest k; slot = refl; phase = refl; choice = refl }
   visits-undisturbed v o (consumes a x rest m) =
-      record { same = remove-same pl p s a rest k; slot = refl; phase = refl; choice = refl }
+      noted-undisturbed x (removed a rest s)
+      (record { same = remove-same pl p s a rest k; slot = refl; phase = refl; choice = refl })
+  visits-undisturbed v o (closes a q t m) =
+      record { same = close-same pl p s a q t k; slot = refl; phase = refl; choice = refl }
   visits-undisturbed v o (looks r i t m) = still
 
   untimed : (c : Call) (o : Outcome) → Does pl s c o → isTimed c ≡ false → Undisturbed pl p s (o .state)
@@ -68,6 +85,7 @@ module _ (pl : Plan) (s : State) (e : s .clock .phase ≡ Execute) where
       by v r (launches a q t m) = absurd (read-execute (sym (m .phase) ∙ e))
       by v r (replies q c x rest m) = absurd (execute-write (sym e ∙ m .phase))
       by v r (consumes a x rest m) = absurd (execute-write (sym e ∙ m .phase))
+      by v r (closes a q t m) = absurd (read-execute (sym (m .phase) ∙ e))
       by v r (looks i q t m) = (refl, refl)
 
   pub only-execute : (c : Call) → c ≢ execute → (call pl c s .state ≡ s) × (endsRound c (call pl c s .answer) ≡ 0)

@@ -1,6 +1,6 @@
--- What a shape has in each phase; and Launch, Reply and Consume keep it.
+-- What a shape has in each phase; and Launch, Reply, Consume and Close keep it.
 use mathlib.Core.Path.{_≡_, refl, sym, ap, _∙_}
-use mathlib.Core.Bool.{true}
+use mathlib.Core.Bool.{Bool, true}
 use mathlib.Core.List.{List, _∷_}
 use Prim.Native.Nat.{ℕ}
 use Rattle.packets.specs.declared.Kind.{Kind}
@@ -11,11 +11,12 @@ use Rattle.plan.specs.Plan.{Plan}
 use Rattle.feeding.specs.Queue.{activeIn, passiveIn, passiveOut}
 use Rattle.feeding.specs.Feeds.{Output}
 use Rattle.journeys.proofs.Places.{some-not-none}
-use Rattle.machine.specs.State.{State, Choice, withQueue, withFlag, join}
-use Rattle.machine.specs.Visits.{launched, repliedAs, replied, removed}
+use Rattle.machine.specs.State.{State, Choice, withQueue, withFlag, withConnection, join}
+use Rattle.machine.specs.Visits.{launched, repliedAs, replied, removed, noted, closed}
 use Rattle.machine.proofs.Apart.{read-execute, read-write, execute-write}
 use Rattle.theory.specs.Invariant.{WiresEmpty, FlagsDown, NoChoices, ChoicesSendable, Shape, in-read, in-execute}
 use Rattle.theory.specs.Invariant.{in-write}
+use Rattle.theory.proofs.Cases.{noted-keeps}
 use Rattle.theory.proofs.Shape.Spared.{Spares, spared-sendable, spares-alike, spares-then, join-spares}
 use Rattle.theory.proofs.Shape.Spared.{turn-spares, flag-spares}
 
@@ -47,6 +48,14 @@ module _ {pl : Plan} (s : State) where
       let g = write-has q h in
       in-write (p ∙ q) (λ o d. ap (λ (m : Output → Wire). m o) w ∙ g .0 o d)
       (λ o k d e. spared-sendable (a o) k (g .1 o k d (sym (ap (λ (m : Output → Choice). m o) c) ∙ e)))
+
+  -- ---- a connection set or cleared
+  pub connection-shape : (a p t : ℕ) (x : Bool) → Shape pl s → Shape pl (withConnection a p t x s)
+  connection-shape a p t x (in-read e n) = in-read e n
+  connection-shape a p t x (in-execute e n w f) = in-execute e n w f
+  connection-shape a p t x (in-write e w c) =
+      in-write e w (λ o k d q. spared-sendable (spares-alike s (withConnection a p t x s) refl refl refl refl) k
+      (c o k d q))
 
   -- ---- the calls
   -- Launch, in READ
@@ -83,3 +92,12 @@ module _ {pl : Plan} (s : State) where
           (flag-spares (activeIn a) (λ z. some-not-none z) true (withQueue (activeIn a) rest s))
           (spares-alike (withFlag (activeIn a) true (withQueue (activeIn a) rest s)) (removed a rest s) refl refl refl
           refl))
+
+  -- what it notes
+  pub noted-shape : (x : Packet) → Shape pl s → Shape pl (noted pl x s)
+  noted-shape x h = noted-keeps pl x s (Shape pl) (λ e. connection-shape (x .active) (x .passive) _ true h) h
+
+  -- Close, in READ
+  pub closed-shape : (a p t : ℕ) → s .clock .phase ≡ Read → Shape pl s → Shape pl (closed pl a p t s)
+  unfolding closed join
+  closed-shape a p t q h = in-read q (read-has q h)

@@ -22,11 +22,12 @@ use Rattle.feeding.specs.Feeds.{Output}
 use Rattle.wiring.specs.Wired.{Wired}
 use Rattle.machine.specs.Store.{put, sameOutput}
 use Rattle.machine.specs.Outputs.{nextBy}
-use Rattle.machine.specs.State.{State, Links, sender, blank, start, withPhase, withSlot, withQueue, join}
+use Rattle.machine.specs.State.{State, Links, sender, blank, start, withPhase, withSlot, withConnection, withQueue}
+use Rattle.machine.specs.State.{join}
 use Rattle.machine.specs.Read.{deliver, lower, settle}
 use Rattle.machine.specs.Execute.{declined, unit, tdownOf, choose, undo}
 use Rattle.machine.specs.Write.{send}
-use Rattle.machine.specs.Visits.{launched, repliedAs, replied, removed}
+use Rattle.machine.specs.Visits.{launched, repliedAs, replied, removed, noted, closingOf, closed}
 use Rattle.machine.specs.Valid.{Drives, Carries, spendsKind, spends}
 use Rattle.machine.proofs.Apart.{full-not}
 use Rattle.theory.specs.Invariant.{Core, Sendable, Allowances}
@@ -35,13 +36,15 @@ use Rattle.theory.proofs.Places.Senders.{raise-links, raise-allowance}
 use Rattle.theory.proofs.Cases.{deliver-none, deliver-one, UnitDoes, rests, books, declines, ends, frees}
 use Rattle.theory.proofs.Cases.{unit-does, unit-books, unit-declines, unit-ends, unit-frees, ActiveDoes, waits}
 use Rattle.theory.proofs.Cases.{tears, undo-does, undo-tears, SendDoes, none-sent, sent, send-does, send-one}
+use Rattle.theory.proofs.Cases.{noted-keeps}
 use Rattle.theory.specs.Weights.{anywhere, weighed}
 use Rattle.theory.proofs.Weights.Total.{Bound, weighed-total, core-bound, weighed-plain, start-weighed}
 use Rattle.theory.proofs.Weights.Total.{bound-put}
-use Rattle.theory.proofs.Weights.Moves.{core-head, phase-weighed, slot-weighed, settle-weighed}
-use Rattle.theory.proofs.Weights.Moves.{choose-weighed, deliver-weighed, send-weighed}
+use Rattle.theory.proofs.Weights.Moves.{core-head, phase-weighed, slot-weighed, connection-weighed}
+use Rattle.theory.proofs.Weights.Moves.{settle-weighed, choose-weighed, deliver-weighed, send-weighed}
 use Rattle.theory.proofs.Weights.Changes.{booked-weighed, declined-weighed, freed-weighed, ended-weighed}
-use Rattle.theory.proofs.Weights.Changes.{torn-weighed, launched-weighed, replied-weighed, removed-weighed}
+use Rattle.theory.proofs.Weights.Changes.{torn-weighed, launched-weighed, closed-weighed, replied-weighed}
+use Rattle.theory.proofs.Weights.Changes.{removed-weighed}
 use Rattle.theory.proofs.Weights.Spending.{tdown-spends, kinds-spend, mine, fallen, grown}
 
 -- Start has every allowance whole.
@@ -77,6 +80,11 @@ module _ {pl : Plan} {s : State} (c : Core pl s) where
   -- The slot does not matter.
   pub slot-allowances : (x : Slot) → Allowances pl (withSlot x s)
   slot-allowances x = allowances-kept (withSlot x s) refl refl (λ a. slot-weighed pl (anywhere (spends a)) x s)
+
+  -- The connections do not matter.
+  pub connection-allowances : (a p t : ℕ) (x : Bool) → Allowances pl (withConnection a p t x s)
+  connection-allowances a p t x = allowances-kept (withConnection a p t x s) refl refl
+      (λ b. connection-weighed pl (anywhere (spends b)) a p t x s)
 
   -- ---- READ
   -- A delivery keeps the allowances.
@@ -192,6 +200,19 @@ module _ {pl : Plan} {s : State} (c : Core pl s) where
       let all = launched-weighed pl (anywhere (spends b)) c a p t h in
       let now = fallen (s .flow .allowance) a b (s .flow .allowance a - 1) (omega arith) in
       omega arith)
+
+  -- A close costs none: a tear-down takes nothing.
+  pub closed-allowances : (a p t : ℕ) → a < A pl → Allowances pl (closed pl a p t s)
+  unfolding closed join
+  closed-allowances a p t h =
+      allowances-kept (closed pl a p t s) refl refl
+      (λ b. let all = closed-weighed pl (anywhere (spends b)) c a p t h in
+      let none = tdown-spends b (closingOf pl a p t) refl in omega arith)
+
+  -- What a consumed packet notes keeps the allowances.
+  pub noted-allowances : (x : Packet) → Allowances pl (noted pl x s)
+  noted-allowances x = noted-keeps pl x s (Allowances pl)
+      (λ e. connection-allowances (x .active) (x .passive) _ true) (c .allowances)
 
   -- A reply keeps the allowances: an answer for the set-up.
   pub replied-allowances : Wired pl → (p : ℕ) → p < P pl → (k : Kind) → spendsKind k ≡ 1 → (x : Packet)

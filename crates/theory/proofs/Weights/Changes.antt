@@ -14,13 +14,13 @@ use Rattle.feeding.specs.Queue.{Queue, activeOut, activeIn, passiveIn, passiveO
 use Rattle.feeding.specs.Feeds.{inQueue, handledAt, headPlace}
 use Rattle.machine.specs.State.{State, withQueue, withFlag, join}
 use Rattle.machine.specs.Execute.{declined, booked, freed, handledAs, unit, unmarked, marked, tdownOf, hasRoom, undo}
-use Rattle.machine.specs.Visits.{setupOf, launched, repliedAs, replied, removed}
+use Rattle.machine.specs.Visits.{setupOf, launched, repliedAs, replied, removed, closingOf, closed}
 use Rattle.machine.specs.Valid.{inAll}
 use Rattle.theory.specs.Invariant.{Core}
 use Rattle.theory.specs.Weights.{Weight, inLine, weighed}
 use Rattle.theory.proofs.Weights.Total.{weighed-line, weighed-join}
 use Rattle.theory.proofs.Cases.{mayBookAt, unit-books, unit-declines, unit-ends, unit-frees, undo-tears}
-use Rattle.theory.proofs.Weights.Moves.{queue-weighed}
+use Rattle.theory.proofs.Weights.Moves.{connection-weighed, queue-weighed}
 
 module _ (pl : Plan) (w : Weight) where
   -- The head of a queue taken, where it is in the queue.
@@ -108,6 +108,14 @@ module _ (pl : Plan) (w : Weight) where
         → weighed pl w (launched a p t s) ≡ weighed pl w s + w (inQueue (activeOut a)) (setupOf a p t)
     unfolding launched weighed
     launched-weighed a p t h = weighed-join pl w (activeOut a) h (setupOf a p t) s (λ m. c .marks (activeOut a) h m .2)
+
+    -- A closing tear-down joins the out-queue.
+    pub closed-weighed : (a p t : ℕ) → a < A pl
+        → weighed pl w (closed pl a p t s) ≡ weighed pl w s + w (inQueue (activeOut a)) (closingOf pl a p t)
+    unfolding closed
+    closed-weighed a p t h =
+        connection-weighed pl w a p t false (join (activeOut a) (closingOf pl a p t) s)
+        ∙ weighed-join pl w (activeOut a) h (closingOf pl a p t) s (λ m. c .marks (activeOut a) h m .2)
 
     -- A passive's head goes, and its answer joins the out-queue.
     pub replied-weighed : (p : ℕ) → p < P pl → (k : Kind) (x : Packet) (rest : List Packet)

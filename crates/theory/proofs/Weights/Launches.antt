@@ -1,8 +1,8 @@
--- A connection is accepted no more times than it was launched: accepted ones, and the set-ups and ACKs that are on the
--- way, count against the accepted Launches of the same pair and start slot.
+-- A connection is accepted no more times than it was launched: the Consumes that accepted it, closed since or not, and
+-- the set-ups and ACKs that are on the way, count against the accepted Launches of the same pair and start slot.
 use mathlib.Core.Path.{_≡_, refl, sym, ap, _∙_}
 use mathlib.Core.Logic.{_⊎_, inl, inr}
-use mathlib.Core.Bool.{_&&_}
+use mathlib.Core.Bool.{Bool, true, _&&_}
 use mathlib.Core.List.{List, [], _∷_}
 use Prim.Native.Nat.{ℕ, _+_, _≤_, _<_}
 use native.Mathlib.Omega.{arith}
@@ -19,25 +19,26 @@ use Rattle.plan.specs.Plan.{Plan, R, A, P, S}
 use Rattle.feeding.specs.Queue.{Queue, activeIn, passiveIn, Q}
 use Rattle.feeding.specs.Feeds.{Output}
 use Rattle.wiring.specs.Wired.{Wired}
-use Rattle.machine.specs.State.{State, sender, start, withPhase, withSlot}
+use Rattle.machine.specs.State.{State, sender, start, withPhase, withSlot, withConnection}
 use Rattle.machine.specs.Read.{deliver, settle}
 use Rattle.machine.specs.Execute.{booked, freed, declined, choose, unit, marked, tdownOf, undo}
 use Rattle.machine.specs.Write.{send}
-use Rattle.machine.specs.Visits.{setupOf, launched, repliedAs, replied, removed}
+use Rattle.machine.specs.Visits.{setupOf, launched, repliedAs, replied, removed, noted, closingOf, closed}
 use Rattle.machine.specs.Calls.{launch}
-use Rattle.machine.specs.Accepted.{Connection, connectionOf, acceptKind}
-use Rattle.machine.specs.Ruled.{launchesCall, sameConnection, times}
+use Rattle.machine.specs.Connections.{Connection, connectionOf, sameConnection}
+use Rattle.machine.specs.Ruled.{launchesCall, acceptsKind}
 use Rattle.machine.specs.Valid.{Drives}
 use Rattle.theory.proofs.Places.Closure.{passive-setup}
 use Rattle.theory.specs.Invariant.{Core, Sendable}
 use Rattle.theory.specs.Weights.{anywhere, weighed}
 use Rattle.theory.proofs.Weights.Total.{start-weighed}
 use Rattle.theory.proofs.Cases.{UnitDoes, rests, books, declines, ends, frees, unit-does, unmarked-nack}
-use Rattle.theory.proofs.Cases.{ActiveDoes, waits, tears, undo-does}
-use Rattle.theory.proofs.Weights.Moves.{core-head, phase-weighed, slot-weighed, settle-weighed}
-use Rattle.theory.proofs.Weights.Moves.{choose-weighed, deliver-weighed, send-weighed}
+use Rattle.theory.proofs.Cases.{ActiveDoes, waits, tears, undo-does, noted-keeps}
+use Rattle.theory.proofs.Weights.Moves.{core-head, phase-weighed, slot-weighed, connection-weighed}
+use Rattle.theory.proofs.Weights.Moves.{settle-weighed, choose-weighed, deliver-weighed, send-weighed}
 use Rattle.theory.proofs.Weights.Changes.{booked-weighed, declined-weighed, freed-weighed, ended-weighed}
-use Rattle.theory.proofs.Weights.Changes.{torn-weighed, launched-weighed, replied-weighed, removed-weighed}
+use Rattle.theory.proofs.Weights.Changes.{torn-weighed, launched-weighed, closed-weighed, replied-weighed}
+use Rattle.theory.proofs.Weights.Changes.{removed-weighed}
 use Rattle.theory.proofs.Places.Slots.{start-next, start-none}
 
 -- what a packet of a kind bears: of a set-up and an ACK, the connection of its pair and start slot
@@ -55,9 +56,9 @@ bears pl d x = bearsKind pl d (x .kind) x
 unfoldable pub borne : Plan → Connection → State → ℕ
 borne pl d s = weighed pl (anywhere (bears pl d)) s
 
--- accepted and on the way, d is found at most n times
-pub record Counted (pl : Plan) (d : Connection) (acc : List Connection) (n : ℕ) (s : State) : Type 0 where
-  pub count : times d acc + borne pl d s ≤ n
+-- accepted m times and on the way, d is found at most n times
+pub record Counted (pl : Plan) (d : Connection) (m n : ℕ) (s : State) : Type 0 where
+  pub count : m + borne pl d s ≤ n
 
 module _ (pl : Plan) (d : Connection) where
   -- What a packet of a kind bears.
@@ -87,73 +88,85 @@ module _ (pl : Plan) (d : Connection) where
   replied-bears k x (inr q) e = let a = bears-of Nack (repliedAs k x) q in omega arith
 
   -- Start has none.
-  pub start-counted : Counted pl d [] 0 (start pl)
+  pub start-counted : Counted pl d 0 0 (start pl)
   unfolding borne
   start-counted = record { count = let z = start-weighed pl (anywhere (bears pl d)) in omega arith }
 
-  module _ {acc : List Connection} {n : ℕ} where
+  module _ {m n : ℕ} where
     -- Accepted are no more than launched.
-    pub counted-times : {s : State} → Counted pl d acc n s → times d acc ≤ n
+    pub counted-times : {s : State} → Counted pl d m n s → m ≤ n
     counted-times k = let c = k .count in omega arith
 
     -- What bears no more is counted alike.
-    pub counted-less : (s t : State) → Counted pl d acc n s → borne pl d t ≤ borne pl d s → Counted pl d acc n t
+    pub counted-less : (s t : State) → Counted pl d m n s → borne pl d t ≤ borne pl d s → Counted pl d m n t
     counted-less s t k l = record { count = let c = k .count in omega arith }
 
-    same : (s t : State) → Counted pl d acc n s → borne pl d t ≡ borne pl d s → Counted pl d acc n t
+    same : (s t : State) → Counted pl d m n s → borne pl d t ≡ borne pl d s → Counted pl d m n t
     same s t k e = counted-less s t k (omega arith)
 
-    module _ (s : State) (k : Counted pl d acc n s) where
+    module _ (s : State) (k : Counted pl d m n s) where
       -- The phase does not matter.
-      pub phase-counted : (x : Phase) → Counted pl d acc n (withPhase x s)
+      pub phase-counted : (x : Phase) → Counted pl d m n (withPhase x s)
       unfolding borne
       phase-counted x = same s (withPhase x s) k (phase-weighed pl (anywhere (bears pl d)) x s)
 
       -- The slot does not matter.
-      pub slot-counted : (x : Slot) → Counted pl d acc n (withSlot x s)
+      pub slot-counted : (x : Slot) → Counted pl d m n (withSlot x s)
       unfolding borne
       slot-counted x = same s (withSlot x s) k (slot-weighed pl (anywhere (bears pl d)) x s)
 
       -- Settling a flag keeps the count.
-      pub settle-counted : (q : Queue) → Counted pl d acc n (settle q s)
+      pub settle-counted : (q : Queue) → Counted pl d m n (settle q s)
       unfolding borne
       settle-counted q = same s (settle q s) k (settle-weighed pl (anywhere (bears pl d)) q s)
 
       -- So does a choice.
-      pub choose-counted : (o : Output) → Counted pl d acc n (choose pl o s)
+      pub choose-counted : (o : Output) → Counted pl d m n (choose pl o s)
       unfolding borne
       choose-counted o = same s (choose pl o s) k (choose-weighed pl (anywhere (bears pl d)) o s)
 
+      -- So does a connection set or cleared.
+      pub connection-counted : (a p t : ℕ) (x : Bool) → Counted pl d m n (withConnection a p t x s)
+      unfolding borne
+      connection-counted a p t x =
+          same s (withConnection a p t x s) k (connection-weighed pl (anywhere (bears pl d)) a p t x s)
+
+      -- So does what a consumed packet notes.
+      pub noted-counted : (x : Packet) → Counted pl d m n (noted pl x s)
+      noted-counted x =
+          noted-keeps pl x s (Counted pl d m n) (λ e. connection-counted (x .active) (x .passive) _ true) k
+
       -- So does a Consume: an ACK's connection is accepted, and another packet bears none.
       pub removed-counted : (a : ℕ) (x : Packet) (rest : List Packet) → a < A pl
-          → s .lines .queue (activeIn a) ≡ x ∷ rest → Counted pl d (acceptKind pl (x .kind) x acc) n (removed a rest s)
+          → s .lines .queue (activeIn a) ≡ x ∷ rest
+          → Counted pl d (acceptsKind pl d (x .kind) x + m) n (removed a rest s)
       unfolding borne
       removed-counted a x rest h e = by (x .kind) refl
         where
           all : borne pl d (removed a rest s) + bears pl d x ≡ borne pl d s
           all = removed-weighed pl (anywhere (bears pl d)) s a h x rest e
 
-          by : (k : Kind) → x .kind ≡ k → Counted pl d (acceptKind pl k x acc) n (removed a rest s)
-          by Setup q = counted-less s (removed a rest s) k (let w = all in omega arith)
-          by Tdown q = counted-less s (removed a rest s) k (let w = all in omega arith)
+          by : (k : Kind) → x .kind ≡ k → Counted pl d (acceptsKind pl d k x + m) n (removed a rest s)
+          by Setup q = record { count = let w = all in let c = k .count in omega arith }
+          by Tdown q = record { count = let w = all in let c = k .count in omega arith }
           by Ack q = record { count = let w = all in let b = bears-of Ack x q in let c = k .count in omega arith }
-          by Nack q = counted-less s (removed a rest s) k (let w = all in omega arith)
+          by Nack q = record { count = let w = all in let c = k .count in omega arith }
 
-    module _ (wired : Wired pl) (s : State) (c : Core pl s) (k : Counted pl d acc n s) where
+    module _ (wired : Wired pl) (s : State) (c : Core pl s) (k : Counted pl d m n s) where
       -- A delivery keeps the count.
-      pub deliver-counted : (o : Output) → Drives pl o → Counted pl d acc n (deliver pl o s)
+      pub deliver-counted : (o : Output) → Drives pl o → Counted pl d m n (deliver pl o s)
       unfolding borne
       deliver-counted o h = same s (deliver pl o s) k (deliver-weighed pl (anywhere (bears pl d)) wired c o h)
 
       -- So does a sending.
       pub send-counted : (o : Output) → Drives pl o → ((m : ℕ) → s .links .choice o ≡ sender m → Sendable pl s o m)
-          → s .links .wire o ≡ Empty → Counted pl d acc n (send pl o s)
+          → s .links .wire o ≡ Empty → Counted pl d m n (send pl o s)
       unfolding borne
       send-counted o h ready z = same s (send pl o s) k
           (send-weighed pl (anywhere (bears pl d)) wired c o h (λ u m q y x g e f b. refl) ready z)
 
       -- So does a unit's turn: a booked set-up is the same connection, a declined one is none.
-      pub unit-counted : (r : ℕ) → r < R pl → Counted pl d acc n (unit pl r s)
+      pub unit-counted : (r : ℕ) → r < R pl → Counted pl d m n (unit pl r s)
       unfolding borne
       unit-counted r h = counted-less s (unit pl r s) k (by (unit-does pl r s))
         where
@@ -176,7 +189,7 @@ module _ (pl : Plan) (d : Connection) where
               omega arith
 
       -- So does an active that tears down.
-      pub undo-counted : (a : ℕ) → a < A pl → Counted pl d acc n (undo pl a s)
+      pub undo-counted : (a : ℕ) → a < A pl → Counted pl d m n (undo pl a s)
       unfolding borne
       undo-counted a h = counted-less s (undo pl a s) k (by (undo-does pl a s))
         where
@@ -190,7 +203,7 @@ module _ (pl : Plan) (d : Connection) where
 
       -- A Launch counts on both sides.
       pub launched-counted : (a p t : ℕ) → a < A pl → t < S pl
-          → Counted pl d acc (launchesCall d (launch a p t) Done + n) (launched a p t s)
+          → Counted pl d m (launchesCall d (launch a p t) Done + n) (launched a p t s)
       unfolding borne
       launched-counted a p t h l =
           record {
@@ -198,10 +211,18 @@ module _ (pl : Plan) (d : Connection) where
                 let b = launched-bears a p t l in let m = k .count in omega arith;
           }
 
+      -- A Close keeps the count: a tear-down bears none.
+      pub closed-counted : (a p t : ℕ) → a < A pl → Counted pl d m n (closed pl a p t s)
+      unfolding borne
+      closed-counted a p t h =
+          let w = closed-weighed pl (anywhere (bears pl d)) c a p t h in
+          let b = bears-of Tdown (closingOf pl a p t) refl in
+          counted-less s (closed pl a p t s) k (omega arith)
+
       -- A Reply keeps the count.
       pub replied-counted : (p : ℕ) (kind : Kind) (x : Packet) (rest : List Packet) → p < P pl
           → (kind ≡ Ack) ⊎ (kind ≡ Nack) → s .lines .queue (passiveIn p) ≡ x ∷ rest
-          → Counted pl d acc n (replied p kind (x ∷ rest) s)
+          → Counted pl d m n (replied p kind (x ∷ rest) s)
       unfolding borne
       replied-counted p kind x rest h q e =
           let b = core-head c (passiveIn p) h x rest e in

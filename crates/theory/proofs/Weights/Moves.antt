@@ -17,7 +17,7 @@ use Rattle.feeding.specs.Role.{Role, sending, receiving, handling, passing, rol
 use Rattle.feeding.specs.Feeds.{Output, Place, inQueue, leavesFrom, headPlace}
 use Rattle.wiring.specs.Wired.{Wired}
 use Rattle.machine.specs.Outputs.{nextBy, senders}
-use Rattle.machine.specs.State.{State, Links, sender, withPhase, withSlot, withQueue, withWire}
+use Rattle.machine.specs.State.{State, Links, sender, withPhase, withSlot, withQueue, withWire, withConnection}
 use Rattle.machine.specs.Read.{deliver, lower, settle}
 use Rattle.machine.specs.Execute.{mayLeave, choose}
 use Rattle.machine.specs.Write.{ofRank, raiseAs, raise, spend, send}
@@ -60,6 +60,12 @@ module _ (pl : Plan) (w : Weight) where
   pub slot-weighed : (x : Slot) (s : State) → weighed pl w (withSlot x s) ≡ weighed pl w s
   unfolding weighed
   slot-weighed x s = refl
+
+  -- The connections do not matter.
+  pub connection-weighed : (a p t : ℕ) (x : Bool) (s : State)
+      → weighed pl w (withConnection a p t x s) ≡ weighed pl w s
+  unfolding weighed
+  connection-weighed a p t x s = refl
 
   -- Settling a flag keeps every weight.
   pub settle-weighed : (q : Queue) (s : State) → weighed pl w (settle q s) ≡ weighed pl w s

@@ -1,16 +1,17 @@
-//! Random lists of calls that keep a network busy: real rounds with launches, replies and consumes,
-//! and stray calls in any phase with any arguments.
+//! Random lists of calls that keep a network busy: real rounds with launches, closes, replies and
+//! consumes, and stray calls in any phase with any arguments.
 
 use super::Random;
 use crate::feeding::Queue;
 use crate::fields::SIDES;
 use crate::machine::list::Call;
-use crate::machine::{Network, Phase, State};
+use crate::machine::{Connection, Network, Phase, State};
 
 /// How the callers behave for a while; each is a number of parts in 16.
 #[derive(Clone, Copy, Debug)]
 struct Mood {
     launch: usize,
+    close: usize,
     reply: usize,
     accept: usize,
     consume: usize,
@@ -52,14 +53,18 @@ impl Caller {
             return stray(random, network);
         }
         match state.phase {
-            Phase::Read => self.in_read(random, state),
+            Phase::Read => self.in_read(random, network, state),
             Phase::Execute => Call::Execute,
             Phase::Write => self.in_write(random, network, state),
         }
     }
 
     /// Launches mostly where the allowance is not spent.
-    fn in_read(&self, random: &mut Random, state: &State) -> Call {
+    fn in_read(&self, random: &mut Random, network: &Network, state: &State) -> Call {
+        let accepted = !state.marks.is_empty() || random.chance(1, 8);
+        if accepted && random.chance(self.mood.close, 32) {
+            return self.close(random, network, state);
+        }
         let slot = random.below(self.mood.slots);
         let launches = random.chance(self.mood.launch, 16);
         match random.pick(&self.served).filter(|_| launches) {
@@ -67,6 +72,24 @@ impl Caller {
                 Call::Launch { active, passive, slot }
             }
             _ => Call::Read,
+        }
+    }
+
+    /// Mostly closes an accepted connection, and of these one whose out-queue is full, if there is
+    /// one; else any connection of a served pair.
+    fn close(&self, random: &mut Random, network: &Network, state: &State) -> Call {
+        let accepted: Vec<Connection> = state.marks.iter().copied().collect();
+        let full = |mark: &Connection| network.is_full(state, Queue::ActiveOut(mark.active));
+        let held: Vec<Connection> = accepted.iter().copied().filter(full).collect();
+        let held = random.pick(&held).filter(|_| random.chance(3, 4));
+        let accepted = held.or(random.pick(&accepted)).filter(|_| !random.chance(1, 6));
+        let slot = random.below(self.mood.slots);
+        match (accepted, random.pick(&self.served)) {
+            (Some(Connection { active, passive, start }), _) => {
+                Call::Close { active, passive, slot: start.0 }
+            }
+            (None, Some((active, passive))) => Call::Close { active, passive, slot },
+            (None, None) => Call::Read,
         }
     }
 
@@ -99,8 +122,9 @@ impl Mood {
         let often = |random: &mut Random| random.pick(&[0, 2, 8, 12, 15, 15, 15]).unwrap_or(8);
         Mood {
             launch: random.pick(&[0, 2, 6, 10, 14]).unwrap_or(6),
+            close: random.pick(&[0, 1, 2, 6, 16]).unwrap_or(1),
             reply: often(random),
-            accept: random.pick(&[0, 0, 1, 2, 12]).unwrap_or(1),
+            accept: random.pick(&[0, 1, 2, 8, 14]).unwrap_or(1),
             consume: often(random),
             stray: random.pick(&[0, 4, 16, 48]).unwrap_or(4),
             slots: random.within(1..=network.slots()),
@@ -121,13 +145,14 @@ pub fn stray(random: &mut Random, network: &Network) -> Call {
     let (active, passive) = (number(plan.actives()), number(plan.passives()));
     let (router, side, slot) = (number(plan.routers()), number(SIDES), number(network.slots()));
     let choice = number(2);
-    match random.below(7) {
+    match random.below(8) {
         0 => Call::Read,
         1 => Call::Execute,
         2 => Call::Write,
         3 => Call::Launch { active, passive, slot },
         4 => Call::Reply { passive, choice },
         5 => Call::Consume { active },
+        6 => Call::Close { active, passive, slot },
         _ => Call::Entry { router, side, slot },
     }
 }

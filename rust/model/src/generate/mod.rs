@@ -1,9 +1,10 @@
-//! Plans from a seed: good ones of all sizes, damaged ones, plans with rings.
+//! Plans from a seed: good ones of all sizes, damaged ones, plans with rings; calls and states.
 
 pub mod calls;
 pub mod damage;
 pub mod draft;
 pub mod good;
+pub mod marks;
 pub mod random;
 pub mod rings;
 pub mod states;

@@ -1,26 +1,34 @@
 //! Random states, also such as no list of calls reaches: a state changed in many small ways, each
 //! change kept if what it leaves is still a state.
 
+use super::marks::{
+    add_connection, answer_again, change_marked_entry, mark_and_book, share_an_entry, turn_mark,
+};
 use super::Random;
 use crate::feeding::Queue;
 use crate::fields::SIDES;
 use crate::machine::state::Credit;
-use crate::machine::{Hub, Kind, Network, Packet, Phase, Slot, State};
+use crate::machine::{Connection, Hub, Kind, Network, Packet, Phase, Slot, State};
 
 /// A small change, made in place; it may leave what is no state.
 pub type Change = fn(&mut Random, &Network, &mut State);
 
 /// All small changes.
-pub const CHANGES: [Change; 9] = [
+pub const CHANGES: [Change; 14] = [
     change_entry,
     change_slot,
     change_packet,
-    turn_mark,
+    turn_handled,
     turn_flag,
     add_to_queue,
     add_to_wire,
     remove_from_queue,
     change_choice,
+    add_connection,
+    turn_mark,
+    change_marked_entry,
+    share_an_entry,
+    answer_again,
 ];
 
 /// Tries `count` changes and keeps those that leave a state; how many it kept.
@@ -38,11 +46,15 @@ pub fn scramble(random: &mut Random, network: &Network, state: &mut State, count
 }
 
 /// The out-queue of some active is filled up with tear-downs, and a NACK joins its in-queue: Launch
-/// finds it full, and Consume an unmarked NACK.
+/// finds it full, and Consume an unmarked NACK. Every other time the active has a connection too:
+/// Close finds the out-queue full.
 pub fn jam(random: &mut Random, network: &Network, state: &mut State) {
     let plan = network.plan();
     let (active, passive) = (random.below(plan.actives()), random.below(plan.passives()));
     let slot = Slot(random.below(network.slots()));
+    if random.chance(1, 2) {
+        mark_and_book(network, state, Connection { active, passive, start: slot });
+    }
     let tear_down = Packet { kind: Kind::Tdown, active, passive, slot, hub: Hub(1) };
     let out = network.queue_index(Queue::ActiveOut(active));
     let room = network.capacity(Queue::ActiveOut(active)) - state.queues[out].len();
@@ -80,7 +92,7 @@ fn change_packet(random: &mut Random, network: &Network, state: &mut State) {
     }
 }
 
-fn turn_mark(random: &mut Random, network: &Network, state: &mut State) {
+fn turn_handled(random: &mut Random, network: &Network, state: &mut State) {
     let router = random.below(network.plan().routers());
     state.handled[router] = !state.handled[router];
 }

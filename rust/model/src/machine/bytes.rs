@@ -2,6 +2,7 @@
 
 use std::collections::VecDeque;
 
+use super::connection::Connection;
 use super::network::{Link, Network};
 use super::packet::{Hub, Kind, Packet, Slot};
 use super::state::{Credit, Phase, State, Table};
@@ -21,6 +22,10 @@ const OUTPUT_ROW: usize = 7;
 /// "There is room for 32 slots on each side, whatever S is", two bytes for each.
 const SIDE_ROW: usize = 64;
 const ENTRY: usize = 2;
+/// "64 bytes for each of the A actives": room for 16 passives, a bit for each of 32 start slots.
+const MARK_ROW: usize = 64;
+const MARK_PASSIVES: usize = 16;
+const MARK_SLOTS: usize = 32;
 /// Queues and outputs of a router.
 const ROUTER_QUEUES: usize = 21;
 const ROUTER_OUTPUTS: usize = 6;
@@ -82,9 +87,26 @@ impl Network {
         tables + SIDE_ROW * (SIDES * router + side) + ENTRY * slot
     }
 
+    /// The byte that holds a connection's mark, and the value of its bit there.
+    pub fn mark_at(&self, connection: Connection) -> (usize, u8) {
+        let Connection { active, passive, start: Slot(start) } = connection;
+        (self.marks_at(active) + 4 * passive + start / 8, 1 << (start % 8))
+    }
+
+    /// The first byte of an active's marks; of A, the first byte after the marks.
+    pub fn marks_at(&self, active: usize) -> usize {
+        self.entry_at(self.plan().routers(), 0, 0) + MARK_ROW * active
+    }
+
     /// How many bytes a state has.
     pub fn size(&self) -> usize {
-        self.entry_at(self.plan().routers(), 0, 0)
+        self.marks_at(self.plan().actives())
+    }
+
+    /// Whether the layout has a bit for this mark; also where the plan has no such passive or slot.
+    pub fn has_mark_bit(&self, connection: &Connection) -> bool {
+        let Connection { active, passive, start: Slot(start) } = *connection;
+        active < self.plan().actives() && passive < MARK_PASSIVES && start < MARK_SLOTS
     }
 
     /// The bytes of a state that has the plan's form.
@@ -106,6 +128,10 @@ impl Network {
         for (router, side, slot) in self.entries() {
             let entry = state.table.entry(router, side, Slot(slot));
             bytes[self.entry_at(router, side, slot)] = entry.map_or(0, |side| side as u8 + 1);
+        }
+        for &connection in &state.marks {
+            let (at, bit) = self.mark_at(connection);
+            bytes[at] |= bit;
         }
         bytes
     }
@@ -145,6 +171,21 @@ impl Network {
         sides.flat_map(|(router, side)| (0..self.slots()).map(move |slot| (router, side, slot)))
     }
 
+    /// Every connection that the layout has a bit for.
+    fn mark_bits(&self) -> impl Iterator<Item = Connection> + '_ {
+        let pairs = (0..self.plan().actives())
+            .flat_map(|active| (0..MARK_PASSIVES).map(move |passive| (active, passive)));
+        pairs.flat_map(|(active, passive)| {
+            let starts = (0..MARK_SLOTS).map(Slot);
+            starts.map(move |start| Connection { active, passive, start })
+        })
+    }
+
+    fn is_marked(&self, bytes: &[u8], connection: Connection) -> bool {
+        let (at, bit) = self.mark_at(connection);
+        bytes[at] & bit != 0
+    }
+
     /// What has these bytes, if anything of the plan's form has; more bytes may follow. It is a
     /// state if [`Network::is_state`] says so.
     pub fn decode(&self, bytes: &[u8]) -> Option<State> {
@@ -164,6 +205,7 @@ impl Network {
             state.allowances[active] = bytes[self.allowance_at(active)].into();
         }
         state.table = self.decode_table(bytes);
+        state.marks = self.mark_bits().filter(|&mark| self.is_marked(bytes, mark)).collect();
         // What the reading above passed over is as it is written.
         (self.encode(&state) == bytes).then_some(state)
     }

@@ -1,12 +1,13 @@
-//! The calls, each with its refusals in document 01's order. A refusal alters nothing.
+//! The calls, each with its refusals in the documents' order. A refusal alters nothing.
 
-use super::network::Network;
+use super::connection::Connection;
+use super::network::{Journey, Network};
 use super::packet::{Hub, Kind, Packet, Slot};
 use super::state::{Phase, State};
 use crate::feeding::Queue;
 use crate::fields::SIDES;
 use crate::refusal::{
-    ALLOWANCE, EMPTY, FLAG_UP, FULL, NOT_A_STATE, PHASE, RANGE, UNMARKED, UNSERVED,
+    ALLOWANCE, EMPTY, FLAG_UP, FULL, NOT_ACCEPTED, NOT_A_STATE, PHASE, RANGE, UNMARKED, UNSERVED,
 };
 
 /// "Else the entry, 4 for free."
@@ -48,17 +49,44 @@ impl Network {
         passive: usize,
         slot: usize,
     ) -> Result<(), u32> {
-        self.ensure_phase(state, Phase::Read)?;
-        let plan = self.plan();
-        let in_range = active < plan.actives() && passive < plan.passives() && slot < self.slots();
-        ensure(in_range, RANGE)?;
-        ensure(self.journey(active, passive).is_some(), UNSERVED)?;
+        self.served_in_read(state, active, passive, slot)?;
         ensure(state.allowances[active] > 0, ALLOWANCE)?;
         let out = Queue::ActiveOut(active);
         ensure(!self.is_full(state, out), FULL)?;
         let set_up = Packet { kind: Kind::Setup, active, passive, slot: Slot(slot), hub: Hub(0) };
         state.queues[self.queue_index(out)].push_back(set_up);
         state.allowances[active] -= 1;
+        Ok(())
+    }
+
+    /// "Close (active, passive, start slot) in READ: it puts a TDOWN in the active's out-queue,
+    /// slot the start slot, hub the number of routers on the walk, and the connection leaves the
+    /// accepted ones." "Close refuses 8, 9, 10, then 16 for a connection not accepted, then 12."
+    pub fn close(
+        &self,
+        state: &mut State,
+        active: usize,
+        passive: usize,
+        slot: usize,
+    ) -> Result<(), u32> {
+        let hub = Hub(self.served_in_read(state, active, passive, slot)?.walk.len());
+        let connection = Connection { active, passive, start: Slot(slot) };
+        ensure(state.marks.contains(&connection), NOT_ACCEPTED)?;
+        if self.rules().close_clears_at_once {
+            self.clear(state, connection);
+            return Ok(());
+        }
+        let out = Queue::ActiveOut(active);
+        ensure(!self.is_full(state, out), FULL)?;
+        let hub = if self.rules().close_one_too_far { hub.grown() } else { hub };
+        let tear_down = Packet { kind: Kind::Tdown, active, passive, slot: Slot(slot), hub };
+        state.queues[self.queue_index(out)].push_back(tear_down);
+        if !self.rules().accepted_until_torn_down {
+            state.marks.remove(&connection);
+        }
+        if self.rules().close_frees_early {
+            self.clear(state, connection);
+        }
         Ok(())
     }
 
@@ -78,7 +106,8 @@ impl Network {
     }
 
     /// "Consume (active): 8 not WRITE; 9; 14; 13; 15 head is an unmarked NACK. Else the packet is
-    /// returned and removed, the flag rises, the allowance grows by one."
+    /// returned and removed, the flag rises, the allowance grows by one." An ACK's connection is
+    /// accepted.
     pub fn consume(&self, state: &mut State, active: usize) -> Result<Packet, u32> {
         self.ensure_phase(state, Phase::Write)?;
         ensure(active < self.plan().actives(), RANGE)?;
@@ -87,6 +116,9 @@ impl Network {
         self.take_head(state, Queue::ActiveIn(active));
         let returned = self.rules().allowance_at_the_mark && head.kind == Kind::Nack;
         state.allowances[active] += usize::from(!returned);
+        if head.kind == Kind::Ack && !self.rules().accepted_at_the_arrival {
+            state.marks.insert(self.connection(&head));
+        }
         Ok(head)
     }
 
@@ -111,9 +143,32 @@ impl Network {
         ensure(state.phase == phase, PHASE)
     }
 
-    /// 7 not a state, where the rules are document 01's.
+    /// 7 not a state, 8 not READ, 9 a number out of range, 10 pair not served; else its ways.
+    fn served_in_read(
+        &self,
+        state: &State,
+        active: usize,
+        passive: usize,
+        slot: usize,
+    ) -> Result<&Journey, u32> {
+        self.ensure_phase(state, Phase::Read)?;
+        let plan = self.plan();
+        let in_range = active < plan.actives() && passive < plan.passives() && slot < self.slots();
+        ensure(in_range, RANGE)?;
+        self.journey(active, passive).ok_or(UNSERVED)
+    }
+
+    /// What a student's Close does who does not wait for the TDOWN: the mark and all entries go.
+    fn clear(&self, state: &mut State, connection: Connection) {
+        state.marks.remove(&connection);
+        for entry in self.entries_of(connection).into_iter().flatten() {
+            state.table.set(entry.port.router, entry.port.side, entry.slot, None);
+        }
+    }
+
+    /// 7 not a state, where the rules are the documents' own.
     fn ensure_state(&self, state: &State) -> Result<(), u32> {
-        ensure(!self.rules().are_document_01s() || self.is_state(state), NOT_A_STATE)
+        ensure(!self.rules().are_the_documents() || self.is_state(state), NOT_A_STATE)
     }
 
     /// 14 in-queue flag up, then 13 in-queue empty, else its head.

@@ -1,27 +1,30 @@
-//! Demand 3 and what document 01 says of every list, watched call by call.
+//! Demand 3 and what the documents say of every list, watched call by call.
 
-use std::collections::HashMap;
+use std::collections::{BTreeSet, HashMap};
 
+use super::connection::Connection;
 use super::list::{Answer, Call};
 use super::network::Network;
-use super::packet::{Kind, Packet, Slot};
+use super::packet::{Kind, Slot};
 use super::places::Place;
 use super::state::{Phase, State, Table};
 use crate::feeding::Queue;
-
-/// "Those three numbers": active, passive, start slot.
-pub type Connection = (usize, usize, Slot);
 
 /// What a list's calls and answers have told so far.
 #[derive(Clone, Debug)]
 pub struct Claims<'n> {
     network: &'n Network,
     launched: HashMap<Connection, usize>,
-    accepted: HashMap<Connection, usize>,
+    /// How many Consumes accepted a connection, closed since or not.
+    acceptances: HashMap<Connection, usize>,
+    /// The connections accepted and not closed since.
+    accepted: BTreeSet<Connection>,
     /// Whole rounds without a move since a state in READ from which a move is claimed.
     still: Option<usize>,
     /// How often the network was empty while some connections were accepted.
     pub tables_compared: usize,
+    /// How many connections were accepted that had been closed before.
+    pub reopened: usize,
     /// The most rounds that ever passed before a claimed move.
     pub longest_wait: usize,
 }
@@ -32,9 +35,11 @@ impl<'n> Claims<'n> {
         let mut claims = Claims {
             network,
             launched: HashMap::new(),
-            accepted: HashMap::new(),
+            acceptances: HashMap::new(),
+            accepted: BTreeSet::new(),
             still: None,
             tables_compared: 0,
+            reopened: 0,
             longest_wait: 0,
         };
         claims.claim_a_move(start);
@@ -51,11 +56,20 @@ impl<'n> Claims<'n> {
         state: &State,
     ) -> Result<(), String> {
         self.after_from_any_state(call, answer, before, state)?;
+        // "No state reached from start is refused so."
+        if let Some(fault) = self.network.fault(state) {
+            return Err(format!("not a state: {fault}"));
+        }
         self.note_connections(call, answer)?;
+        // "The state now keeps the accepted connections."
+        if state.marks != self.accepted {
+            return Err("the state keeps other connections than the calls tell".to_string());
+        }
         self.table_is_the_accepted_ones(state)
     }
 
-    /// The claims that hold of a list from any state, also one that no list from start reaches.
+    /// The claims that hold of a list from any state, also one that no list from start reaches: a
+    /// call may there part the accepted connections from the table.
     pub fn after_from_any_state(
         &mut self,
         call: Call,
@@ -67,8 +81,7 @@ impl<'n> Claims<'n> {
         if answer.is_err() && before != state {
             return Err(format!("{call:?} was refused and altered the state"));
         }
-        // "No state reached from start is refused so."
-        if let Some(fault) = self.network.fault(state) {
+        if let Some(fault) = self.network.core_fault(state) {
             return Err(format!("not a state: {fault}"));
         }
         self.no_queue_over_capacity(state)?;
@@ -84,18 +97,21 @@ impl<'n> Claims<'n> {
         over.map_or(Ok(()), |queue| Err(format!("{queue:?} is over its capacity")))
     }
 
-    /// "At least as many accepted Launches of those three numbers as Consumes that accepted them."
+    /// "Each accepted Consume that returns an ACK accepts one"; at an accepted Close it "leaves the
+    /// accepted ones".
     fn note_connections(&mut self, call: Call, answer: Result<Answer, u32>) -> Result<(), String> {
         match (call, answer) {
             (Call::Launch { active, passive, slot }, Ok(_)) => {
-                *self.launched.entry((active, passive, Slot(slot))).or_default() += 1;
+                let connection = Connection { active, passive, start: Slot(slot) };
+                *self.launched.entry(connection).or_default() += 1;
             }
             (Call::Consume { .. }, Ok(Answer::Packet(packet))) if packet.kind == Kind::Ack => {
-                let connection = self.connection(&packet);
-                let accepted = self.accepted.entry(connection).or_default();
-                *accepted += 1;
-                if self.launched.get(&connection).is_none_or(|launched| launched < accepted) {
-                    return Err(format!("{connection:?} was accepted more often than launched"));
+                return self.note_acceptance(self.network.connection(&packet));
+            }
+            (Call::Close { active, passive, slot }, Ok(_)) => {
+                let connection = Connection { active, passive, start: Slot(slot) };
+                if !self.accepted.remove(&connection) {
+                    return Err(format!("{connection:?} was closed and was not accepted"));
                 }
             }
             _ => {}
@@ -103,14 +119,23 @@ impl<'n> Claims<'n> {
         Ok(())
     }
 
-    /// "With that packet's active and passive and, as its start slot, the packet's slot minus hub
-    /// modulo S."
-    fn connection(&self, ack: &Packet) -> Connection {
-        (ack.active, ack.passive, ack.slot.minus(ack.hub, self.network.slots()))
+    /// "At least as many accepted Launches of those three numbers as Consumes that accepted them";
+    /// and a connection is accepted only while it is not.
+    fn note_acceptance(&mut self, connection: Connection) -> Result<(), String> {
+        let acceptances = self.acceptances.entry(connection).or_default();
+        self.reopened += usize::from(*acceptances > 0);
+        *acceptances += 1;
+        if self.launched.get(&connection).is_none_or(|launched| launched < acceptances) {
+            return Err(format!("{connection:?} was accepted more often than launched"));
+        }
+        if !self.accepted.insert(connection) {
+            return Err(format!("{connection:?} was accepted twice and not closed between"));
+        }
+        Ok(())
     }
 
-    /// "Whenever every queue and wire is empty, the slot table equals, entry by entry, the one that
-    /// the connections accepted so far make."
+    /// "Whenever every queue and wire is empty, the slot table equals, entry by entry, the one
+    /// that" the "connections accepted and not closed since" make.
     fn table_is_the_accepted_ones(&mut self, state: &State) -> Result<(), String> {
         if self.network.packets(state).next().is_some() {
             return Ok(());
@@ -123,18 +148,15 @@ impl<'n> Claims<'n> {
         }
     }
 
-    /// "At its n-th router, n from 0, an accepted connection makes the entry (walk's side, start
-    /// slot + n modulo S), holding the side the walk came in by", and "every other one is free".
+    /// "The table they make has these entries, and every other one is free."
     pub fn accepted_table(&self) -> Table {
-        let slots = self.network.slots();
-        let mut table = Table::free(self.network.plan().routers(), slots);
-        for &(active, passive, start) in self.accepted.keys() {
-            let journey = self.network.journey(active, passive).expect("accepted pairs are served");
-            for (n, hop) in journey.walk.iter().enumerate() {
-                let slot = start.after(n, slots);
-                let made = table.entry(hop.router, hop.side, slot);
+        let mut table = Table::free(self.network.plan().routers(), self.network.slots());
+        for &connection in &self.accepted {
+            let entries = self.network.entries_of(connection).expect("accepted pairs are served");
+            for entry in entries {
+                let made = table.entry(entry.port.router, entry.port.side, entry.slot);
                 assert_eq!(made, None, "two accepted connections make one entry");
-                table.set(hop.router, hop.side, slot, Some(hop.came_in));
+                entry.put(&mut table);
             }
         }
         table

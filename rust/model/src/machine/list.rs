@@ -22,6 +22,15 @@ pub enum Call {
         /// The start slot.
         slot: usize,
     },
+    /// Close.
+    Close {
+        /// The connection's active.
+        active: usize,
+        /// Its passive.
+        passive: usize,
+        /// Its start slot.
+        slot: usize,
+    },
     /// Reply.
     Reply {
         /// The passive that replies.
@@ -65,6 +74,9 @@ impl Network {
             Call::Write => self.write(state).map(|()| Answer::Done),
             Call::Launch { active, passive, slot } => {
                 self.launch(state, active, passive, slot).map(|()| Answer::Done)
+            }
+            Call::Close { active, passive, slot } => {
+                self.close(state, active, passive, slot).map(|()| Answer::Done)
             }
             Call::Reply { passive, choice } => {
                 self.reply(state, passive, choice).map(|()| Answer::Done)

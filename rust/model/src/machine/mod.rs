@@ -1,8 +1,9 @@
-//! The whole machine of document 01: its state, the three phases of a round, the calls with their
-//! refusals, refusal 7's condition, and the claims that hold of every list of calls.
+//! The whole machine of documents 01 and 02: its state, the three phases of a round, the calls with
+//! their refusals, refusal 7's condition, and the claims that hold of every list of calls.
 //!
 //! * [`packet`]: packets, slots, hub counts. [`network`]: a loaded plan, its journeys, its links.
-//! * [`state`]: queues, wires, credits, flags, marks, choices, table, allowances.
+//! * [`state`]: queues, wires, credits, flags, choices, table, allowances, accepted connections.
+//! * [`connection`]: which connection an ACK tells of, and the entries that it makes.
 //! * [`phases`]: what READ, EXECUTE and WRITE do. [`calls`]: the calls with their refusals.
 //! * [`valid`]: what is a state (refusal 7), and [`places`], where a packet of a pair can be.
 //! * [`bytes`]: a state's bytes, by docs/STATE.md. [`rules`]: what students write instead.
@@ -12,6 +13,7 @@
 pub mod bytes;
 pub mod calls;
 pub mod claims;
+pub mod connection;
 pub mod list;
 pub mod network;
 pub mod packet;
@@ -21,6 +23,7 @@ pub mod rules;
 pub mod state;
 pub mod valid;
 
+pub use connection::{Connection, OwnEntry};
 pub use list::{Answer, Call};
 pub use network::{Journey, Link, Network};
 pub use packet::{Hub, Kind, Packet, Slot};

@@ -5,7 +5,7 @@
 pub enum Kind {
     /// Books a slot at each router.
     Setup,
-    /// Frees what a declined set-up had booked.
+    /// Frees what a declined set-up or a closed connection had booked.
     Tdown,
     /// The far end accepts.
     Ack,
@@ -14,7 +14,7 @@ pub enum Kind {
 }
 
 /// A slot, below S.
-#[derive(Clone, Copy, Debug, PartialEq, Eq, Hash)]
+#[derive(Clone, Copy, Debug, PartialEq, Eq, Hash, PartialOrd, Ord)]
 pub struct Slot(pub usize);
 
 /// "A hub count 0 to 16 of routers booked."

@@ -1,5 +1,6 @@
 //! A round: what READ, EXECUTE and WRITE do to a state.
 
+use super::connection::Connection;
 use super::network::{Link, Network};
 use super::packet::{Hub, Kind, Packet, Slot};
 use super::state::{is_out_queue, Credit, Phase, State, Table};
@@ -13,11 +14,7 @@ impl Network {
         for &link in self.links() {
             if let Some(packet) = state.wires[self.link_index(link)].take() {
                 let queue = self.next_queue(link, &packet).expect("its journey goes on");
-                let at = self.queue_index(queue);
-                state.queues[at].push_back(packet);
-                if self.rules().credit_at_the_arrival {
-                    state.credits[at] = Credit(state.credits[at].0 + 1);
-                }
+                self.arrive(state, queue, packet);
             }
         }
         for (flag, credit) in state.flags.iter_mut().zip(&mut state.credits) {
@@ -26,6 +23,19 @@ impl Network {
             }
         }
         state.phase = Phase::Execute;
+    }
+
+    /// A packet joins its queue.
+    fn arrive(&self, state: &mut State, queue: Queue, packet: Packet) {
+        let at = self.queue_index(queue);
+        state.queues[at].push_back(packet);
+        if self.rules().credit_at_the_arrival {
+            state.credits[at] = Credit(state.credits[at].0 + 1);
+        }
+        let accepts = matches!(queue, Queue::ActiveIn(_)) && packet.kind == Kind::Ack;
+        if self.rules().accepted_at_the_arrival && accepts {
+            state.marks.insert(self.connection(&packet));
+        }
     }
 
     /// "EXECUTE, in this order": units, outputs, tear-downs.
@@ -48,7 +58,8 @@ impl Network {
         let Some(head) = state.queues[q].front_mut().filter(|_| !state.handled[router]) else {
             return;
         };
-        match self.handle(&mut state.table, router, *head) {
+        let found = *head;
+        match self.handle(&mut state.table, router, found) {
             Some(packet) => {
                 *head = packet;
                 state.handled[router] = true;
@@ -57,8 +68,19 @@ impl Network {
                 // "The packet ends and Q's flag rises."
                 state.queues[q].pop_front();
                 state.flags[q] = true;
+                if self.rules().accepted_until_torn_down {
+                    state.marks.remove(&self.torn_down(router, &found));
+                }
             }
         }
+    }
+
+    /// The connection of a TDOWN at this router: at the n-th one its slot is the start slot + n.
+    fn torn_down(&self, router: usize, tear_down: &Packet) -> Connection {
+        let &Packet { active, passive, slot, .. } = tear_down;
+        let journey = self.journey(active, passive).expect("a served pair");
+        let n = journey.walk.iter().position(|hop| hop.router == router).expect("on the walk");
+        Connection { active, passive, start: slot.minus(Hub(n), self.slots()) }
     }
 
     /// What a unit makes of a packet: another packet, or none if it ends.

@@ -1,8 +1,8 @@
-//! Rules that students write instead of document 01's, each a switch of its own.
+//! Rules that students write instead of those of documents 01 and 02, each a switch of its own.
 
-/// Which rules a network runs by. None set: document 01's.
+/// Which rules a network runs by. None set: the documents' own.
 ///
-/// Under another rule a network comes to states that document 01 does not know, so then no call is
+/// Under another rule a network comes to states that the documents do not know, so then no call is
 /// refused with 7 for what its state holds.
 #[derive(Clone, Copy, Debug, Default, PartialEq, Eq)]
 pub struct Rules {
@@ -18,11 +18,21 @@ pub struct Rules {
     pub allowance_at_the_mark: bool,
     /// A queue's credit grows when a packet arrives, not after one has left.
     pub credit_at_the_arrival: bool,
+    /// A Close makes a TDOWN with one more than the routers on the walk.
+    pub close_one_too_far: bool,
+    /// A Close frees the connection's entries at once; no TDOWN is made, and none needs room.
+    pub close_clears_at_once: bool,
+    /// A Close frees the connection's entries at once, and its TDOWN is sent all the same.
+    pub close_frees_early: bool,
+    /// A closed connection stays accepted until its TDOWN has ended.
+    pub accepted_until_torn_down: bool,
+    /// A connection is accepted when its ACK joins the active's in-queue, not when it is consumed.
+    pub accepted_at_the_arrival: bool,
 }
 
 impl Rules {
-    /// Whether these are document 01's.
-    pub fn are_document_01s(&self) -> bool {
+    /// Whether these are the documents' own.
+    pub fn are_the_documents(&self) -> bool {
         *self == Rules::default()
     }
 }

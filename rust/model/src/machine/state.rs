@@ -1,7 +1,9 @@
-//! The state: queues, wires, credits, flags, marks, choices, table, allowances, phase, slot.
+//! The state: queues, wires, credits, flags, handled marks, choices, table, allowances, accepted
+//! connections, phase, slot.
 
-use std::collections::VecDeque;
+use std::collections::{BTreeSet, VecDeque};
 
+use super::connection::Connection;
 use super::network::{Link, Network};
 use super::packet::{Packet, Slot};
 use crate::feeding::Queue;
@@ -55,6 +57,9 @@ pub struct State {
     pub table: Table,
     /// Each active's allowance.
     pub allowances: Vec<usize>,
+    /// "The state now keeps the accepted connections, set when an ACK is consumed": a mark for each
+    /// connection that is accepted and not closed since.
+    pub marks: BTreeSet<Connection>,
 }
 
 impl Table {
@@ -111,6 +116,7 @@ impl Network {
 
     /// "Start: READ, queues, wires and table empty, flags down, no choices, credit of each queue
     /// fed by a wire = its capacity, each active's allowance = the smaller of its two capacities."
+    /// No connection is accepted.
     pub fn start(&self) -> State {
         let plan = self.plan();
         let queues = Queue::count(plan);
@@ -129,6 +135,7 @@ impl Network {
             choices: vec![None; self.links().len()],
             table: Table::free(plan.routers(), plan.slots()),
             allowances: vec![self.start_allowance(); plan.actives()],
+            marks: BTreeSet::new(),
         }
     }
 

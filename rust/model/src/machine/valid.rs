@@ -1,5 +1,8 @@
-//! What is a state: refusal 7's conditions, one function for each, in document 01's order.
+//! What is a state: refusal 7's conditions, one function for each, in the documents' order.
 
+use std::collections::HashSet;
+
+use super::connection::OwnEntry;
 use super::network::Network;
 use super::packet::{Kind, Packet};
 use super::places::Place;
@@ -10,10 +13,10 @@ use crate::fields::SIDES;
 /// A condition that a state meets.
 type Condition = fn(&Network, &State) -> bool;
 
-/// All conditions, each with the fault it excludes.
-const CONDITIONS: [(&str, Condition); 12] = [
+/// The conditions that every call on a state keeps, each with the fault it excludes.
+const CORE: [(&str, Condition); 13] = [
     ("bytes the layout gives to no state", has_form),
-    ("slot or entry out of range", in_range),
+    ("slot, entry or mark out of range", in_range),
     ("a queue over capacity", within_capacity),
     ("a packet out of range or out of place, or a hub that doesn't fit", packets_fit),
     ("a wire full outside READ", wires_empty_outside_read),
@@ -24,6 +27,14 @@ const CONDITIONS: [(&str, Condition); 12] = [
     ("a side with no free entry", every_side_has_a_free_entry),
     ("credit + queued + wire + raised flag ≠ capacity", credits_add_up),
     ("allowance + SETUPs, ACKs and NACKs ≠ start allowance", allowances_add_up),
+    ("a mark for an unserved pair", marks_are_of_served_pairs),
+];
+
+/// What ties the accepted connections to the table. A call keeps these on states reached from
+/// start; elsewhere an ACK or a TDOWN may be under way whose entries are not its own.
+const TIES: [(&str, Condition); 2] = [
+    ("a mark that lacks an entry", marks_have_their_entries),
+    ("two marks that share an entry", marks_share_no_entry),
 ];
 
 impl Network {
@@ -34,7 +45,14 @@ impl Network {
 
     /// The first condition that fails, in words.
     pub fn fault(&self, state: &State) -> Option<&'static str> {
-        CONDITIONS.iter().find(|(_, holds)| !holds(self, state)).map(|&(fault, _)| fault)
+        let mut ties = TIES.iter();
+        let tie = || ties.find(|(_, holds)| !holds(self, state)).map(|&(fault, _)| fault);
+        self.core_fault(state).or_else(tie)
+    }
+
+    /// The first condition that fails of those that every call keeps.
+    pub fn core_fault(&self, state: &State) -> Option<&'static str> {
+        CORE.iter().find(|(_, holds)| !holds(self, state)).map(|&(fault, _)| fault)
     }
 
     /// Every packet with its place.
@@ -73,7 +91,8 @@ fn has_form(network: &Network, state: &State) -> bool {
         (state.allowances.len(), plan.actives()),
     ];
     let sized = sizes.iter().all(|(found, expected)| found == expected);
-    sized && unused_is_empty(network, state)
+    let placed = state.marks.iter().all(|mark| network.has_mark_bit(mark));
+    sized && placed && unused_is_empty(network, state)
 }
 
 fn unused_is_empty(network: &Network, state: &State) -> bool {
@@ -89,9 +108,14 @@ fn unused_is_empty(network: &Network, state: &State) -> bool {
 }
 
 /// "Slot … or entry out of range"; the phase is one by its type, packets are tested in their place.
+/// A mark is of a passive and a slot of the plan.
 fn in_range(network: &Network, state: &State) -> bool {
     let entry_in_range = |entry: &Option<usize>| entry.is_none_or(|side| side < SIDES);
-    state.slot.0 < network.slots() && state.table.entries().iter().all(entry_in_range)
+    let (passives, slots) = (network.plan().passives(), network.slots());
+    let mut marks = state.marks.iter();
+    state.slot.0 < slots
+        && state.table.entries().iter().all(entry_in_range)
+        && marks.all(|mark| mark.passive < passives && mark.start.0 < slots)
 }
 
 fn within_capacity(network: &Network, state: &State) -> bool {
@@ -166,4 +190,26 @@ fn allowances_add_up(network: &Network, state: &State) -> bool {
         sums[packet.active] += 1;
     }
     sums.iter().all(|&sum| sum == network.start_allowance())
+}
+
+fn marks_are_of_served_pairs(network: &Network, state: &State) -> bool {
+    state.marks.iter().all(|mark| network.journey(mark.active, mark.passive).is_some())
+}
+
+/// The entries of all marked connections, one connection after the other.
+fn marked_entries<'s>(
+    network: &'s Network,
+    state: &'s State,
+) -> impl Iterator<Item = OwnEntry> + 's {
+    state.marks.iter().flat_map(|&mark| network.entries_of(mark).into_iter().flatten())
+}
+
+fn marks_have_their_entries(network: &Network, state: &State) -> bool {
+    marked_entries(network, state).all(|entry| entry.is_in(&state.table))
+}
+
+fn marks_share_no_entry(network: &Network, state: &State) -> bool {
+    let mut met = HashSet::new();
+    let mut entries = marked_entries(network, state);
+    entries.all(|entry| met.insert((entry.port.router, entry.port.side, entry.slot)))
 }

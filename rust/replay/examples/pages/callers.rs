@@ -1,8 +1,8 @@
-//! The calls of the pages: two lists, and a caller that keeps a network busy.
+//! The calls of the pages: three lists, and a caller that keeps a network busy.
 
 use model::generate::Random;
 use trace::net::Phase;
-use trace::{Call, Queue, Run};
+use trace::{Call, Connection, Queue, Run};
 
 /// A number of whole rounds.
 fn rounds(count: usize) -> Vec<Call> {
@@ -40,6 +40,27 @@ pub fn declined() -> Vec<Call> {
     calls
 }
 
+/// Two routers, start 3: opened, closed, and opened again from the same slot. Closed before its ACK
+/// is consumed and closed twice it is refused.
+pub fn closed() -> Vec<Call> {
+    let close = Call::Close { active: 0, passive: 0, slot: 3 };
+    let open = |late: &[Call]| {
+        let mut calls = vec![Call::Launch { active: 0, passive: 0, slot: 3 }];
+        calls.extend(rounds(8));
+        let reply = Call::Reply { passive: 0, choice: 1 };
+        calls.extend([Call::Read, Call::Execute, reply, Call::Write]);
+        calls.extend(rounds(3));
+        calls.extend_from_slice(late);
+        calls.extend([Call::Read, Call::Execute, Call::Consume { active: 0 }, Call::Write]);
+        calls
+    };
+    let mut calls = open(&[close]);
+    calls.extend([close, close]);
+    calls.extend(rounds(7));
+    calls.extend(open(&[]));
+    calls
+}
+
 /// Makes calls that keep a network busy, a few refused ones among them.
 #[derive(Clone, Debug)]
 pub struct Caller {
@@ -60,10 +81,18 @@ impl Caller {
             return self.stray(run);
         }
         match run.net().phase {
-            Phase::Read => self.launch(run).unwrap_or(Call::Read),
+            Phase::Read => self.close(run).or(self.launch(run)).unwrap_or(Call::Read),
             Phase::Execute => Call::Execute,
             Phase::Write => self.answer(run).unwrap_or(Call::Write),
         }
+    }
+
+    /// Now and then a Close of an accepted connection.
+    fn close(&mut self, run: &Run) -> Option<Call> {
+        let closes = self.random.chance(1, 12);
+        let Connection { active, passive, start } =
+            self.random.pick(&run.net().accepted).filter(|_| closes)?;
+        Some(Call::Close { active: active as u32, passive: passive as u32, slot: start as u32 })
     }
 
     /// A launch of a served pair whose active has allowance left.
@@ -100,13 +129,14 @@ impl Caller {
         let mut below = |bound: usize| self.random.below(bound + 1) as u32;
         let (active, passive) = (below(plan.actives()), below(plan.passives()));
         let (router, side, slot) = (below(plan.routers()), below(4), below(plan.slots()));
-        match below(6) {
+        match below(7) {
             0 => Call::Read,
             1 => Call::Execute,
             2 => Call::Write,
             3 => Call::Launch { active, passive, slot },
             4 => Call::Reply { passive, choice: slot % 3 },
             5 => Call::Consume { active },
+            6 => Call::Close { active, passive, slot },
             _ => Call::Entry { router, side, slot },
         }
     }

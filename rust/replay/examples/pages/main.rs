@@ -1,5 +1,5 @@
-//! Writes the pages that the browser tests open into a folder: six runs and some on random plans for
-//! the self-test, and one of 5,000 calls on the largest plan for the times.
+//! Writes the pages that the browser tests open into a folder: seven runs and some on random plans
+//! for the self-test, and one of 5,000 calls on the largest plan for the times.
 //!
 //!     cargo run --release -p replay --example pages -- FOLDER
 
@@ -64,6 +64,8 @@ fn main() -> ExitCode {
     let note = "The second router declines; the tear-down frees one router only.";
     let two = plans::two_routers();
     write(folder, "declined", "A declined set-up", note, &two, &mut scripted(callers::declined()));
+    let note = "A connection is closed and its slots are used again.";
+    write(folder, "closed", "A closed connection", note, &two, &mut scripted(callers::closed()));
     let note = "Three sensors, two drives, any calls.";
     write(folder, "arm", "An arm of three routers", note, &plans::arm(), &mut busy(3, 420));
     let note = "Nine routers; sensors left and above, drives below and right.";

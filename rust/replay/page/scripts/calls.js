@@ -8,6 +8,9 @@ const CALLS = {
   L: { name: "Launch", phase: 0, args: ["active", "passive", "slot"],
     text: ([active, passive, slot]) =>
       `Launch ${nameOf.active(active)} → ${nameOf.passive(passive)} at slot ${slot}` },
+  K: { name: "Close", phase: 0, args: ["active", "passive", "slot"],
+    text: ([active, passive, slot]) =>
+      `Close ${nameOf.active(active)} → ${nameOf.passive(passive)} from slot ${slot}` },
   P: { name: "Reply", phase: 2, args: ["passive", "choice"],
     text: ([passive, choice]) => `Reply ${nameOf.passive(passive)}: ${["decline", "accept"][choice] ?? choice}` },
   C: { name: "Consume", phase: 2, args: ["active"],
@@ -44,6 +47,8 @@ const REFUSALS = {
   13: (call) => `${interfaceOf(call)}'s in-queue is empty`,
   14: (call) => `${interfaceOf(call)} has taken one in this round, its flag is up`,
   15: () => "the head is an unmarked NACK: its tear-down is not in the out-queue yet",
+  16: ({ args: [active, passive, slot] }) =>
+    `${nameOf.active(active)} → ${nameOf.passive(passive)} from slot ${slot} is not accepted`,
 };
 
 /** A call in words. */

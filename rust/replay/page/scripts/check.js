@@ -31,7 +31,8 @@ function stateText(state) {
   const { places } = run;
   const credits = creditsOf(state);
   const packets = (number) => state.held[number].map((id) => packetText(state.packets.get(id))).join();
-  const picked = [...state.picked].map((id) => state.packets.get(id).place).sort((one, other) => one - other);
+  const ascending = (one, other) => one - other;
+  const picked = [...state.picked].map((id) => state.packets.get(id).place).sort(ascending);
   const owner = (entry) => `${entry}:${state.owners[entry]}${state.holds[entry]}`;
   const used = (at) => places[at].credit && credits[at] !== places[at].capacity;
   return [
@@ -44,6 +45,7 @@ function stateText(state) {
     numbersWhere(state.table.length, (at) => state.owners[at] >= 0, owner),
     picked,
     state.allowances,
+    [...state.accepted].sort(ascending),
   ].join("|");
 }
 

@@ -4,23 +4,28 @@
 const STANDINGS = [
   { id: "torn", text: "being torn down", style: "bad" },
   { id: "left", text: "declined, left behind", style: "bad" },
+  { id: "closing", text: "closed, being torn down", style: "" },
   { id: "underway", text: "set-up under way", style: "" },
   { id: "answered", text: "ACK under way", style: "" },
   { id: "nack", text: "declined, nothing booked", style: "" },
   { id: "accepted", text: "accepted", style: "good" },
   { id: "gone", text: "declined, all free", style: "dim" },
+  { id: "closed", text: "closed, all free", style: "dim" },
 ];
 
-/** How each launched connection stands, from its packets and from what it holds. */
+/** How each launched connection stands, from its turns, from its packets and from what the state keeps. */
 function standings(state) {
   const standing = new Map();
-  for (const number of run.lanes.launch) {
+  const closers = new Set();
+  for (const { number, what, packet } of run.turns) {
     if (number >= shown.position) break;
-    standing.set(run.launched.get(number), "gone");
+    if (what === "closed") closers.add(packet.id);
+    standing.set(packet.connection, what === "closed" ? "closed" : "gone");
   }
-  state.holds.forEach((hold, entry) => { if (hold === "a") standing.set(ownerOf(state, entry), "accepted"); });
+  for (const connection of state.accepted) standing.set(connection, "accepted");
   for (const packet of state.packets.values()) {
-    const ids = { T: "torn", N: packet.hub > 0 ? "left" : "nack", S: "underway", A: "answered" };
+    const torn = closers.has(packet.id) ? "closing" : "torn";
+    const ids = { T: torn, N: packet.hub > 0 ? "left" : "nack", S: "underway", A: "answered" };
     if (packet.kind === "N" && standing.get(packet.connection) === "torn") continue;
     standing.set(packet.connection, ids[packet.kind]);
   }

@@ -19,10 +19,14 @@ function journeyHtml(id) {
     `<table>${tableHead("round", "what", "where", "slot", "hub")}<tbody>${rows}</tbody></table>`;
 }
 
-/** Links between a NACK and its tear-down. */
+/** Links between a tear-down and the NACK that it answers, or the ACK whose connection it closes. */
 function relativesHtml(id) {
   const { parent, child } = run.journeys.get(id);
-  if (parent !== undefined) return `: a tear-down, made for <a href="#" data-journey="${parent}">its NACK</a>`;
+  if (parent !== undefined) {
+    const closes = run.journeys.get(parent).steps.at(-1).kind === "A";
+    const what = closes ? "made to close the connection of" : "made for";
+    return `: a tear-down, ${what} <a href="#" data-journey="${parent}">its ${closes ? "ACK" : "NACK"}</a>`;
+  }
   return child === undefined ? "" : `; see <a href="#" data-journey="${child}">its tear-down</a>`;
 }
 

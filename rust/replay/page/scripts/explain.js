@@ -20,15 +20,15 @@ function entryText(entry) {
 /** All sentences about a call: its events, the state before it and the one after. */
 function explain(call, events, before, after) {
   if (call.refusal) return [{ html: "Nothing changed: a refusal alters no byte." }];
-  const sentences = events.map((event) => eventSentence(event, before, after)).filter(Boolean);
+  const sentences = events.map((event) => eventSentence(call, event, before, after)).filter(Boolean);
   if (call.letter === "X") sentences.push(...executeSentences(after, sentences.length));
   if (call.letter === "R" || call.letter === "W") sentences.push(...moveSentences(call, events));
   return sentences;
 }
 
 /** The sentence about an event, if it has one of its own. */
-function eventSentence(event, before, after) {
-  if (event.what === "made") return isLaunch(event) ? launchSentence(event, after) : tearDownSentence(event);
+function eventSentence(call, event, before, after) {
+  if (event.what === "made") return isLaunch(event) ? launchSentence(event, after) : tearDownSentence(call, event);
   if (event.what === "changed") return changeSentence(event, before);
   if (event.what === "ended") return endSentence(event, after);
   return null;
@@ -40,10 +40,10 @@ function launchSentence({ packet }, after) {
   return { html: `Set-up ${chip(packet.connection)} joins ${html.place(packet.place)}. Allowance left: ${left}.` };
 }
 
-/** An active sends a tear-down, after a NACK as the answer to it. */
-function tearDownSentence({ packet, parent }) {
+/** An active sends a tear-down: to close a connection, or after a NACK as the answer to it. */
+function tearDownSentence(call, { packet }) {
   const routers = walkOf(packet).slice(0, packet.hub).map((hop) => html.router(hop.router));
-  const sends = parent === undefined ? "sends tear-down" : "answers the NACK with tear-down";
+  const sends = isClose(call) ? "closes the connection with tear-down" : "answers the NACK with tear-down";
   const figures = `slot ${packet.slot}, hub ${packet.hub}`;
   const made = `${html.active(packet.active)} ${sends} ${chip(packet.connection)}: ${figures}.`;
   const frees = `It will free exactly ${count(packet.hub, "router")} (${listed(routers, 5)}) and end there.`;

@@ -1,17 +1,18 @@
 // The recording: reads the data block of the page and the lines of its calls.
-// The format `pandabrass-run/1` is described in the README of the crate.
+// The format `pandabrass-run/2` is described in the README of the crate.
 
-/** The format this page shows, and the newest number of it that it knows. */
-const FORMAT = { name: "pandabrass-run", newest: 1 };
+/** The format this page shows, and its number. */
+const FORMAT = { name: "pandabrass-run", number: 2 };
 
-/** Refuses data of another format, and data that is newer than this page. */
+/** Refuses data of another format, and data that is newer or older than this page. */
 function checkFormat(format) {
   const [name, number] = String(format).split("/");
   if (name !== FORMAT.name || !/^\d+$/.test(number)) {
-    stop(`The data is no recorded run: its format is '${format}', this page shows ${FORMAT.name}/${FORMAT.newest}.`);
+    stop(`The data is no recorded run: its format is '${format}', this page shows ${FORMAT.name}/${FORMAT.number}.`);
   }
-  if (Number(number) > FORMAT.newest) {
-    stop(`The data is newer than this page: format ${number}, this page knows formats up to ${FORMAT.newest}.`);
+  const age = Number(number) > FORMAT.number ? "newer" : "older";
+  if (Number(number) !== FORMAT.number) {
+    stop(`The data is ${age} than this page: format ${number}, this page shows format ${FORMAT.number}.`);
   }
 }
 

@@ -4,7 +4,8 @@
 const EXPECTED = {
   signs: { S: "+", T: "−", A: "✓", N: "✕" },
   holds: {
-    a: ["", "accepted"], w: ["+", "underway"], l: ["✕", "leftover"], d: ["−", "teardown"], f: ["!", "forgotten"],
+    a: ["", "accepted"], c: ["−", "closing"], w: ["+", "underway"], l: ["✕", "leftover"], d: ["−", "teardown"],
+    f: ["!", "forgotten"],
   },
 };
 

@@ -1,5 +1,5 @@
 // The self-test of owners: what the program tells must follow from the packets and the accepted
-// connections by document 01's rules, which are worked out here once more.
+// connections by the documents' rules, which are worked out here once more.
 
 /** Every booked entry has one owner, every free one none, and each is the one that follows. */
 function checkOwners(position) {
@@ -16,6 +16,25 @@ function checkOwners(position) {
   });
 }
 
+/** The state keeps exactly the connections whose ACK was consumed and that were not closed since. */
+function checkAccepted(position) {
+  const { accepted } = shown.state;
+  const told = acceptedBy(position);
+  const same = told.size === accepted.size && [...told.keys()].every((connection) => accepted.has(connection));
+  must(same, position, `the state keeps ${accepted.size} accepted connections, the calls tell ${told.size}`);
+}
+
+/** By connection that is accepted and not closed since, its ACK. */
+function acceptedBy(position) {
+  const open = new Map();
+  for (const { number, what, packet } of run.turns) {
+    if (number >= position) break;
+    if (what === "accepted") open.set(packet.connection, packet);
+    if (what === "closed") open.delete(packet.connection);
+  }
+  return open;
+}
+
 /** By entry, the numbers of the set-ups that own it, each with how it is held. */
 function ownersFromPackets(state, position) {
   const owners = new Map();
@@ -25,12 +44,12 @@ function ownersFromPackets(state, position) {
       owners.set(entry, [...(owners.get(entry) ?? []), id + hold]);
     });
   };
-  for (const [number, packet] of run.accepted) {
-    if (number < position) own(packet, packet.id, 0, packet.slot - packet.hub, "a");
-  }
+  for (const packet of acceptedBy(position).values()) own(packet, packet.id, 0, packet.slot - packet.hub, "a");
+  const closers = new Set(run.turns.filter(({ what }) => what === "closed").map(({ packet }) => packet.id));
   for (const packet of state.packets.values()) {
     const { parent } = run.journeys.get(packet.id);
-    if (packet.kind === "T") own(packet, parent, hopsBehind(state, packet), packet.slot, "d");
+    const torn = closers.has(packet.id) ? "c" : "d";
+    if (packet.kind === "T") own(packet, parent, hopsBehind(state, packet), packet.slot, torn);
     else own(packet, packet.id, 0, packet.slot - packet.hub, packet.kind === "N" ? "l" : "w");
   }
   return owners;

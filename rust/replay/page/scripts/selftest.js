@@ -19,6 +19,7 @@ function selfTest() {
     checkState(position);
     checkPackets(position);
     checkOwners(position);
+    checkAccepted(position);
     checkCells(position, small || position % 97 === 0 || position === callCount());
     checkClock(position);
     if (position > 0) checkCall(position);
@@ -49,7 +50,7 @@ function checkCall(position) {
   const { letter, refusal, phase } = run.calls[position - 1];
   const tokens = run.lines[position - 1].split(" ").length - 2;
   must(!refusal || tokens === 0, position, "a refused call changed something");
-  const needed = { R: 0, X: 1, W: 2, L: 0, P: 2, C: 2 }[letter];
+  const needed = { R: 0, X: 1, W: 2, L: 0, K: 0, P: 2, C: 2 }[letter];
   const fits = needed === undefined || (needed !== phase) === (refusal === 8);
   must(fits, position, `the call ${letter} does not fit the phase before it`);
 }
@@ -66,7 +67,8 @@ function checkJumps() {
 /** The lanes have the calls that the lines tell. */
 function checkMoments() {
   const matching = (pattern) => run.lines.filter((line) => pattern.test(line)).length;
-  const lines = { refusal: matching(/^\S+!/), launch: matching(/^L[\d,]+ /), accepted: matching(/^C\d+=A/) };
+  const lines = { refusal: matching(/^\S+!/), launch: matching(/^L[\d,]+ /), accepted: matching(/^C\d+=A/),
+    close: matching(/^K[\d,]+ /) };
   for (const [lane, calls] of Object.entries({ ...lines, ...countKinds() })) {
     const found = run.lanes[lane].length;
     must(found === calls, callCount(), `the lane ${lane} has ${found} calls, the lines ${calls}`);

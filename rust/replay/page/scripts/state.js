@@ -34,6 +34,7 @@ function startState() {
     owners: new Int32Array(entries).fill(-1),
     holds: new Array(entries).fill(""),
     allowances: new Array(plan.actives).fill(plan.allowance),
+    accepted: new Set(),
   };
 }
 
@@ -50,6 +51,7 @@ function copyState(state) {
     owners: state.owners.slice(),
     holds: state.holds.slice(),
     allowances: state.allowances.slice(),
+    accepted: new Set(state.accepted),
   };
 }
 

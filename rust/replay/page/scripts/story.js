@@ -7,6 +7,8 @@ const LANES = [
     when: (call, events) => events.some(isLaunch) },
   { id: "accepted", key: "a", sign: "✓", name: "accepted", colour: "#007A5A", button: true,
     when: (call, events) => events.some(isAccepted) },
+  { id: "close", key: "c", sign: "◇", name: "close", colour: "#5C6670",
+    when: (call) => isClose(call) },
   { id: "decline", key: "d", sign: "✕", name: "decline", colour: "#C24E00", button: true,
     when: (call, events) => events.some(isDecline) },
   { id: "tear-down", key: "t", sign: "−", name: "tear-down", colour: "#7A57A5", button: true,
@@ -25,6 +27,11 @@ function isAccepted(event) {
   return event.what === "ended" && event.packet.kind === "A";
 }
 
+/** A connection is closed. */
+function isClose(call) {
+  return call.letter === "K" && !call.refusal;
+}
+
 /** A set-up becomes a NACK, at a unit or at its passive. */
 function isDecline(event) {
   return event.what === "changed" && event.before.kind === "S" && event.packet.kind === "N";
@@ -38,7 +45,7 @@ function isTearDown(event) {
 /** Reads every call once and fills the run's calls, rounds, lanes, journeys and snapshots. */
 function tellStory() {
   Object.assign(run, { calls: [], roundStarts: [0], snapshots: [] });
-  Object.assign(run, { journeys: new Map(), declines: new Map(), launched: new Map(), accepted: new Map() });
+  Object.assign(run, { journeys: new Map(), declines: new Map(), turns: [] });
   run.lanes = Object.fromEntries(LANES.map((lane) => [lane.id, []]));
   const state = startState();
   for (let number = 0; number < run.lines.length; number += 1) {
@@ -60,9 +67,18 @@ function tellCall(state, number) {
   for (const lane of LANES) if (lane.when(call, events)) run.lanes[lane.id].push(number);
   const declined = events.filter(isDecline).map((event) => event.packet);
   if (declined.length > 0) run.declines.set(number, declined);
-  events.filter(isAccepted).forEach((event) => run.accepted.set(number, event.packet));
-  events.filter(isLaunch).forEach((event) => run.launched.set(number, event.packet.connection));
+  for (const event of events) {
+    const what = turnOf(call, event);
+    if (what) run.turns.push({ number, what, packet: event.packet });
+  }
   if (call.letter === "W" && !call.refusal) run.roundStarts.push(number + 1);
+}
+
+/** What a call made of a connection: launched, accepted or closed. The packet is its set-up, its ACK, its tear-down. */
+function turnOf(call, event) {
+  if (isLaunch(event)) return "launched";
+  if (isAccepted(event)) return "accepted";
+  return isClose(call) && event.what === "made" ? "closed" : "";
 }
 
 /** An event goes into the journey of its packet. */
@@ -87,7 +103,7 @@ function shortSentence({ what, packet, before }) {
   return packet.kind === "S" ? `${letter} books ${entry}` : "";
 }
 
-/** The journey of a packet that was made; a tear-down and the NACK it answers name each other. */
+/** The journey of a packet that was made; a tear-down and the NACK or the ACK that it follows name each other. */
 function startJourney({ packet, parent }) {
   run.journeys.set(packet.id, { connection: packet.connection, parent, steps: [] });
   if (parent !== undefined && run.journeys.has(parent)) run.journeys.get(parent).child = packet.id;

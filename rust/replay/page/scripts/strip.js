@@ -6,24 +6,24 @@ function drawStrip() {
     part("strip").innerHTML = '<span class="note">The slot tables are hidden until you have answered.</span>';
     return;
   }
-  part("strip").innerHTML = [leftSentence(), keptSentence(), quietSentence()].join("");
+  part("strip").innerHTML = [leftSentence(), closedSentence(), keptSentence(), quietSentence()].join("");
   for (const item of part("strip").children) item.title = item.textContent;
 }
 
-/** The entries that declined connections still hold, by connection. */
-function leftEntries(state) {
-  const left = new Map();
+/** The entries that are held in one of these ways, by connection. */
+function entriesHeld(state, ways) {
+  const held = new Map();
   state.holds.forEach((hold, entry) => {
-    if (hold === "" || hold === "a" || hold === "w") return;
+    if (hold === "" || !ways.includes(hold)) return;
     const owner = ownerOf(state, entry);
-    left.set(owner, [...(left.get(owner) ?? []), entry]);
+    held.set(owner, [...(held.get(owner) ?? []), entry]);
   });
-  return left;
+  return held;
 }
 
 /** What declined set-ups left behind. */
 function leftSentence() {
-  const left = leftEntries(shown.state);
+  const left = entriesHeld(shown.state, "ldf");
   if (left.size === 0) return "";
   if (left.size === 1) return oneLeft(...left.entries().next().value);
   const total = [...left.values()].reduce((sum, entries) => sum + entries.length, 0);
@@ -41,6 +41,13 @@ function oneLeft(connection, entries) {
     `${torn ? "The tear-down is on its way." : "No tear-down sent yet."}</span>`;
 }
 
+/** What closed connections still hold until their tear-downs have passed. */
+function closedSentence() {
+  const closed = [...entriesHeld(shown.state, "c")].map(([connection, entries]) =>
+    `${chip(connection)} is closed, booked until its tear-down has passed: ${listed(entries.map(entryText), 4, "; ")}`);
+  return closed.length === 0 ? "" : `<span>${listed(closed, 2, ". ")}</span>`;
+}
+
 /** Sides whose last free entry is kept. */
 function keptSentence() {
   const kept = cells.free.filter((item) => item.free === 1)
@@ -51,7 +58,7 @@ function keptSentence() {
 /** What is under way, or that the network is empty. */
 function quietSentence() {
   const packets = shown.state.packets.size;
-  const accepted = new Set(shown.state.owners.filter((_, entry) => shown.state.holds[entry] === "a")).size;
+  const accepted = shown.state.accepted.size;
   if (packets > 0) return `<span>${count(packets, "packet")} under way, ${accepted} accepted</span>`;
   const whose = count(accepted, "accepted connection");
   return `<span class="quiet">The network is empty: the table is exactly that of ${whose}.</span>`;

@@ -1,7 +1,7 @@
 // The timeline: rounds and phases above, a lane for each kind of moment, and the cursor.
 
 /** Heights of the timeline. */
-const TIMELINE = { top: 17, lane: 12, phase: 3 };
+const TIMELINE = { top: 17, lane: 10, phase: 3 };
 
 /** The colours of the three phases, light enough to stay behind the lanes. */
 const PHASE_COLOURS = ["#56B4E9", "#E69F00", "#009E73"];

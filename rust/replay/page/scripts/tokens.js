@@ -37,6 +37,7 @@ const TOKENS = {
   t: { fields: ["code", "number"], apply: setEntry },
   o: { fields: ["code", "code?", "hold?"], apply: setOwner },
   a: { fields: ["number", "number"], apply: (state, [active, allowance]) => { state.allowances[active] = allowance; } },
+  c: { fields: ["code", "number"], apply: setAccepted },
 };
 
 /** The fields of a token as values. */
@@ -62,7 +63,7 @@ function applyCall(state, number, events) {
   }
 }
 
-/** `+`: a packet is made in a place; a tear-down names the NACK it answers. */
+/** `+`: a packet is made in a place; a tear-down names the NACK it answers, or the ACK whose connection it closes. */
 function makePacket(state, [id, kind, active, passive, slot, hub, place, connection, parent], events) {
   if (state.packets.has(id)) stop(`packet ${id} is there already`);
   const told = run.connections[connection] ?? stop(`there is no connection ${connection}`);
@@ -120,4 +121,11 @@ function setOwner(state, [entry, setUp, hold]) {
   if (setUp !== undefined && (!run.journeys.has(setUp) || !hold)) stop(`entry ${entry} has no readable owner`);
   state.owners[entry] = setUp === undefined ? -1 : setUp;
   state.holds[entry] = setUp === undefined ? "" : hold;
+}
+
+/** `c`: a connection is accepted, or no longer is. */
+function setAccepted(state, [connection, accepted]) {
+  if (!run.connections[connection]) stop(`there is no connection ${connection}`);
+  if (accepted === 1) state.accepted.add(connection);
+  else state.accepted.delete(connection);
 }

@@ -11,6 +11,7 @@ const KINDS = {
 /** How a connection can hold an entry: sign and class of its cell, words of the legend and of a sentence. */
 const HOLDS = {
   a: { name: "accepted", sign: "", style: "accepted", word: "accepted" },
+  c: { name: "closed", sign: "−", style: "closing", word: "closed" },
   w: { name: "under way", sign: "+", style: "underway", word: "under way" },
   l: { name: "left behind", sign: "✕", style: "leftover", word: "declined, left behind" },
   d: { name: "being torn down", sign: "−", style: "teardown", word: "being torn down" },

@@ -23,12 +23,14 @@ pub enum Hold {
     UnderWay,
     /// Its ACK was consumed.
     Accepted,
+    /// It was closed, and its tear-down is on its way.
+    Closing,
     /// Declined, and no tear-down has been made: what it booked is left behind.
     LeftBehind,
     /// Its tear-down is on its way.
     TearingDown,
-    /// Declined, and nothing of it is under way any more. By document 01's rules it then owns
-    /// nothing; by a student's it may, and then for good.
+    /// Declined or closed, and nothing of it is under way any more. By the documents' rules it then
+    /// owns nothing; by a student's it may, and then for good.
     Over,
 }
 
@@ -56,6 +58,8 @@ pub struct Launch {
     pub entries: usize,
     /// Where and why it was declined, if it was.
     pub declined: Option<Decline>,
+    /// Whether its connection was closed.
+    pub closed: bool,
 }
 
 /// Who declined a set-up.
@@ -72,7 +76,7 @@ pub enum Decline {
 pub struct Made {
     /// Its launch.
     pub launch: usize,
-    /// The NACK that a tear-down follows.
+    /// The NACK that a tear-down follows, or the ACK whose connection it closes.
     pub parent: Option<Id>,
 }
 
@@ -85,7 +89,7 @@ pub struct Book {
     pub launches: Vec<Launch>,
     /// The packets by their numbers.
     pub packets: Vec<Made>,
-    /// The connections accepted so far, by their numbers, in the order of the Consumes.
+    /// The accepted connections that the state keeps, by their numbers, in the order of these.
     pub accepted: Vec<usize>,
     owners: HashMap<Cell, usize>,
 }
@@ -103,11 +107,15 @@ impl Book {
     /// Notes an accepted Launch and gives its set-up's number.
     pub fn launch(&mut self, connection: Connection) -> Id {
         let number = self.number(connection);
-        let launch = self.launches.len();
-        let id = self.make(launch, None);
-        let hold = Hold::UnderWay;
-        self.launches.push(Launch { id, connection: number, hold, entries: 0, declined: None });
+        let id = self.make(self.launches.len(), None);
+        self.begin(id, number);
         id
+    }
+
+    /// A launch begins with that packet.
+    fn begin(&mut self, id: Id, connection: usize) {
+        let (hold, declined) = (Hold::UnderWay, None);
+        self.launches.push(Launch { id, connection, hold, entries: 0, declined, closed: false });
     }
 
     /// A new packet of a launch.
@@ -121,6 +129,44 @@ impl Book {
         let launch = self.packets[nack.0].launch;
         self.launches[launch].hold = Hold::TearingDown;
         self.make(launch, Some(nack))
+    }
+
+    /// A connection is closed, and its tear-down made.
+    pub fn close(&mut self, connection: Connection) -> Id {
+        let number = self.number(connection);
+        let launch = self.last_of(number).unwrap_or_else(|| {
+            // A student's rule may accept what was never launched.
+            self.begin(Id(self.packets.len()), number);
+            self.launches.len() - 1
+        });
+        let set_up = self.launches[launch].id;
+        self.launches[launch].hold = Hold::Closing;
+        self.launches[launch].closed = true;
+        let parent = Some(set_up).filter(|id| id.0 < self.packets.len());
+        self.make(launch, parent)
+    }
+
+    /// A connection is closed by a student's rule that makes no tear-down.
+    pub fn clear(&mut self, connection: Connection) {
+        let number = self.number(connection);
+        if let Some(launch) = self.last_of(number) {
+            self.launches[launch].hold = Hold::Over;
+            self.launches[launch].closed = true;
+        }
+    }
+
+    /// The last launch of a connection, by its number; one that is accepted, if there is such.
+    pub fn last_of(&self, connection: usize) -> Option<usize> {
+        let of = |launch: &&Launch| launch.connection == connection;
+        let accepted = |launch: &Launch| of(&launch) && launch.hold == Hold::Accepted;
+        let last = self.launches.iter().rposition(accepted);
+        last.or_else(|| self.launches.iter().rposition(|launch| of(&launch)))
+    }
+
+    /// Takes down the accepted connections of a state.
+    pub(super) fn keep_accepted(&mut self, accepted: &[Connection]) {
+        self.accepted = accepted.iter().map(|&connection| self.number(connection)).collect();
+        self.accepted.sort_unstable();
     }
 
     /// The launch that a packet belongs to.
@@ -161,10 +207,7 @@ impl Book {
 
     /// An ACK was consumed: its connection is accepted.
     pub fn accept(&mut self, id: Id) {
-        let launch = self.launch_mut(id);
-        launch.hold = Hold::Accepted;
-        let connection = launch.connection;
-        self.accepted.push(connection);
+        self.launch_mut(id).hold = Hold::Accepted;
     }
 
     /// A tear-down has ended, or a NACK without one was consumed.

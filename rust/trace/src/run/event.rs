@@ -23,7 +23,7 @@ pub struct Step {
     pub call: Call,
     /// Its answer.
     pub answer: Result<Answer, Refusal>,
-    /// What it did, in the order of document 01's rules.
+    /// What it did, in the order of the documents' rules.
     pub events: Vec<Event>,
 }
 
@@ -65,6 +65,15 @@ pub enum Event {
         id: Id,
         /// The active's allowance that is left.
         allowance: usize,
+    },
+    /// Close: a connection left the accepted ones.
+    Closed {
+        /// The number of the connection.
+        connection: usize,
+        /// The tear-down that joined the active's out-queue; none by a student's rule.
+        tear_down: Option<Id>,
+        /// Whether its entries were freed at once, which only a student's rule does.
+        at_once: bool,
     },
     /// Read and Write: a packet went from queue to wire or from wire to queue.
     Moved {

@@ -20,6 +20,10 @@ impl Run<'_> {
                 let (active, passive) = (n(active), n(passive));
                 vec![self.follow_launch(Connection { active, passive, start: n(slot) })]
             }
+            Call::Close { active, passive, slot } => {
+                let (active, passive) = (n(active), n(passive));
+                vec![self.follow_close(before, Connection { active, passive, start: n(slot) })]
+            }
             Call::Reply { passive, choice } => vec![self.follow_reply(n(passive), choice == 1)],
             Call::Consume { active } => {
                 self.follow_consume(n(active), answer).into_iter().collect()
@@ -167,6 +171,37 @@ impl Run<'_> {
         let id = self.book.launch(connection);
         self.seats.join(self.plan, Queue::ActiveOut(connection.active), id);
         Event::Launched { id, allowance: self.net.allowances[connection.active] }
+    }
+
+    /// The tear-down that joined the out-queue; a student's rule may free the entries instead, or
+    /// free them too.
+    fn follow_close(&mut self, before: &Net, closed: Connection) -> Event {
+        let (plan, out) = (self.plan, Queue::ActiveOut(closed.active));
+        let connection = self.book.number(closed);
+        let at_once = self.follow_clearing(before, closed);
+        let grown = self.net.row(plan, out).packets.len() > before.row(plan, out).packets.len();
+        if !grown {
+            self.book.clear(closed);
+            return Event::Closed { connection, tear_down: None, at_once };
+        }
+        let tear_down = self.book.close(closed);
+        self.seats.join(plan, out, tear_down);
+        Event::Closed { connection, tear_down: Some(tear_down), at_once }
+    }
+
+    /// The entries that a Close itself freed; whether there are any.
+    fn follow_clearing(&mut self, before: &Net, closed: Connection) -> bool {
+        let entries = Run::entries_of(self.plan, closed).unwrap_or_default();
+        let cells = entries.into_iter().map(|(cell, _)| cell);
+        let freed = |cell: &Cell| {
+            let entry = |net: &Net| net.entry(cell.port, cell.slot);
+            entry(before) != Entry::Free && entry(&self.net) == Entry::Free
+        };
+        let freed: Vec<Cell> = cells.filter(freed).collect();
+        for &cell in &freed {
+            self.book.free(cell);
+        }
+        !freed.is_empty()
     }
 
     fn follow_reply(&mut self, passive: usize, accepts: bool) -> Event {

@@ -60,7 +60,9 @@ impl<'a> Run<'a> {
             Ok(answer) => {
                 let net = Net::decode(self.plan, &self.bytes).expect("a call leaves a state");
                 let before = std::mem::replace(&mut self.net, net);
-                self.follow(&before, call, answer)
+                let events = self.follow(&before, call, answer);
+                self.book.keep_accepted(&self.net.accepted);
+                events
             }
             Err(_) => Vec::new(),
         };

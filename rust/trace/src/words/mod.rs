@@ -6,7 +6,7 @@ use pandabrass::{Kind, Packet, Refusal};
 
 use crate::calls::Call;
 use crate::names::Names;
-use crate::run::{letter, Cell, Event, Hold, Owner, Run, Step, Wait};
+use crate::run::{letter, Cell, Connection, Event, Hold, Owner, Run, Step, Wait};
 use telling::Telling;
 
 /// A packet's kind, as document 01 writes it.
@@ -39,6 +39,7 @@ pub fn hold(hold: Hold) -> &'static str {
     match hold {
         Hold::UnderWay => "under way",
         Hold::Accepted => "accepted",
+        Hold::Closing => "closed and being torn down",
         Hold::LeftBehind => "declined and left behind",
         Hold::TearingDown => "being torn down",
         Hold::Over => "declined and left for good",
@@ -60,6 +61,9 @@ pub fn call(names: &Names, call: Call) -> String {
         Call::Write => "write".to_string(),
         Call::Launch { active: a, passive: p, slot } => {
             format!("launch {} {} {slot}", active(a), passive(p))
+        }
+        Call::Close { active: a, passive: p, slot } => {
+            format!("close {} {} {slot}", active(a), passive(p))
         }
         Call::Reply { passive: p, choice } => match choice {
             0 => format!("reply {} decline", passive(p)),
@@ -98,11 +102,20 @@ fn refused(run: &Run, step: &Step, refusal: Refusal) -> String {
     match (refusal, step.call) {
         (Refusal::WrongPhase, _) => format!("the phase is {}", step.phase.name()),
         (Refusal::NoAllowance, Call::Launch { .. }) => "allowance is spent".to_string(),
-        (Refusal::NotServed, Call::Launch { active, passive, .. }) => format!(
+        (
+            Refusal::NotServed,
+            Call::Launch { active, passive, .. } | Call::Close { active, passive, .. },
+        ) => format!(
             "pair {} -> {} is not served",
             names.active(active as usize),
             names.passive(passive as usize)
         ),
+        (Refusal::NotAccepted, Call::Close { active, passive, slot }) => {
+            let (active, passive) = (active as usize, passive as usize);
+            let (from, to) = (names.active(active), names.passive(passive));
+            let why = standing(run, Connection { active, passive, start: slot as usize });
+            format!("{from} -> {to} from {slot} is not accepted: {why}")
+        }
         (Refusal::QueueFull, _) => "out-queue is full".to_string(),
         (Refusal::QueueEmpty, _) => "in-queue is empty".to_string(),
         (Refusal::FlagUp, _) => "the in-queue's flag is up: one packet a round".to_string(),
@@ -110,6 +123,22 @@ fn refused(run: &Run, step: &Step, refusal: Refusal) -> String {
             "the head is an unmarked NACK: its tear-down comes first".to_string()
         }
         (refusal, _) => refusal.sentence().to_string(),
+    }
+}
+
+/// How a connection stands that is not accepted, by its last launch.
+pub fn standing(run: &Run, connection: Connection) -> &'static str {
+    let book = run.book();
+    let number = book.connections.iter().position(|other| *other == connection);
+    let last = number.and_then(|number| book.last_of(number)).map(|at| &book.launches[at]);
+    match last {
+        None => "it was never launched",
+        Some(launch) if launch.closed => "it was closed",
+        Some(launch) if launch.declined.is_some() => "it was declined",
+        Some(launch) => match run.packet(launch.id).map(|seated| seated.packet.kind) {
+            Some(Kind::Ack) => "its ACK is not consumed yet",
+            _ => "it is under way",
+        },
     }
 }
 

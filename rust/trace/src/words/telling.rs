@@ -8,7 +8,7 @@ use crate::names::Names;
 use crate::net::Phase;
 use crate::place::{Place, Port, Queue};
 use crate::plan::count;
-use crate::run::{Cell, Event, Hold, Id, Owner, Run, Seated, Step, Wait, Why};
+use crate::run::{letter, Cell, Event, Hold, Id, Owner, Run, Seated, Step, Wait, Why};
 
 /// The packets as they are after the call, to tell of.
 pub(super) struct Telling<'r, 'a> {
@@ -88,6 +88,9 @@ impl<'r, 'a> Telling<'r, 'a> {
                 let active = self.packet(id).map_or(0, |packet| packet.active.into());
                 let queue = names.queue_words(Queue::ActiveOut(active));
                 format!("set-up {} joins {queue}; allowance {allowance} left", name(id))
+            }
+            Event::Closed { connection, tear_down, at_once } => {
+                self.closed(connection, tear_down, at_once)
             }
             Event::Moved { id, from, to } => self.moved(id, from, to),
             Event::Booked { id, cell: at } => {
@@ -171,21 +174,34 @@ impl<'r, 'a> Telling<'r, 'a> {
         }
     }
 
+    /// "A is CLOSED: TEAR-DOWN slot 3 hub 2 joins camera's out-queue: frees exactly r0, r1".
+    fn closed(&self, connection: usize, tear_down: Option<Id>, at_once: bool) -> String {
+        let freed = if at_once { ", its entries freed AT ONCE" } else { "" };
+        let closed = format!("{} is CLOSED{freed}", letter(connection));
+        let Some(packet) = tear_down.and_then(|id| self.packet(id)) else {
+            return format!("{closed}: no tear-down is sent");
+        };
+        let queue = self.names().queue_words(Queue::ActiveOut(packet.active.into()));
+        let (slot, hub, routers) = (packet.slot, packet.hub, self.routers(packet));
+        format!("{closed}: TEAR-DOWN slot {slot} hub {hub} joins {queue}: {routers}")
+    }
+
     /// "camera answers with TEAR-DOWN B slot 3 hub 1: frees exactly r0".
     fn torn_down(&self, id: Id) -> String {
         let Some(packet) = self.packet(id) else { return String::new() };
-        let (names, hub) = (self.names(), usize::from(packet.hub));
-        let served = self.run.plan().served(packet.active.into(), packet.passive.into());
+        let (active, name) = (self.names().active(packet.active.into()), self.run.letter(id));
+        let (slot, hub, routers) = (packet.slot, packet.hub, self.routers(packet));
+        format!("{active} answers with TEAR-DOWN {name} slot {slot} hub {hub}: {routers}")
+    }
+
+    /// The routers that a tear-down frees: "frees exactly r0, r1".
+    fn routers(&self, tear_down: &Packet) -> String {
+        let (names, hub) = (self.names(), usize::from(tear_down.hub));
+        let served = self.run.plan().served(tear_down.active.into(), tear_down.passive.into());
         let walk = served.map_or(&[][..], |served| &served.walk);
         let routers: Vec<String> =
             walk.iter().take(hub).map(|hop| names.router(hop.router)).collect();
-        let active = names.active(packet.active.into());
-        format!(
-            "{active} answers with TEAR-DOWN {} slot {} hub {hub}: frees exactly {}",
-            self.run.letter(id),
-            packet.slot,
-            routers.join(", ")
-        )
+        format!("frees exactly {}", routers.join(", "))
     }
 }
 

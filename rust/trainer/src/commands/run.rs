@@ -20,6 +20,7 @@ pub const RUN: Command = Command {
 A script names its plan first, then what is to be done, a statement a line (or with ; between):
   plan FILE | plan bytes HEX..            the plan's file is looked for beside the script
   launch ACTIVE PASSIVE SLOT              reply PASSIVE accept|decline    consume ACTIVE
+  close ACTIVE PASSIVE SLOT               an accepted connection, by the slot of its launch
   entry ROUTER.SIDE SLOT                  read    execute    write
   round [N]                               N whole rounds
   until round N    until quiet [within N] to READ|EXECUTE|WRITE
@@ -30,7 +31,7 @@ A script names its plan first, then what is to be done, a statement a line (or w
   show table    show where
   expect ok | refused N | ack|nack slot N hub N | free | side N         of the last call
   expect quiet | round N | entry ROUTER.SIDE SLOT free|side N | allowance ACTIVE N
-  expect [not] accepted ACTIVE PASSIVE SLOT
+  expect [not] accepted ACTIVE PASSIVE SLOT                             accepted, not closed since
   expect at r0.F1|drive.in|.. setup|tdown|ack|nack slot N hub N
   expect table empty | table ACTIVE PASSIVE SLOT, ..                    the table is theirs alone
 Names or numbers; a number out of range is passed on, so that refusal 9 can be shown.

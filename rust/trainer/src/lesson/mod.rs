@@ -39,7 +39,7 @@ pub enum Mistake {
 }
 
 /// All lessons.
-pub const LESSONS: [Lesson; 7] = [
+pub const LESSONS: [Lesson; 8] = [
     Lesson {
         title: "A declined set-up leaves nothing behind?",
         file: "1-declined.run",
@@ -139,6 +139,24 @@ pub const LESSONS: [Lesson; 7] = [
                  until it leaves; then the flag rises, and the next READ gives the credit back. \
                  Given back at the arrival, a second packet is sent after the first, and the \
                  queue holds more than its capacity: in the chip it is written over another.",
+    },
+    Lesson {
+        title: "A Close frees its slots at once?",
+        file: "8-close.run",
+        script: include_str!("../../../../scripts/lessons/8-close.run"),
+        question:
+            "camera closes its connection, and in the same round force asks for r1.1 slot 0, \
+                   which was camera's. Does force get it? What is still on its way to r1, and what \
+                   will it do there?",
+        mistake: Mistake::Rule("Close clears the entries itself", |rules| {
+            rules.close_frees_early = true;
+        }),
+        answer:
+            "A Close sends a tear-down, and each router frees its entry when that comes by. Until \
+                 then r1.1 slot 0 is camera's: force is declined, asks again and gets it. Cleared \
+                 by the Close itself, the entry goes to force at once; then camera's tear-down \
+                 comes by and frees it, whosever it is. force is told ACCEPTED and has nothing in \
+                 the table: the next set-up may book its slot.",
     },
 ];
 

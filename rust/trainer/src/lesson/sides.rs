@@ -2,10 +2,10 @@
 
 use trace::place::SIDES;
 use trace::run::Cell;
-use trace::{words, Event, Net, Plan, Port, Step};
+use trace::{words, Call, Event, Net, Plan, Port, Step};
 
 use super::notes::{Note, Notes};
-use crate::print::{lines, table, Colour, Paint};
+use crate::print::{lines, table, whereabouts, Colour, Paint};
 
 /// The widths of the first column and of the two others.
 const WHEN: usize = 12;
@@ -63,7 +63,8 @@ fn difference(right: &Notes, wrong: &Notes, parting: usize) -> (String, String) 
     differ.unwrap_or_else(|| ("the answer".to_string(), "the answer".to_string()))
 }
 
-/// What a state holds, thing by thing: the entries, the allowances, the packets, the credits.
+/// What a state holds, thing by thing: the entries, the allowances, the packets, the credits, the
+/// accepted connections.
 fn facts(plan: &Plan, net: &Net) -> Vec<String> {
     let names = plan.names();
     let sides = (0..plan.routers()).flat_map(|router| (0..SIDES).map(move |s| (router, s)));
@@ -84,6 +85,9 @@ fn facts(plan: &Plan, net: &Net) -> Vec<String> {
         facts.push(format!("{}: {packets}", names.queue_words(queue)));
         facts.push(format!("{}: credit {}", names.queue_words(queue), row.credit));
     }
+    let accepted: Vec<String> =
+        net.accepted.iter().map(|&connection| whereabouts::told(names, connection)).collect();
+    facts.push(format!("accepted: {}", accepted.join(", ")));
     facts
 }
 
@@ -106,7 +110,7 @@ fn common(notes: &[Note], paint: Paint) -> String {
     text
 }
 
-/// What each goes on to, round by round; what was told before is not told again.
+/// What each goes on to, round by round; an Execute that was told before is not told again.
 fn columns(right: &[Note], wrong: &[Note], paint: Paint) -> String {
     let (right, wrong) = (told(right), told(wrong));
     let mut times: Vec<(usize, u8)> = right.iter().chain(&wrong).map(|(time, _)| *time).collect();
@@ -130,7 +134,8 @@ fn told(notes: &[Note]) -> Vec<((usize, u8), String)> {
     for (number, note) in notes.iter().enumerate() {
         let time = (note.step.round, note.step.phase as u8);
         let words = note.words.trim_start_matches("ok: ").to_string();
-        let new = !told.iter().any(|(_, before)| *before == words);
+        let told_before = told.iter().any(|(_, before)| *before == words);
+        let new = note.step.call != Call::Execute || !told_before;
         if (is_told(&note.step) || number == 0) && new {
             told.push((time, words));
         }

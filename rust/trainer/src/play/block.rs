@@ -54,6 +54,8 @@ pub enum Stopper {
 pub enum Result {
     /// Accepted.
     Accepted,
+    /// Accepted, and closed since.
+    Closed,
     /// Declined by a router, and what stopped it there.
     DeclinedAt(usize, Stopper),
     /// Declined by that passive.
@@ -77,6 +79,7 @@ impl Outcome {
         let launch = &run.book().launches[number];
         match launch.declined {
             _ if launch.hold == Hold::Accepted => Result::Accepted,
+            _ if launch.closed => Result::Closed,
             Some(Decline::Passive) => {
                 Result::DeclinedBy(run.book().connections[launch.connection].passive)
             }
@@ -91,7 +94,7 @@ fn stopper(why: Why) -> Stopper {
         Why::LastFree => Stopper::LastFree,
         Why::Booked(None) => Stopper::Unknown,
         Why::Booked(Some(owner)) => {
-            let left = !matches!(owner.hold, Hold::UnderWay | Hold::Accepted);
+            let left = !matches!(owner.hold, Hold::UnderWay | Hold::Accepted | Hold::Closing);
             Stopper::Connection(owner.connection, left)
         }
     }

@@ -31,10 +31,9 @@ pub fn find(run: &Run, last: Option<&Step>, expected: &Expected) -> Option<Strin
             differs(found == *allowance, found.to_string())
         }
         Expected::Connected(connection, wanted) => {
-            let book = run.book();
-            let known = book.connections.iter().position(|other| other == connection);
-            let accepted = known.is_some_and(|number| book.accepted.contains(&number));
-            differs(accepted == *wanted, connection_state(run, known, accepted))
+            let accepted = net.accepted.contains(connection);
+            let found = if accepted { "it is accepted" } else { words::standing(run, *connection) };
+            differs(accepted == *wanted, found.to_string())
         }
         Expected::At(queue, kind, slot, hub) => {
             let packets = &net.row(plan, *queue).packets;
@@ -74,17 +73,6 @@ fn number(entry: Entry) -> Option<u32> {
     match entry {
         Entry::Free => None,
         Entry::Booked(side) => Some(side.into()),
-    }
-}
-
-fn connection_state(run: &Run, known: Option<usize>, accepted: bool) -> String {
-    let launches = run.book().launches.iter().rev();
-    let last = launches.into_iter().find(|launch| Some(launch.connection) == known);
-    match last {
-        _ if accepted => "it is accepted".to_string(),
-        None => "it was never launched".to_string(),
-        Some(launch) if launch.declined.is_some() => "it was declined".to_string(),
-        Some(launch) => words::hold(launch.hold).to_string(),
     }
 }
 

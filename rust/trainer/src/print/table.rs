@@ -18,6 +18,9 @@ const KEPT: &str = "  last free: kept";
 const LEGEND: &str = "     A accepted   +A under way   !xA! declined, STILL BOOKED   \
                       !-A! tear-down on its way   . free";
 
+/// What is added to it where a closed connection's entries are shown.
+const CLOSED: &str = "     -A closed, its tear-down on its way";
+
 /// One entry: its text and colour.
 type Shown = (String, Option<Colour>);
 
@@ -34,8 +37,10 @@ pub fn text(run: &Run, paint: Paint) -> String {
         let others = trace::plan::count(sides.len() - rows.len(), "side");
         text += &format!("     {others} with nothing booked\n");
     }
-    text += &paint.text(Colour::Dim, LEGEND);
-    text.push('\n');
+    text += &format!("{}\n", paint.text(Colour::Dim, LEGEND));
+    if run.book().owned().iter().any(|(_, owner)| owner.hold == Hold::Closing) {
+        text += &format!("{}\n", paint.text(Colour::Dim, CLOSED));
+    }
     text + &left_behind(run, paint)
 }
 
@@ -130,6 +135,7 @@ fn owned(owner: Owner) -> Shown {
     let name = letter(owner.connection);
     match owner.hold {
         Hold::Accepted => (name, Some(Colour::Green)),
+        Hold::Closing => (format!("-{name}"), Some(Colour::Yellow)),
         Hold::UnderWay => (format!("+{name}"), Some(Colour::Yellow)),
         Hold::LeftBehind => (format!("!x{name}!"), Some(Colour::Red)),
         Hold::TearingDown => (format!("!-{name}!"), Some(Colour::Red)),
@@ -144,7 +150,7 @@ pub fn left_behind(run: &Run, paint: Paint) -> String {
     let mut text = String::new();
     for (number, launch) in book.launches.iter().enumerate() {
         let why = match launch.hold {
-            Hold::UnderWay | Hold::Accepted => continue,
+            Hold::UnderWay | Hold::Accepted | Hold::Closing => continue,
             Hold::LeftBehind => "no tear-down sent yet",
             Hold::TearingDown => "its tear-down is on its way",
             Hold::Over => "FOR GOOD: no tear-down will come",

@@ -14,8 +14,8 @@ const ROUNDS: u32 = 100_000;
 const QUIET: usize = 1_000;
 
 /// The statements.
-const STATEMENTS: &str = "launch, reply, consume, entry, read, execute, write, round, until, to, \
-                          passive, active, any, show, expect";
+const STATEMENTS: &str = "launch, close, reply, consume, entry, read, execute, write, round, \
+                          until, to, passive, active, any, show, expect";
 
 /// The statements after the plan.
 pub fn parse(text: &str, from: usize, plan: &Plan) -> Result<Vec<Statement>, Mistake> {
@@ -51,7 +51,7 @@ impl Parser<'_, '_> {
     fn statement(&mut self) -> Result<Deed, Mistake> {
         let word = self.cursor.take();
         Ok(match word.text {
-            "launch" | "reply" | "consume" | "entry" | "read" | "execute" | "write" => {
+            "launch" | "close" | "reply" | "consume" | "entry" | "read" | "execute" | "write" => {
                 Deed::Call(self.call(word.text)?)
             }
             "round" => {
@@ -91,9 +91,12 @@ impl Parser<'_, '_> {
             "execute" => Call::Execute,
             "write" => Call::Write,
             "launch" => {
-                let active = self.active()?;
-                let passive = self.passive()?;
-                Call::Launch { active, passive, slot: self.cursor.number("a slot")? }
+                let (active, passive, slot) = self.connection()?;
+                Call::Launch { active, passive, slot }
+            }
+            "close" => {
+                let (active, passive, slot) = self.connection()?;
+                Call::Close { active, passive, slot }
             }
             "reply" => {
                 let passive = self.passive()?;
@@ -114,6 +117,11 @@ impl Parser<'_, '_> {
                 Call::Entry { router, side, slot: self.cursor.number("a slot")? }
             }
         })
+    }
+
+    /// "ACTIVE PASSIVE SLOT"; numbers out of range are passed on.
+    fn connection(&mut self) -> Result<(u32, u32, u32), Mistake> {
+        Ok((self.active()?, self.passive()?, self.cursor.number("a slot")?))
     }
 
     /// An active by name or number; a number out of range is passed on.

@@ -2,13 +2,17 @@
 
 use compare::calls::Calls;
 use model::generate::{Draft, Random};
-use model::machine::{Call, Network};
+use model::machine::{Call, Connection, Network, State};
 use model::named;
 
 /// Rounds that a network is kept busy for, to find states with many packets.
 const BUSY_ROUNDS: usize = 400;
 /// Rounds at whose end some set-ups are accepted; later all are declined, so that tear-downs run.
-const ACCEPTING: usize = 40;
+const ACCEPTING: usize = 200;
+/// For how many rounds a connection stays accepted, on an average.
+const CLOSED_AFTER: usize = 500;
+/// The calls on a state.
+const CALLS: usize = 8;
 
 /// A call on a state.
 pub struct Case {
@@ -20,9 +24,16 @@ pub struct Case {
     pub state: Vec<u8>,
     /// The call; none for Start.
     pub call: Option<Call>,
+    /// Whether the network is busy, and not as it was started.
+    pub busy: bool,
     /// How many packets the state has.
     pub packets: usize,
+    /// How many accepted connections it keeps.
+    pub accepted: usize,
 }
+
+/// The best case of each call so far.
+type Best = [Option<Case>; CALLS];
 
 /// A line of four routers, an active at each of the first two, a passive at each of the last two.
 fn line_of_four() -> Draft {
@@ -72,32 +83,41 @@ impl<'c> Run<'c> {
         self.calls.run(&self.plan, &mut self.state, call, &mut [0; 8]) == 0
     }
 
+    /// The state as it is.
+    fn decoded(&self) -> State {
+        self.network.decode(&self.state).expect("a state")
+    }
+
     /// The case of a call on the state as it is.
-    fn case(&self, call: Option<Call>) -> Case {
-        let decoded = self.network.decode(&self.state).expect("a state");
+    fn case(&self, call: Option<Call>, busy: bool) -> Case {
+        let decoded = self.decoded();
+        let (plan, state) = (self.plan.clone(), self.state.clone());
         let packets = self.network.packets(&decoded).count();
-        Case { name: self.name, plan: self.plan.clone(), state: self.state.clone(), call, packets }
+        Case { name: self.name, plan, state, call, busy, packets, accepted: decoded.marks.len() }
     }
 
     /// Every call on the network as it was started, in each call's phase.
     fn idle(&mut self) -> Vec<Case> {
-        let mut cases = vec![self.case(None)];
+        let mut cases = vec![self.case(None, false)];
         let launch = Call::Launch { active: 0, passive: 0, slot: 0 };
+        let close = Call::Close { active: 0, passive: 0, slot: 0 };
         let entry = Call::Entry { router: 0, side: 1, slot: 0 };
-        cases.extend([launch, entry, Call::Read].map(|call| self.case(Some(call))));
+        cases.extend([launch, close, entry, Call::Read].map(|call| self.case(Some(call), false)));
         assert!(self.does(Call::Read));
-        cases.push(self.case(Some(Call::Execute)));
+        cases.push(self.case(Some(Call::Execute), false));
         assert!(self.does(Call::Execute));
         let (reply, consume) = (Call::Reply { passive: 0, choice: 1 }, Call::Consume { active: 0 });
-        cases.extend([reply, consume, Call::Write].map(|call| self.case(Some(call))));
+        cases.extend([reply, consume, Call::Write].map(|call| self.case(Some(call), false)));
         assert!(self.does(Call::Write));
         cases
     }
 
-    /// For each call, of the states of a busy run on which it is accepted one with the most packets.
+    /// For each call, of the states of a busy run on which it is accepted one with the most packets
+    /// and accepted connections, and with some of these if there is such.
     fn busy(&mut self) -> Vec<Case> {
-        let mut best: [Option<Case>; 7] = Default::default();
+        let mut best = Best::default();
         for round in 0..BUSY_ROUNDS {
+            self.closes(&mut best);
             self.launches(&mut best);
             self.keep(&mut best[1], Call::Entry { router: 0, side: 1, slot: 0 });
             self.keep(&mut best[2], Call::Read);
@@ -111,20 +131,32 @@ impl<'c> Run<'c> {
         best.into_iter().flatten().collect()
     }
 
-    /// Keeps a case that has more packets than the one before, if the call is accepted.
+    /// Keeps a case that is better than the one before, if the call is accepted.
     fn keep(&self, best: &mut Option<Case>, call: Call) {
         let mut state = self.state.clone();
         if self.calls.run(&self.plan, &mut state, call, &mut [0; 8]) != 0 {
             return;
         }
-        let case = self.case(Some(call));
-        if best.as_ref().is_none_or(|best| best.packets < case.packets) {
+        let case = self.case(Some(call), true);
+        let good = |case: &Case| (case.accepted > 0, case.packets + case.accepted);
+        if best.as_ref().is_none_or(|best| good(best) < good(&case)) {
             *best = Some(case);
         }
     }
 
+    /// Few connections are closed.
+    fn closes(&mut self, best: &mut Best) {
+        for Connection { active, passive, start } in self.decoded().marks {
+            let close = Call::Close { active, passive, slot: start.0 };
+            self.keep(&mut best[7], close);
+            if self.random.chance(1, CLOSED_AFTER) {
+                self.does(close);
+            }
+        }
+    }
+
     /// Every active launches as long as it may.
-    fn launches(&mut self, best: &mut [Option<Case>; 7]) {
+    fn launches(&mut self, best: &mut Best) {
         for active in 0..self.network.plan().actives() {
             loop {
                 let passive = self.random.below(self.network.plan().passives());
@@ -139,10 +171,9 @@ impl<'c> Run<'c> {
     }
 
     /// Most passives reply and most actives consume.
-    fn answers(&mut self, round: usize, best: &mut [Option<Case>; 7]) {
-        let slots = self.network.slots();
+    fn answers(&mut self, round: usize, best: &mut Best) {
         for passive in 0..self.network.plan().passives() {
-            let accepts = round < ACCEPTING && slots > 2 && self.random.chance(1, 3);
+            let accepts = round < ACCEPTING && self.random.chance(1, 3);
             let reply = Call::Reply { passive, choice: usize::from(accepts) };
             self.keep(&mut best[4], reply);
             if self.random.chance(3, 4) {

@@ -196,6 +196,7 @@ fn network(row: &Row) -> String {
 fn told(names: &Names, result: Played) -> String {
     match result {
         Played::Accepted => "accepted".to_string(),
+        Played::Closed => "closed".to_string(),
         Played::DeclinedAt(router, stopper) => {
             let by = match stopper {
                 Stopper::Connection(number, false) => format!(" by {}", letter(number)),

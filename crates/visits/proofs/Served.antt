@@ -1,5 +1,6 @@
--- The length of a pair's walk is 0 exactly where the pair is not served: a walk that arrives has a router.
-use mathlib.Core.Path.{_≡_}
+-- The length of a pair's walk is 0 exactly where the pair is not served: a walk that arrives has a router. Where it is
+-- not, it is the number of routers on the walk.
+use mathlib.Core.Path.{_≡_, _∙_}
 use mathlib.Core.Logic.{_⊎_, inl, inr}
 use mathlib.Core.Bool.{true, false}
 use mathlib.Core.List.{List, []}
@@ -13,6 +14,7 @@ use Rattle.plan.specs.Plan.{Plan, A, P, R, active, passive}
 use Rattle.plan.specs.Rules.{home}
 use Rattle.paths.specs.Walk.{onward, walkSize}
 use Rattle.paths.specs.Served.{served}
+use Rattle.feeding.specs.Feeds.{span}
 use Rattle.arrivals.specs.Pairs.{pairWalk, lengthsOf}
 use Rattle.load.specs.Lent.{length-at}
 
@@ -58,3 +60,7 @@ module _ (pl : Plan) (range : InRange (pl .head)) (a p : ℕ) where
         by : (served pl a p ≡ true) ⊎ (served pl a p ≡ false) → served pl a p ≡ true
         by (inl e) = e
         by (inr e) = absurd (n (rw e at walk-is))
+
+    pub walk-span : (getD (getD lengths a []) p 0 ≡ 0 → ⊥) → getD (getD lengths a []) p 0 ≡ span pl a p
+    unfolding pairWalk
+    walk-span n = walk-is ∙ rw (is-served n)

@@ -1,5 +1,8 @@
 //! Load: sets of destinations in words, all walks at once.
 
+/// A one in each of four bytes.
+const ONES: u32 = 0x0101_0101;
+
 /// A loaded plan. A port is 4 * router + side; a destination is an active's number, or A + a
 /// passive's; a set of destinations is a u32, of routers or actives a u16.
 pub struct Net {
@@ -22,6 +25,24 @@ pub struct Net {
     pub(crate) served: [u16; 16],
 }
 
+/// The ports with a joint, as sets: links to routers, and interfaces.
+struct Joined {
+    links: u64,
+    ends: u64,
+    /// A joint out of range was met.
+    bad: bool,
+}
+
+/// Where served walks start.
+struct Starts {
+    /// The actives with a served pair.
+    live: u32,
+    /// By router: the passives of its actives' served pairs.
+    walks: [u32; 16],
+    /// The routers with any.
+    routers: u16,
+}
+
 impl Net {
     /// No plan yet.
     pub const fn empty() -> Net {
@@ -42,206 +63,176 @@ impl Net {
 
     /// Load: 0, or refusal 1 to 6.
     pub fn load(&mut self, plan: &[u8]) -> u32 {
-        if plan.len() < 6 {
-            return 1;
-        }
-        let h = u64::from_be_bytes([0, 0, plan[0], plan[1], plan[2], plan[3], plan[4], plan[5]]);
-        let r = (h >> 43) as usize;
-        let a = (h >> 38) as usize & 31;
-        let p = (h >> 33) as usize & 31;
-        let s = (h >> 27) as usize & 63;
-        if r.wrapping_sub(1) > 15 || a.wrapping_sub(1) > 15 || p.wrapping_sub(1) > 15 {
+        let Some(head) = plan.first_chunk() else { return 1 };
+        if !self.read_head(head) {
             return 2;
         }
-        if s < 2 || s > 32 {
-            return 2;
-        }
-        let mut zero = false;
-        for k in 0..8 {
-            let c = (h >> (24 - 3 * k)) as u8 & 7;
-            self.cap[k] = c;
-            zero |= c == 0;
-        }
-        if zero {
-            return 2;
-        }
-        let d = a + p;
-        let bits = 45 + 32 * r + 3 * r * d;
-        let len = (bits + 7) / 8;
-        if plan.len() != len {
+        if !self.length_fits(plan) {
             return 3;
         }
-        if bits & 7 != 0 && plan[len - 1] & (0xff >> (bits & 7)) != 0 {
-            return 3;
-        }
-        self.r = r;
-        self.a = a;
-        self.p = p;
-        self.s = s;
-        let mut buf = [0u8; 272];
-        buf[..len].copy_from_slice(plan);
-
-        // Later fields. Joint k stands at bit 45 + 8k, so 3 bits of byte 5 + k and 5 of the next.
-        let ports = 4 * r;
-        let limit = [1u8, r as u8, a as u8, p as u8];
-        let mut bad = false;
-        for k in 0..ports {
-            let j = buf[5 + k] << 5 | buf[6 + k] >> 3;
-            self.joint[k] = j;
-            let kind = j >> 6;
-            bad |= (j >> 2 & 15) >= limit[kind as usize];
-            bad |= (kind != 1) & (j & 3 != 0);
-        }
-        // Routes: eight fields of 3 bits at a time, spread to bytes, then bit by bit to sets.
-        const ONE: u64 = 0x0101_0101_0101_0101;
-        let gather = |v: u64| (v & ONE).wrapping_mul(0x0102_0408_1020_4080) >> 56;
-        let full = (u64::MAX >> (64 - d)) as u32;
-        let mut badr = 0u32;
-        let mut at = 45 + 32 * r;
-        for x in 0..r {
-            let (mut b0, mut b1, mut b2) = (0u64, 0u64, 0u64);
-            let mut done = 0;
-            while done < d {
-                let b = (at + 3 * done) >> 3;
-                let w = match buf[b..].first_chunk::<4>() {
-                    Some(c) => u32::from_be_bytes(*c),
-                    None => 0,
-                };
-                let v = (w << ((at + 3 * done) & 7) >> 8) as u64;
-                let v = v >> 12 | (v & 0xfff) << 32;
-                let v = (v >> 6 & 0x3f_0000_003f) | (v & 0x3f_0000_003f) << 16;
-                let v = (v >> 3 & 0x0007_0007_0007_0007) | (v & 0x0007_0007_0007_0007) << 8;
-                b0 |= gather(v) << done;
-                b1 |= gather(v >> 1) << done;
-                b2 |= gather(v >> 2) << done;
-                done += 8;
-            }
-            at += 3 * d;
-            let (b0, b1, b2) = (b0 as u32, b1 as u32, b2 as u32);
-            badr |= b2 & !(b0 & b1) & full;
-            let some = full & !b2;
-            self.by[x] = [some & !b0 & !b1, some & b0 & !b1, some & !b0 & b1, some & b0 & b1];
-            self.bit[x] = [b0, b1];
-        }
-        if bad || badr != 0 {
+        let joined = self.read_joints(plan);
+        let routes_fit = self.read_routes(plan);
+        if joined.bad || !routes_fit {
             return 4;
         }
-
-        // Joints, and with them the routers from which a destination is one step away.
-        let mut arrive = [0u32; 32]; // by router; none at 16
-        let (mut seen_a, mut seen_p, mut wrong) = (0u16, 0u16, false);
-        for k in 0..ports {
-            let j = self.joint[k];
-            let n = (j >> 2 & 15) as usize;
-            match j >> 6 {
-                0 => {}
-                1 => {
-                    let q = (j & 63) as usize;
-                    wrong |= q >> 2 == k >> 2 || self.joint[q] != 0x40 | k as u8;
-                    self.next[k >> 2][k & 3] = n as u8;
-                }
-                2 => {
-                    wrong |= seen_a >> n & 1 != 0;
-                    seen_a |= 1 << n;
-                    self.home[n] = k as u8;
-                    arrive[k >> 2] |= self.by[k >> 2][k & 3] & 1 << n;
-                }
-                _ => {
-                    wrong |= seen_p >> n & 1 != 0;
-                    seen_p |= 1 << n;
-                    self.home[(a + n) & 31] = k as u8;
-                    arrive[k >> 2] |= self.by[k >> 2][k & 3] & 1 << (a + n);
-                }
-            }
-        }
-        if wrong
-            || seen_a != (0xffffu32 >> (16 - a)) as u16
-            || seen_p != (0xffffu32 >> (16 - p)) as u16
-        {
+        let mut arrive = [0; 32];
+        if !self.join(&joined, &mut arrive) {
             return 5;
         }
-
-        // All walks at once, from their ends: sweeps up and down the routers until nothing is new.
-        let everywhere = loop {
-            let mut new = 0;
-            for x in 0..r {
-                let v = self.pull(&arrive, x);
-                new |= v ^ arrive[x];
-                arrive[x] = v;
-            }
-            let mut all = full;
-            for x in (0..r).rev() {
-                let v = self.pull(&arrive, x);
-                new |= v ^ arrive[x];
-                arrive[x] = v;
-                all &= v;
-            }
-            if new == 0 || all == full {
-                break all;
-            }
-        };
-
-        // Served pairs. Where every router has a way back no walk need be looked at.
-        let mut live = 0u32; // actives with a served pair
-        let mut pend = [0u32; 16];
-        let mut work = 0u16;
-        for x in 0..a {
-            let h = (self.home[x] >> 2) as usize & 15;
-            let mut w = arrive[h] >> a << a;
-            if everywhere >> x & 1 == 0 && w != 0 {
-                let mut lost = 0;
-                for (y, met) in self.spread(h, w).iter().enumerate() {
-                    lost |= if arrive[y] >> x & 1 == 0 { *met } else { 0 };
-                }
-                w &= !lost;
-            }
-            self.served[x] = (w >> a) as u16;
-            if w != 0 {
-                live |= 1 << x;
-                pend[h] |= w;
-                work |= 1 << h;
-            }
-        }
-
+        let everywhere = self.reach(&mut arrive);
+        let mut starts = self.serve(&arrive, everywhere);
         // A ring of queues is a ring of routers that follow one another on served walks (then of
-        // their U, Q and F), or one of K queues: from K only K and in-queues are fed.
-        let mut follow = [0u16; 16];
-        let mut used = [0u32; 16];
-        while work != 0 {
-            let x = work.trailing_zeros() as usize & 15;
-            work &= work - 1;
-            let m = core::mem::take(&mut pend[x]) & !used[x];
-            used[x] |= m;
-            for o in 0..4 {
-                let (k, n) = (m & self.by[x][o], self.next[x][o]);
-                if k != 0 && n < 16 {
-                    follow[x] |= 1 << n;
-                    pend[n as usize & 15] |= k;
-                    work |= 1 << n;
-                }
-            }
+        // their U, Q and F), or one of K queues: from K only K and in-queues are fed. A router that
+        // is alone has neither.
+        if self.r == 1 {
+            return 0;
         }
-        let mut left = (0xffffu32 >> (16 - r)) as u16;
-        loop {
-            let before = left;
-            for x in (0..r).rev() {
-                left &= !(((follow[x] & left == 0) as u16) << x);
-            }
-            if left == 0 {
-                break;
-            }
-            for x in 0..r {
-                left &= !(((follow[x] & left == 0) as u16) << x);
-            }
-            if left == before {
-                return 6;
-            }
+        if self.walks_ring(&mut starts) {
+            return 6;
         }
         // Links, as if every router answered: without a ring there is none of K queues.
-        if self.links_ring(&arrive, live) && self.answers_ring(&self.leaving()) {
+        if self.links_ring(&arrive, starts.live) && self.answers_ring(&self.leaving()) {
             return 6;
         }
         0
+    }
+
+    /// Counts and capacities; whether they are in range.
+    #[inline(always)]
+    fn read_head(&mut self, head: &[u8; 6]) -> bool {
+        let [b0, b1, b2, b3, b4, b5] = *head;
+        let h = u64::from_be_bytes([0, 0, b0, b1, b2, b3, b4, b5]);
+        self.r = (h >> 43) as usize;
+        self.a = (h >> 38) as usize & 31;
+        self.p = (h >> 33) as usize & 31;
+        self.s = (h >> 27) as usize & 63;
+        let capacities = h >> 3 & 0xff_ffff;
+        self.cap = to_bytes(capacities).to_le_bytes();
+        let counted = |count: usize| count.wrapping_sub(1) < 16;
+        let counts = counted(self.r) & counted(self.a) & counted(self.p);
+        let some = capacities | capacities >> 1 | capacities >> 2;
+        counts & (self.s.wrapping_sub(2) < 31) & (some & 0o1111_1111 == 0o1111_1111)
+    }
+
+    /// All destinations.
+    #[inline(always)]
+    fn full(&self) -> u32 {
+        (u64::MAX >> (64 - self.a - self.p)) as u32
+    }
+
+    /// Whether there are as many bytes as the counts give, and no bit behind the last field.
+    #[inline(always)]
+    fn length_fits(&self, plan: &[u8]) -> bool {
+        let bits = 45 + 32 * self.r + 3 * self.r * (self.a + self.p);
+        let behind = 0xff >> ((bits + 7) % 8 + 1);
+        plan.len() == bits.div_ceil(8) && plan[plan.len() - 1] & behind as u8 == 0
+    }
+
+    /// The joints, four of a router at once. They begin with the last 3 bits of byte 5 + 4x.
+    #[inline(always)]
+    fn read_joints(&mut self, plan: &[u8]) -> Joined {
+        let (r, a, p) = (self.r as u32, self.a as u32, self.p as u32);
+        let (mut links, mut ends, mut bad) = (0, 0, 0);
+        for x in 0..self.r {
+            let Some(&[b0, b1, b2, b3, b4]) = plan[5 + 4 * x..].first_chunk() else { break };
+            let joints = u32::from_be_bytes([b0, b1, b2, b3]) << 5 | b4 as u32 >> 3;
+            self.joint[4 * (x & 15)..][..4].copy_from_slice(&joints.to_be_bytes());
+            // By byte, 1 or 0: the two bits of the kind; whether it is a router's.
+            let (high, low) = (joints >> 7 & ONES, joints >> 6 & ONES);
+            let link = low & !high;
+            // What the number must be below.
+            let none = ONES & !(high | low);
+            let most = none + link * r + (high & !low) * a + (high & low) * p;
+            let number = joints >> 2 & (15 * ONES);
+            bad |= (number + 0x80 * ONES - most) & (0x80 * ONES);
+            bad |= (joints | joints >> 1) & ONES & !link;
+            let linked = link * 0xff;
+            self.next[x & 15] = (number & linked | (16 * ONES) & !linked).to_be_bytes();
+            links |= sides(link) << (4 * x);
+            ends |= sides(high) << (4 * x);
+        }
+        Joined { links, ends, bad: bad != 0 }
+    }
+
+    /// The routes, as sets of destinations; whether each is a side or none.
+    #[inline(always)]
+    fn read_routes(&mut self, plan: &[u8]) -> bool {
+        let (full, count) = (self.full(), self.a + self.p);
+        let mut at = 45 + 32 * self.r;
+        let mut bad = 0;
+        for x in 0..self.r {
+            let (mut b0, mut b1, mut b2) = (0, 0, 0);
+            let mut done = 0;
+            while done < count {
+                let fields = to_bytes(eight_fields(plan, at + 3 * done));
+                b0 |= gather(fields) << done;
+                b1 |= gather(fields >> 1) << done;
+                b2 |= gather(fields >> 2) << done;
+                done += 8;
+            }
+            at += 3 * count;
+            let (b0, b1, b2) = (b0 as u32, b1 as u32, b2 as u32);
+            bad |= b2 & !(b0 & b1) & full;
+            let (even, odd) = (full & !b2 & !b0, full & !b2 & b0);
+            self.by[x & 15] = [even & !b1, odd & !b1, even & b1, odd & b1];
+            self.bit[x & 15] = [b0, b1];
+        }
+        bad == 0
+    }
+
+    /// Whether every link is named back by another router, and every interface has one joint; with
+    /// that the routers from which a destination is one step away.
+    #[inline(always)]
+    fn join(&mut self, joined: &Joined, arrive: &mut [u32; 32]) -> bool {
+        let (mut left, mut wrong) = (joined.links, false);
+        while left != 0 {
+            let k = left.trailing_zeros() as usize;
+            left &= left - 1;
+            let q = (self.joint[k & 63] & 63) as usize;
+            wrong |= (q >> 2 == k >> 2) | (self.joint[q] != 0x40 | k as u8);
+        }
+        let (mut seen, mut twice) = (0, 0);
+        left = joined.ends;
+        while left != 0 {
+            let k = left.trailing_zeros() as usize & 63;
+            left &= left - 1;
+            let j = self.joint[k];
+            let before = if j >> 6 == 3 { self.a } else { 0 };
+            let d = (before + (j >> 2 & 15) as usize) & 31;
+            twice |= seen & 1 << d;
+            seen |= 1 << d;
+            self.home[d] = k as u8;
+            arrive[k >> 2] |= self.by[k >> 2][k & 3] & 1 << d;
+        }
+        !wrong & (twice == 0) & (seen == self.full())
+    }
+
+    /// All walks at once, from their ends: sweeps up and down the routers until nothing is new, or
+    /// nothing is left; where all routers arrive.
+    #[inline(always)]
+    fn reach(&self, arrive: &mut [u32; 32]) -> u32 {
+        let full = self.full();
+        loop {
+            let (mut new, mut all) = (0, full);
+            for x in 0..self.r {
+                let v = self.pull(arrive, x);
+                new |= v ^ arrive[x & 15];
+                arrive[x & 15] = v;
+                all &= v;
+            }
+            if new == 0 || all == full {
+                return all;
+            }
+            all = full;
+            for x in (0..self.r).rev() {
+                let v = self.pull(arrive, x);
+                arrive[x & 15] = v;
+                all &= v;
+            }
+            if all == full {
+                return all;
+            }
+        }
     }
 
     #[inline(always)]
@@ -252,6 +243,68 @@ impl Net {
             | by[1] & arrive[next[1] as usize & 31]
             | by[2] & arrive[next[2] as usize & 31]
             | by[3] & arrive[next[3] as usize & 31]
+    }
+
+    /// Served pairs. Where every router has a way back no walk need be looked at.
+    #[inline(always)]
+    fn serve(&mut self, arrive: &[u32; 32], everywhere: u32) -> Starts {
+        let mut starts = Starts { live: 0, walks: [0; 16], routers: 0 };
+        for x in 0..self.a {
+            let h = (self.home[x & 31] >> 2) as usize & 15;
+            let mut w = arrive[h] >> self.a << self.a;
+            if everywhere >> x & 1 == 0 && w != 0 {
+                let mut lost = 0;
+                for (y, met) in self.spread(h, w).iter().enumerate() {
+                    lost |= if arrive[y] >> x & 1 == 0 { *met } else { 0 };
+                }
+                w &= !lost;
+            }
+            self.served[x & 15] = (w >> self.a) as u16;
+            if w != 0 {
+                starts.live |= 1 << x;
+                starts.walks[h] |= w;
+                starts.routers |= 1 << h;
+            }
+        }
+        starts
+    }
+
+    /// A ring of routers that follow one another on served walks.
+    #[inline(always)]
+    fn walks_ring(&self, starts: &mut Starts) -> bool {
+        let Starts { walks: pend, routers: work, .. } = starts;
+        let mut follow = [0u16; 16];
+        let mut used = [0u32; 16];
+        while *work != 0 {
+            let x = work.trailing_zeros() as usize & 15;
+            *work &= *work - 1;
+            let m = core::mem::take(&mut pend[x]) & !used[x];
+            used[x] |= m;
+            for o in 0..4 {
+                let (k, n) = (m & self.by[x][o], self.next[x][o]);
+                if k != 0 && n < 16 {
+                    follow[x] |= 1 << n;
+                    pend[n as usize & 15] |= k;
+                    *work |= 1 << n;
+                }
+            }
+        }
+        let mut left = (0xffffu32 >> (16 - self.r)) as u16;
+        loop {
+            let before = left;
+            for x in (0..self.r).rev() {
+                left &= !(((follow[x & 15] & left == 0) as u16) << x);
+            }
+            if left == 0 {
+                return false;
+            }
+            for x in 0..self.r {
+                left &= !(((follow[x & 15] & left == 0) as u16) << x);
+            }
+            if left == before {
+                return true;
+            }
+        }
     }
 
     /// Which of these destinations' walks (they arrive) from router x meet each router.
@@ -276,51 +329,48 @@ impl Net {
         met
     }
 
-    /// A ring of links that an active's answers, if every router sent some, would follow.
+    /// A ring of links that an active's answers, if every router sent some, would follow. By router:
+    /// the actives whose answers leave by a link that may be in one. Takes them away until no more go.
     #[inline(always)]
     fn links_ring(&self, arrive: &[u32; 32], live: u32) -> bool {
-        let mut leave = [0u32; 64];
-        for x in 0..self.r {
-            for o in 0..4 {
-                leave[(4 * x + o) & 63] = self.by[x & 15][o] & arrive[x & 15] & live;
-            }
-        }
-        let mut succ = [0u64; 64];
-        let mut left = 0u64;
-        for k in 0..4 * self.r {
-            let (j, m) = (self.joint[k & 63], leave[k & 63]);
-            if j >> 6 != 1 || m == 0 {
-                continue;
-            }
-            left |= 1 << k;
-            let q = (j & 60) as usize;
-            let mut f = 0;
-            for o in 0..4 {
-                f |= ((m & leave[q + o] != 0) as u64) << o;
-            }
-            succ[k & 63] = f << q;
-        }
-        // A router's links lead to other routers, so its four are judged together.
-        let judge = |left: u64, x: usize| {
-            let mut stay = 0;
-            for o in 0..4 {
-                stay |= ((succ[(4 * x + o) & 63] & left != 0) as u64) << o;
-            }
-            left & !((!stay & 15) << (4 * x))
-        };
-        while left != 0 {
-            let before = left;
-            for x in (0..self.r).rev() {
-                left = judge(left, x);
-            }
+        let mut leave = arrive.map(|reached| reached & live);
+        loop {
+            let (mut any, mut gone) = (0, 0);
             for x in 0..self.r {
-                left = judge(left, x);
+                let stay = self.stay(&leave, arrive[x & 15] & live, x);
+                leave[x & 15] = stay;
+                any |= stay;
             }
-            if left == before {
-                return true;
+            if any == 0 {
+                return false;
+            }
+            any = 0;
+            for x in (0..self.r).rev() {
+                let stay = self.stay(&leave, arrive[x & 15] & live, x);
+                gone |= stay ^ leave[x & 15];
+                leave[x & 15] = stay;
+                any |= stay;
+            }
+            if any == 0 || gone == 0 {
+                return any != 0;
             }
         }
-        false
+    }
+
+    /// Of the actives that router x answers: those that leave by a side behind which one of them
+    /// goes on.
+    #[inline(always)]
+    fn stay(&self, leave: &[u32; 32], answers: u32, x: usize) -> u32 {
+        let (by, next) = (&self.by[x & 15], &self.next[x & 15]);
+        let by_side = |o: usize| {
+            let actives = by[o] & answers;
+            if actives & leave[next[o] as usize & 31] != 0 {
+                actives
+            } else {
+                0
+            }
+        };
+        by_side(0) | by_side(1) | by_side(2) | by_side(3)
     }
 
     /// By port: the actives whose answers leave by it.
@@ -419,4 +469,32 @@ impl Net {
         let b = &self.bit[r & 15];
         (b[0] >> d & 1 | (b[1] >> d & 1) << 1) as usize
     }
+}
+
+/// Eight fields of 3 bits from a bit of the plan on; what is behind the plan is 0.
+#[inline(always)]
+fn eight_fields(plan: &[u8], at: usize) -> u64 {
+    let byte = (at >> 3).min(plan.len() - 4);
+    let word = plan[byte..].first_chunk().map_or(0, |four| u32::from_be_bytes(*four));
+    (word << (at - 8 * byte) >> 8) as u64
+}
+
+/// Eight fields of 3 bits, the first one highest, as eight bytes, the first one lowest.
+#[inline(always)]
+fn to_bytes(fields: u64) -> u64 {
+    let v = fields >> 12 | (fields & 0xfff) << 32;
+    let v = (v >> 6 & 0x3f_0000_003f) | (v & 0x3f_0000_003f) << 16;
+    (v >> 3 & 0x0007_0007_0007_0007) | (v & 0x0007_0007_0007_0007) << 8
+}
+
+/// The lowest bit of each of eight bytes, as a set.
+#[inline(always)]
+fn gather(bytes: u64) -> u64 {
+    (bytes & 0x0101_0101_0101_0101).wrapping_mul(0x0102_0408_1020_4080) >> 56
+}
+
+/// The lowest bit of each of four bytes, the first one highest, as a set.
+#[inline(always)]
+fn sides(bytes: u32) -> u64 {
+    (bytes.wrapping_mul(0x0804_0201) >> 24 & 15) as u64
 }

@@ -65,7 +65,7 @@ fn all_hold(entries: &[u8], slots: u32, entry: u8) -> bool {
     let Some(entries) = entries.first_chunk::<64>() else { return false };
     let (mut left, mut wrong) = (slots, 0);
     while left != 0 {
-        wrong |= entries[2 * take(&mut left) & 63] ^ entry;
+        wrong |= entries[(2 * take(&mut left)) & 63] ^ entry;
     }
     wrong == 0
 }

@@ -62,7 +62,7 @@ enum pandabrass_choice { PANDABRASS_DECLINE = 0, PANDABRASS_ACCEPT = 1 };
 #define PANDABRASS_FREE 4
 
 /* The most bytes that a state of any plan has, and the most that a plan has. */
-#define PANDABRASS_LARGEST_STATE 21634
+#define PANDABRASS_LARGEST_STATE 21762
 #define PANDABRASS_LARGEST_PLAN 262
 
 /* How many bytes a state of this plan has; 0 if the plan does not load. */
@@ -81,10 +81,11 @@ uint32_t pandabrass_start(const uint8_t *plan, size_t n, uint8_t *state, size_t 
 /* Read: 0, or 1 to 8. Each wire's packet joins its queue, each raised flag becomes a credit. */
 uint32_t pandabrass_read(const uint8_t *plan, size_t n, uint8_t *state, size_t l);
 
-/* Execute: 0, or 1 to 8. Units handle heads, outputs pick senders, declined set-ups are torn down. */
+/* Execute: 0, or 1 to 8. Units handle heads, outputs pick senders in turn, declined set-ups are torn down. */
 uint32_t pandabrass_execute(const uint8_t *plan, size_t n, uint8_t *state, size_t l);
 
-/* Write: 0, or 1 to 8. Each picked head enters its wire; the slot grows by one. */
+/* Write: 0, or 1 to 8. Each picked head enters its wire and its output remembers the sender; the slot grows by
+ * one. */
 uint32_t pandabrass_write(const uint8_t *plan, size_t n, uint8_t *state, size_t l);
 
 /* Launch, in READ: 0, or 1 to 12. A SETUP joins the active's out-queue. */

@@ -7,7 +7,7 @@ use Rattle.plan.specs.Head.{destinations}
 use Rattle.plan.specs.Plan.{Plan}
 use Rattle.feeding.specs.Queue.{queues}
 use Rattle.machine.specs.Outputs.{outputs}
-use Rattle.layout.specs.Offsets.{size, outputsAt, allowancesAt, tableAt, connectionsAt}
+use Rattle.layout.specs.Offsets.{size, outputsAt, allowancesAt, tableAt, connectionsAt, turnsAt}
 
 abbrev pub queueCount : Head → ℕ
 queueCount h = 2 * destinations h + 21 * h .routers
@@ -27,8 +27,11 @@ tableFrom h = allowancesFrom h + h .actives
 abbrev pub connectionsFrom : Head → ℕ
 connectionsFrom h = tableFrom h + 256 * h .routers
 
+abbrev pub turnsFrom : Head → ℕ
+turnsFrom h = connectionsFrom h + 64 * h .actives
+
 abbrev pub stateSize : Head → ℕ
-stateSize h = connectionsFrom h + 64 * h .actives
+stateSize h = turnsFrom h + outputCount h
 
 -- ---- they are the plan's
 module _ (pl : Plan) where
@@ -54,6 +57,10 @@ module _ (pl : Plan) where
   pub connections-at : connectionsAt pl ≡ connectionsFrom (pl .head)
   unfolding queues
   connections-at = omega arith
+
+  pub turns-at : turnsAt pl ≡ turnsFrom (pl .head)
+  unfolding queues
+  turns-at = omega arith
 
   pub size-by : size pl ≡ stateSize (pl .head)
   unfolding queues size

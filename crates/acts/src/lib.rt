@@ -4,7 +4,7 @@ ghost use mathlib.Core.Path.{_≡_};
 ghost use Prim.Native.Nat.{_+_, _*_, _≤_, _<_};
 ghost use Rattle.plan.specs.Head.{Counts};
 ghost use Rattle.acts.specs.Counts.{queueCount, outputCount, outputsFrom, allowancesFrom, tableFrom};
-ghost use Rattle.acts.specs.Counts.{connectionsFrom, stateSize};
+ghost use Rattle.acts.specs.Counts.{connectionsFrom, turnsFrom, stateSize};
 
 // A queue's row: credit, flag, mark, length and seven places of five bytes.
 pub const QUEUE_WIDTH: usize = 39;
@@ -84,10 +84,18 @@ pub fn starts_row(h: Head, a: usize, p: usize) -> usize
     connections_row(h) + 4 * (16 * a + p)
 }
 
+// The byte of the last sender that output m served.
+pub fn turn_row(h: Head, m: usize) -> usize
+    requires { ⌜ Counts h × (m ≤ 65535) ⌝ }
+    ensures { λ i. ⌜ i ≡ turnsFrom h + m ⌝ }
+{
+    connections_row(h) + 64 * h.actives + m
+}
+
 // The count of a state's bytes.
 pub fn state_size(h: Head) -> usize
     requires { ⌜ Counts h ⌝ }
     ensures { λ n. ⌜ n ≡ stateSize h ⌝ }
 {
-    connections_row(h) + 64 * h.actives
+    turn_row(h, output_count(h))
 }

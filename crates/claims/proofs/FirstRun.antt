@@ -77,7 +77,7 @@ along p b all k before (c ∷ cs) e =
     (ap (answersIn p cs) (sym (bytes-more p before c b)) ∙ more
     ∙ ap (ruledAnswers (planOf p) cs) (ruled-more (planOf p) before c (start (planOf p))))
 
--- ---- plan T loads, and has 1,354 bytes
+-- ---- plan T loads, and has 1,362 bytes
 some-number : (w : Refusal) → 1 ≤ refusalNumber w
 some-number TooShort = omega arith
 some-number OutOfRange = omega arith
@@ -104,9 +104,9 @@ t-accepted : (h : Head) × (loadOf planT ≡ Accepted h)
 unfolding loads
 t-accepted = loaded (loadOf planT) t-loads
 
-t-size : size (planOf planT) ≡ 1354
+t-size : size (planOf planT) ≡ 1362
 unfolding plannedT
-t-size = t-parts .4
+t-size = t-parts .5
 
 pub first-run : FirstRun
 first-run buffer long =

@@ -9,3 +9,4 @@ pub mod Demand2
 pub mod Bridge
 pub mod Demand3
 pub mod FirstRun
+pub mod TurnAbout

@@ -1,5 +1,5 @@
 -- Demand 3 used: document 01's first starred run on plan T, 'Launch (0,0,0) in round 0 .. consumed in round 7 with
--- slot 1, hub 1', by the calls on 1,354 bytes that an accepted Start left, and then an Entry for each entry of the
+-- slot 1, hub 1', by the calls on 1,362 bytes that an accepted Start left, and then an Entry for each entry of the
 -- table.
 use mathlib.Core.Path.{_≡_}
 use mathlib.Core.List.{List, [], _∷_, _++_}
@@ -30,6 +30,6 @@ firstAnswers =
 
 abbrev pub FirstRun : Type 0
 FirstRun =
-    (buffer : List ℕ) → length buffer ≡ 1354
+    (buffer : List ℕ) → length buffer ≡ 1362
     → (startOn planT buffer .answer ≡ Done)
     × (answersIn planT (launchInRound0 ++ allEntries) (startOn planT buffer .bytes) ≡ firstAnswers)

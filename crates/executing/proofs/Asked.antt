@@ -23,19 +23,21 @@ use Rattle.machine.specs.Outputs.{outputs, outputAt, outputNumber, nextBy}
 use Rattle.machine.specs.Execute.{isOpen}
 use Rattle.machine.proofs.Numbers.{exists-at}
 use Rattle.machine.proofs.OutNumbers.{drives-at, output-at}
-use Rattle.layout.specs.Offsets.{queueRow, outputRow}
+use Rattle.theory.specs.Invariant.{Core}
+use Rattle.layout.specs.Offsets.{queueRow, outputRow, turnRow}
 use Rattle.layout.specs.Places.{packetAt}
 use Rattle.layout.specs.Decode.{lengthAt, entryAt}
 use Rattle.layout.specs.Encode.{encode}
-use Rattle.layout.proofs.Readings.{slot-at, entry-at}
+use Rattle.layout.proofs.Readings.{slot-at, entry-at, last-sender-at}
 use Rattle.acts.specs.Acts.{Holds, Steps}
-use Rattle.acts.specs.Counts.{queueCount, outputCount, outputsFrom, outputs-at, tableFrom}
+use Rattle.acts.specs.Counts.{queueCount, outputCount, outputsFrom, outputs-at, tableFrom, turnsFrom, turns-at}
 use Rattle.moves.specs.Wiring.{Wiring}
 use Rattle.moves.specs.Next.{numberOr}
-use Rattle.executing.specs.Moments.{Picks, Open, Leaves, chooses}
+use Rattle.executing.specs.Moments.{Tells, Picks, Open, Leaves, chooses}
 use Rattle.executing.specs.Senders.{Sends}
 use Rattle.executing.proofs.Steps.{steps-by, holds-by}
-use Rattle.executing.proofs.Bytes.{row-at, output-at as output-row-at, queue-room, output-room, entry-room}
+use Rattle.executing.proofs.Bytes.{row-at, output-at as output-row-at, turn-at as turn-row-at, queue-room}
+use Rattle.executing.proofs.Bytes.{output-room, turn-room as turn-byte-room, entry-room}
 use Rattle.executing.proofs.Booking.{free-byte}
 use Rattle.executing.proofs.Tables.{range-of, counts-of, entry-is}
 use Rattle.executing.proofs.Needs.{is-router}
@@ -167,6 +169,27 @@ module _ {h : Head} {routes : List (List ℕ)} {joints homes : List ℕ} (w : Wi
       let e = choice-row hm ea in
       let q = output-room pl (k .state) (k .rest) b (k .same) (outputAt pl m) (drives-at pl m hm) in
       omega arith
+
+  -- ---- the byte of the last sender served
+  turn-row : {m at : ℕ} → m < outputs pl → at ≡ turnsFrom h + m → at ≡ turnRow pl (outputAt pl m)
+  unfolding tablePlan
+  turn-row {m} hm ea = ea ∙ ap (λ (i : ℕ). i + m) (sym (turns-at pl)) ∙ sym (turn-row-at pl m hm)
+
+  pub turn-room : {I : State → Type 0} {m at : ℕ} {b : List ℕ} → m < outputs pl → at ≡ turnsFrom h + m
+      → Holds pl I b → at < length b
+  turn-room {I} {m} {at} {b} hm ea k =
+      let e = turn-row hm ea in
+      let q = turn-byte-room pl (k .state) (k .rest) b (k .same) (outputAt pl m) (drives-at pl m hm) in
+      omega arith
+
+  pub turn-tells : {m at last : ℕ} {b : List ℕ} → m < outputs pl → at ≡ turnsFrom h + m → last ≡ getD b at 0
+      → Tells pl (Core pl) (λ s. s .lastSender (outputAt pl m)) b last
+  turn-tells {m} {at} {last} {b} hm ea el =
+      record {
+        told = λ s rest c e.
+            el ∙ ap (λ (i : ℕ). getD b i 0) (turn-row hm ea)
+            ∙ last-sender-at pl s rest b e (outputAt pl m) (drives-at pl m hm);
+      }
 
   -- ---- an open output's pick, told of all states
   pub holds-open : {n m : ℕ} {b : List ℕ} → m ≡ n

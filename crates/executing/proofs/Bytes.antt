@@ -18,11 +18,12 @@ use Rattle.machine.specs.Valid.{Drives, fed}
 use Rattle.machine.proofs.Numbers.{at-number}
 use Rattle.machine.proofs.OutNumbers.{at-output}
 use Rattle.theory.specs.Invariant.{Core, account}
-use Rattle.layout.specs.Offsets.{size, outputsAt, tableAt, queueRow, outputRow, entryRow}
+use Rattle.layout.specs.Offsets.{size, outputsAt, tableAt, turnsAt, queueRow, outputRow, entryRow, turnRow}
 use Rattle.layout.specs.Codes.{flagOf}
 use Rattle.layout.specs.Decode.{lengthAt, capacity-most}
 use Rattle.layout.specs.Encode.{encode}
-use Rattle.layout.proofs.Readings.{length-bytes, queue-inside, output-inside, entry-inside, mark-at, length-at}
+use Rattle.layout.proofs.Readings.{length-bytes, queue-inside, output-inside, turn-inside, entry-inside, mark-at}
+use Rattle.layout.proofs.Readings.{length-at}
 
 -- a line of no packets is empty, and another has a head
 pub line-none : (l : List Packet) → length l ≡ 0 → l ≡ []
@@ -55,6 +56,10 @@ module _ (pl : Plan) where
   unfolding outputRow
   output-at m h = rw (at-output pl m h)
 
+  pub turn-at : (m : ℕ) → m < outputs pl → turnRow pl (outputAt pl m) ≡ turnsAt pl + m
+  unfolding turnRow
+  turn-at m h = rw (at-output pl m h)
+
   pub entry-at : (r o t : ℕ) → entryRow pl r o t ≡ tableAt pl + 2 * (128 * r + 32 * o + t)
   unfolding entryRow
   entry-at r o t = refl
@@ -83,6 +88,9 @@ module _ (pl : Plan) where
 
     pub output-room : (o : Output) → Drives pl o → outputRow pl o + 7 ≤ length b
     output-room o h = let n = bytes in let i = output-inside pl o h in omega arith
+
+    pub turn-room : (o : Output) → Drives pl o → turnRow pl o < length b
+    turn-room o h = let n = bytes in let i = turn-inside pl o h in omega arith
 
     pub entry-room : (r o t : ℕ) → r < R pl → o < 4 → t < 32 → entryRow pl r o t + 2 ≤ length b
     entry-room r o t hr ho ht = let n = bytes in let i = entry-inside pl r o t hr ho ht in omega arith

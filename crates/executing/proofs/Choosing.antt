@@ -4,11 +4,11 @@ use mathlib.Core.Logic.{_⊎_, inl, inr}
 use mathlib.Core.Bool.{Bool, true, false, not}
 use mathlib.Core.List.{List, [], _∷_}
 use mathlib.Core.Option.{some}
-use Prim.Native.Nat.{ℕ, zero, suc, _+_, _*_, _<_}
+use Prim.Native.Nat.{ℕ, zero, suc, _+_, _*_, _-_, _≤_, _<_}
 use native.Mathlib.Nat.{add-zero}
 use native.Mathlib.Omega.{arith}
 use lib.Dec.{eqb, ltb}
-use lib.ListN.{getD, set}
+use lib.ListN.{getD, set, drop}
 use borrow.Author.Tests.{lt-ltb, ne-eqb}
 use Rattle.basis.specs.Choice.{pick, pick-same, test, not-both}
 use Rattle.basis.specs.Bounded.{below-suc}
@@ -26,7 +26,7 @@ use Rattle.journeys.proofs.Places.{some-not-none}
 use Rattle.machine.specs.Store.{put, sameOutput, same-output}
 use Rattle.machine.specs.State.{State, Choice, nobody, sender, withChoice, withLinks}
 use Rattle.machine.specs.Outputs.{outputs, outputAt, nextBy, senders}
-use Rattle.machine.specs.Execute.{headReady, candidate, isOpen, firstOf, picked, choose}
+use Rattle.machine.specs.Execute.{headReady, candidate, isOpen, firstOf, nextOf, picked, choose}
 use Rattle.machine.specs.Progress.{isInQueue}
 use Rattle.machine.specs.Valid.{Belongs, PacketOk}
 use Rattle.machine.specs.Write.{ofRank}
@@ -49,11 +49,13 @@ use Rattle.layout.proofs.Readings.{credit-at, head-at}
 use Rattle.layout.proofs.Updates.{put-choice}
 use Rattle.acts.specs.Acts.{Steps}
 use Rattle.moves.specs.Next.{numberOr}
-use Rattle.executing.specs.Moments.{Tells, Picks, Open, Leaves, chooses, firstCode, isCandidate, Passed}
+use Rattle.executing.specs.Moments.{Tells, Picks, Open, Leaves, chooses, firstCode, turnCode, isCandidate}
+use Rattle.executing.specs.Moments.{Passed}
 use Rattle.executing.specs.Senders.{named, Sends}
 use Rattle.executing.proofs.Steps.{steps-same}
 use Rattle.executing.proofs.Bytes.{line-some, row-at, no-packet, some-packet, marked, unmarked}
-use Rattle.executing.proofs.Senders.{first-nobody, first-sender}
+use Rattle.executing.proofs.Senders.{drop-named, first-nobody, first-sender, next-behind, next-again}
+use Rattle.executing.proofs.Senders.{next-nobody}
 
 -- ---- a choice of nobody where there is none changes nothing
 pub no-choice : (s : State) (o : Output) → s .links .choice o ≡ nobody → withChoice o nobody s ≡ s
@@ -226,45 +228,79 @@ module _ {pl : Plan} (wired : Wired pl) (range : InRange (pl .head)) where
       }
 
   -- ---- the loop over an output's senders
-  pub passed-none : (m n : ℕ) (b : List ℕ) → Passed pl m n 0 b
-  passed-none m n b = record { passed = λ s rest c e j l. absurd (omega arith) }
+  pub passed-none : (m n i : ℕ) (b : List ℕ) → Passed pl m n i i b
+  passed-none m n i b = record { passed = λ s rest c e j g l. absurd (omega arith) }
 
-  pub passed-more : (m n k : ℕ) {b : List ℕ} {r : Bool} → Passed pl m n k b
-      → Tells pl (Core pl) (isCandidate pl m (n + k)) b r → r ≡ false → Passed pl m n (k + 1) b
-  passed-more m n k {b} {r} p t f =
-      record { passed = λ s rest c e j l. by s rest c e j (split j l) }
+  pub passed-more : (m n i k : ℕ) {b : List ℕ} {r : Bool} → Passed pl m n i k b
+      → Tells pl (Core pl) (isCandidate pl m (n + k)) b r → r ≡ false → Passed pl m n i (k + 1) b
+  passed-more m n i k {b} {r} p t f =
+      record { passed = λ s rest c e j g l. by s rest c e j g (split j l) }
     where
       split : (j : ℕ) → j < k + 1 → (j < k) ⊎ (j ≡ k)
       split j l = below-suc (let q : j < suc k = omega arith in q)
 
-      by : (s : State) (rest : List ℕ) → Core pl s → b ≡ encode pl s rest → (j : ℕ) → (j < k) ⊎ (j ≡ k)
+      by : (s : State) (rest : List ℕ) → Core pl s → b ≡ encode pl s rest → (j : ℕ) → i ≤ j → (j < k) ⊎ (j ≡ k)
           → isCandidate pl m (n + j) s ≡ false
-      by s rest c e j (inl l) = p .passed s rest c e j l
-      by s rest c e j (inr z) = rw z (sym (t .told s rest c e) ∙ f)
+      by s rest c e j g (inl l) = p .passed s rest c e j g l
+      by s rest c e j g (inr z) = rw z (sym (t .told s rest c e) ∙ f)
 
-  pub first-found : (m n c k : ℕ) {b : List ℕ} {r unit : Bool} → Sends pl m n c unit → k < c → Passed pl m n k b
-      → Tells pl (Core pl) (isCandidate pl m (n + k)) b r → r ≡ true
-      → Tells pl (Core pl) (firstCode pl m) b (k + 1)
-  first-found m n c k ss l p t g =
-      record {
-        told = λ s rest i e.
-            let f : firstOf (candidate pl s (outputAt pl m)) 0 (named pl n c) ≡ sender (0 + k) =
-            first-sender pl (candidate pl s (outputAt pl m)) 0 n c k l (p .passed s rest i e)
-            (sym (t .told s rest i e) ∙ g) in
-            let z : k + 1 ≡ suc (0 + k) = omega arith in
-            z ∙ ap choiceCode (sym f)
-            ∙ ap (λ (qs : List Queue). choiceCode (firstOf (candidate pl s (outputAt pl m)) 0 qs)) (sym (ss .are));
-      }
+  -- the senders of rank i and more
+  from-rank : (m n i c : ℕ) {unit : Bool} → Sends pl m n c unit
+      → drop i (senders (outputAt pl m)) ≡ named pl (n + i) (c - i)
+  from-rank m n i c ss = ap (drop i) (ss .are) ∙ drop-named pl n c i
 
-  pub first-none : (m n c : ℕ) {k : ℕ} {b : List ℕ} {unit : Bool} → Sends pl m n c unit → Passed pl m n k b → k ≡ c
-      → Tells pl (Core pl) (firstCode pl m) b 0
-  first-none m n c {k} ss p z =
-      record {
-        told = λ s rest i e.
-            ap choiceCode (sym (first-nobody pl (candidate pl s (outputAt pl m)) 0 n c
-            (λ j l. p .passed s rest i e j (rw z l))))
-            ∙ ap (λ (qs : List Queue). choiceCode (firstOf (candidate pl s (outputAt pl m)) 0 qs)) (sym (ss .are));
-      }
+  pub first-found : (m n i c k : ℕ) {b : List ℕ} {r unit : Bool} → Sends pl m n c unit → i ≤ k → k < c
+      → Passed pl m n i k b → Tells pl (Core pl) (isCandidate pl m (n + k)) b r → r ≡ true
+      → Tells pl (Core pl) (firstCode pl m i) b (k + 1)
+  first-found m n i c k {b} {r} ss d l p t g = record { told = λ s rest x e. by s rest x e }
+    where
+      by : (s : State) (rest : List ℕ) → Core pl s → b ≡ encode pl s rest → k + 1 ≡ firstCode pl m i s
+      by s rest x e =
+          let f : firstOf (candidate pl s (outputAt pl m)) i (named pl (n + i) (c - i)) ≡ sender (i + (k - i)) =
+          first-sender pl (candidate pl s (outputAt pl m)) i (n + i) (c - i) (k - i) (omega arith)
+          (λ j h. let q : n + i + j ≡ n + (i + j) = omega arith in
+          rw q (p .passed s rest x e (i + j) (omega arith) (omega arith)))
+          (let q : n + i + (k - i) ≡ n + k = omega arith in rw q (sym (t .told s rest x e) ∙ g)) in
+          let z : k + 1 ≡ suc (i + (k - i)) = omega arith in
+          z ∙ ap choiceCode (sym f)
+          ∙ ap (λ (qs : List Queue). choiceCode (firstOf (candidate pl s (outputAt pl m)) i qs))
+          (sym (from-rank m n i c ss))
+
+  pub first-none : (m n i c : ℕ) {k : ℕ} {b : List ℕ} {unit : Bool} → Sends pl m n c unit → Passed pl m n i k b
+      → c ≤ k → Tells pl (Core pl) (firstCode pl m i) b 0
+  first-none m n i c {k} {b} ss p z = record { told = λ s rest x e. by s rest x e }
+    where
+      by : (s : State) (rest : List ℕ) → Core pl s → b ≡ encode pl s rest → 0 ≡ firstCode pl m i s
+      by s rest x e =
+          ap choiceCode (sym (first-nobody pl (candidate pl s (outputAt pl m)) i (n + i) (c - i)
+          (λ j h. let q : n + i + j ≡ n + (i + j) = omega arith in
+          rw q (p .passed s rest x e (i + j) (omega arith) (omega arith)))))
+          ∙ ap (λ (qs : List Queue). choiceCode (firstOf (candidate pl s (outputAt pl m)) i qs))
+          (sym (from-rank m n i c ss))
+
+  -- ---- the turn: behind the last sender served there is a candidate, or there is none
+  pub turn-found : (m : ℕ) {b : List ℕ} {last v : ℕ}
+      → Tells pl (Core pl) (λ s. s .lastSender (outputAt pl m)) b last
+      → Tells pl (Core pl) (firstCode pl m (last + 1)) b v → (v ≡ 0 → ⊥) → Tells pl (Core pl) (turnCode pl m) b v
+  turn-found m {b} {last} {v} r t f = record { told = λ s rest x e. by s rest x e }
+    where
+      by : (s : State) (rest : List ℕ) → Core pl s → b ≡ encode pl s rest → v ≡ turnCode pl m s
+      by s rest x e =
+          t .told s rest x e
+          ∙ sym (next-behind (candidate pl s (outputAt pl m)) (senders (outputAt pl m)) (r .told s rest x e)
+          (λ z. f (t .told s rest x e ∙ z)))
+
+  pub turn-again : (m : ℕ) {b : List ℕ} {last v w : ℕ}
+      → Tells pl (Core pl) (λ s. s .lastSender (outputAt pl m)) b last
+      → Tells pl (Core pl) (firstCode pl m (last + 1)) b v → v ≡ 0 → Tells pl (Core pl) (firstCode pl m 0) b w
+      → Tells pl (Core pl) (turnCode pl m) b w
+  turn-again m {b} {last} {v} {w} r t f u = record { told = λ s rest x e. by s rest x e }
+    where
+      by : (s : State) (rest : List ℕ) → Core pl s → b ≡ encode pl s rest → w ≡ turnCode pl m s
+      by s rest x e =
+          u .told s rest x e
+          ∙ sym (next-again (candidate pl s (outputAt pl m)) (senders (outputAt pl m)) (r .told s rest x e)
+          (sym (t .told s rest x e) ∙ f))
 
   -- the k-th sender leaves by its output
   pub sends-by : {m n c : ℕ} {unit : Bool} → Sends pl m n c unit → (k : ℕ) → k < c
@@ -282,15 +318,15 @@ module _ {pl : Plan} (wired : Wired pl) (range : InRange (pl .head)) where
 
   -- ---- the pick
   pub steps-picked : (m : ℕ) {v at : ℕ} {b : List ℕ} → m < outputs pl → at ≡ outputRow pl (outputAt pl m)
-      → Tells pl (Core pl) (firstCode pl m) b v → Steps pl (Open pl m) (chooses pl m) b (set b (at + 6) v)
+      → Tells pl (Core pl) (turnCode pl m) b v → Steps pl (Open pl m) (chooses pl m) b (set b (at + 6) v)
   unfolding choose picked
   steps-picked m {v} {at} {b} hm ea t =
       record {
         done = λ s rest o e.
             rw (ea, t .told s rest (o .picks .core) e, o .opens)
-            (ap (λ (c : List ℕ). set c (outputRow pl (outputAt pl m) + 6) (firstCode pl m s)) e
+            (ap (λ (c : List ℕ). set c (outputRow pl (outputAt pl m) + 6) (turnCode pl m s)) e
             ∙ put-choice pl s rest (outputAt pl m) (drives-at pl m hm)
-            (firstOf (candidate pl s (outputAt pl m)) 0 (senders (outputAt pl m))));
+            (nextOf (candidate pl s (outputAt pl m)) (s .lastSender (outputAt pl m)) (senders (outputAt pl m))));
       }
 
   -- none of the senders has a packet
@@ -299,14 +335,15 @@ module _ {pl : Plan} (wired : Wired pl) (range : InRange (pl .head)) where
   unfolding choose picked
   steps-idle m n c {b} ss z =
       steps-same pl (λ s rest p e.
-      let f : firstOf (candidate pl s (outputAt pl m)) 0 (named pl n c) ≡ nobody =
-      first-nobody pl (candidate pl s (outputAt pl m)) 0 n c
+      let f : nextOf (candidate pl s (outputAt pl m)) (s .lastSender (outputAt pl m)) (named pl n c) ≡ nobody =
+      next-nobody pl (candidate pl s (outputAt pl m)) (s .lastSender (outputAt pl m)) n c
       (λ j l. empty-not s (outputAt pl m) (queueAt pl (n + j))
       (let hn : n + j < queues pl = below j l in
       no-packet pl s rest b e (queueAt pl (n + j)) (exists-at pl (n + j) hn) (rw (row-at pl (n + j) hn) (z j l)))) in
       let g : picked pl s (outputAt pl m) ≡ nobody =
-      ap (λ (qs : List Queue). pick (isOpen s (outputAt pl m)) (firstOf (candidate pl s (outputAt pl m)) 0 qs) nobody)
-      (ss .are) ∙ ap (λ (k : Choice). pick (isOpen s (outputAt pl m)) k nobody) f
+      ap (λ (qs : List Queue). pick (isOpen s (outputAt pl m))
+      (nextOf (candidate pl s (outputAt pl m)) (s .lastSender (outputAt pl m)) qs) nobody) (ss .are)
+      ∙ ap (λ (k : Choice). pick (isOpen s (outputAt pl m)) k nobody) f
       ∙ pick-same (isOpen s (outputAt pl m)) nobody in
       ap (λ (k : Choice). withChoice (outputAt pl m) k s) g
       ∙ no-choice s (outputAt pl m) (p .choices m (omega arith) (ss .drives)))
@@ -321,6 +358,6 @@ module _ {pl : Plan} (wired : Wired pl) (range : InRange (pl .head)) where
   unfolding choose picked
   steps-closed m hm shut =
       steps-same pl (λ s rest p e.
-      ap (λ (t : Bool). withChoice (outputAt pl m) (pick t (firstOf (candidate pl s (outputAt pl m)) 0
-      (senders (outputAt pl m))) nobody) s) (shut s rest p e)
+      ap (λ (t : Bool). withChoice (outputAt pl m) (pick t (nextOf (candidate pl s (outputAt pl m))
+      (s .lastSender (outputAt pl m)) (senders (outputAt pl m))) nobody) s) (shut s rest p e)
       ∙ no-choice s (outputAt pl m) (p .choices m (omega arith) hm))

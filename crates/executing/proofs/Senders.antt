@@ -2,10 +2,12 @@
 use mathlib.Core.Path.{_≡_, refl, sym, ap, _∙_}
 use mathlib.Core.Logic.{_⊎_, inl, inr}
 use mathlib.Core.Bool.{Bool, true, false}
-use Prim.Native.Nat.{ℕ, zero, suc, _+_, _*_, _≤_, _<_}
+use mathlib.Core.List.{List}
+use Prim.Native.Nat.{ℕ, zero, suc, _+_, _*_, _-_, _≤_, _<_}
 use native.Mathlib.Nat.{add-zero}
 use native.Mathlib.Omega.{arith}
 use lib.Dec.{ltb}
+use lib.ListN.{drop}
 use borrow.Author.Tests.{lt-ltb, le-ltb}
 use Rattle.basis.specs.Choice.{pick}
 use Rattle.basis.specs.Bounded.{lt-or-ge}
@@ -15,9 +17,10 @@ use Rattle.feeding.specs.Role.{isUnit}
 use Rattle.feeding.specs.Feeds.{ofSide, toUnit, fromUnit}
 use Rattle.journeys.proofs.Numbers.{queue-at}
 use Rattle.machine.specs.Outputs.{outputAt, outputNumber}
-use Rattle.machine.specs.State.{nobody, sender}
-use Rattle.machine.specs.Execute.{firstOf}
+use Rattle.machine.specs.State.{Choice, nobody, sender}
+use Rattle.machine.specs.Execute.{firstOf, orElse, nextOf}
 use Rattle.machine.proofs.OutNumbers.{output-at}
+use Rattle.layout.specs.Codes.{choiceCode}
 use Rattle.executing.specs.Senders.{named, Sends}
 
 -- ---- the first that passes
@@ -51,6 +54,53 @@ module _ (pl : Plan) (f : Queue → Bool) where
     where
       step : (j : ℕ) (b : Bool) → f (queueAt pl (n + suc j)) ≡ b → f (queueAt pl (suc n + j)) ≡ b
       step j b e = let q : suc n + j ≡ n + suc j = omega arith in rw q e
+
+-- ---- the numbers from the i-th on
+pub drop-named : (pl : Plan) (n c i : ℕ) → drop i (named pl n c) ≡ named pl (n + i) (c - i)
+unfolding named
+drop-named pl n c zero = let d : c - 0 ≡ c = omega arith in rw (add-zero n, d)
+drop-named pl n zero (suc i) = let d : 0 - suc i ≡ 0 = omega arith in rw d
+drop-named pl n (suc c) (suc i) =
+    let e : suc n + i ≡ n + suc i = omega arith in
+    let d : suc c - suc i ≡ c - i = omega arith in
+    drop-named pl (suc n) c i ∙ rw (e, d)
+
+-- ---- the next in turn
+-- one that stands behind the last sender served
+pub next-behind : (f : Queue → Bool) (qs : List Queue) {last k : ℕ} → last ≡ k
+    → (choiceCode (firstOf f (last + 1) (drop (last + 1) qs)) ≡ 0 → ⊥)
+    → choiceCode (nextOf f k qs) ≡ choiceCode (firstOf f (last + 1) (drop (last + 1) qs))
+unfolding nextOf
+next-behind f qs {last} {k} e h =
+    let z : suc k ≡ last + 1 = omega arith in
+    rw z (by (firstOf f (last + 1) (drop (last + 1) qs)) h)
+  where
+    by : (c : Choice) → (choiceCode c ≡ 0 → ⊥) → choiceCode (orElse c (firstOf f 0 qs)) ≡ choiceCode c
+    by nobody g = absurd (g refl)
+    by (sender j) g = refl
+
+-- none does: the first of all
+pub next-again : (f : Queue → Bool) (qs : List Queue) {last k : ℕ} → last ≡ k
+    → choiceCode (firstOf f (last + 1) (drop (last + 1) qs)) ≡ 0
+    → choiceCode (nextOf f k qs) ≡ choiceCode (firstOf f 0 qs)
+unfolding nextOf
+next-again f qs {last} {k} e h =
+    let z : suc k ≡ last + 1 = omega arith in
+    rw z (by (firstOf f (last + 1) (drop (last + 1) qs)) h)
+  where
+    by : (c : Choice) → choiceCode c ≡ 0 → choiceCode (orElse c (firstOf f 0 qs)) ≡ choiceCode (firstOf f 0 qs)
+    by nobody g = refl
+    by (sender j) g = absurd (omega arith)
+
+-- none passes
+pub next-nobody : (pl : Plan) (f : Queue → Bool) (k n c : ℕ) → ((j : ℕ) → j < c → f (queueAt pl (n + j)) ≡ false)
+    → nextOf f k (named pl n c) ≡ nobody
+unfolding nextOf
+next-nobody pl f k n c h = rw (drop-named pl n c (suc k), behind, first-nobody pl f 0 n c h)
+  where
+    behind : firstOf f (suc k) (named pl (n + suc k) (c - suc k)) ≡ nobody
+    behind = first-nobody pl f (suc k) (n + suc k) (c - suc k)
+        (λ j l. let e : n + suc k + j ≡ n + (suc k + j) = omega arith in rw e (h (suc k + j) (omega arith)))
 
 -- ---- the senders of each output
 module _ (pl : Plan) where

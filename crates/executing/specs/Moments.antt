@@ -4,13 +4,14 @@ use mathlib.Core.Logic.{_≢_}
 use mathlib.Core.Bool.{Bool, true, false}
 use mathlib.Core.List.{List, [], _∷_}
 use Prim.Native.Nat.{ℕ, _+_, _*_, _≤_, _<_}
+use lib.ListN.{drop}
 use Rattle.basis.specs.Fold.{upTo}
 use Rattle.packets.specs.declared.Packet.{Packet}
 use Rattle.plan.specs.Plan.{Plan, R}
 use Rattle.feeding.specs.Queue.{activeIn, Q, queueAt}
 use Rattle.machine.specs.Outputs.{outputs, outputAt, senders}
 use Rattle.machine.specs.State.{State, nobody}
-use Rattle.machine.specs.Execute.{mayLeave, candidate, isOpen, firstOf, choose}
+use Rattle.machine.specs.Execute.{mayLeave, candidate, isOpen, firstOf, nextOf, choose}
 use Rattle.theory.specs.Invariant.{Core, NoChoices}
 use Rattle.layout.specs.Codes.{choiceCode}
 use Rattle.layout.specs.Encode.{encode}
@@ -62,17 +63,22 @@ pub record Open (pl : Plan) (n : ℕ) (s : State) : Type 0 where
   pub picks : Picks pl n s
   pub opens : isOpen s (outputAt pl n) ≡ true
 
+-- the first candidate of rank i or more, as a byte
+abbrev pub firstCode : Plan → ℕ → ℕ → State → ℕ
+firstCode pl m i s = choiceCode (firstOf (candidate pl s (outputAt pl m)) i (drop i (senders (outputAt pl m))))
+
 -- what is picked if the output is open, as a byte
-abbrev pub firstCode : Plan → ℕ → State → ℕ
-firstCode pl m s = choiceCode (firstOf (candidate pl s (outputAt pl m)) 0 (senders (outputAt pl m)))
+abbrev pub turnCode : Plan → ℕ → State → ℕ
+turnCode pl m s =
+    choiceCode (nextOf (candidate pl s (outputAt pl m)) (s .lastSender (outputAt pl m)) (senders (outputAt pl m)))
 
 -- is queue n a candidate at output m?
 abbrev pub isCandidate : Plan → ℕ → ℕ → State → Bool
 isCandidate pl m n s = candidate pl s (outputAt pl m) (queueAt pl n)
 
--- of the queues from n on, none of the first k is one
-pub record Passed (pl : Plan) (m n k : ℕ) (b : List ℕ) : Type 0 where
-  pub passed : (s : State) (rest : List ℕ) → Core pl s → b ≡ encode pl s rest → (j : ℕ) → j < k
+-- of the queues from n on, none from the i-th on below the k-th is one
+pub record Passed (pl : Plan) (m n i k : ℕ) (b : List ℕ) : Type 0 where
+  pub passed : (s : State) (rest : List ℕ) → Core pl s → b ≡ encode pl s rest → (j : ℕ) → i ≤ j → j < k
       → isCandidate pl m (n + j) s ≡ false
 
 -- ---- (3)

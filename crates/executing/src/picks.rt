@@ -1,4 +1,4 @@
-// EXECUTE 2: each output picks the first of its senders that is a candidate.
+// EXECUTE 2: each output picks the next of its senders that is a candidate, from the one behind the last served on.
 use plan::Head;
 ghost use mathlib.Core.Path.{_≡_};
 ghost use mathlib.Core.Bool.{true, false};
@@ -18,7 +18,7 @@ ghost use Rattle.acts.specs.Acts.{Holds, Steps};
 ghost use Rattle.acts.specs.Counts.{queueCount, outputCount};
 ghost use Rattle.moves.specs.Wiring.{Wiring};
 ghost use Rattle.executing.specs.Moments.{Tells, Picks, Open, Leaves, chooses, choosesFrom, choosesAt};
-ghost use Rattle.executing.specs.Moments.{firstCode, isCandidate};
+ghost use Rattle.executing.specs.Moments.{firstCode, turnCode, isCandidate};
 ghost use Rattle.executing.specs.Senders.{Sends};
 
 // A queue's row: where mark and length stand, and the first place.
@@ -96,8 +96,37 @@ fn ready(
     may_go(h, routes, joints, homes, m, n, s)
 }
 
-// What output m picks if it is open, of its c senders from queue n on: the first candidate's rank and one more, or 0.
+// Of the c senders of output m, which are the queues from n on, the first candidate of rank i or more: its rank and one
+// more, or 0.
 fn first(
+    h: Head,
+    routes: &[[u8; 32]; 16],
+    joints: &[u8; 64],
+    homes: &[u8; 32],
+    m: usize,
+    n: usize,
+    i: usize,
+    c: usize,
+    unit: bool,
+    s: &[u8],
+) -> u8
+    requires { ⌜ Wiring h (now routes) (now joints) (now homes) × (c ≤ 4) × (i ≤ 256)
+        × Sends (tablePlan h (now routes) (now joints)) m n c unit
+        × Holds (tablePlan h (now routes) (now joints)) (Core (tablePlan h (now routes) (now joints))) (now s) ⌝ }
+    ensures { λ v. ⌜ Tells (tablePlan h (now (routes .entry)) (now (joints .entry)))
+        (Core (tablePlan h (now (routes .entry)) (now (joints .entry))))
+        (firstCode (tablePlan h (now (routes .entry)) (now (joints .entry))) m i) (now (s .entry)) v ⌝ }
+{
+    for k in i..c {
+        if ready(h, routes, joints, homes, m, n + k, unit, s) {
+            return (k + 1) as u8;
+        }
+    }
+    0
+}
+
+// What output m picks if it is open: it looks from behind the last sender served on, and then from the first on.
+fn turn(
     h: Head,
     routes: &[[u8; 32]; 16],
     joints: &[u8; 64],
@@ -113,14 +142,14 @@ fn first(
         × Holds (tablePlan h (now routes) (now joints)) (Core (tablePlan h (now routes) (now joints))) (now s) ⌝ }
     ensures { λ v. ⌜ Tells (tablePlan h (now (routes .entry)) (now (joints .entry)))
         (Core (tablePlan h (now (routes .entry)) (now (joints .entry))))
-        (firstCode (tablePlan h (now (routes .entry)) (now (joints .entry))) m) (now (s .entry)) v ⌝ }
+        (turnCode (tablePlan h (now (routes .entry)) (now (joints .entry))) m) (now (s .entry)) v ⌝ }
 {
-    for k in 0..c {
-        if ready(h, routes, joints, homes, m, n + k, unit, s) {
-            return (k + 1) as u8;
-        }
+    let last = index(s[acts::turn_row(h, m)]);
+    let v = first(h, routes, joints, homes, m, n, last + 1, c, unit, s);
+    if v != 0 {
+        return v;
     }
-    0
+    first(h, routes, joints, homes, m, n, 0, c, unit, s)
 }
 
 // Output m, which is open, picks.
@@ -142,7 +171,7 @@ fn pick(
         (Open (tablePlan h (now (routes .entry)) (now (joints .entry))) m)
         (chooses (tablePlan h (now (routes .entry)) (now (joints .entry))) m) (now (s .entry)) (now (s .exit)) ⌝ }
 {
-    let v = first(h, routes, joints, homes, m, n, c, unit, s);
+    let v = turn(h, routes, joints, homes, m, n, c, unit, s);
     let at = acts::output_row(h, m);
     s[at + CHOICE_BYTE] = v;
 }

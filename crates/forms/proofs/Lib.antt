@@ -1,3 +1,5 @@
 pub mod Stretch
+pub mod Ranks
 pub mod Entries
 pub mod Meaning
+pub mod Remembered

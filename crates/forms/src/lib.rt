@@ -3,9 +3,9 @@ use plan::Head;
 ghost use mathlib.Core.Path.{_≡_};
 ghost use mathlib.Core.Bool.{true};
 ghost use Prim.Native.Nat.{_+_, _*_, _≤_, _<_};
-ghost use lib.Dec.{eqb};
+ghost use lib.Dec.{leb, eqb};
 ghost use lib.ListN.{length};
-ghost use Rattle.basis.specs.Choice.{also};
+ghost use Rattle.basis.specs.Choice.{pick, also};
 ghost use Rattle.plan.specs.Head.{InRange, destinations};
 ghost use Rattle.acts.specs.Counts.{stateSize};
 ghost use Rattle.states.specs.Forms.{zeros};
@@ -13,6 +13,7 @@ ghost use Rattle.layout.specs.Decode.{fourAt};
 ghost use Rattle.forms.specs.Bytes.{wordAt, IdleRow, IdleRows, IdleSide, IdleRouter, QuietBytes};
 
 pub mod sides;
+pub mod turns;
 
 // A byte as a number.
 fn low(x: u8) -> u32
@@ -33,6 +34,20 @@ fn join(a: u8, b: u8) -> u8
     ensures { λ v. ⌜ eqb v 0 ≡ also (eqb a 0) (eqb b 0) ⌝ }
 {
     a | b
+}
+
+// 1 for true.
+fn bit(t: bool) -> u8
+    ensures { λ v. ⌜ v ≡ pick t 1 0 ⌝ }
+{
+    if t { 1 } else { 0 }
+}
+
+// Not zero where a byte is greater than its limit.
+fn over(x: u8, m: u8) -> u8
+    ensures { λ v. ⌜ eqb v 0 ≡ leb x m ⌝ }
+{
+    bit(x > m)
 }
 
 // Whether n bytes from i on are zero.

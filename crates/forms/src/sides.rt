@@ -2,25 +2,11 @@
 ghost use mathlib.Core.Path.{_≡_};
 ghost use mathlib.Core.Bool.{true, not};
 ghost use Prim.Native.Nat.{_+_, _*_, _≤_, _<_};
-ghost use lib.Dec.{ltb, leb, eqb};
+ghost use lib.Dec.{ltb, eqb};
 ghost use lib.ListN.{length};
 ghost use Rattle.basis.specs.Choice.{pick, also};
 ghost use Rattle.states.specs.Forms.{zeros};
 ghost use Rattle.forms.specs.Bytes.{sideFits, sidesFit, Limits, bytesWithin, byteOpen, sidesZero, allowancesFit};
-
-// 1 for true.
-fn bit(t: bool) -> u8
-    ensures { λ v. ⌜ v ≡ pick t 1 0 ⌝ }
-{
-    if t { 1 } else { 0 }
-}
-
-// Not zero where a byte is greater than its limit.
-fn over(x: u8, m: u8) -> u8
-    ensures { λ v. ⌜ eqb v 0 ≡ leb x m ⌝ }
-{
-    bit(x > m)
-}
 
 // Not zero where a zero byte has a limit that is not.
 fn vacant(x: u8, m: u8) -> u8
@@ -28,7 +14,7 @@ fn vacant(x: u8, m: u8) -> u8
 {
     let below = x < m;
     let none = x == 0;
-    bit(below & none)
+    super::bit(below & none)
 }
 
 // The greatest byte of the entry of a slot: four sides and none, and zero past the plan's slots.
@@ -81,7 +67,7 @@ fn bytes_ok(s: &[u8], i: usize, l: &[u8; 64]) -> bool
     for k in 0..64 {
         let x = s[i + k];
         let m = l[k];
-        bad = super::join(bad, over(x, m));
+        bad = super::join(bad, super::over(x, m));
         free = super::join(free, vacant(x, m));
     }
     (bad == 0) & (free != 0)

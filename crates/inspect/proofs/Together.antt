@@ -21,9 +21,11 @@ use Rattle.layout.specs.Offsets.{size, allowancesAt, tableAt}
 use Rattle.layout.specs.Decode.{decode}
 use Rattle.states.specs.Forms.{headerForm}
 use Rattle.states.specs.Check.{checkOf, outputsPart, queuesPart, picksPart, allowancesPart, tablesPart}
-use Rattle.states.specs.Check.{connectionsPart}
+use Rattle.states.specs.Check.{connectionsPart, turnsPart}
 use Rattle.forms.specs.Bytes.{QuietBytes, allowancesFit, sidesFit}
+use Rattle.forms.specs.Turns.{turnsFit}
 use Rattle.forms.proofs.Meaning.{quiet-parts, quiet-spent, tables-fit, allowances-fit}
+use Rattle.forms.proofs.Remembered.{turns-fit}
 use Rattle.lines.specs.Tally.{Tallied}
 use Rattle.lines.specs.Lines.{spentIn, LinesChecked}
 use Rattle.wires.specs.Outputs.{spentOn, OutputsChecked}
@@ -58,7 +60,7 @@ module _ (pl : Plan) (b : List ℕ) where
   passing = also (outputsPart pl b) (also (queuesPart pl b) (picksPart pl b))
 
   abbrev rest : Bool
-  rest = also (allowancesPart pl b) (also (tablesPart pl b) (connectionsPart pl b))
+  rest = also (allowancesPart pl b) (also (tablesPart pl b) (also (connectionsPart pl b) (turnsPart pl b)))
 
   regroup : (o q p x : Bool) → also o (also q (also p x)) ≡ also (also o (also q p)) x
   regroup true true p x = refl
@@ -219,11 +221,20 @@ module _ (h : Head) (routes : List (List ℕ)) (joints : List ℕ) (range : InRa
 
     pub body-ties : {x y z v : Bool} {t : List ℕ} → Passed net b x t → x ≡ true
         → y ≡ allowancesFit (allowancesFrom h + 0) (h .actives) (wholeOf h) t b → y ≡ true
-        → z ≡ sidesFit (tableFrom h) (h .slots) (4 * h .routers) b → z ≡ true → v ≡ connectionsPart net b
-        → v ≡ checkOf net b
-    body-ties {x} {y} {z} {v} {t} p f g k m n d =
+        → z ≡ sidesFit (tableFrom h) (h .slots) (4 * h .routers) b → z ≡ true → v ≡ connectionsPart net b → v ≡ false
+        → false ≡ checkOf net b
+    body-ties {x} {y} {z} {v} {t} p f g k m n d w =
         let q : Passed net b true t = rw f at p in
-        d ∙ sym (whole ∙ rw (← q .test, ← allowances-is t q, ← g, k, ← tables-is, ← m, n))
+        sym (whole ∙ rw (← q .test, ← allowances-is t q, ← g, k, ← tables-is, ← m, n, ← d, w))
+
+    pub body-turns : {x y z v u : Bool} {t : List ℕ} → Passed net b x t → x ≡ true
+        → y ≡ allowancesFit (allowancesFrom h + 0) (h .actives) (wholeOf h) t b → y ≡ true
+        → z ≡ sidesFit (tableFrom h) (h .slots) (4 * h .routers) b → z ≡ true → v ≡ connectionsPart net b → v ≡ true
+        → u ≡ turnsFit h joints b → u ≡ checkOf net b
+    body-turns {x} {y} {z} {v} {u} {t} p f g k m n d w r =
+        let q : Passed net b true t = rw f at p in
+        r ∙ turns-fit h routes joints b
+        ∙ sym (whole ∙ rw (← q .test, ← allowances-is t q, ← g, k, ← tables-is, ← m, n, ← d, w))
 
   -- ---- the whole
   pub all-short : length b < stateSize h → checkedOf (checkOf net b) ≡ NotState

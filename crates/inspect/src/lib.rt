@@ -165,7 +165,10 @@ fn body_ok(
     if !forms::sides::sides_ok(s, acts::table_row(h), 4 * h.routers, index(h.slots)) {
         return false;
     }
-    ties::ties_ok(h, routes, joints, homes, lengths, s)
+    if !ties::ties_ok(h, routes, joints, homes, lengths, s) {
+        return false;
+    }
+    forms::turns::turns_ok(h, joints, s)
 }
 
 // Whether bytes are a state's.

@@ -23,7 +23,7 @@ use Rattle.machine.specs.Outputs.{senders, outputs, outputAt}
 use Rattle.machine.specs.State.{State, Choice, nobody, sender, blank, start}
 use Rattle.machine.specs.Write.{ofRank}
 use Rattle.machine.specs.Valid.{PacketOk, Lined, Drives, fed, Valid, Bounded}
-use Rattle.machine.proofs.Numbers.{exists-at}
+use Rattle.machine.proofs.Numbers.{rank-below, exists-at}
 use Rattle.machine.proofs.OutNumbers.{drives-at}
 use Rattle.layout.specs.Rows.{rows}
 use Rattle.layout.proofs.Numbering.{entry-named}
@@ -31,7 +31,8 @@ use Rattle.layout.specs.Offsets.{places, entries, routerEntries, slotRoo
 use Rattle.layout.specs.Codes.{phase-small, kind-small, flag-small, choiceCode}
 use Rattle.layout.specs.Places.{packetBytes, noPacket, placeBytes}
 use Rattle.layout.specs.Encode.{queueBytes, wireBytes, outputBytes, allowanceBytes, entryBytes, queuePart}
-use Rattle.layout.specs.Encode.{outputPart, allowancePart, tablePart, wordBytes, startsOf, connectionPart, encode}
+use Rattle.layout.specs.Encode.{outputPart, allowancePart, tablePart, wordBytes, startsOf, connectionPart}
+use Rattle.layout.specs.Encode.{turnBytes, turnPart, encode}
 use Rattle.layout.specs.Decode.{capacity-most}
 
 -- all elements of a list are bytes
@@ -62,12 +63,6 @@ word-small w = (omega arith, (omega arith, (omega arith, (omega arith, record {}
 
 no-packet-small : Bytes noPacket
 no-packet-small = (omega arith, (omega arith, (omega arith, (omega arith, (omega arith, record {})))))
-
--- the rank of a sender is below four
-rank-below : (qs : List Queue) (k : ℕ) (q : Queue) → ofRank qs k ≡ some q → k < length qs
-rank-below [] k q e = let z : _≡_ {A = ℕ} 0 1 = cc in absurd (omega arith)
-rank-below (x ∷ qs) zero q e = omega arith
-rank-below (x ∷ qs) (suc k) q e = let h = rank-below qs k q e in omega arith
 
 senders-few : (o : Output) → length (senders o) ≤ 4
 senders-few (ofActive a) = omega arith
@@ -152,12 +147,16 @@ module _ (pl : Plan) (s : State) (range : InRange (pl .head)) (v : Valid pl s) (
           let z : _≡_ {A = Entry} Free (Booked i) = sym f ∙ e in
           let y : _≡_ {A = ℕ} 0 1 = cc in absurd (omega arith)
 
+  turn-small : (o : Output) → Drives pl o → Bytes (turnBytes s o)
+  turn-small o h = let l = v .turns .ranks o h in let m = senders-few o in (omega arith, record {})
+
   -- ---- the whole
   pub bytes-small : Bytes (encode pl s [])
   unfolding encode
   bytes-small =
       let p = phase-small (s .clock .phase) in let t = v .slot in let m = range .slots .1 in
-      let fifth : List ℕ = connectionPart pl s ++ [] in
+      let sixth : List ℕ = turnPart pl s ++ [] in
+      let fifth : List ℕ = connectionPart pl s ++ sixth in
       let fourth : List ℕ = tablePart pl s ++ fifth in
       let third : List ℕ = allowancePart pl s ++ fourth in (
         omega arith,
@@ -172,8 +171,10 @@ module _ (pl : Plan) (s : State) (range : InRange (pl .head)) (v : Valid pl s) (
               (bytes-append (tablePart pl s) fifth
               (bytes-span 0 (entries pl) _ (λ n a b. let e = entry-named pl n (omega arith) in
               entry-small (n / routerEntries) (n % routerEntries / slotRoom) (n % slotRoom) (e .0) (e .1)))
-              (bytes-append (connectionPart pl s) []
+              (bytes-append (connectionPart pl s) sixth
               (bytes-span 0 (pairs pl) _ (λ n a b. word-small (startsOf s (n / passiveRoom) (n % passiveRoom))))
-              (record {}))))),
+              (bytes-append (turnPart pl s) []
+              (bytes-span 0 (outputs pl) _ (λ n a b. turn-small (outputAt pl n) (drives-at pl n (omega arith))))
+              (record {})))))),
         ),
       )

@@ -17,12 +17,14 @@ use Rattle.machine.proofs.OutNumbers.{output-below}
 use Rattle.layout.specs.Rows.{RowStands, stands-left, stands-right, stands-get, stands-byte}
 use Rattle.layout.specs.Offsets.{phaseByte, slotByte, lengthByte, firstPlace, slotRoom, queueWidth}
 use Rattle.layout.specs.Offsets.{outputWidth, passiveRoom, queueRow, outputRow, allowanceRow, entryRow}
-use Rattle.layout.specs.Offsets.{startsRow, size}
+use Rattle.layout.specs.Offsets.{startsRow, turnRow, size}
 use Rattle.layout.specs.Codes.{phaseOf, phase-code, flagCode}
 use Rattle.layout.specs.Places.{packetBytes, placeBytes, packetAt, packet-read}
-use Rattle.layout.specs.Encode.{queueBytes, allowanceBytes, startsOf, encode, encode-append, length-encode}
+use Rattle.layout.specs.Encode.{queueBytes, allowanceBytes, startsOf, turnBytes, encode, encode-append}
+use Rattle.layout.specs.Encode.{length-encode}
 use Rattle.layout.specs.Decode.{creditAt, flagAt, markAt, lengthAt, wireAt, choiceAt, entryAt, fourAt}
 use Rattle.layout.proofs.Standing.{queue-stands, output-stands, allowance-stands, entry-stands, starts-stands}
+use Rattle.layout.proofs.Standing.{turn-stands}
 use Rattle.layout.proofs.Round.{credit-read, flag-read, handled-read, output-wire-read, choice-read, entry-read}
 use Rattle.layout.proofs.Round.{starts-read}
 use Rattle.layout.proofs.Lines.{rowOf}
@@ -52,6 +54,10 @@ module _ (pl : Plan) where
   pub starts-inside : (a p : ℕ) → a < A pl → p < passiveRoom → startsRow pl a p + 4 ≤ size pl
   unfolding startsRow size
   starts-inside a p ha hp = omega arith
+
+  pub turn-inside : (o : Output) → Drives pl o → turnRow pl o < size pl
+  unfolding turnRow size
+  turn-inside o h = let l = output-below pl o h in omega arith
 
 -- ---- what is read of the bytes of a state
 module _ (pl : Plan) (s : State) (rest b : List ℕ) (e : b ≡ encode pl s rest) where
@@ -100,6 +106,10 @@ module _ (pl : Plan) (s : State) (rest b : List ℕ) (e : b ≡ encode pl s rest
 
     pub choice-at : choiceAt (outputRow pl o) b ≡ s .links .choice o
     choice-at = choice-read s b (outputRow pl o) o (rw e (output-stands pl s rest o h))
+
+    pub last-sender-at : getD b (turnRow pl o) 0 ≡ s .lastSender o
+    last-sender-at =
+        stands-byte (turnRow pl o) (turnBytes s o) b (rw e (turn-stands pl s rest o h)) (omega arith)
 
   pub allowance-at : (a : ℕ) → a < A pl → getD b (allowanceRow pl a) 0 ≡ s .flow .allowance a
   allowance-at a h =

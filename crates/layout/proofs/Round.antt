@@ -25,13 +25,14 @@ use Rattle.layout.specs.Named.{existsTest, test-exists, exists-test, dri
 use Rattle.layout.specs.Named.{isEntry, test-entry, entry-test, isConnection, test-connection, connection-test}
 use Rattle.layout.specs.Offsets.{places, creditByte, flagByte, handledByte, lengthByte, wireByte, choiceByte}
 use Rattle.layout.specs.Offsets.{firstPlace, wirePacket, slotRoom, queueRow, outputRow, allowanceRow, entryRow}
-use Rattle.layout.specs.Offsets.{startsRow}
+use Rattle.layout.specs.Offsets.{startsRow, turnRow}
 use Rattle.layout.specs.Codes.{phase-code, flagCode, flagOf, flag-code, choiceCode, choiceOf, choice-code}
 use Rattle.layout.specs.Codes.{entryFrom, entry-code}
 use Rattle.layout.specs.Places.{packetBytes, placeBytes, packetAt, packet-read, packets-read}
 use Rattle.layout.specs.Encode.{queueBytes, wireBytes, outputBytes, allowanceBytes, entryBytes, wordBytes}
-use Rattle.layout.specs.Encode.{startsOf, encode, length-wire}
+use Rattle.layout.specs.Encode.{startsOf, turnBytes, encode, length-wire}
 use Rattle.layout.proofs.Standing.{queue-stands, output-stands, allowance-stands, entry-stands, starts-stands}
+use Rattle.layout.proofs.Standing.{turn-stands}
 use Rattle.layout.specs.Decode.{creditAt, flagAt, markAt, lengthAt, queueIn, wireFrom, wireAt, choiceAt}
 use Rattle.layout.specs.Decode.{entryAt, fourAt, decode, Small}
 
@@ -166,6 +167,14 @@ module _ (pl : Plan) (s : State) (rest : List ℕ) (range : InRange (pl .head)) 
       ∙ has-those slotRoom (s .connections a p) t (omega arith))
       (λ e. out .connection a p t (unless (isConnection pl a p t) e (connection-test pl a p t)))
 
+  same-last-sender : (o : Output) → decode pl (encode pl s rest) .lastSender o ≡ s .lastSender o
+  unfolding decode
+  same-last-sender o =
+      kept (drivesTest pl o) _ (blank pl .lastSender o) (s .lastSender o)
+      (λ e. stands-byte (turnRow pl o) (turnBytes s o) (encode pl s rest)
+      (turn-stands pl s rest o (test-drives pl o e)) (omega arith))
+      (λ e. out .lastSender o (unless (drivesTest pl o) e (drives-test pl o)))
+
   -- the state of a state's bytes is that state
   pub decode-encode : decode pl (encode pl s rest) ≡ s
   unfolding decode encode
@@ -189,6 +198,7 @@ module _ (pl : Plan) (s : State) (rest : List ℕ) (range : InRange (pl .head)) 
       let ts : decode pl b .table ≡ s .table = fun-ext (λ r. fun-ext (λ o. fun-ext (λ t. same-entry r o t))) in
       let ac : decode pl b .connections ≡ s .connections =
       fun-ext (λ a. fun-ext (λ p. fun-ext (λ t. same-connection a p t))) in
+      let ls : decode pl b .lastSender ≡ s .lastSender = fun-ext (λ o. same-last-sender o) in
       let al : decode pl b .flow .allowance ≡ s .flow .allowance = fun-ext (λ a. same-allowance a) in
       let ph : decode pl b .clock .phase ≡ s .clock .phase = phase-code (s .clock .phase) in
       λ i. record {
@@ -198,4 +208,5 @@ module _ (pl : Plan) (s : State) (rest : List ℕ) (range : InRange (pl .head)) 
         links = record { wire = ws i; choice = ps i };
         table = ts i;
         connections = ac i;
+        lastSender = ls i;
       }

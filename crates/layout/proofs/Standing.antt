@@ -1,5 +1,5 @@
--- Where the rows of a state stand in its bytes: each at the offset of its queue, output, active, entry or
--- pair.
+-- Where the rows of a state stand in its bytes: each at the offset of its queue, output, active, entry or pair; what
+-- an output remembers at an offset of its own.
 use mathlib.Core.Path.{_≡_, refl, subst}
 use mathlib.Core.List.{List, _++_}
 use Prim.Native.Nat.{ℕ, _+_, _*_, _/_, _%_, _<_}
@@ -17,19 +17,23 @@ use Rattle.layout.specs.Rows.{RowStands, stands-whole, stands-left, stan
 use Rattle.layout.specs.Offsets.{queueWidth, outputWidth, entryWidth, routerEntries, slotRoom, entryIndex}
 use Rattle.layout.specs.Offsets.{entries, queuesAt, outputsAt, allowancesAt, tableAt, queueRow, outputRow}
 use Rattle.layout.specs.Offsets.{allowanceRow, entryRow, passiveRoom, startsWidth, pairs, pairIndex}
-use Rattle.layout.specs.Offsets.{connectionsAt, startsRow}
+use Rattle.layout.specs.Offsets.{connectionsAt, startsRow, turnsAt, turnRow}
 use Rattle.layout.specs.Encode.{queueBytes, outputBytes, allowanceBytes, entryBytes, entryOfNumber, wordBytes}
 use Rattle.layout.specs.Encode.{startsOf, startsBytes, header, queuePart, outputPart, allowancePart, tablePart}
-use Rattle.layout.specs.Encode.{connectionPart, encode, length-queue, length-output, length-queues}
-use Rattle.layout.specs.Encode.{length-outputs, length-allowances, length-table}
+use Rattle.layout.specs.Encode.{connectionPart, turnBytes, turnPart, encode, length-queue, length-output}
+use Rattle.layout.specs.Encode.{length-queues, length-outputs, length-allowances, length-table}
+use Rattle.layout.specs.Encode.{length-connections}
 
 module _ (pl : Plan) (s : State) (rest : List ℕ) where
   abbrev bytes : List ℕ
   bytes = encode pl s rest
 
-  -- what stands behind the table, behind the allowances, behind the outputs, behind the queues
+  -- what stands behind the connections, behind the table, behind the allowances, behind the outputs, behind the queues
+  abbrev sixth : List ℕ
+  sixth = turnPart pl s ++ rest
+
   abbrev fifth : List ℕ
-  fifth = connectionPart pl s ++ rest
+  fifth = connectionPart pl s ++ sixth
 
   abbrev fourth : List ℕ
   fourth = tablePart pl s ++ fifth
@@ -59,6 +63,10 @@ module _ (pl : Plan) (s : State) (rest : List ℕ) where
   from-connections : RowStands (connectionsAt pl) fifth bytes
   from-connections =
       stands-right (tableAt pl) (connectionsAt pl) (tablePart pl s) fifth bytes (rw (length-table pl s)) from-table
+
+  from-turns : RowStands (turnsAt pl) sixth bytes
+  from-turns = stands-right (connectionsAt pl) (turnsAt pl) (connectionPart pl s) sixth bytes
+      (rw (length-connections pl s)) from-connections
 
   -- a queue's row stands at the queue's offset
   pub queue-stands : (q : Queue) → Exists pl q → RowStands (queueRow pl q) (queueBytes s q) bytes
@@ -110,5 +118,15 @@ module _ (pl : Plan) (s : State) (rest : List ℕ) where
       let e : startsBytes s (pairIndex a p) ≡ wordBytes (startsOf s a p) = λ i. wordBytes (startsOf s (c i) (d i)) in
       subst (λ (x : List ℕ). RowStands (startsRow pl a p) x bytes) e
       (stands-row startsWidth (pairs pl) (connectionsAt pl) (startsBytes s) bytes (λ n. refl)
-      (stands-left (connectionsAt pl) (connectionPart pl s) rest bytes from-connections) (pairIndex a p)
+      (stands-left (connectionsAt pl) (connectionPart pl s) sixth bytes from-connections) (pairIndex a p)
       (omega arith))
+
+  -- the last sender that an output served at the output's
+  pub turn-stands : (o : Output) → Drives pl o → RowStands (turnRow pl o) (turnBytes s o) bytes
+  unfolding turnRow
+  turn-stands o h =
+      let e : turnsAt pl + 1 * outputNumber pl o ≡ turnsAt pl + outputNumber pl o = omega arith in
+      subst (λ (x : Output). RowStands (turnRow pl o) (turnBytes s x) bytes) (output-at pl o h)
+      (subst (λ (i : ℕ). RowStands i (turnBytes s (outputAt pl (outputNumber pl o))) bytes) e
+      (stands-row 1 (outputs pl) (turnsAt pl) (λ n. turnBytes s (outputAt pl n)) bytes (λ n. refl)
+      (stands-left (turnsAt pl) (turnPart pl s) rest bytes from-turns) (outputNumber pl o) (output-below pl o h)))

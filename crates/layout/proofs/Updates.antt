@@ -23,7 +23,7 @@ use Rattle.machine.specs.Outputs.{outputs, outputAt, outputNumber}
 use Rattle.machine.specs.Store.{put, sameQueue, same-queue, queue-same, sameOutput, same-output, output-same}
 use Rattle.machine.specs.State.{State, Choice, Lines, Links, withLines, withFlow, withLinks, withPhase}
 use Rattle.machine.specs.State.{withSlot, withQueue, withHandled, withCredit, withFlag, withAllowance, withWire}
-use Rattle.machine.specs.State.{withChoice, withEntry, withConnection, join}
+use Rattle.machine.specs.State.{withChoice, withEntry, withConnection, withLastSender, join}
 use Rattle.machine.specs.Valid.{Drives}
 use Rattle.machine.proofs.Numbers.{at-number}
 use Rattle.machine.proofs.OutNumbers.{output-at, output-below, at-output}
@@ -31,13 +31,14 @@ use Rattle.layout.specs.Offsets.{phaseByte, slotByte, queueWidth, output
 use Rattle.layout.specs.Offsets.{handledByte, firstPlace, choiceByte, slotRoom, routerEntries, entryIndex}
 use Rattle.layout.specs.Offsets.{queuesAt, outputsAt, allowancesAt, tableAt, queueRow, outputRow, allowanceRow}
 use Rattle.layout.specs.Offsets.{entryRow, entries, places, passiveRoom, startsWidth, pairs, pairIndex}
-use Rattle.layout.specs.Offsets.{connectionsAt, startsRow}
+use Rattle.layout.specs.Offsets.{connectionsAt, startsRow, turnsAt, turnRow}
 use Rattle.layout.specs.Codes.{phaseCode, flagCode, choiceCode, entryCode}
 use Rattle.layout.specs.Places.{packetBytes, placeBytes}
 use Rattle.layout.specs.Encode.{queueBytes, wireBytes, outputBytes, allowanceBytes, entryBytes, entryOfNumber}
 use Rattle.layout.specs.Encode.{wordBytes, startsOf, startsBytes, header, queuePart, outputPart, allowancePart}
-use Rattle.layout.specs.Encode.{tablePart, connectionPart, encode, length-queue, length-wire, length-output}
-use Rattle.layout.specs.Encode.{length-queues, length-outputs, length-allowances, length-table}
+use Rattle.layout.specs.Encode.{tablePart, connectionPart, turnBytes, turnPart, encode, length-queue}
+use Rattle.layout.specs.Encode.{length-wire, length-output, length-queues, length-outputs, length-allowances}
+use Rattle.layout.specs.Encode.{length-table, length-connections}
 use Rattle.layout.specs.Updates.{pushAt, popAt}
 use Rattle.layout.proofs.Changes.{RowChanges, changes-whole, changes-left, changes-right, changes-row}
 use Rattle.layout.proofs.Changes.{changes-store, put-unseen, on-row, store-row, store-part}
@@ -66,7 +67,7 @@ module _ (pl : Plan) (s : State) (rest : List ℕ) where
   put-slot x = refl
 
   -- ---- what stands behind the header is changed, behind the queues, behind the outputs, behind the allowances, behind
-  -- the table
+  -- the table, behind the connections
   from-queues : (x y : List ℕ) → RowChanges queuesAt x y (header s ++ x) (header s ++ y)
   from-queues x y = changes-right 0 queuesAt (header s) x y _ _ refl (changes-whole (header s ++ x) (header s ++ y))
 
@@ -99,6 +100,16 @@ module _ (pl : Plan) (s : State) (rest : List ℕ) where
       changes-right (tableAt pl) (connectionsAt pl) (tablePart pl s) x y _ _ (rw (length-table pl s))
       (from-table (tablePart pl s ++ x) (tablePart pl s ++ y))
 
+  from-turns : (x y : List ℕ)
+      → RowChanges (turnsAt pl) x y
+      (header s ++ (queuePart pl s
+      ++ (outputPart pl s ++ (allowancePart pl s ++ (tablePart pl s ++ (connectionPart pl s ++ x))))))
+      (header s ++ (queuePart pl s
+      ++ (outputPart pl s ++ (allowancePart pl s ++ (tablePart pl s ++ (connectionPart pl s ++ y))))))
+  from-turns x y =
+      changes-right (connectionsAt pl) (turnsAt pl) (connectionPart pl s) x y _ _ (rw (length-connections pl s))
+      (from-connections (connectionPart pl s ++ x) (connectionPart pl s ++ y))
+
   -- ---- queues: the state with other lines, credits and flags
   abbrev withRows : Lines → (Queue → Credit) → (Queue → Bool) → State
   withRows l c f = withLines l (withFlow (record { credit = c; flag = f; allowance = s .flow .allowance }) s)
@@ -112,7 +123,8 @@ module _ (pl : Plan) (s : State) (rest : List ℕ) where
   queue-changes q h row m v l c f was is =
       let t : State = withRows l c f in
       let past : List ℕ =
-      outputPart pl s ++ (allowancePart pl s ++ (tablePart pl s ++ (connectionPart pl s ++ rest))) in
+      outputPart pl s
+      ++ (allowancePart pl s ++ (tablePart pl s ++ (connectionPart pl s ++ (turnPart pl s ++ rest)))) in
       changes-store sameQueue queue-same same-queue (number pl) (queueAt pl) row m q v queueWidth (queues pl) queuesAt
       (queueBytes s) (queueBytes t) bytes (encode pl t rest) was is (length-queue s) (at-number pl) (queue-at pl q h)
       (number-below pl q h)
@@ -214,7 +226,8 @@ module _ (pl : Plan) (s : State) (rest : List ℕ) where
   unfolding encode outputRow queueBytes
   output-changes o h row m v l was is =
       let t : State = withLinks l s in
-      let past : List ℕ = allowancePart pl s ++ (tablePart pl s ++ (connectionPart pl s ++ rest)) in
+      let past : List ℕ =
+      allowancePart pl s ++ (tablePart pl s ++ (connectionPart pl s ++ (turnPart pl s ++ rest))) in
       changes-store sameOutput output-same same-output (outputNumber pl) (outputAt pl) row m o v outputWidth
       (outputs pl) (outputsAt pl) (outputBytes s) (outputBytes t) bytes (encode pl t rest) was is (length-output s)
       (at-output pl) (output-at pl o h) (output-below pl o h)
@@ -248,7 +261,7 @@ module _ (pl : Plan) (s : State) (rest : List ℕ) where
   unfolding encode allowanceRow queueBytes outputBytes
   put-allowance a n h =
       let t : State = withAllowance a n s in
-      let past : List ℕ = tablePart pl s ++ (connectionPart pl s ++ rest) in
+      let past : List ℕ = tablePart pl s ++ (connectionPart pl s ++ (turnPart pl s ++ rest)) in
       let e : allowancesAt pl + 1 * a ≡ allowancesAt pl + a = omega arith in
       store-row (allowanceRow pl a) (allowanceBytes s a) (n ∷ []) bytes (encode pl t rest) refl
       (subst (λ (i : ℕ). RowChanges i (allowanceBytes s a) (n ∷ []) bytes (encode pl t rest)) e
@@ -282,7 +295,7 @@ module _ (pl : Plan) (s : State) (rest : List ℕ) where
       let d : n % slotRoom ≡ t = omega arith in
       let e : entryOfNumber u n ≡ x = (λ i. u .table (a i) (c i) (d i)) ∙ entry-here r o t x in
       let old : Entry = entryOfNumber s n in
-      let past : List ℕ = connectionPart pl s ++ rest in
+      let past : List ℕ = connectionPart pl s ++ (turnPart pl s ++ rest) in
       store-row (entryRow pl r o t) (entryCode old ∷ []) (entryCode x ∷ []) bytes (encode pl u rest) refl
       (changes-left (entryRow pl r o t) (entryCode old ∷ []) (entryCode x ∷ []) (0 ∷ []) bytes (encode pl u rest)
       (subst (λ (y : Entry). RowChanges (entryRow pl r o t) (entryBytes old) (entryBytes y) bytes (encode pl u rest)) e
@@ -312,6 +325,7 @@ module _ (pl : Plan) (s : State) (rest : List ℕ) where
       let c : n / passiveRoom ≡ a = omega arith in
       let d : n % passiveRoom ≡ p = omega arith in
       let e : startsBytes u n ≡ wordBytes (startsOf u a p) = λ i. wordBytes (startsOf u (c i) (d i)) in
+      let past : List ℕ = turnPart pl s ++ rest in
       store-row (startsRow pl a p) (startsBytes s n) (wordBytes (startsOf u a p)) bytes (encode pl u rest) refl
       (subst (λ (y : List ℕ). RowChanges (startsRow pl a p) (startsBytes s n) y bytes (encode pl u rest)) e
       (changes-row startsWidth (pairs pl) (connectionsAt pl) (startsBytes s) (startsBytes u) bytes (encode pl u rest)
@@ -319,5 +333,20 @@ module _ (pl : Plan) (s : State) (rest : List ℕ) where
       (λ j k ne. ap (λ (f : ℕ → Bool). wordBytes (those slotRoom f))
       (starts-away a p t x (j / passiveRoom) (j % passiveRoom)
       (λ z. ne (number-of-pair j a p (z .0) (z .1)))))
-      (changes-left (connectionsAt pl) (connectionPart pl s) (connectionPart pl u) rest bytes (encode pl u rest)
-      (from-connections (connectionPart pl s ++ rest) (connectionPart pl u ++ rest)))))
+      (changes-left (connectionsAt pl) (connectionPart pl s) (connectionPart pl u) past bytes (encode pl u rest)
+      (from-connections (connectionPart pl s ++ past) (connectionPart pl u ++ past)))))
+
+  -- ---- what outputs remember
+  pub put-last-sender : (o : Output) (k : ℕ) → Drives pl o
+      → set (encode pl s rest) (turnRow pl o) k ≡ encode pl (withLastSender o k s) rest
+  unfolding encode turnRow queueBytes outputBytes
+  put-last-sender o k h =
+      let u : State = withLastSender o k s in
+      let e : turnsAt pl + 1 * outputNumber pl o ≡ turnsAt pl + outputNumber pl o = omega arith in
+      store-row (turnRow pl o) (turnBytes s o) (k ∷ []) bytes (encode pl u rest) refl
+      (subst (λ (i : ℕ). RowChanges i (turnBytes s o) (k ∷ []) bytes (encode pl u rest)) e
+      (changes-store sameOutput output-same same-output (outputNumber pl) (outputAt pl) (λ n x. n ∷ [])
+      (s .lastSender) o k 1 (outputs pl) (turnsAt pl) (turnBytes s) (turnBytes u) bytes (encode pl u rest)
+      (λ x. refl) (λ x. refl) (λ x. refl) (at-output pl) (output-at pl o h) (output-below pl o h)
+      (changes-left (turnsAt pl) (turnPart pl s) (turnPart pl u) rest bytes (encode pl u rest)
+      (from-turns (turnPart pl s ++ rest) (turnPart pl u ++ rest)))))

@@ -26,7 +26,7 @@ use Rattle.layout.specs.Named.{existsTest, test-exists, exists-test, dri
 use Rattle.layout.specs.Named.{test-entry, isConnection, test-connection}
 use Rattle.layout.specs.Offsets.{phaseByte, slotByte, places, creditByte, flagByte, handledByte, lengthByte}
 use Rattle.layout.specs.Offsets.{firstPlace, wireByte, wirePacket, choiceByte, queueRow, outputRow, allowanceRow}
-use Rattle.layout.specs.Offsets.{entryRow, startsRow}
+use Rattle.layout.specs.Offsets.{entryRow, startsRow, turnRow}
 use Rattle.layout.specs.Codes.{phaseOf, flagOf, choiceOf, entryFrom}
 use Rattle.layout.specs.Places.{packetAt, packetsAt, packets-few}
 
@@ -84,6 +84,7 @@ decode pl b =
       table = λ r o t. pick (isEntry pl r o t) (entryAt (entryRow pl r o t) b) (blank pl .table r o t);
       connections = λ a p t.
           pick (isConnection pl a p t) (has (fourAt (startsRow pl a p) b) t) (blank pl .connections a p t);
+      lastSender = λ o. pick (drivesTest pl o) (getD b (turnRow pl o) 0) (blank pl .lastSender o);
     }
 
 -- ---- outside the plan's places, what is read is blank
@@ -103,6 +104,7 @@ decode-bounded pl b =
       table = λ r o t h. left (isEntry pl r o t) _ _ (λ e. h (test-entry pl r o t e));
       connection = λ a p t h. left (isConnection pl a p t) _ _ (λ e. h (test-connection pl a p t e));
       allowance = λ a h. left (ltb a (A pl)) _ _ (λ e. h (ltb-true a (A pl) e));
+      lastSender = λ o h. left (drivesTest pl o) _ _ (λ e. h (test-drives pl o e));
     }
 
 -- ---- queues that fit in their places

@@ -1,5 +1,5 @@
 -- The bytes of a state: header, a row for each queue, a row for each output, the allowances, the table, the accepted
--- connections; and the bytes past the state.
+-- connections, the last senders; and the bytes past the state.
 use mathlib.Core.Path.{_≡_, refl}
 use mathlib.Core.List.{List, [], _∷_, _++_, append-assoc}
 use Prim.Native.Nat.{ℕ, _*_, _/_, _%_}
@@ -58,6 +58,10 @@ startsOf s a p = those slotRoom (s .connections a p)
 abbrev pub startsBytes : State → ℕ → List ℕ
 startsBytes s n = wordBytes (startsOf s (n / passiveRoom) (n % passiveRoom))
 
+-- the last sender that an output served, by its rank
+abbrev pub turnBytes : State → Output → List ℕ
+turnBytes s o = s .lastSender o ∷ []
+
 -- ---- the parts
 abbrev pub header : State → List ℕ
 header s = phaseCode (s .clock .phase) ∷ s .clock .slot .0 ∷ []
@@ -77,12 +81,16 @@ tablePart pl s = rows 0 (entries pl) (λ n. entryBytes (entryOfNumber s n))
 abbrev pub connectionPart : Plan → State → List ℕ
 connectionPart pl s = rows 0 (pairs pl) (startsBytes s)
 
+abbrev pub turnPart : Plan → State → List ℕ
+turnPart pl s = rows 0 (outputs pl) (λ n. turnBytes s (outputAt pl n))
+
 -- the state's bytes, then the bytes past the state
 unfoldable pub encode : Plan → State → List ℕ → List ℕ
 encode pl s rest =
     header s
     ++ (queuePart pl s
-    ++ (outputPart pl s ++ (allowancePart pl s ++ (tablePart pl s ++ (connectionPart pl s ++ rest)))))
+    ++ (outputPart pl s
+    ++ (allowancePart pl s ++ (tablePart pl s ++ (connectionPart pl s ++ (turnPart pl s ++ rest))))))
 
 -- ---- every row has its width
 pub length-queue : (s : State) (q : Queue) → length (queueBytes s q) ≡ queueWidth
@@ -118,6 +126,9 @@ module _ (pl : Plan) (s : State) where
   pub length-connections : length (connectionPart pl s) ≡ startsWidth * pairs pl
   length-connections = rows-length startsWidth 0 (pairs pl) (startsBytes s) (λ n. refl)
 
+  pub length-turns : length (turnPart pl s) ≡ 1 * outputs pl
+  length-turns = rows-length 1 0 (outputs pl) (λ n. turnBytes s (outputAt pl n)) (λ n. refl)
+
   -- the bytes past the state stand behind it
   pub encode-append : (rest : List ℕ) → encode pl s rest ≡ encode pl s [] ++ rest
   unfolding encode
@@ -133,9 +144,11 @@ module _ (pl : Plan) (s : State) where
         length-append (allowancePart pl s),
         length-append (tablePart pl s),
         length-append (connectionPart pl s),
+        length-append (turnPart pl s),
         length-queues,
         length-outputs,
         length-allowances,
         length-table,
         length-connections,
+        length-turns,
       ) (omega arith)

@@ -14,8 +14,8 @@ use Rattle.feeding.specs.Feeds.{Output, ofActive, ofPassive, ofSide, toUnit, fr
 use Rattle.machine.specs.Outputs.{outputAt, outputNumber}
 use Rattle.machine.specs.State.{blank, start}
 use Rattle.layout.specs.Rows.{rows, front}
-use Rattle.layout.specs.Offsets.{outputsAt, allowancesAt, tableAt, connectionsAt, size, queueRow, outputRow}
-use Rattle.layout.specs.Offsets.{allowanceRow, entryRow, startsRow}
+use Rattle.layout.specs.Offsets.{outputsAt, allowancesAt, tableAt, connectionsAt, turnsAt, size, queueRow}
+use Rattle.layout.specs.Offsets.{outputRow, allowanceRow, entryRow, startsRow, turnRow}
 use Rattle.layout.specs.Places.{placeBytes, packetAt, packetsAt}
 use Rattle.layout.specs.Encode.{queueBytes, outputBytes, encode}
 use Rattle.layout.specs.Decode.{fourAt, decode}
@@ -29,9 +29,9 @@ wiredT = planOf bytesT
 
 -- ---- where the parts begin, and the size
 pub t-parts : (outputsAt wiredT ≡ 977) × (allowancesAt wiredT ≡ 1033) × (tableAt wiredT ≡ 1034)
-    × (connectionsAt wiredT ≡ 1290) × (size wiredT ≡ 1354)
+    × (connectionsAt wiredT ≡ 1290) × (turnsAt wiredT ≡ 1354) × (size wiredT ≡ 1362)
 unfolding wiredT queues size
-t-parts = (refl, refl, refl, refl, refl)
+t-parts = (refl, refl, refl, refl, refl, refl)
 
 -- ---- where the rows stand
 abbrev pub queuesOf : List Queue → List ℕ
@@ -41,6 +41,10 @@ queuesOf (q ∷ qs) = queueRow wiredT q ∷ queuesOf qs
 abbrev pub outputsOf : List Output → List ℕ
 outputsOf [] = []
 outputsOf (o ∷ os) = outputRow wiredT o ∷ outputsOf os
+
+abbrev pub turnsOf : List Output → List ℕ
+turnsOf [] = []
+turnsOf (o ∷ os) = turnRow wiredT o ∷ turnsOf os
 
 pub t-interfaces : queuesOf (activeOut 0 ∷ passiveOut 0 ∷ activeIn 0 ∷ passiveIn 0 ∷ []) ≡ 2 ∷ 41 ∷ 899 ∷ 938 ∷ []
 unfolding wiredT queueRow number
@@ -70,6 +74,11 @@ pub t-connections : startsRow wiredT 0 0 ≡ 1290
 unfolding wiredT queues startsRow
 t-connections = refl
 
+pub t-turns : turnsOf (ofActive 0 ∷ ofPassive 0 ∷ ofSide 0 0 ∷ ofSide 0 1 ∷ ofSide 0 2 ∷ ofSide 0 3 ∷ toUnit 0
+    ∷ fromUnit 0 ∷ []) ≡ 1354 ∷ 1355 ∷ 1356 ∷ 1357 ∷ 1358 ∷ 1359 ∷ 1360 ∷ 1361 ∷ []
+unfolding wiredT queues turnRow outputNumber
+t-turns = refl
+
 -- ---- Start's bytes
 unfoldable pub startT : List ℕ
 unfolding wiredT rows queues queueAt outputAt start blank placeBytes queueBytes outputBytes encode those
@@ -77,8 +86,8 @@ startT = encode wiredT (start wiredT) []
 
 unfoldable pub isStateT : List ℕ → Bool
 unfolding wiredT rows front size queues queueAt number queueRow outputAt outputNumber outputRow allowanceRow entryRow
-    startsRow start blank placeBytes packetAt packetsAt fourAt has those queueBytes outputBytes encode decode sameBytes
-    canonical
+    startsRow turnRow start blank placeBytes packetAt packetsAt fourAt has those queueBytes outputBytes encode decode
+    sameBytes canonical
 isStateT b = canonical wiredT b
 
 -- the offsets of the bytes that are not 0, from i on
@@ -91,16 +100,18 @@ abbrev pub sumOf : List ℕ → ℕ
 sumOf [] = 0
 sumOf (x ∷ b) = x + sumOf b
 
--- after Start: a credit in each queue's row, and the allowance; each is 1
+-- after Start: a credit in each queue's row, and the allowance; each is 1. And 3, the rank of the last in order, at
+-- each of the router's four sides and on the way to its unit
 pub t-filled : filled 0 startT
     ≡ 2 ∷ 41 ∷ 80 ∷ 119 ∷ 158 ∷ 197 ∷ 236 ∷ 275 ∷ 314 ∷ 353 ∷ 392 ∷ 431 ∷ 470 ∷ 509 ∷ 548 ∷ 587 ∷ 626 ∷ 665 ∷ 704 ∷ 743
-    ∷ 782 ∷ 821 ∷ 860 ∷ 899 ∷ 938 ∷ 1033 ∷ []
+    ∷ 782 ∷ 821 ∷ 860 ∷ 899 ∷ 938 ∷ 1033 ∷ 1356 ∷ 1357 ∷ 1358 ∷ 1359 ∷ 1360 ∷ []
 unfolding startT
 t-filled = refl
 
-pub t-ones : sumOf startT ≡ 26
+-- 26 ones and five threes
+pub t-sum : sumOf startT ≡ 41
 unfolding startT
-t-ones = refl
+t-sum = refl
 
 -- Start's bytes are a state's, whatever is past them
 pub t-start : isStateT (startT ++ (7 ∷ [])) ≡ true
@@ -108,7 +119,7 @@ unfolding startT isStateT
 t-start = refl
 
 -- one byte too few
-pub t-short : isStateT (take 1353 startT) ≡ false
+pub t-short : isStateT (take 1361 startT) ≡ false
 unfolding startT isStateT
 t-short = refl
 

@@ -118,9 +118,13 @@ tableAt pl = allowancesAt pl + A pl
 abbrev pub connectionsAt : Plan → ℕ
 connectionsAt pl = tableAt pl + entryWidth * entries pl
 
+-- what outputs remember: a byte for each
+abbrev pub turnsAt : Plan → ℕ
+turnsAt pl = connectionsAt pl + startsWidth * pairs pl
+
 -- the count of the state's bytes
 unfoldable pub size : Plan → ℕ
-size pl = connectionsAt pl + startsWidth * pairs pl
+size pl = turnsAt pl + outputs pl
 
 -- ---- where each row stands
 unfoldable pub queueRow : Plan → Queue → ℕ
@@ -138,13 +142,16 @@ entryRow pl r o t = tableAt pl + entryWidth * entryIndex r o t
 unfoldable pub startsRow : Plan → ℕ → ℕ → ℕ
 startsRow pl a p = connectionsAt pl + startsWidth * pairIndex a p
 
+unfoldable pub turnRow : Plan → Output → ℕ
+turnRow pl o = turnsAt pl + outputNumber pl o
+
 -- the size, by the plan's counts alone
-pub size-is : (pl : Plan) → size pl ≡ 2 + 39 * queues pl + 7 * outputs pl + 65 * A pl + 256 * R pl
+pub size-is : (pl : Plan) → size pl ≡ 2 + 39 * queues pl + 8 * outputs pl + 65 * A pl + 256 * R pl
 unfolding size
 size-is pl = omega arith
 
--- the state of a plan whose counts are in range is at most 21,634 bytes
-pub size-most : (pl : Plan) → InRange (pl .head) → size pl ≤ 21634
+-- the state of a plan whose counts are in range is at most 21,762 bytes
+pub size-most : (pl : Plan) → InRange (pl .head) → size pl ≤ 21762
 unfolding size queues
 size-most pl range =
     let r = range .routers .1 in let a = range .actives .1 in let p = range .passives .1 in

@@ -15,7 +15,7 @@ use Rattle.paths.specs.Served.{backsArrive, servedFrom}
 use Rattle.circles.specs.RingTest.{wayMeets, walkMeets, walkLeaves, trailEdge, answered, answerLeaves, answersPass}
 use Rattle.circles.specs.RingTest.{handEdge, hasRing}
 use Rattle.load.specs.Load.{lengthOk, jointsOk, loadOf, loadNumber}
-use Rattle.plan.specs.Samples.{planT, twoRouters, widerT, narrowThere, narrowBack, allSides, fourRouters}
+use Rattle.plan.specs.Samples.{planT, twoRouters, widerT, narrowThere, narrowBack, allSides, longWayBack, fourRouters}
 
 -- Load's number, computed from the bytes
 unfoldable pub loads : List ℕ → ℕ
@@ -53,6 +53,10 @@ all-sides-loads = refl
 pub four-routers-load : loads fourRouters ≡ 0
 unfolding loads
 four-routers-load = refl
+
+pub long-way-back-loads : loads longWayBack ≡ 0
+unfolding loads
+long-way-back-loads = refl
 
 pub five-bytes : loads (8 ∷ 66 ∷ 17 ∷ 36 ∷ 146 ∷ []) ≡ 1
 unfolding loads

@@ -1,12 +1,14 @@
 -- Every number below the count of queues names a queue of the plan, which has that number; so do the senders of an
--- output.
+-- output. And their ranks are below their count.
 use mathlib.Core.Path.{_≡_, refl, sym, subst}
 use mathlib.Core.Logic.{_⊎_, inl, inr}
 use mathlib.Core.Bool.{Bool, true, false}
+use mathlib.Core.List.{List, [], _∷_}
 use mathlib.Core.Option.{some}
 use Prim.Native.Nat.{ℕ, zero, suc, _+_, _-_, _/_, _%_, _≤_, _<_}
 use native.Mathlib.Omega.{arith}
 use lib.Dec.{eqb, ltb}
+use lib.ListN.{length}
 use borrow.Author.Tests.{ltb-true, ltb-false, lt-ltb, le-ltb, eqb-true, eqb-false}
 use Rattle.basis.specs.Choice.{pick}
 use Rattle.basis.specs.Bounded.{lt-or-ge}
@@ -23,6 +25,12 @@ use Rattle.machine.specs.Valid.{Drives}
 pub picked : {X : Type 0} (T : X → Type 0) (t : Bool) (a b : X) → (t ≡ true → T a) → (t ≡ false → T b) → T (pick t a b)
 picked T true a b f g = f refl
 picked T false a b f g = g refl
+
+-- the rank of a sender is below their count
+pub rank-below : (qs : List Queue) (k : ℕ) (q : Queue) → ofRank qs k ≡ some q → k < length qs
+rank-below [] k q e = absurd (some-not-none e)
+rank-below (p ∷ qs) zero q e = omega arith
+rank-below (p ∷ qs) (suc k) q e = let l = rank-below qs k q e in omega arith
 
 module _ (pl : Plan) where
   abbrev IsQueue : ℕ → Queue → Type 0

@@ -5,7 +5,7 @@ use mathlib.Core.List.{List, [], _∷_}
 use mathlib.Core.Option.{Option, none, some}
 use Prim.Native.Nat.{ℕ, zero, suc, _+_}
 use lib.Dec.{eqb, ltb}
-use lib.ListN.{length}
+use lib.ListN.{length, drop}
 use Rattle.basis.specs.Choice.{pick, also}
 use Rattle.basis.specs.Bounded.{anyBelow}
 use Rattle.basis.specs.Fold.{upTo}
@@ -144,8 +144,18 @@ unfoldable pub firstOf : (Queue → Bool) → ℕ → List Queue → Choice
 firstOf ready k [] = nobody
 firstOf ready k (q ∷ qs) = pick (ready q) (sender k) (firstOf ready (suc k) qs)
 
+-- one choice, or another where it is nobody
+abbrev pub orElse : Choice → Choice → Choice
+orElse nobody d = d
+orElse (sender k) d = sender k
+
+-- 'looks from the next one on, cyclically, in the old order' (document 02 (b)): behind rank k to the end of the order,
+-- and then from its beginning on
+unfoldable pub nextOf : (Queue → Bool) → ℕ → List Queue → Choice
+nextOf ready k qs = orElse (firstOf ready (suc k) (drop (suc k) qs)) (firstOf ready 0 qs)
+
 unfoldable pub picked : Plan → State → Output → Choice
-picked pl s o = pick (isOpen s o) (firstOf (candidate pl s o) 0 (senders o)) nobody
+picked pl s o = pick (isOpen s o) (nextOf (candidate pl s o) (s .lastSender o) (senders o)) nobody
 
 unfoldable pub choose : Plan → Output → State → State
 choose pl o s = withChoice o (picked pl s o) s

@@ -14,4 +14,5 @@ pub mod Accepted
 pub mod Valid
 pub mod Progress
 pub mod Ruled
+pub mod TurnAbout
 pub mod Runs

@@ -4,6 +4,7 @@ use mathlib.Core.List.{List, [], _∷_}
 use mathlib.Core.Option.{Option}
 use Prim.Native.Nat.{ℕ, _+_, _*_, _-_, _/_, _%_}
 use lib.Dec.{ltb, eqb}
+use lib.ListN.{length}
 use Rattle.basis.specs.Choice.{pick}
 use Rattle.packets.specs.declared.Packet.{Packet}
 use Rattle.plan.specs.Plan.{Plan, R, A, P}
@@ -14,14 +15,18 @@ use Rattle.feeding.specs.Feeds.{Output, ofActive, ofPassive, ofSide, toUnit, fr
 abbrev pub nextBy : Plan → Output → Packet → Option Queue
 nextBy pl o x = beyond pl (headingOf (x .kind)) (x .active) (x .passive) o
 
--- 'the first of F[o], K[0,o] to K[3,o] for a side; the first of U[0] to U[3] to the unit; Q to F; an interface's
--- out-queue'
+-- an output's senders in order: F[o], then K[0,o] to K[3,o] without K[o,o], for a side; U[0] to U[3] to the unit; Q to
+-- F; an interface's out-queue
 abbrev pub senders : Output → List Queue
 senders (ofActive a) = activeOut a ∷ []
 senders (ofPassive p) = passiveOut p ∷ []
 senders (ofSide r o) = senderAt r o 0 ∷ senderAt r o 1 ∷ senderAt r o 2 ∷ senderAt r o 3 ∷ []
 senders (toUnit r) = U r 0 ∷ U r 1 ∷ U r 2 ∷ U r 3 ∷ []
 senders (fromUnit r) = Q r ∷ []
+
+-- the rank of 'the last in order'; an output with one sender has no other rank, and nothing to remember
+abbrev pub lastInOrder : Output → ℕ
+lastInOrder o = length (senders o) - 1
 
 -- ---- numbers: interfaces' outputs first, then each router's four sides, to its unit, and back
 abbrev pub outputs : Plan → ℕ

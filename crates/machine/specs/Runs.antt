@@ -10,6 +10,7 @@ pub mod Order
 pub mod Heads
 pub mod Wrap
 pub mod Capacities
+pub mod Turns
 pub mod Entries
 pub mod Refusals
 pub mod Closed

@@ -19,6 +19,7 @@ use Rattle.feeding.specs.Feeds.{Output}
 use Rattle.machine.specs.Capacity.{capacity}
 use Rattle.machine.specs.Store.{put, sameQueue, sameOutput}
 use Rattle.machine.specs.Connections.{Connection}
+use Rattle.machine.specs.Outputs.{lastInOrder}
 
 -- an output's choice: nobody, or the sender of a rank in its order
 pub data Choice : Type 0 where
@@ -56,13 +57,15 @@ pub record State : Type 0 where
   pub table : ℕ → ℕ → ℕ → Entry
   -- 'the state now keeps the accepted connections' (document 02 (a)): by active, passive and start slot
   pub connections : ℕ → ℕ → ℕ → Bool
+  -- 'each output remembers the last sender that a WRITE served' (document 02 (b)): its rank in the output's order
+  pub lastSender : Output → ℕ
 
 -- 'each active's allowance = the smaller of its two capacities'
 abbrev pub startAllowance : Plan → ℕ
 startAllowance pl = min (pl .head .aout .0) (pl .head .ain .0)
 
 -- nothing anywhere: 'READ, queues, wires and table empty, flags down, no choices, credit of each queue fed by a wire =
--- its capacity'; no connection is accepted
+-- its capacity'; no connection is accepted; outputs look for a sender 'as if the last in order had sent'
 unfoldable pub blank : Plan → State
 blank pl =
     record {
@@ -76,6 +79,7 @@ blank pl =
       links = record { wire = λ o. Empty; choice = λ o. nobody };
       table = λ r o t. Free;
       connections = λ a p t. false;
+      lastSender = λ o. lastInOrder o;
     }
 
 -- '*Start*'
@@ -92,6 +96,7 @@ withClock x s =
       links = s .links;
       table = s .table;
       connections = s .connections;
+      lastSender = s .lastSender;
     }
 
 abbrev pub withLines : Lines → State → State
@@ -103,6 +108,7 @@ withLines x s =
       links = s .links;
       table = s .table;
       connections = s .connections;
+      lastSender = s .lastSender;
     }
 
 abbrev pub withFlow : Flow → State → State
@@ -114,6 +120,7 @@ withFlow x s =
       links = s .links;
       table = s .table;
       connections = s .connections;
+      lastSender = s .lastSender;
     }
 
 abbrev pub withLinks : Links → State → State
@@ -125,6 +132,7 @@ withLinks x s =
       links = x;
       table = s .table;
       connections = s .connections;
+      lastSender = s .lastSender;
     }
 
 abbrev pub withTable : (ℕ → ℕ → ℕ → Entry) → State → State
@@ -136,6 +144,7 @@ withTable x s =
       links = s .links;
       table = x;
       connections = s .connections;
+      lastSender = s .lastSender;
     }
 
 abbrev pub withConnections : (ℕ → ℕ → ℕ → Bool) → State → State
@@ -147,6 +156,19 @@ withConnections x s =
       links = s .links;
       table = s .table;
       connections = x;
+      lastSender = s .lastSender;
+    }
+
+abbrev pub withLastSenders : (Output → ℕ) → State → State
+withLastSenders x s =
+    record {
+      clock = s .clock;
+      lines = s .lines;
+      flow = s .flow;
+      links = s .links;
+      table = s .table;
+      connections = s .connections;
+      lastSender = x;
     }
 
 -- ---- one part changed
@@ -192,6 +214,10 @@ abbrev pub withConnection : ℕ → ℕ → ℕ → Bool → State → State
 withConnection a p t x s =
     withConnections
     (put eqb (s .connections) a (put eqb (s .connections a) p (put eqb (s .connections a p) t x))) s
+
+-- the one change of what an output remembers
+abbrev pub withLastSender : Output → ℕ → State → State
+withLastSender o k s = withLastSenders (put sameOutput (s .lastSender) o k) s
 
 -- the state has a connection among the accepted ones
 abbrev pub hasConnection : State → Connection → Bool

@@ -25,7 +25,7 @@ use Rattle.feeding.specs.Queue.{Queue, activeOut, activeIn, passiveIn, passiveO
 use Rattle.feeding.specs.Feeds.{Output, ofActive, ofPassive, ofSide, toUnit, fromUnit, Place, inQueue, Fits, headPlace}
 use Rattle.machine.specs.Capacity.{capacity}
 use Rattle.machine.specs.Store.{sameQueue}
-use Rattle.machine.specs.Outputs.{nextBy, senders, outputs, outputAt}
+use Rattle.machine.specs.Outputs.{nextBy, senders, lastInOrder, outputs, outputAt}
 use Rattle.machine.specs.Connections.{Connection, Makes}
 use Rattle.machine.specs.State.{State, Choice, sender, blank, startAllowance, hasConnection}
 use Rattle.machine.specs.Execute.{candidate}
@@ -140,6 +140,14 @@ pub record Ties (pl : Plan) (s : State) : Type 0 where
   pub apart : (c d : Connection) → hasConnection s c ≡ true → hasConnection s d ≡ true → (r o t i j : ℕ)
       → Makes pl c r o t i → Makes pl d r o t j → c ≡ d
 
+-- ---- what outputs remember: 'each output remembers the last sender that a WRITE served' (document 02 (b))
+pub record Turns (pl : Plan) (s : State) : Type 0 where
+  -- the rank of one of its senders
+  pub ranks : (o : Output) → Drives pl o → s .lastSender o < length (senders o)
+  -- a side that is not joined serves nobody: it is as Start left it
+  pub unjoined : (r o : ℕ) → r < R pl → o < 4 → isJoined (pl .joint r o) ≡ false
+      → s .lastSender (ofSide r o) ≡ lastInOrder (ofSide r o)
+
 -- ---- a state
 pub record Valid (pl : Plan) (s : State) : Type 0 where
   -- 'phase, slot .. out of range'
@@ -176,6 +184,8 @@ pub record Valid (pl : Plan) (s : State) : Type 0 where
   pub allowances : (a : ℕ) → a < A pl → s .flow .allowance a + total pl (spends a) s ≡ startAllowance pl
   -- the accepted connections and the table
   pub ties : Ties pl s
+  -- what outputs remember is in range
+  pub turns : Turns pl s
 
 -- what lies outside the plan's places is blank
 pub record Bounded (pl : Plan) (s : State) : Type 0 where
@@ -189,3 +199,4 @@ pub record Bounded (pl : Plan) (s : State) : Type 0 where
   pub connection : (a p t : ℕ) → ((a < A pl) × (p < P pl) × (t < S pl) → ⊥)
       → s .connections a p t ≡ blank pl .connections a p t
   pub allowance : (a : ℕ) → (a < A pl → ⊥) → s .flow .allowance a ≡ blank pl .flow .allowance a
+  pub lastSender : (o : Output) → (Drives pl o → ⊥) → s .lastSender o ≡ blank pl .lastSender o

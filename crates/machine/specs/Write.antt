@@ -1,6 +1,6 @@
 -- '*WRITE*: each picked head enters its wire, its queue's flag rises (none for out-queues), the next queue's credit
 -- falls by one, choices are cleared. The slot grows by one modulo S.' 'The handled mark goes when that head leaves or
--- ends'.
+-- ends'. 'Each output remembers the last sender that a WRITE served' (document 02 (b)).
 use mathlib.Core.Bool.{Bool, true, false}
 use mathlib.Core.List.{List, [], _∷_}
 use mathlib.Core.Option.{Option, none, some}
@@ -16,7 +16,7 @@ use Rattle.feeding.specs.Role.{Role, sending, receiving, handling, passing, rol
 use Rattle.feeding.specs.Feeds.{Output}
 use Rattle.machine.specs.Outputs.{nextBy, senders, outputs, outputAt}
 use Rattle.machine.specs.State.{State, Choice, nobody, sender, withPhase, withSlot, withQueue, withWire}
-use Rattle.machine.specs.State.{withCredit, withFlag, withHandled, withChoice}
+use Rattle.machine.specs.State.{withCredit, withFlag, withHandled, withChoice, withLastSender}
 
 -- the sender of a rank
 abbrev pub ofRank : List Queue → ℕ → Option Queue
@@ -49,9 +49,10 @@ abbrev pub sendFrom : Plan → Output → Option Queue → State → State
 sendFrom pl o none s = s
 sendFrom pl o (some q) s = sendHead pl o q (s .lines .queue q) s
 
+-- a round in which nobody was picked changes nothing of what is remembered
 unfoldable pub sendBy : Plan → Output → Choice → State → State
 sendBy pl o nobody s = s
-sendBy pl o (sender k) s = withChoice o nobody (sendFrom pl o (ofRank (senders o) k) s)
+sendBy pl o (sender k) s = withLastSender o k (withChoice o nobody (sendFrom pl o (ofRank (senders o) k) s))
 
 unfoldable pub send : Plan → Output → State → State
 send pl o s = sendBy pl o (s .links .choice o) s

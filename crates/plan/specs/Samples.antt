@@ -36,6 +36,17 @@ narrowBack = 8 ∷ 132 ∷ 134 ∷ 189 ∷ 179 ∷ 22 ∷ 4 ∷ 4 ∷ 38 ∷ 33 
 abbrev pub allSides : List ℕ
 allSides = 16 ∷ 196 ∷ 33 ∷ 36 ∷ 146 ∷ 76 ∷ 4 ∷ 38 ∷ 2 ∷ 62 ∷ 32 ∷ 4 ∷ 66 ∷ 24 ∷ 45 ∷ 118 ∷ 211 ∷ 0 ∷ []
 
+-- three routers, each joined to the two others, S=16, with a long way back. Router 0: side 0 to active 0, side 1 to
+-- side 0 of router 1, side 2 to side 1 of router 2. Router 1: side 1 to side 0 of router 2, side 2 to active 1, side 3
+-- to passive 0. Router 2: side 2 to passive 1. Routes: the shortest, but router 2 sends to active 1 by router 0. So
+-- by side 1 of router 0 go both set-ups, of active 0 to passive 0, and answers, of passive 1 to active 1. Capacities:
+-- active out 4, in 4, U 4, Q 3, F 3, K 2, passive in 4, out 2.
+-- 18 84 84 91 B5 14 02 22 48 02 0A 44 26 02 2A 16 20 00 25 04 C9 21 00
+abbrev pub longWayBack : List ℕ
+longWayBack =
+    24 ∷ 132 ∷ 132 ∷ 145 ∷ 181 ∷ 20 ∷ 2 ∷ 34 ∷ 72 ∷ 2 ∷ 10 ∷ 68 ∷ 38 ∷ 2 ∷ 42 ∷ 22 ∷ 32 ∷ 0 ∷ 37 ∷ 4 ∷ 201 ∷ 33 ∷ 0
+    ∷ []
+
 -- four routers in a row, S=3, capacities 1: side 1 of each is joined to side 0 of the next. Active 0 at side 0 of
 -- router 0, passive 0 at side 1 of router 3, active 1 at side 2 of router 1. Routes: the shortest.
 -- 20 82 19 24 92 4C 02 20 00 02 0A 44 20 02 2A 60 00 02 4E 00 00 00 24 22 01 00 80

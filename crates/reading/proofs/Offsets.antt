@@ -16,10 +16,10 @@ use Rattle.machine.specs.State.{State}
 use Rattle.machine.proofs.Numbers.{at-number}
 use Rattle.machine.proofs.OutNumbers.{drives-at, at-output}
 use Rattle.layout.specs.Named.{exists-test}
-use Rattle.layout.specs.Offsets.{creditByte, queueRow, outputRow, size}
-use Rattle.layout.proofs.Readings.{length-bytes, queue-inside, output-inside}
+use Rattle.layout.specs.Offsets.{creditByte, queueRow, outputRow, turnRow, size}
+use Rattle.layout.proofs.Readings.{length-bytes, queue-inside, output-inside, turn-inside}
 use Rattle.acts.specs.Acts.{Holds}
-use Rattle.acts.specs.Counts.{queueCount, outputCount, outputsFrom, queues-by, outputs-at}
+use Rattle.acts.specs.Counts.{queueCount, outputCount, outputsFrom, turnsFrom, queues-by, outputs-at, turns-at}
 use Rattle.moves.specs.Next.{numberOr}
 
 -- the head of the plan that tables give
@@ -45,6 +45,15 @@ module _ (pl : Plan) {h : Head} (e : pl .head ≡ h) where
       let n = at-output pl m (rw (← e) at l) in
       let a = outputs-at pl in
       let b : i ≡ outputsFrom (pl .head) + 7 * m = rw e g in
+      omega arith
+
+  -- the byte of the last sender that an output served
+  pub turn-row : (m i : ℕ) → m < outputCount h → i ≡ turnsFrom h + m → i ≡ turnRow pl (outputAt pl m)
+  unfolding turnRow
+  turn-row m i l g =
+      let n = at-output pl m (rw (← e) at l) in
+      let a = turns-at pl in
+      let b : i ≡ turnsFrom (pl .head) + m = rw e g in
       omega arith
 
 -- a row begins with its credit
@@ -74,6 +83,9 @@ module _ (pl : Plan) where
 
     pub output-within : (m : ℕ) → m < outputs pl → (i : ℕ) → i ≡ outputRow pl (outputAt pl m) → i + 7 ≤ length b
     output-within m l i e = let k = long in let n = output-inside pl (outputAt pl m) (drives-at pl m l) in omega arith
+
+    pub turn-within : (m : ℕ) → m < outputs pl → (i : ℕ) → i ≡ turnRow pl (outputAt pl m) → i < length b
+    turn-within m l i e = let k = long in let n = turn-inside pl (outputAt pl m) (drives-at pl m l) in omega arith
 
     -- and so does the header
     pub header-within : 2 ≤ length b

@@ -1,4 +1,5 @@
--- Zero bytes with the credits and the allowances stored are the bytes of Start's state.
+-- Zero bytes with what outputs remember behind them, and with the credits and the allowances stored, are the bytes of
+-- Start's state.
 use mathlib.Core.Path.{_≡_, refl, sym, ap, ap₂, _∙_, subst}
 use mathlib.Core.List.{List, [], _∷_, _++_, append-assoc}
 use Prim.Native.Nat.{ℕ, suc, _+_, _*_, _≤_}
@@ -14,26 +15,30 @@ use Rattle.feeding.specs.Queue.{queues, queueAt}
 use Rattle.machine.specs.Outputs.{outputs}
 use Rattle.machine.specs.State.{blank, start, startAllowance}
 use Rattle.layout.specs.Rows.{rows, rows-same, rows-length, past}
-use Rattle.layout.specs.Offsets.{size, entries, pairs, allowancesAt}
+use Rattle.layout.specs.Offsets.{size, entries, pairs, allowancesAt, turnsAt}
 use Rattle.layout.specs.Places.{placeBytes}
-use Rattle.layout.specs.Encode.{queueBytes, outputBytes, startsBytes, connectionPart, encode}
-use Rattle.acts.specs.Counts.{queueCount, allowancesFrom, tableFrom, connectionsFrom, stateSize, queues-by, size-by}
-use Rattle.acts.specs.Counts.{allowances-at}
+use Rattle.layout.specs.Encode.{queueBytes, outputBytes, startsBytes, connectionPart, turnPart, encode}
+use Rattle.acts.specs.Counts.{queueCount, allowancesFrom, tableFrom, connectionsFrom, turnsFrom, stateSize}
+use Rattle.acts.specs.Counts.{queues-by, size-by, allowances-at, turns-at}
 use Rattle.starting.specs.Starting.{Started, zeros, cleared, laid, repeated, credits, freeEntries, freed}
-use Rattle.starting.specs.Starting.{noStarts, noConnections, sixteen, routerCredits, innerCredits, creditOf}
-use Rattle.starting.specs.Starting.{credited, allowanceOf}
+use Rattle.starting.specs.Starting.{noStarts, noConnections, routerTurns, interfaceTurns, turned, sixteen}
+use Rattle.starting.specs.Starting.{routerCredits, innerCredits, creditOf, credited, allowanceOf}
 use Rattle.starting.proofs.Zeros.{length-zeros, zeros-split, zeros-rows, repeated-zero}
 use Rattle.starting.proofs.Fills.{filled}
 use Rattle.starting.proofs.Credits.{sixteen-at, free-at, no-starts-at, credit-of, active-out-credit}
 use Rattle.starting.proofs.Credits.{passive-out-credit}
 use Rattle.starting.proofs.Credits.{active-in-credit, passive-in-credit, credited-none, credited-more}
 use Rattle.starting.proofs.Credits.{credited-inner}
+use Rattle.starting.proofs.Turns.{turned-start}
 
 module _ (pl : Plan) (rest : List ℕ) where
   -- ---- the parts of a state's bytes: the header, the queues' rows, the outputs' rows, the allowances, the table, the
-  -- accepted connections
+  -- accepted connections, what outputs remember
+  abbrev turns : List ℕ
+  turns = turnPart pl (start pl) ++ rest
+
   abbrev tail : List ℕ
-  tail = zeros (256 * R pl) ++ (zeros (64 * A pl) ++ rest)
+  tail = zeros (256 * R pl) ++ (zeros (64 * A pl) ++ turns)
 
   abbrev wires : List ℕ
   wires = rows 0 (outputs pl) (λ j. zeros 7)
@@ -41,21 +46,21 @@ module _ (pl : Plan) (rest : List ℕ) where
   abbrev parts : (ℕ → List ℕ) → (ℕ → List ℕ) → List ℕ
   parts q a = zeros 2 ++ (rows 0 (queues pl) q ++ (wires ++ (rows 0 (A pl) a ++ tail)))
 
-  -- ---- all zero
-  cleared-parts : zeros (size pl) ++ rest ≡ parts (λ j. 0 ∷ zeros 38) (λ j. 0 ∷ [])
-  unfolding size zeros
+  -- ---- all zero before what outputs remember
+  cleared-parts : zeros (turnsAt pl) ++ turns ≡ parts (λ j. 0 ∷ zeros 38) (λ j. 0 ∷ [])
+  unfolding zeros
   cleared-parts =
       let last : ℕ = 256 * R pl + 64 * A pl in
-      let e : size pl ≡ 2 + (39 * queues pl + (7 * outputs pl + (1 * A pl + last))) = omega arith in
-      ap (λ (n : ℕ). zeros n ++ rest) e
-      ∙ zeros-split 2 (39 * queues pl + (7 * outputs pl + (1 * A pl + last))) rest
+      let e : turnsAt pl ≡ 2 + (39 * queues pl + (7 * outputs pl + (1 * A pl + last))) = omega arith in
+      ap (λ (n : ℕ). zeros n ++ turns) e
+      ∙ zeros-split 2 (39 * queues pl + (7 * outputs pl + (1 * A pl + last))) turns
       ∙ ap (λ (x : List ℕ). zeros 2 ++ x)
-      (zeros-split (39 * queues pl) (7 * outputs pl + (1 * A pl + last)) rest
+      (zeros-split (39 * queues pl) (7 * outputs pl + (1 * A pl + last)) turns
       ∙ ap (λ (x : List ℕ). zeros (39 * queues pl) ++ x)
-      (zeros-split (7 * outputs pl) (1 * A pl + last) rest
+      (zeros-split (7 * outputs pl) (1 * A pl + last) turns
       ∙ ap (λ (x : List ℕ). zeros (7 * outputs pl) ++ x)
-      (zeros-split (1 * A pl) last rest
-      ∙ ap (λ (x : List ℕ). zeros (1 * A pl) ++ x) (zeros-split (256 * R pl) (64 * A pl) rest)
+      (zeros-split (1 * A pl) last turns
+      ∙ ap (λ (x : List ℕ). zeros (1 * A pl) ++ x) (zeros-split (256 * R pl) (64 * A pl) turns)
       ∙ sym (zeros-rows 1 0 (A pl) tail))
       ∙ sym (zeros-rows 7 0 (outputs pl) (rows 0 (A pl) (λ j. zeros 1) ++ tail)))
       ∙ sym (zeros-rows 39 0 (queues pl) (wires ++ (rows 0 (A pl) (λ j. zeros 1) ++ tail))))
@@ -116,17 +121,17 @@ module _ (pl : Plan) (rest : List ℕ) where
   unfolding start blank those zeros
   no-starts n = refl
 
-  start-connections : connectionPart pl (start pl) ++ rest ≡ zeros (64 * A pl) ++ rest
+  start-connections : connectionPart pl (start pl) ++ turns ≡ zeros (64 * A pl) ++ turns
   start-connections =
       let e : 4 * pairs pl ≡ 64 * A pl = omega arith in
-      ap (λ (x : List ℕ). x ++ rest) (rows-same 0 (pairs pl) (startsBytes (start pl)) (λ j. zeros 4)
+      ap (λ (x : List ℕ). x ++ turns) (rows-same 0 (pairs pl) (startsBytes (start pl)) (λ j. zeros 4)
       (λ j a b. no-starts j))
-      ∙ zeros-rows 4 0 (pairs pl) rest ∙ ap (λ (n : ℕ). zeros n ++ rest) e
+      ∙ zeros-rows 4 0 (pairs pl) turns ∙ ap (λ (n : ℕ). zeros n ++ turns) e
 
   start-parts : encode pl (start pl) rest ≡ parts credit allowance
   unfolding encode queueBytes outputBytes placeBytes start blank zeros
   start-parts =
-      let more : List ℕ = connectionPart pl (start pl) ++ rest in
+      let more : List ℕ = connectionPart pl (start pl) ++ turns in
       ap₂ (λ (x y : List ℕ). zeros 2 ++ (x ++ (wires ++ (rows 0 (A pl) allowance ++ y))))
       (rows-same 0 (queues pl) (λ n. queueBytes (start pl) (queueAt pl n)) credit
       (λ j a b. ap (λ (x : ℕ). x ∷ zeros 38) (sym (credit-of pl j))))
@@ -135,31 +140,37 @@ module _ (pl : Plan) (rest : List ℕ) where
       ∙ ap (λ (x : List ℕ). zeros (256 * R pl) ++ x) start-connections)
 
 -- ---- the whole
-module _ (pl : Plan) (few : A pl ≤ 16) (b : List ℕ) where
+-- what the steps ask: counts that are few
+pub few-counts : {h : Head} → InRange h → Counts h
+few-counts range = (range .routers .1, range .actives .1, range .passives .1)
+
+module _ (pl : Plan) (few : Counts (pl .head)) (b : List ℕ) (long : stateSize (pl .head) ≤ length b) where
   begun : laid (allowancesFrom (pl .head)) (sixteen (allowanceOf (pl .head))) (A pl)
-      (credited (pl .head) (queueCount (pl .head)) (cleared (stateSize (pl .head)) b))
+      (credited (pl .head) (queueCount (pl .head)) (turned (pl .head) (cleared (turnsFrom (pl .head)) b)))
       ≡ encode pl (start pl) (past (size pl) b)
-  unfolding cleared
   begun =
       let rest : List ℕ = past (size pl) b in
       ap₂ (λ (n : ℕ) (x : List ℕ). laid n (sixteen (startAllowance pl)) (A pl) x) (sym (allowances-at pl))
       (ap₂ (λ (n : ℕ) (x : List ℕ). credited (pl .head) n x) (sym (queues-by pl))
-      (ap (λ (n : ℕ). zeros n ++ past n b) (sym (size-by pl)) ∙ cleared-parts pl rest)
+      (turned-start pl few b long
+      ∙ ap₂ (λ (n m : ℕ). zeros n ++ (turnPart pl (start pl) ++ past m b)) (sym (turns-at pl)) (sym (size-by pl))
+      ∙ cleared-parts pl rest)
       ∙ credited-parts pl rest)
-      ∙ allowed-parts pl rest few ∙ sym (start-parts pl rest)
+      ∙ allowed-parts pl rest (few .1) ∙ sym (start-parts pl rest)
 
-pub started : {h : Head} {b d : List ℕ} → InRange h
+pub started : {h : Head} {b d : List ℕ} → InRange h → stateSize h ≤ length b
     → d ≡ laid (allowancesFrom h) (sixteen (allowanceOf h)) (h .actives)
-    (credited h (queueCount h) (cleared (stateSize h) b))
+    (credited h (queueCount h) (turned h (cleared (turnsFrom h) b)))
     → Started h b d
-started {h} {b} {d} range made =
+started {h} {b} {d} range long made =
     record {
       starts = λ pl e.
           subst
           (λ (x : Head). d ≡ laid (allowancesFrom x) (sixteen (allowanceOf x)) (x .actives)
-          (credited x (queueCount x) (cleared (stateSize x) b)))
+          (credited x (queueCount x) (turned x (cleared (turnsFrom x) b))))
           (sym e) made
-          ∙ begun pl (let k = ap (λ (x : Head). x .actives) e in let m = range .actives .1 in omega arith) b;
+          ∙ begun pl (subst Counts (sym e) (few-counts range)) b
+          (subst (λ (x : Head). stateSize x ≤ length b) (sym e) long);
     }
 
 -- ---- the code's steps put together
@@ -218,27 +229,30 @@ all-groups h few b {c} p r i =
     let count : destinations h + 21 * h .routers + h .actives + h .passives ≡ queueCount h = omega arith in
     five ∙ ap (λ (n : ℕ). credited h n b) count
 
+-- what the interfaces' outputs remember, and the routers'
+pub both-turns : (h : Head) (b : List ℕ) {c d : List ℕ} → c ≡ laid (turnsFrom h) interfaceTurns (destinations h) b
+    → d ≡ repeated 6 routerTurns (turnsFrom h + destinations h) (h .routers) c → d ≡ turned h b
+unfolding turned
+both-turns h b e f = f ∙ ap (repeated 6 routerTurns (turnsFrom h + destinations h) (h .routers)) e
+
 -- all of Start
-pub start-made : {h : Head} → InRange h → {at : ℕ} {b c d m e f : List ℕ} → stateSize h ≤ length b → at ≡ tableFrom h
-    → c ≡ cleared at b → d ≡ freed (tableFrom h) (h .routers) c → m ≡ noConnections (connectionsFrom h) (h .actives) d
-    → e ≡ credited h (queueCount h) m
+pub start-made : {h : Head} → InRange h → {at : ℕ} {b c d m w e f : List ℕ} → stateSize h ≤ length b
+    → at ≡ tableFrom h → c ≡ cleared at b → d ≡ freed (tableFrom h) (h .routers) c
+    → m ≡ noConnections (connectionsFrom h) (h .actives) d → w ≡ turned h m → e ≡ credited h (queueCount h) w
     → f ≡ laid (allowancesFrom h) (sixteen (allowanceOf h)) (h .actives) e → Started h b f
-start-made {h} range {at} {b} {c} {d} {m} long i p q none r s =
+start-made {h} range {at} {b} {c} {d} {m} long i p q none last r s =
     let zero-table : freed (tableFrom h) (h .routers) (cleared (tableFrom h) b) ≡ cleared (connectionsFrom h) b =
     repeated-zero 256 freeEntries (tableFrom h) (h .routers) b free-at (omega arith) in
     let zero-starts : noConnections (connectionsFrom h) (h .actives) (cleared (connectionsFrom h) b)
-    ≡ cleared (stateSize h) b =
-    repeated-zero 64 noStarts (connectionsFrom h) (h .actives) b no-starts-at long in
+    ≡ cleared (turnsFrom h) b =
+    repeated-zero 64 noStarts (connectionsFrom h) (h .actives) b no-starts-at (omega arith) in
     let table : d ≡ cleared (connectionsFrom h) b =
     q ∙ ap (freed (tableFrom h) (h .routers)) (p ∙ ap (λ (n : ℕ). cleared n b) i) ∙ zero-table in
-    started range
+    started range long
     (s ∙ ap (laid (allowancesFrom h) (sixteen (allowanceOf h)) (h .actives))
     (r ∙ ap (credited h (queueCount h))
-    (none ∙ ap (noConnections (connectionsFrom h) (h .actives)) table ∙ zero-starts)))
+    (last ∙ ap (turned h) (none ∙ ap (noConnections (connectionsFrom h) (h .actives)) table ∙ zero-starts))))
 
--- what the steps ask: counts that are few, and a length that stays
-pub few-counts : {h : Head} → InRange h → Counts h
-few-counts range = (range .routers .1, range .actives .1, range .passives .1)
-
+-- what the steps ask: a length that stays
 pub long-still : {n : ℕ} {m k : ℕ} → n ≤ k → m ≡ k → n ≤ m
 long-still l e = omega arith

@@ -19,7 +19,7 @@ use Rattle.starting.specs.Starting.{credits, freeEntries, noStarts, sixt
 use Rattle.starting.specs.Starting.{innerCredits, creditOf, credited}
 
 -- ---- equal bytes
-same-at : (n : ℕ) (v i : ℕ) → i < n → getD (replicate n v) i 0 ≡ v
+pub same-at : (n : ℕ) (v i : ℕ) → i < n → getD (replicate n v) i 0 ≡ v
 same-at zero v i l = absurd (omega arith)
 same-at (suc n) v zero l = refl
 same-at (suc n) v (suc i) l = same-at n v i (omega arith)

@@ -10,7 +10,7 @@ use Rattle.layout.specs.Rows.{rows, rows-length, span-split}
 use Rattle.layout.proofs.Lines.{set-behind}
 
 -- the last of the first n + 1 rows
-rows-last : (n : ℕ) (g : ℕ → List ℕ) (r : List ℕ) → rows 0 (suc n) g ++ r ≡ rows 0 n g ++ (g n ++ r)
+pub rows-last : (n : ℕ) (g : ℕ → List ℕ) (r : List ℕ) → rows 0 (suc n) g ++ r ≡ rows 0 n g ++ (g n ++ r)
 unfolding rows
 rows-last n g r =
     let e : suc n ≡ n + suc 0 = omega arith in

@@ -1,4 +1,5 @@
 pub mod Zeros
 pub mod Fills
 pub mod Credits
+pub mod Turns
 pub mod Begins

@@ -1,7 +1,7 @@
--- Start on bytes: zero bytes, then arrays of equal bytes for the table, for the accepted connections and for the
--- credits, which are stored queue by queue, and the allowances.
+-- Start on bytes: zero bytes, then arrays for the table, for the accepted connections, for what outputs remember and
+-- for the credits, which are stored queue by queue, and the allowances.
 use mathlib.Core.Path.{_≡_}
-use mathlib.Core.List.{List, _++_}
+use mathlib.Core.List.{List, [], _∷_, _++_}
 use Prim.Native.Nat.{ℕ, _+_, _*_, _-_, _%_, min}
 use lib.Dec.{eqb, ltb}
 use lib.ListN.{getD, set, replicate}
@@ -14,6 +14,7 @@ use Rattle.machine.specs.State.{start}
 use Rattle.layout.specs.Rows.{past}
 use Rattle.layout.specs.Offsets.{size}
 use Rattle.layout.specs.Encode.{encode}
+use Rattle.acts.specs.Counts.{turnsFrom}
 
 -- the bytes of Start's state, for every plan that has this head, and the bytes past the state as they were
 pub record Started (h : Head) (b d : List ℕ) : Type 0 where
@@ -53,6 +54,20 @@ noStarts = replicate 64 0
 
 abbrev pub noConnections : ℕ → ℕ → List ℕ → List ℕ
 noConnections at n b = repeated 64 noStarts at n b
+
+-- 'the last in order' by its rank: an interface's output has one sender, and there are at most 32; of a router's, the
+-- four sides and the way to the unit have four, the way back one
+unfoldable pub interfaceTurns : List ℕ
+interfaceTurns = replicate 32 0
+
+unfoldable pub routerTurns : List ℕ
+routerTurns = 3 ∷ 3 ∷ 3 ∷ 3 ∷ 3 ∷ 0 ∷ []
+
+-- of all outputs
+unfoldable pub turned : Head → List ℕ → List ℕ
+turned h b =
+    repeated 6 routerTurns (turnsFrom h + destinations h) (h .routers)
+    (laid (turnsFrom h) interfaceTurns (destinations h) b)
 
 -- one value for each of 16 interfaces
 unfoldable pub sixteen : ℕ → List ℕ

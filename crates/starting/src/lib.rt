@@ -1,14 +1,14 @@
-// Start: the bytes of a new state. All is zero but the credits and the allowances.
+// Start: the bytes of a new state. All is zero but the credits, the allowances and what routers' outputs remember.
 use kinds::Credit;
 use plan::Head;
 ghost use mathlib.Core.Path.{_≡_};
 ghost use Prim.Native.Nat.{_+_, _*_, _≤_, _<_, min};
 ghost use lib.ListN.{length};
 ghost use Rattle.plan.specs.Head.{InRange, Counts, destinations};
-ghost use Rattle.acts.specs.Counts.{queueCount, allowancesFrom, tableFrom, connectionsFrom, stateSize};
+ghost use Rattle.acts.specs.Counts.{queueCount, allowancesFrom, tableFrom, connectionsFrom, turnsFrom, stateSize};
 ghost use Rattle.starting.specs.Starting.{Started, cleared, laid, credits, freeEntries, freed, noStarts};
-ghost use Rattle.starting.specs.Starting.{noConnections, sixteen, routerCredits, innerCredits, credited};
-ghost use Rattle.starting.specs.Starting.{allowanceOf};
+ghost use Rattle.starting.specs.Starting.{noConnections, repeated, interfaceTurns, routerTurns, turned, sixteen};
+ghost use Rattle.starting.specs.Starting.{routerCredits, innerCredits, credited, allowanceOf};
 
 // A free entry's byte.
 const FREE: u8 = 0;
@@ -55,6 +55,20 @@ fn no_starts() -> [u8; 64]
     ensures { λ t. ⌜ t ≡ noStarts ⌝ }
 {
     [0; 64]
+}
+
+// 'the last in order': the rank of the one sender of an interface's output, for 32 of them at most.
+fn interface_turns() -> [u8; 32]
+    ensures { λ t. ⌜ t ≡ interfaceTurns ⌝ }
+{
+    [0; 32]
+}
+
+// Of a router's outputs: of four senders on each side and to the unit, of one on the way back.
+fn router_turns() -> [u8; 6]
+    ensures { λ t. ⌜ t ≡ routerTurns ⌝ }
+{
+    [3, 3, 3, 3, 3, 0]
 }
 
 // One value for each of 16 interfaces.
@@ -105,6 +119,39 @@ fn no_connections(h: Head, s: &mut [u8])
     for a in 0..n {
         lay(s, at + 64 * a, &t, 64);
     }
+}
+
+// What the interfaces' outputs remember.
+fn outer_turns(h: Head, s: &mut [u8])
+    requires { ⌜ Counts h × (stateSize h ≤ length (now s)) ⌝ }
+    ensures { λ _. ⌜ now (s .exit) ≡ laid (turnsFrom h) interfaceTurns (destinations h) (now (s .entry)) ⌝ }
+{
+    let t = interface_turns();
+    let at = acts::turn_row(h, 0);
+    lay(s, at, &t, h.actives + h.passives);
+}
+
+// What the routers' outputs remember, router by router.
+fn inner_turns(h: Head, s: &mut [u8])
+    requires { ⌜ Counts h × (stateSize h ≤ length (now s)) ⌝ }
+    ensures { λ _. ⌜ now (s .exit)
+        ≡ repeated 6 routerTurns (turnsFrom h + destinations h) (h .routers) (now (s .entry)) ⌝ }
+{
+    let t = router_turns();
+    let at = acts::turn_row(h, h.actives + h.passives);
+    let n = h.routers;
+    for r in 0..n {
+        lay(s, at + 6 * r, &t, 6);
+    }
+}
+
+// Each output remembers the last in order.
+fn last_turns(h: Head, s: &mut [u8])
+    requires { ⌜ Counts h × (stateSize h ≤ length (now s)) ⌝ }
+    ensures { λ _. ⌜ now (s .exit) ≡ turned h (now (s .entry)) ⌝ }
+{
+    outer_turns(h, s);
+    inner_turns(h, s);
 }
 
 // The smaller of two capacities.
@@ -175,7 +222,8 @@ fn all_credits(h: Head, s: &mut [u8])
 }
 
 // '*Start*: READ, queues, wires and table empty, flags down, no choices, credit of each queue fed by a wire = its
-// capacity, each active's allowance = the smaller of its two capacities.' No connection is accepted.
+// capacity, each active's allowance = the smaller of its two capacities.' No connection is accepted; each output
+// remembers the last in order.
 pub fn start(h: Head, s: &mut [u8])
     requires { ⌜ InRange h × (stateSize h ≤ length (now s)) ⌝ }
     ensures { λ _. ⌜ Started h (now (s .entry)) (now (s .exit)) ⌝ }
@@ -183,6 +231,7 @@ pub fn start(h: Head, s: &mut [u8])
     clear(s, acts::table_row(h));
     free_table(h, s);
     no_connections(h, s);
+    last_turns(h, s);
     all_credits(h, s);
     allow(h, s);
 }

@@ -14,7 +14,7 @@ use Rattle.feeding.specs.Feeds.{Output}
 use Rattle.machine.specs.Valid.{Drives}
 use Rattle.wiring.proofs.Heads.{and-both, and-of}
 use Rattle.valid.specs.Ties.{pairTies}
-use Rattle.valid.specs.Test.{slotTest, allowancesTest, validTest}
+use Rattle.valid.specs.Test.{slotTest, allowancesTest, turnsTest, validTest}
 use Rattle.valid.proofs.Decides.{Decides, so, most, both, all-below}
 use Rattle.valid.proofs.Parts.{every-queue, every-output}
 use Rattle.layout.specs.Offsets.{phaseByte, slotByte, pairs, size, queueRow, outputRow}
@@ -23,7 +23,7 @@ use Rattle.layout.specs.Canonical.{canonical}
 use Rattle.states.specs.Forms.{headerForm, queueForm, outputForm, sideForm, startsForm}
 use Rattle.states.specs.Parts.{queueTest, outputTest, pickTest, sideTest}
 use Rattle.states.specs.Check.{outputRowTest, queueRowTest, sideRowTest, outputsPart, queuesPart, picksPart}
-use Rattle.states.specs.Check.{allowancesPart, tablesPart, pairTest, connectionsPart, checkOf}
+use Rattle.states.specs.Check.{allowancesPart, tablesPart, pairTest, connectionsPart, turnsPart, checkOf}
 use Rattle.states.proofs.Forms.{Formed, formed-canonical}
 use Rattle.states.proofs.Standing.{canonical-formed}
 use Rattle.states.proofs.Gathered.{every-side, each-output, Parts, valid-parts, parts-valid}
@@ -72,6 +72,10 @@ module _ (pl : Plan) (b : List ℕ) where
       all-below (pairs pl) (pairTest pl b) (λ n. (startsForm pl b n ≡ true) × (pairTies pl (decode pl b) n ≡ true))
       (λ n h. both (so (startsForm pl b n)) (λ x. so (pairTies pl (decode pl b) n)))
 
+  turns-decide : Decides (turnsPart pl b) (turnsTest pl (decode pl b) ≡ true)
+  unfolding turnsPart
+  turns-decide = so (turnsTest pl (decode pl b))
+
   -- the test tells the forms, and what is asked of each place
   pub check-parts : checkOf pl b ≡ true → Formed pl b × Parts pl (decode pl b)
   unfolding checkOf
@@ -83,11 +87,12 @@ module _ (pl : Plan) (b : List ℕ) where
       let g = also-true (f .1) in
       let h = also-true (g .1) in
       let i = also-true (h .1) in
+      let j = also-true (i .1) in
       let first = header-decides .holds (c .0) in
       let outputs = outputs-decide .holds (d .0) in
       let queues = queues-decide .holds (f .0) in
       let tables = tables-decide .holds (i .0) in
-      let connections = connections-decide .holds (i .1) in (
+      let connections = connections-decide .holds (j .0) in (
         record {
           long = leb-true (size pl) (length b) (a .0);
           phase = first .0;
@@ -104,6 +109,7 @@ module _ (pl : Plan) (b : List ℕ) where
           side = λ r o x y. tables r o x y .1;
           allowance = allowances-decide .holds (h .0);
           pair = λ n x. connections n x .1;
+          turns = turns-decide .holds (j .1);
         },
       )
 
@@ -118,7 +124,8 @@ module _ (pl : Plan) (b : List ℕ) where
       (also-of (picks-decide .passes (p .choice))
       (also-of (allowances-decide .passes (p .allowance))
       (also-of (tables-decide .passes (λ r o h k. (f .side r o h k, p .side r o h k)))
-      (connections-decide .passes (λ n h. (f .starts n h, p .pair n h)))))))))
+      (also-of (connections-decide .passes (λ n h. (f .starts n h, p .pair n h)))
+      (turns-decide .passes (p .turns)))))))))
 
 -- the two tests are one
 pub check-equal : (pl : Plan) → InRange (pl .head) → (b : List ℕ)

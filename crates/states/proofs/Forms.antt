@@ -17,11 +17,12 @@ use Rattle.machine.proofs.OutNumbers.{drives-at, at-output}
 use Rattle.layout.specs.Rows.{front}
 use Rattle.layout.specs.Offsets.{phaseByte, queueWidth, outputWidth, entryWidth, routerEntries, slotRoom, entries}
 use Rattle.layout.specs.Offsets.{queuesAt, outputsAt, allowancesAt, tableAt, size, queueRow, outputRow, allowanceRow}
-use Rattle.layout.specs.Offsets.{entryRow, connectionsAt, startsWidth, pairs, startsRow}
+use Rattle.layout.specs.Offsets.{entryRow, connectionsAt, startsWidth, pairs, startsRow, turnsAt, turnRow}
 use Rattle.layout.specs.Encode.{queueBytes, outputBytes, allowanceBytes, entryBytes, entryOfNumber, header, queuePart}
-use Rattle.layout.specs.Encode.{startsBytes, outputPart, allowancePart, tablePart, connectionPart, encode}
+use Rattle.layout.specs.Encode.{startsBytes, turnBytes, outputPart, allowancePart, tablePart, connectionPart}
+use Rattle.layout.specs.Encode.{turnPart, encode}
 use Rattle.layout.specs.Encode.{length-queue, length-output, length-queues, length-outputs, length-allowances}
-use Rattle.layout.specs.Encode.{length-table, length-connections, length-encode}
+use Rattle.layout.specs.Encode.{length-table, length-connections, length-turns, length-encode}
 use Rattle.layout.specs.Decode.{decode}
 use Rattle.layout.specs.Canonical.{canonical}
 use Rattle.layout.proofs.Numbering.{entry-named}
@@ -30,6 +31,7 @@ use Rattle.states.specs.Forms.{queueForm, outputForm, sideForm, pairRow,
 use Rattle.states.proofs.Agree.{Agrees, agrees-at, agrees-none, agrees-append, agrees-all, agrees-front}
 use Rattle.states.proofs.Bytes.{phase-byte}
 use Rattle.states.proofs.Rows.{queue-agrees, output-agrees, allowance-agrees, entry-agrees, starts-agrees}
+use Rattle.states.proofs.Rows.{turn-agrees}
 
 -- what of the bytes themselves must hold
 pub record Formed (pl : Plan) (b : List ℕ) : Type 0 where
@@ -90,9 +92,20 @@ module _ (pl : Plan) (b : List ℕ) (f : Formed pl b) where
       (λ n h. agrees-at (pairRow pl n) (connectionsAt pl + startsWidth * n) (startsBytes (decode pl b) n) b
       (omega arith) (starts-agrees pl b n (f .starts n h)))
 
+  turns-agree : Agrees (turnsAt pl) (turnPart pl (decode pl b)) b
+  unfolding turnRow
+  turns-agree =
+      agrees-all 1 (outputs pl) (turnsAt pl) (λ n. turnBytes (decode pl b) (outputAt pl n)) b (λ n. refl)
+      (λ n h. let o : Output = outputAt pl n in
+      agrees-at (turnRow pl o) (turnsAt pl + 1 * n) (turnBytes (decode pl b) o) b
+      (let e = at-output pl n h in omega arith) (turn-agrees pl b o (drives-at pl n h)))
+
   -- the parts, one behind the other
+  abbrev sixth : List ℕ
+  sixth = turnPart pl (decode pl b) ++ []
+
   abbrev fifth : List ℕ
-  fifth = connectionPart pl (decode pl b) ++ []
+  fifth = connectionPart pl (decode pl b) ++ sixth
 
   abbrev fourth : List ℕ
   fourth = tablePart pl (decode pl b) ++ fifth
@@ -103,11 +116,16 @@ module _ (pl : Plan) (b : List ℕ) (f : Formed pl b) where
   abbrev second : List ℕ
   second = outputPart pl (decode pl b) ++ third
 
-  from-connections : Agrees (connectionsAt pl) fifth b
+  from-turns : Agrees (turnsAt pl) sixth b
   unfolding size
+  from-turns =
+      agrees-append (turnsAt pl) (size pl) (turnPart pl (decode pl b)) [] b
+      (let l = length-turns pl (decode pl b) in omega arith) turns-agree (agrees-none (size pl) b)
+
+  from-connections : Agrees (connectionsAt pl) fifth b
   from-connections =
-      agrees-append (connectionsAt pl) (size pl) (connectionPart pl (decode pl b)) [] b
-      (let l = length-connections pl (decode pl b) in omega arith) connections-agree (agrees-none (size pl) b)
+      agrees-append (connectionsAt pl) (turnsAt pl) (connectionPart pl (decode pl b)) sixth b
+      (rw (length-connections pl (decode pl b))) connections-agree from-turns
 
   from-table : Agrees (tableAt pl) fourth b
   from-table =

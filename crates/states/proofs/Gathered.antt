@@ -15,7 +15,7 @@ use Rattle.valid.specs.Ties.{passiveRoom, pairTies, tiesTest}
 use Rattle.valid.specs.Test.{wireTest, choiceTest, pickedTest, entryTest, everyQueue, everyOutput, slotTest}
 use Rattle.valid.specs.Test.{entriesTest, capacitiesTest, placesTest, wiresTest, wiresEmptyTest, choicesTest}
 use Rattle.valid.specs.Test.{flagsDownTest, pickedDownTest, outFlagsTest, marksTest, freeEntryTest, creditsTest}
-use Rattle.valid.specs.Test.{outCreditsTest, allowancesTest, validTest}
+use Rattle.valid.specs.Test.{outCreditsTest, allowancesTest, turnsTest, validTest}
 use Rattle.valid.proofs.Decides.{Decides, like, so, all-below}
 use Rattle.valid.proofs.Parts.{every-queue, every-output}
 use Rattle.states.specs.Parts.{queueTest, isNobody, outputTest, pickTest, sideTest}
@@ -61,8 +61,9 @@ pub record Parts (pl : Plan) (s : State) : Type 0 where
   pub side : (r o : ℕ) → r < R pl → o < 4 → sideTest pl s r o ≡ true
   pub allowance : allowancesTest pl s ≡ true
   pub pair : (n : ℕ) → n < passiveRoom * A pl → pairTies pl s n ≡ true
+  pub turns : turnsTest pl s ≡ true
 
--- the sixteen tests, each as what it tells of the places
+-- the tests, each as what it tells of the places
 module _ (pl : Plan) (s : State) where
   capacities-each : Decides (capacitiesTest pl s) ((q : Queue) → Exists pl q → roomed pl s q ≡ true)
   unfolding capacitiesTest
@@ -147,6 +148,7 @@ module _ (pl : Plan) (s : State) where
       let n = also-true (m .1) in
       let o = also-true (n .1) in
       let p = also-true (o .1) in
+      let t = also-true (p .1) in
       record {
         slot = a .0;
         queue = λ q x. queue-passes pl s q .passes (record {
@@ -166,7 +168,8 @@ module _ (pl : Plan) (s : State) where
             (picked-each pl s .holds (j .0) y x) .1;
         side = λ r y x z. also-of (entries-each pl s .holds (b .0) r y x z) (free-each pl s .holds (m .0) r y x z);
         allowance = p .0;
-        pair = ties-each pl s .holds (p .1);
+        pair = ties-each pl s .holds (t .0);
+        turns = t .1;
       }
 
 module _ (pl : Plan) (s : State) (p : Parts pl s) where
@@ -207,4 +210,4 @@ module _ (pl : Plan) (s : State) (p : Parts pl s) where
       (also-of (free-each pl s .passes (λ r o h k. of-side r o h k .1))
       (also-of (credits-each pl s .passes (λ q h. of-queue q h .account))
       (also-of (out-credits-each pl s .passes (λ q h. of-queue q h .unspend))
-      (also-of (p .allowance) (ties-each pl s .passes (p .pair))))))))))))))))
+      (also-of (p .allowance) (also-of (ties-each pl s .passes (p .pair)) (p .turns))))))))))))))))

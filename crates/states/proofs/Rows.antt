@@ -21,11 +21,11 @@ use Rattle.machine.specs.Valid.{Drives}
 use Rattle.layout.specs.Named.{exists-test, drives-test, isConnection}
 use Rattle.layout.specs.Offsets.{places, packetKind, packetWidth, flagByte, handledByte, firstPlace, wireByte}
 use Rattle.layout.specs.Offsets.{wirePacket, choiceByte, slotRoom, queueRow, outputRow, allowanceRow, entryRow}
-use Rattle.layout.specs.Offsets.{passiveRoom}
+use Rattle.layout.specs.Offsets.{passiveRoom, turnRow}
 use Rattle.layout.specs.Codes.{flagCode, flagOf, choiceCode}
 use Rattle.layout.specs.Places.{packetBytes, noPacket, placeBytes, packetAt, packetsAt}
 use Rattle.layout.specs.Encode.{queueBytes, wireBytes, outputBytes, allowanceBytes, entryBytes, wordBytes, startsOf}
-use Rattle.layout.specs.Encode.{startsBytes, length-wire}
+use Rattle.layout.specs.Encode.{startsBytes, turnBytes, length-wire}
 use Rattle.layout.specs.Decode.{flagAt, markAt, lengthAt, queueIn, wireFrom, wireAt, choiceAt, fourAt, decode}
 use Rattle.states.specs.Forms.{zeros, placesForm, queueForm, outputForm, sideForm, pairRow, wordForm, startForm}
 use Rattle.states.specs.Forms.{startsForm}
@@ -149,6 +149,12 @@ pub allowance-agrees : (pl : Plan) (b : List ℕ) (a : ℕ) → a < A pl
     → Agrees (allowanceRow pl a) (allowanceBytes (decode pl b) a) b
 unfolding decode
 allowance-agrees pl b a h = byte-agrees (allowanceRow pl a) _ b (rw (lt-ltb a (A pl) h, add-zero (allowanceRow pl a)))
+
+-- ---- what an output remembers: every byte is a rank
+pub turn-agrees : (pl : Plan) (b : List ℕ) (o : Output) → Drives pl o
+    → Agrees (turnRow pl o) (turnBytes (decode pl b) o) b
+unfolding decode
+turn-agrees pl b o h = byte-agrees (turnRow pl o) _ b (rw (drives-test pl o h, add-zero (turnRow pl o)))
 
 -- ---- an entry
 -- the first byte past the plan's slots, or within them

@@ -10,7 +10,7 @@ use Rattle.plan.specs.Plan.{Plan, R}
 use Rattle.feeding.specs.Queue.{Queue}
 use Rattle.feeding.specs.Feeds.{Output}
 use Rattle.valid.specs.Ties.{pairTies}
-use Rattle.valid.specs.Test.{everyQueue, everyOutput, allowancesTest}
+use Rattle.valid.specs.Test.{everyQueue, everyOutput, allowancesTest, turnsTest}
 use Rattle.layout.specs.Offsets.{pairs, size, queueRow, outputRow}
 use Rattle.layout.specs.Decode.{decode}
 use Rattle.states.specs.Forms.{headerForm, queueForm, outputForm, sideForm, startsForm}
@@ -49,10 +49,13 @@ pairTest pl b n = also (startsForm pl b n) (pairTies pl (decode pl b) n)
 unfoldable pub connectionsPart : Plan → List ℕ → Bool
 connectionsPart pl b = allBelow (pairs pl) (pairTest pl b)
 
+unfoldable pub turnsPart : Plan → List ℕ → Bool
+turnsPart pl b = turnsTest pl (decode pl b)
+
 unfoldable pub checkOf : Plan → List ℕ → Bool
 checkOf pl b =
     also (leb (size pl) (length b))
     (also (headerForm pl b)
     (also (outputsPart pl b)
     (also (queuesPart pl b) (also (picksPart pl b)
-    (also (allowancesPart pl b) (also (tablesPart pl b) (connectionsPart pl b)))))))
+    (also (allowancesPart pl b) (also (tablesPart pl b) (also (connectionsPart pl b) (turnsPart pl b))))))))

@@ -21,6 +21,7 @@ use Rattle.feeding.specs.Queue.{Queue, activeOut, activeIn, Q}
 use Rattle.feeding.specs.Feeds.{Output}
 use Rattle.machine.specs.Outputs.{nextBy, senders}
 use Rattle.machine.specs.State.{State, Choice, nobody, sender, withQueue, withWire, withFlag, withChoice, withEntry}
+use Rattle.machine.specs.State.{withLastSender}
 use Rattle.machine.specs.Read.{arrived, joinNext, arrive, deliver}
 use Rattle.machine.specs.Execute.{cameIn, declined, booked, freed, mayBook, handledAs, setUp, tearOne, tearDown}
 use Rattle.machine.specs.Execute.{handle, atUnit, unit, hasCredit, mayLeave, headReady, candidate, unmarkedKind}
@@ -186,6 +187,10 @@ module _ (pl : Plan) (a : ℕ) (s : State) where
       by (x ∷ rest) e = at x rest e (unmarked x) refl (hasRoom pl (activeOut a) s) refl
 
 -- ---- a sending
+-- an output's choice is cleared, and the sender of rank k is the one that it remembers
+abbrev pub turnTaken : Output → ℕ → State → State
+turnTaken o k s = withLastSender o k (withChoice o nobody s)
+
 module _ (pl : Plan) (o : Output) (s : State) where
   -- a candidate's head, which may leave, and its next queue, which has credit
   pub record Heads (q : Queue) : Type 0 where
@@ -215,8 +220,8 @@ module _ (pl : Plan) (o : Output) (s : State) where
           to x rest e (b .0) (nextBy pl o x) refl (b .1)
 
   -- the state that a sending leaves
-  abbrev pub afterSent : Queue → Queue → Packet → List Packet → State
-  afterSent q y x rest = withChoice o nobody (withWire o (Full x) (spend (some y) (raise q (withQueue q rest s))))
+  abbrev pub afterSent : ℕ → Queue → Queue → Packet → List Packet → State
+  afterSent k q y x rest = turnTaken o k (withWire o (Full x) (spend (some y) (raise q (withQueue q rest s))))
 
   -- Nobody was picked: nothing is sent.
   pub send-nobody : s .links .choice o ≡ nobody → send pl o s ≡ s
@@ -225,14 +230,14 @@ module _ (pl : Plan) (o : Output) (s : State) where
 
   -- A picked candidate's head enters the wire.
   pub send-one : (k : ℕ) (q : Queue) → s .links .choice o ≡ sender k → ofRank (senders o) k ≡ some q → (h : Heads q)
-      → send pl o s ≡ afterSent q (h .onto) (h .packet) (h .rest)
+      → send pl o s ≡ afterSent k q (h .onto) (h .packet) (h .rest)
   unfolding send sendBy sendHead
   send-one k q e r h =
       ap (λ (c : Choice). sendBy pl o c s) e
-      ∙ ap (λ (z : Option Queue). withChoice o nobody (sendFrom pl o z s)) r
-      ∙ ap (λ (l : List Packet). withChoice o nobody (sendHead pl o q l s)) (h .line)
+      ∙ ap (λ (z : Option Queue). turnTaken o k (sendFrom pl o z s)) r
+      ∙ ap (λ (l : List Packet). turnTaken o k (sendHead pl o q l s)) (h .line)
       ∙ ap (λ (z : Option Queue).
-      withChoice o nobody (withWire o (Full (h .packet)) (spend z (raise q (withQueue q (h .rest) s))))) (h .next)
+      turnTaken o k (withWire o (Full (h .packet)) (spend z (raise q (withQueue q (h .rest) s))))) (h .next)
 
   -- an output's turn in WRITE
   pub data SendDoes : Type 0 where

@@ -1,4 +1,5 @@
--- What refusal 7 asks is a core with a shape, and connections that are tied to the table.
+-- What refusal 7 asks is a core with a shape, what outputs remember in range, and connections that are tied to the
+-- table.
 use mathlib.Core.Path.{_≡_, refl, sym, ap, _∙_}
 use mathlib.Core.Logic.{_⊎_, inl, inr, _≢_}
 use mathlib.Core.Bool.{Bool, true, false}
@@ -21,7 +22,7 @@ use Rattle.machine.specs.Outputs.{senders}
 use Rattle.machine.specs.State.{State, Choice, nobody, sender}
 use Rattle.machine.specs.Execute.{candidate}
 use Rattle.machine.specs.Write.{ofRank}
-use Rattle.machine.specs.Valid.{Drives, fed, Ties, Valid, Bounded}
+use Rattle.machine.specs.Valid.{Drives, fed, Ties, Turns, Valid, Bounded}
 use Rattle.machine.specs.Progress.{HasWire}
 use Rattle.theory.specs.Invariant.{account, Core, Shape, in-read, in-execute, in-write}
 use Rattle.machine.proofs.Apart.{nobody-not, read-execute, read-write, execute-write}
@@ -68,13 +69,23 @@ shape-of pl s v = by (phases (s .clock .phase))
         (λ o k h c. let d = v .choices o k h c .1 in
         record { queue = d .0; rank = d .1; ready = d .2; down = v .picked-down o k (d .0) h c (d .1) })
 
-pub valid-of : (pl : Plan) (s : State) → Core pl s → Shape pl s → Ties pl s → Valid pl s
+-- no queue of a core is over its capacity: what a wire feeds by its credits
+pub core-within : (pl : Plan) (s : State) → Core pl s → (q : Queue) → Exists pl q
+    → length (s .lines .queue q) ≤ capacity (pl .head) q
 unfolding account
-valid-of pl s c t y =
+core-within pl s c q h = within (test (fed pl q))
+  where
+    within : (fed pl q ≡ true) ⊎ (fed pl q ≡ false) → length (s .lines .queue q) ≤ capacity (pl .head) q
+    within (inl f) = omega (arith, c .credits q h f)
+    within (inr f) = c .out-capacities q h f
+
+pub valid-of : (pl : Plan) (s : State) → Core pl s → Shape pl s → Turns pl s → Ties pl s → Valid pl s
+unfolding account
+valid-of pl s c t u y =
     record {
       slot = c .slot;
       entries = c .entries;
-      capacities = capacities′;
+      capacities = core-within pl s c;
       places = c .places;
       wires = c .wires;
       wires-empty = λ n. wires′ t n;
@@ -88,16 +99,9 @@ valid-of pl s c t y =
       out-credits = c .out-credits;
       allowances = c .allowances;
       ties = y;
+      turns = u;
     }
   where
-    within : (q : Queue) → Exists pl q → (fed pl q ≡ true) ⊎ (fed pl q ≡ false)
-        → length (s .lines .queue q) ≤ capacity (pl .head) q
-    within q h (inl f) = omega (arith, c .credits q h f)
-    within q h (inr f) = c .out-capacities q h f
-
-    capacities′ : (q : Queue) → Exists pl q → length (s .lines .queue q) ≤ capacity (pl .head) q
-    capacities′ q h = within q h (test (fed pl q))
-
     wires′ : Shape pl s → s .clock .phase ≢ Read → (o : Output) → Drives pl o → s .links .wire o ≡ Empty
     wires′ (in-read e n) ne = absurd (ne e)
     wires′ (in-execute e n w f) ne = w

@@ -1,10 +1,10 @@
--- Core and shape are kept by every call, from every valid state: the core by each step, the shape by each phase. With
--- connections that are tied to the table they are what refusal 7 asks; the ties are kept along a list from Start
--- (proofs/Own/Ties), and not by each call alone.
+-- Core, shape and what outputs remember are kept by every call, from every valid state: the core by each step, the
+-- others by each phase. With connections that are tied to the table they are what refusal 7 asks; the ties are kept
+-- along a list from Start (proofs/Own/Ties), and not by each call alone.
 use mathlib.Core.Path.{_≡_, refl}
 use mathlib.Core.Logic.{_⊎_, inl, inr}
 use mathlib.Core.Bool.{Bool, true, false, false≢true}
-use mathlib.Core.List.{List}
+use mathlib.Core.List.{List, _∷_}
 use Prim.Native.Nat.{ℕ, _<_}
 use lib.Dec.{eqb}
 use Rattle.basis.specs.Choice.{pick}
@@ -23,11 +23,11 @@ use Rattle.feeding.specs.Queue.{Queue, activeIn, Q, Exists}
 use Rattle.feeding.specs.Feeds.{Output, Place, inQueue}
 use Rattle.wiring.specs.Wired.{Wired}
 use Rattle.journeys.proofs.Walks.{served-of}
-use Rattle.machine.specs.State.{State, sender, blank, start, withPhase, withSlot}
+use Rattle.machine.specs.State.{State, sender, blank, start, withPhase, withSlot, join}
 use Rattle.machine.specs.Read.{deliver, settle, doRead}
 use Rattle.machine.specs.Execute.{unit, choose, undo, doExecute}
 use Rattle.machine.specs.Write.{send, doWrite}
-use Rattle.machine.specs.Visits.{replyKind, removed, noted}
+use Rattle.machine.specs.Visits.{launched, replyKind, replied, removed, noted, closed}
 use Rattle.machine.specs.Calls.{Visit, Call, Outcome, phaseStep, call}
 use Rattle.theory.specs.Does.{Visited, launches, replies, consumes, closes, looks, Does, refuses, turns}
 use Rattle.theory.specs.Does.{visits}
@@ -60,6 +60,7 @@ use Rattle.theory.proofs.Shape.Write.{write-shape}
 use Rattle.theory.proofs.Shape.Calls.{read-has, execute-has, write-has, launched-shape, replied-shape}
 use Rattle.theory.proofs.Shape.Calls.{removed-shape, noted-shape, closed-shape}
 use Rattle.theory.proofs.Shape.Phases.{read-keeps, execute-keeps, write-keeps}
+use Rattle.theory.proofs.Turns.{turns-alike, start-turns, noted-last, read-last, execute-last, write-turns}
 
 -- the core from its parts
 pub core-by : {pl : Plan} {s : State} → Kept pl s → Paid pl s → Allowances pl s → Core pl s
@@ -80,10 +81,11 @@ core-by k p a =
     }
 
 pub inv-of : (pl : Plan) (s : State) → Good pl s → Inv pl s
-inv-of pl s g = record { core = core-of pl s (g .valid) (g .bounded); shape = shape-of pl s (g .valid) }
+inv-of pl s g =
+    record { core = core-of pl s (g .valid) (g .bounded); shape = shape-of pl s (g .valid); turns = g .valid .turns }
 
 pub good-of : (pl : Plan) (s : State) → Inv pl s → Ties pl s → Good pl s
-good-of pl s i t = record { valid = valid-of pl s (i .core) (i .shape) t; bounded = i .core .bounded }
+good-of pl s i t = record { valid = valid-of pl s (i .core) (i .shape) (i .turns) t; bounded = i .core .bounded }
 
 module _ {pl : Plan} (wired : Wired pl) (range : InRange (pl .head)) where
   -- ---- the core is kept by each step
@@ -146,13 +148,26 @@ module _ {pl : Plan} (wired : Wired pl) (range : InRange (pl .head)) where
       by false = inr refl
 
   turn-inv : (x : Phase) (s : State) → s .clock .phase ≡ x → Inv pl s → Inv pl (phaseStep pl x s)
-  turn-inv Read s e i = record { core = read-core s (i .core); shape = read-shape pl s (read-has s e (i .shape)) }
+  turn-inv Read s e i =
+      record {
+        core = read-core s (i .core);
+        shape = read-shape pl s (read-has s e (i .shape));
+        turns = turns-alike pl s (doRead pl s) (read-last pl s) (i .turns);
+      }
   turn-inv Execute s e i =
       let h = execute-has s e (i .shape) in
-      record { core = execute-core s (i .core) (h .2); shape = execute-shape pl s (h .1) (h .2) }
+      record {
+        core = execute-core s (i .core) (h .2);
+        shape = execute-shape pl s (h .1) (h .2);
+        turns = turns-alike pl s (doExecute pl s) (execute-last pl s (h .2)) (i .turns);
+      }
   turn-inv Write s e i =
       let h = write-has s e (i .shape) in
-      record { core = write-core s (i .core) (h .0) (h .1); shape = write-shape pl s }
+      record {
+        core = write-core s (i .core) (h .0) (h .1);
+        shape = write-shape pl s;
+        turns = write-turns pl wired s (h .0) (h .1) (i .turns);
+      }
 
   -- what a consumed packet notes
   noted-inv : (x : Packet) (at : Place) (s : State) → Belongs pl at x → Inv pl s → Inv pl (noted pl x s)
@@ -161,9 +176,11 @@ module _ {pl : Plan} (wired : Wired pl) (range : InRange (pl .head)) where
         core = core-by (noted-kept wired range x at s b (kept-of pl s (i .core))) (noted-paid s (i .core) x)
             (noted-allowances (i .core) x);
         shape = noted-shape s x (i .shape);
+        turns = turns-alike pl s (noted pl x s) (noted-last pl x s) (i .turns);
       }
 
   visit-inv : (v : Visit) (o : Outcome) (s : State) → Visited pl s v o → Inv pl s → Inv pl (o .state)
+  unfolding launched removed closed join
   visit-inv v o s (launches a p t m) i =
       record {
         core = core-by
@@ -172,6 +189,7 @@ module _ {pl : Plan} (wired : Wired pl) (range : InRange (pl .head)) where
             (launched-paid s (i .core) a p t (m .room))
             (launched-allowances (i .core) a p t (m .active) (m .allowance));
         shape = launched-shape s a p t (m .phase) (i .shape);
+        turns = turns-alike pl s (launched a p t s) refl (i .turns);
       }
   visit-inv v o s (replies p c x rest m) i =
       record {
@@ -181,6 +199,7 @@ module _ {pl : Plan} (wired : Wired pl) (range : InRange (pl .head)) where
             (replied-paid s (i .core) p (replyKind c) x rest (m .line) (m .down) (m .room))
             (replied-allowances (i .core) wired p (m .passive) (replyKind c) (reply-spends c) x rest (m .line));
         shape = replied-shape s p (replyKind c) x rest (m .phase) (i .shape);
+        turns = turns-alike pl s (replied p (replyKind c) (x ∷ rest) s) refl (i .turns);
       }
   visit-inv v o s (consumes a x rest m) i =
       noted-inv x (inQueue (activeIn a)) (removed a rest s)
@@ -190,6 +209,7 @@ module _ {pl : Plan} (wired : Wired pl) (range : InRange (pl .head)) where
             (removed-paid s (i .core) a x rest (m .line) (m .down))
             (removed-allowances (i .core) wired a (m .active) x rest (m .line));
         shape = removed-shape s a rest (m .phase) (i .shape);
+        turns = turns-alike pl s (removed a rest s) refl (i .turns);
       })
   visit-inv v o s (closes a p t m) i =
       record {
@@ -198,6 +218,7 @@ module _ {pl : Plan} (wired : Wired pl) (range : InRange (pl .head)) where
             (served-of wired a p (m .active) (m .serves)) (kept-of pl s (i .core)))
             (closed-paid s (i .core) a p t (m .room)) (closed-allowances (i .core) a p t (m .active));
         shape = closed-shape s a p t (m .phase) (i .shape);
+        turns = turns-alike pl s (closed pl a p t s) refl (i .turns);
       }
   visit-inv v o s (looks r q t m) i = i
 
@@ -211,7 +232,7 @@ module _ {pl : Plan} (wired : Wired pl) (range : InRange (pl .head)) where
 
   pub start-inv : Inv pl (start pl)
   unfolding start blank
-  start-inv = record { core = start-core; shape = in-read refl (λ o d. refl) }
+  start-inv = record { core = start-core; shape = in-read refl (λ o d. refl); turns = start-turns pl }
 
   -- Start has no connection to be tied
   start-ties : Ties pl (start pl)

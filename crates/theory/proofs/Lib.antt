@@ -7,8 +7,10 @@ pub mod Weights
 pub mod Kept
 pub mod Account
 pub mod Shape
+pub mod Turns
 pub mod Keeps
 pub mod Progress
 pub mod Own
 pub mod Tracked
 pub mod Closes
+pub mod TurnAbout

@@ -48,7 +48,7 @@ use Rattle.theory.proofs.Own.Steps.{start-owned, phase-owned, slot-owne
 use Rattle.theory.proofs.Own.Steps.{deliver-owned, send-owned, undo-owned, launched-owned, replied-owned}
 use Rattle.theory.proofs.Own.Steps.{removed-owned, noted-owned}
 use Rattle.theory.proofs.Own.Same.{connections-apart, deliver-leaves, settle-leaves, choose-leaves, send-leaves}
-use Rattle.theory.proofs.Own.Same.{undo-leaves, unit-connections}
+use Rattle.theory.proofs.Own.Same.{undo-leaves, unit-leaves}
 use Rattle.theory.proofs.Own.Listed.{remembers-same, noted-remembers, closed-remembers}
 use Rattle.theory.proofs.Own.Closing.{closed-owned}
 use Rattle.theory.proofs.Own.Ties.{owned-ties}
@@ -112,7 +112,7 @@ module _ {pl : Plan} (wired : Wired pl) (range : InRange (pl .head)) where
         record {
           core = unit-core wired range r s h f (k .core);
           owned = unit-owned wired s (k .core) (k .owned) r h;
-          remembers = remembers-same s (unit pl r s) (k .remembers) (unit-connections pl s r);
+          remembers = remembers-same s (unit pl r s) (k .remembers) (unit-leaves (λ c l. c) pl s r);
           counted = λ c. unit-counted pl c wired s (k .core) (k .counted c) r h;
         }
 
@@ -140,7 +140,8 @@ module _ {pl : Plan} (wired : Wired pl) (range : InRange (pl .head)) where
         record {
           core = send-core wired range o s d w r (k .core);
           owned = send-owned wired s (k .core) (k .owned) o d r w;
-          remembers = remembers-same s (send pl o s) (k .remembers) (send-leaves connections-apart pl s o);
+          remembers = remembers-same s (send pl o s) (k .remembers)
+              (send-leaves connections-apart pl s (λ x t. refl) o);
           counted = λ c. send-counted pl c wired s (k .core) (k .counted c) o d r w;
         }
 

@@ -1,7 +1,7 @@
--- What every state along a list has, in two parts. The core holds at every moment, also inside a phase: ranges,
+-- What every state along a list has, in three parts. The core holds at every moment, also inside a phase: ranges,
 -- places, credits, allowances, one free entry a side. The shape depends on the phase: empty wires, choices and flags.
--- Every call keeps them, from every valid state (proofs/Keeps). Together with connections that are tied to the table
--- they are what refusal 7 asks (proofs/Core).
+-- What outputs remember is in range. Every call keeps them, from every valid state (proofs/Keeps). Together with
+-- connections that are tied to the table they are what refusal 7 asks (proofs/Core).
 use mathlib.Core.Path.{_≡_}
 use mathlib.Core.Logic.{_≢_}
 use mathlib.Core.Bool.{true, false}
@@ -21,7 +21,7 @@ use Rattle.machine.specs.Outputs.{senders}
 use Rattle.machine.specs.State.{State, nobody, sender, startAllowance}
 use Rattle.machine.specs.Execute.{candidate}
 use Rattle.machine.specs.Write.{ofRank}
-use Rattle.machine.specs.Valid.{Lined, Drives, Carries, bit, onWires, total, spends, fed, Bounded}
+use Rattle.machine.specs.Valid.{Lined, Drives, Carries, bit, onWires, total, spends, fed, Turns, Bounded}
 
 -- ---- the core's parts
 abbrev pub SlotIn : Plan → State → Type 0
@@ -103,7 +103,8 @@ pub data Shape (pl : Plan) (s : State) : Type 0 where
   in-execute : s .clock .phase ≡ Execute → NoChoices pl s → WiresEmpty pl s → FlagsDown pl s → Shape pl s
   in-write : s .clock .phase ≡ Write → WiresEmpty pl s → ChoicesSendable pl s → Shape pl s
 
--- a core with its shape: what a state has
+-- a core with its shape, and what outputs remember in range: what a state has
 pub record Inv (pl : Plan) (s : State) : Type 0 where
   pub core : Core pl s
   pub shape : Shape pl s
+  pub turns : Turns pl s

@@ -30,6 +30,7 @@ use Rattle.valid.proofs.Packets.{lined-decides, wire-decides}
 use Rattle.valid.proofs.Parts.{every-queue, every-output, in-phase, out-of-phase, empty-decides, choice-decides}
 use Rattle.valid.proofs.Parts.{picked-decides, mark-decides, entry-decides, free-decides}
 use Rattle.valid.proofs.Ties.{ties-decide}
+use Rattle.valid.proofs.Turns.{turns-decide}
 
 -- ---- the parts of Valid, in its order
 module _ (pl : Plan) (s : State) where
@@ -171,6 +172,7 @@ module _ (pl : Plan) (wired : Wired pl) (range : InRange (pl .head)) where
       let n = also-true (m .1) in
       let o = also-true (n .1) in
       let p = also-true (o .1) in
+      let q = also-true (p .1) in
       record {
         slot = slot-decides pl s .holds (a .0);
         entries = entries-decide pl s .holds (b .0);
@@ -187,7 +189,8 @@ module _ (pl : Plan) (wired : Wired pl) (range : InRange (pl .head)) where
         credits = credits-decide pl s .holds (n .0);
         out-credits = out-credits-decide pl s .holds (o .0);
         allowances = allowances-decide pl s .holds (p .0);
-        ties = ties-decide wired range bounded .holds (p .1);
+        ties = ties-decide wired range bounded .holds (q .0);
+        turns = turns-decide pl s .holds (q .1);
       }
 
   -- a valid state passes the test
@@ -209,4 +212,5 @@ module _ (pl : Plan) (wired : Wired pl) (range : InRange (pl .head)) where
       (also-of (credits-decide pl s .passes (v .credits))
       (also-of (out-credits-decide pl s .passes (v .out-credits))
       (also-of (allowances-decide pl s .passes (v .allowances))
-      (ties-decide wired range bounded .passes (v .ties))))))))))))))))
+      (also-of (ties-decide wired range bounded .passes (v .ties))
+      (turns-decide pl s .passes (v .turns)))))))))))))))))

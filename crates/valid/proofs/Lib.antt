@@ -3,4 +3,5 @@ pub mod Fitting
 pub mod Packets
 pub mod Parts
 pub mod Ties
+pub mod Turns
 pub mod Law

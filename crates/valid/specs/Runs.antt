@@ -24,13 +24,14 @@ use Rattle.paths.specs.Walk.{onward, arrives, walkSize}
 use Rattle.paths.specs.Served.{backsArrive, servedFrom}
 use Rattle.paths.specs.Steps.{indexIn, indexOn}
 use Rattle.feeding.specs.Queue.{Queue, activeOut, activeIn, U, Q, K, queues, queueAt}
-use Rattle.feeding.specs.Feeds.{ofActive}
+use Rattle.feeding.specs.Feeds.{Output, ofActive, ofPassive, ofSide, toUnit, fromUnit}
 use Rattle.machine.specs.Outputs.{outputAt}
 use Rattle.machine.specs.State.{State, sender, blank, start, withPhase, withSlot, withQueue, withWire, withCredit}
-use Rattle.machine.specs.State.{withFlag, withHandled, withChoice, withEntry, withConnection, withAllowance, join}
+use Rattle.machine.specs.State.{withFlag, withHandled, withChoice, withEntry, withConnection, withAllowance}
+use Rattle.machine.specs.State.{withLastSender, join}
 use Rattle.machine.specs.Read.{arrive, deliver, lower, settle, doRead}
 use Rattle.machine.specs.Execute.{cameIn, otherFree, mayBook, setUp, tearOne, tearDown, handle, atUnit, unit}
-use Rattle.machine.specs.Execute.{candidate, firstOf, picked, choose, answer, atActive, undo, doExecute}
+use Rattle.machine.specs.Execute.{candidate, firstOf, nextOf, picked, choose, answer, atActive, undo, doExecute}
 use Rattle.machine.specs.Write.{sendHead, sendBy, send, doWrite}
 use Rattle.machine.specs.Visits.{launched, removed, noted, closed}
 use Rattle.machine.specs.Calls.{Call, read, execute, write, launch, reply, consume, close, call}
@@ -39,7 +40,7 @@ use Rattle.valid.specs.Ties.{numbered, makesTest, claimedBefore, tieTest
 use Rattle.valid.specs.Test.{meetsTest, aheadTest, returnsTest, backTest, fitsTest, packetTest, belongsTest}
 use Rattle.valid.specs.Test.{slotTest, entriesTest, capacitiesTest, placesTest, wiresTest, wiresEmptyTest}
 use Rattle.valid.specs.Test.{choicesTest, flagsDownTest, pickedDownTest, outFlagsTest, marksTest, freeEntryTest}
-use Rattle.valid.specs.Test.{creditsTest, outCreditsTest, allowancesTest, validTest}
+use Rattle.valid.specs.Test.{creditsTest, outCreditsTest, allowancesTest, turnsTest, validTest}
 use Rattle.plan.specs.Samples.{planT as bytesT, allSides}
 
 -- plan T of document 01
@@ -66,11 +67,11 @@ unfoldable pub valid : List Call → Bool
 unfolding anyBelow allBelow upTo spot onCount bitAt fieldOf capacityAt headOf jointIn planOf portsOf home onward
     arrives walkSize backsArrive servedFrom indexIn indexOn queues queueAt outputAt launched removed noted closed call
     arrive deliver lower settle doRead start blank join cameIn otherFree mayBook setUp tearOne tearDown handle atUnit
-    unit candidate firstOf picked choose answer atActive undo doExecute sendHead sendBy send doWrite sum onWires total
-    meetsTest aheadTest returnsTest backTest fitsTest packetTest belongsTest slotTest entriesTest capacitiesTest
+    unit candidate firstOf nextOf picked choose answer atActive undo doExecute sendHead sendBy send doWrite sum onWires
+    total meetsTest aheadTest returnsTest backTest fitsTest packetTest belongsTest slotTest entriesTest capacitiesTest
     placesTest wiresTest wiresEmptyTest choicesTest flagsDownTest pickedDownTest outFlagsTest marksTest freeEntryTest
-    creditsTest outCreditsTest allowancesTest numbered makesTest claimedBefore tieTest pairTies tiesTest validTest
-    allValid
+    creditsTest outCreditsTest allowancesTest numbered makesTest claimedBefore tieTest pairTies tiesTest turnsTest
+    validTest allValid
 valid cs = allValid planT cs (start planT)
 
 -- 'Launch (0,0,0) in round 0: booked in round 2, waits at the passive from round 4; isAccepted there, consumed in
@@ -215,6 +216,37 @@ fork-one = refl
 pub fork-both : countOn planFork ((λ s. mark 0 0 0 (mark 0 1 0 (forked s))) ∷ []) ≡ 0
 unfolding countOn
 fork-both = refl
+
+-- ---- what outputs remember (document 02 (b)): of T's router sides 0 and 1 are joined, sides 2 and 3 are not
+abbrev served : Output → ℕ → State → State
+served o k s = withLastSender o k s
+
+-- any of its senders
+pub t-ranks : countValid (
+    served (ofSide 0 0) 0
+    ∷ served (ofSide 0 1) 3
+    ∷ served (ofSide 0 2) 3
+    ∷ served (toUnit 0) 0
+    ∷ served (fromUnit 0) 0
+    ∷ served (ofPassive 0) 0
+    ∷ []
+    ) ≡ 6
+unfolding countValid
+t-ranks = refl
+
+-- none of its senders, or another than the last in order at a side that is not joined
+pub t-unranked : countValid (
+    served (ofSide 0 0) 4
+    ∷ served (ofSide 0 2) 2
+    ∷ served (ofSide 0 3) 4
+    ∷ served (toUnit 0) 4
+    ∷ served (fromUnit 0) 1
+    ∷ served (ofActive 0) 1
+    ∷ served (ofPassive 0) 1
+    ∷ []
+    ) ≡ 0
+unfolding countValid
+t-unranked = refl
 
 -- ---- document 02 (a): this part of 7 is not kept by each call alone, since nothing ties the packets to the table; it
 -- is kept along a list from Start

@@ -5,7 +5,7 @@ use mathlib.Core.Option.{Option, none, some}
 use Prim.Native.Nat.{ℕ, zero, suc, _+_}
 use lib.Dec.{eqb, ltb, leb}
 use lib.ListN.{length}
-use Rattle.basis.specs.Choice.{also}
+use Rattle.basis.specs.Choice.{pick, also}
 use Rattle.basis.specs.Bounded.{anyBelow, allBelow}
 use Rattle.basis.specs.Walk.{Spot, on, end, lost}
 use Rattle.packets.specs.declared.Kind.{Kind}
@@ -23,15 +23,16 @@ use Rattle.paths.specs.Served.{served}
 use Rattle.paths.specs.Steps.{standsOn}
 use Rattle.feeding.specs.Queue.{Queue, activeOut, activeIn, passiveIn, passiveOut, U, Q, F, K, queues, queueAt}
 use Rattle.feeding.specs.Role.{Role, isUnit}
-use Rattle.feeding.specs.Feeds.{Output, Place, inQueue, handledAt, span, headPlace}
+use Rattle.feeding.specs.Feeds.{Output, ofActive, ofPassive, ofSide, toUnit, fromUnit, Place, inQueue, handledAt, span}
+use Rattle.feeding.specs.Feeds.{headPlace}
 use Rattle.machine.specs.Capacity.{capacity}
-use Rattle.machine.specs.Outputs.{nextBy, senders, outputs, outputAt}
+use Rattle.machine.specs.Outputs.{nextBy, senders, lastInOrder, outputs, outputAt}
 use Rattle.machine.specs.State.{State, Choice, nobody, sender, startAllowance, isFree, isFull}
 use Rattle.machine.specs.Execute.{candidate}
 use Rattle.machine.specs.Write.{ofRank}
 use Rattle.machine.specs.Visits.{isEmpty}
 use Rattle.machine.specs.Calls.{isPhase}
-use Rattle.machine.specs.Valid.{bit, onWires, total, spends, fed}
+use Rattle.machine.specs.Valid.{bit, onWires, total, spends, isJoined, fed}
 use Rattle.valid.specs.Ties.{tiesTest}
 
 -- every one of a list passes
@@ -223,6 +224,20 @@ outCreditsTest pl s = everyQueue pl (λ q. fed pl q || eqb (s .flow .credit q .0
 unfoldable pub allowancesTest : Plan → State → Bool
 allowancesTest pl s = allBelow (A pl) (λ a. eqb (s .flow .allowance a + total pl (spends a) s) (startAllowance pl))
 
+-- what an output remembers: the rank of one of its senders, and at a side that is not joined that of the last in order
+abbrev pub hasWire : Plan → Output → Bool
+hasWire pl (ofActive a) = true
+hasWire pl (ofPassive p) = true
+hasWire pl (ofSide r o) = isJoined (pl .joint r o)
+hasWire pl (toUnit r) = true
+hasWire pl (fromUnit r) = true
+
+abbrev pub turnTest : Plan → Output → ℕ → Bool
+turnTest pl o k = pick (hasWire pl o) (ltb k (length (senders o))) (eqb k (lastInOrder o))
+
+unfoldable pub turnsTest : Plan → State → Bool
+turnsTest pl s = everyOutput pl (λ o. turnTest pl o (s .lastSender o))
+
 -- ---- a state
 unfoldable pub validTest : Plan → State → Bool
 validTest pl s =
@@ -232,4 +247,4 @@ validTest pl s =
     (also (choicesTest pl s) (also (flagsDownTest pl s) (also (pickedDownTest pl s) (also (outFlagsTest pl s)
     (also (marksTest pl s)
     (also (freeEntryTest pl s) (also (creditsTest pl s) (also (outCreditsTest pl s)
-    (also (allowancesTest pl s) (tiesTest pl s)))))))))))))))
+    (also (allowancesTest pl s) (also (tiesTest pl s) (turnsTest pl s))))))))))))))))

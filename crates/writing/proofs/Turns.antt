@@ -5,9 +5,9 @@ use mathlib.Core.Logic.{_⊎_, inl, inr}
 use mathlib.Core.Bool.{true, false}
 use mathlib.Core.List.{List, _∷_}
 use mathlib.Core.Option.{Option, some}
-use Prim.Native.Nat.{ℕ, suc, _+_, _*_, _≤_, _<_}
+use Prim.Native.Nat.{ℕ, suc, _+_, _*_, _-_, _≤_, _<_}
 use native.Mathlib.Omega.{arith}
-use lib.ListN.{length, getD}
+use lib.ListN.{length, getD, set}
 use Rattle.basis.specs.Choice.{test}
 use Rattle.kinds.specs.declared.Credit.{Credit}
 use Rattle.packets.specs.declared.Packet.{Packet}
@@ -20,7 +20,7 @@ use Rattle.feeding.specs.Feeds.{Output, headPlace}
 use Rattle.wiring.specs.Wired.{Wired}
 use Rattle.journeys.proofs.Numbers.{number-below}
 use Rattle.machine.specs.Outputs.{nextBy, outputs, outputAt}
-use Rattle.machine.specs.State.{State, Choice, nobody, sender, withQueue, withWire, withChoice}
+use Rattle.machine.specs.State.{State, Choice, nobody, sender, withQueue, withWire, withChoice, withLastSender}
 use Rattle.machine.specs.Write.{raise, spend, sendHead, sendFrom, sendBy, send}
 use Rattle.machine.specs.Valid.{fed}
 use Rattle.machine.proofs.Numbers.{sender-exists}
@@ -32,16 +32,17 @@ use Rattle.theory.proofs.Places.Makes.{next-belongs}
 use Rattle.theory.proofs.Places.Senders.{raise-credit, candidate-ready}
 use Rattle.theory.proofs.Kept.Parts.{kept-of}
 use Rattle.theory.proofs.Kept.Lines.{head-belongs}
-use Rattle.layout.specs.Offsets.{places, queueRow, outputRow}
+use Rattle.layout.specs.Offsets.{places, queueRow, outputRow, turnRow}
 use Rattle.layout.specs.Codes.{choiceOf}
 use Rattle.layout.specs.Encode.{encode}
 use Rattle.layout.specs.Decode.{lengthAt, choiceAt, capacity-most}
 use Rattle.layout.proofs.Readings.{choice-at, length-at, credit-at}
+use Rattle.layout.proofs.Updates.{put-last-sender}
 use Rattle.acts.specs.Acts.{Holds, Steps}
-use Rattle.acts.specs.Counts.{outputCount, outputsFrom}
+use Rattle.acts.specs.Counts.{outputCount, outputsFrom, turnsFrom}
 use Rattle.moves.specs.Next.{numberOr}
 use Rattle.reading.proofs.Offsets.{range-counts, outputs-of, queues-of, output-row, queue-row, number-or}
-use Rattle.reading.proofs.Offsets.{first, queue-within, output-within}
+use Rattle.reading.proofs.Offsets.{turn-row, first, queue-within, output-within, turn-within}
 use Rattle.writing.specs.Writing.{sending, Leaves, Picking, senderOf, behind, left, Any, Headed, Sends}
 use Rattle.writing.specs.Writing.{Takes, Enters}
 use Rattle.writing.proofs.Senders.{sender-number}
@@ -87,12 +88,13 @@ module _ {pl : Plan} (wired : Wired pl) (range : InRange (pl .head)) where
 
 -- ---- what the rule makes of it
 sent-is : (pl : Plan) (o : Output) (k : ℕ) (s : State) → s .links .choice o ≡ sender k → (g : Leaves pl s o k)
-    → send pl o s ≡ withChoice o nobody (withWire o (Full (g .head)) (spend (some (g .next)) (left (g .queue) s)))
+    → send pl o s ≡ withLastSender o k
+    (withChoice o nobody (withWire o (Full (g .head)) (spend (some (g .next)) (left (g .queue) s))))
 unfolding send sendBy sendHead
 sent-is pl o k s e g =
     ap (λ (c : Choice). sendBy pl o c s) e
-    ∙ ap (λ (y : Option Queue). withChoice o nobody (sendFrom pl o y s)) (g .rank)
-    ∙ rule (s .lines .queue (g .queue)) (g .line)
+    ∙ ap (λ (y : Option Queue). withLastSender o k (withChoice o nobody (sendFrom pl o y s))) (g .rank)
+    ∙ ap (withLastSender o k) (rule (s .lines .queue (g .queue)) (g .line))
   where
     rule : (l : List Packet) → l ≡ g .head ∷ g .rest
         → withChoice o nobody (sendHead pl o (g .queue) l s)
@@ -255,17 +257,45 @@ module _ (pl : Plan) {h : Head} (e : pl .head ≡ h) (m i : ℕ) (below : m < ou
                   omega arith
 
             -- and has entered the wire
-            pub send-done : {d : List ℕ} → Enters i v x c d → Steps pl (Picking pl m) (sending pl m) b d
-            send-done {d} entered = record { done = λ s rest a f. by s rest a f }
-              where
-                by : (s : State) (rest : List ℕ) → Picking pl m s → b ≡ encode pl s rest
-                    → d ≡ encode pl (sending pl m s) rest
-                by s rest p f =
-                    let a : Holds pl (Picking pl m) b = record { state = s; rest = rest; fit = p; same = f } in
-                    entered .steps pl (outputAt pl m) (leaving a .next) (drives-at pl m l) row (leaving a .there)
-                    (next-is a) .done (left (leaving a .queue) s) rest (record {}) (after a)
-                    ∙ ap (λ (y : Packet). encode pl (withChoice (outputAt pl m) nobody
-                    (withWire (outputAt pl m) (Full y)
-                    (spend (some (leaving a .next)) (left (leaving a .queue) s)))) rest) (head-is a)
-                    ∙ ap (λ (t : State). encode pl t rest)
-                    (sym (sent-is pl (outputAt pl m) k s (chosen s rest f) (leaving a)))
+            module _ {d : List ℕ} (enters : Enters i v x c d) where
+              abbrev sent : Holds pl (Picking pl m) b → State
+              sent a = withChoice (outputAt pl m) nobody (withWire (outputAt pl m) (Full x)
+                  (spend (some (leaving a .next)) (left (leaving a .queue) (a .state))))
+
+              entered : (a : Holds pl (Picking pl m) b) → d ≡ encode pl (sent a) (a .rest)
+              entered a =
+                  enters .steps pl (outputAt pl m) (leaving a .next) (drives-at pl m l) row (leaving a .there)
+                  (next-is a) .done (left (leaving a .queue) (a .state)) (a .rest) (record {}) (after a)
+
+              -- the byte of what the output remembers lies inside
+              remembers : turnsFrom h + m ≡ turnRow pl (outputAt pl m)
+              remembers = turn-row pl e m (turnsFrom h + m) below refl
+
+              pub last-within : Holds pl (Picking pl m) b → turnsFrom h + m < length d
+              last-within a =
+                  let g : Holds pl Any d = record {
+                    state = sent a;
+                    rest = a .rest;
+                    fit = record {};
+                    same = entered a;
+                  } in
+                  turn-within pl g m l (turnsFrom h + m) remembers
+
+              -- and takes the rank
+              pub send-done : {f : List ℕ} → f ≡ set d (turnsFrom h + m) (getD b (i + 6) 0 - 1)
+                  → Steps pl (Picking pl m) (sending pl m) b f
+              send-done {f} stored = record { done = λ s rest p z. by s rest p z }
+                where
+                  by : (s : State) (rest : List ℕ) → Picking pl m s → b ≡ encode pl s rest
+                      → f ≡ encode pl (sending pl m s) rest
+                  by s rest p z =
+                      let a : Holds pl (Picking pl m) b = record { state = s; rest = rest; fit = p; same = z } in
+                      let y : getD b (i + 6) 0 - 1 ≡ k = omega arith in
+                      stored ∙ ap (set d (turnsFrom h + m)) y ∙ ap (λ (j : ℕ). set d j k) remembers
+                      ∙ ap (λ (u : List ℕ). set u (turnRow pl (outputAt pl m)) k) (entered a)
+                      ∙ put-last-sender pl (sent a) rest (outputAt pl m) k (drives-at pl m l)
+                      ∙ ap (λ (u : Packet). encode pl (withLastSender (outputAt pl m) k
+                      (withChoice (outputAt pl m) nobody (withWire (outputAt pl m) (Full u)
+                      (spend (some (leaving a .next)) (left (leaving a .queue) s))))) rest) (head-is a)
+                      ∙ ap (λ (t : State). encode pl t rest)
+                      (sym (sent-is pl (outputAt pl m) k s (chosen s rest z) (leaving a)))

@@ -1,8 +1,9 @@
 // WRITE in place on a state's bytes: each picked head enters its wire, its queue's flag rises, the next queue's credit
-// falls, choices are cleared; the slot grows by one modulo S.
+// falls, choices are cleared, the output remembers whom it served; the slot grows by one modulo S.
 use acts::output_count;
 use acts::output_row;
 use acts::queue_row;
+use acts::turn_row;
 use kinds::Credit;
 use kinds::Slot;
 use moves::base_of;
@@ -19,9 +20,9 @@ use rows::pop;
 use rows::put_wire;
 ghost use mathlib.Core.Path.{_≡_};
 ghost use mathlib.Core.Bool.{not};
-ghost use Prim.Native.Nat.{suc, _+_, _*_, _≤_, _<_};
+ghost use Prim.Native.Nat.{suc, _+_, _*_, _-_, _≤_, _<_};
 ghost use lib.Dec.{eqb};
-ghost use lib.ListN.{getD, length};
+ghost use lib.ListN.{getD, length, set};
 ghost use Rattle.basis.specs.Fold.{upTo};
 ghost use Rattle.packets.specs.declared.Phase.the-variants.{Write};
 ghost use Rattle.plan.specs.Head.{Counts};
@@ -29,7 +30,7 @@ ghost use Rattle.plan.specs.Tables.{tablePlan};
 ghost use Rattle.machine.specs.Write.{doWrite};
 ghost use Rattle.layout.specs.Decode.{lengthAt};
 ghost use Rattle.acts.specs.Acts.{Holds, Steps, In};
-ghost use Rattle.acts.specs.Counts.{outputCount};
+ghost use Rattle.acts.specs.Counts.{outputCount, turnsFrom};
 ghost use Rattle.moves.specs.Wiring.{Wiring};
 ghost use Rattle.writing.specs.Writing.{sending, Picking, Picked, senderOf, Raises, Takes, Enters};
 
@@ -120,7 +121,16 @@ fn enter(s: &mut [u8], i: usize, n: usize, x: Packet)
     s[i + CHOICE_BYTE] = 0;
 }
 
-// The turn of output m: if it picked a sender, that one's head leaves its queue and enters the wire.
+// Output m remembers the sender that it picked, by the byte of its choice.
+fn remember(h: Head, s: &mut [u8], m: usize, c: u8)
+    requires { ⌜ Counts h × (m < outputCount h) × (1 ≤ c) × (turnsFrom h + m < length (now s)) ⌝ }
+    ensures { λ _. ⌜ now (s .exit) ≡ set (now (s .entry)) (turnsFrom h + m) (c - 1) ⌝ }
+{
+    s[turn_row(h, m)] = c - 1;
+}
+
+// The turn of output m: if it picked a sender, that one's head leaves its queue and enters the wire, and the output
+// remembers its rank.
 fn send(
     h: Head,
     routes: &[[u8; 32]; 16],
@@ -143,6 +153,7 @@ fn send(
     let n = sender_of(h, m, rank(c));
     let x = take(h, s, m, queue_row(n));
     enter(s, i, next(h, routes, joints, homes, m, x), x);
+    remember(h, s, m, c);
 }
 
 // Whether output m picked somebody; the outputs' rows begin at `from`.

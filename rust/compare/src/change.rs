@@ -2,7 +2,7 @@
 
 use model::generate::states::{jam, CHANGES};
 use model::generate::Random;
-use model::machine::{Connection, Network, Slot, State};
+use model::machine::{Connection, Link, Network, Slot, State};
 use model::SIDES;
 
 /// The bytes of a state, changed a little: as a state in one or two ways, or as bytes.
@@ -26,7 +26,7 @@ pub fn changed(random: &mut Random, network: &Network, state: &State) -> Vec<u8>
 /// A small change of bytes.
 type Change = fn(&mut Random, &Network, &mut [u8]);
 
-const BYTES: [Change; 12] = [
+const BYTES: [Change; 13] = [
     any_byte,
     queue_byte,
     head_byte,
@@ -39,6 +39,7 @@ const BYTES: [Change; 12] = [
     behind_the_packets,
     mark_bit,
     mark_byte,
+    last_byte,
 ];
 
 /// Another byte: 0, 1, small, a neighbour or any.
@@ -161,4 +162,25 @@ fn mark_bit(random: &mut Random, network: &Network, bytes: &mut [u8]) {
 fn mark_byte(random: &mut Random, network: &Network, bytes: &mut [u8]) {
     let at = network.marks_at(random.below(network.plan().actives())) + random.below(64);
     tweak(random, &mut bytes[at]);
+}
+
+/// The sender that an output served last: of one with several senders, of a side that is not joined,
+/// or of one that has nothing to remember; in range or past it.
+fn last_byte(random: &mut Random, network: &Network, bytes: &mut [u8]) {
+    let links = |which: &dyn Fn(Link) -> bool| -> Vec<Link> {
+        network.links().iter().copied().filter(|&link| which(link)).collect()
+    };
+    let several = |link| network.senders(link).len() > 1;
+    let links = match random.below(4) {
+        0 => links(&|link| !several(link)),
+        1 => links(&|link| !network.is_joined(link)),
+        _ => links(&|link| several(link) && network.is_joined(link)),
+    };
+    let Some(link) = random.pick(&links) else { return };
+    let byte = &mut bytes[network.last_at(link)];
+    if random.chance(1, 4) {
+        tweak(random, byte);
+    } else {
+        *byte = random.below(5) as u8;
+    }
 }

@@ -46,6 +46,7 @@ fn any_plan(random: &mut Random, number: usize) -> Plan {
     let named = [named::plan_t(), named::largest(), named::four_routers(), named::all_sides()];
     match named.get(number) {
         Some(draft) => Plan::load(&draft.encode()).expect("loads"),
+        None if random.chance(1, 2) => good::crowded(random),
         None => good::loadable(random),
     }
 }
@@ -178,10 +179,33 @@ impl<'c> List<'c> {
         tally.listed += 1;
         tally.packets = tally.packets.max(self.network.packets(&self.state).count());
         tally.accepted = tally.accepted.max(self.state.marks.len());
+        if call == Call::Execute && expected.is_ok() {
+            self.note_picks(tally);
+        }
         // From a state that no list reaches, a call may leave none: then the list goes on elsewhere.
         if expected == Err(NOT_A_STATE) {
             self.state = self.network.start();
             self.elsewhere(random);
+        }
+    }
+
+    /// Who was picked where several were candidates, and where nobody was since the slot is booked.
+    fn note_picks(&self, tally: &mut Tally) {
+        for &link in self.network.links() {
+            let choice = self.state.choices[self.network.link_index(link)];
+            let picked = choice.and_then(|sender| self.network.rank(link, sender));
+            if picked.is_none() && !self.network.is_booked_now(&self.state, link) {
+                continue;
+            }
+            let candidates = self.network.candidates(&self.state, link);
+            let [first, _, ..] = candidates[..] else { continue };
+            match picked {
+                None => tally.skipped += 1,
+                Some(rank) => {
+                    tally.contested += 1;
+                    tally.turned += usize::from(first != rank);
+                }
+            }
         }
     }
 

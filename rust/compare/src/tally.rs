@@ -26,6 +26,12 @@ pub struct Tally {
     pub packets: usize,
     /// The most connections that were accepted at once.
     pub accepted: usize,
+    /// How many outputs picked in lists while several senders were candidates.
+    pub contested: usize,
+    /// Of these, how many picked another than the first in order.
+    pub turned: usize,
+    /// How many sides picked nobody, being booked, while several senders were candidates.
+    pub skipped: usize,
 }
 
 impl Tally {
@@ -65,6 +71,9 @@ impl Tally {
         self.states += other.states;
         self.packets = self.packets.max(other.packets);
         self.accepted = self.accepted.max(other.accepted);
+        self.contested += other.contested;
+        self.turned += other.turned;
+        self.skipped += other.skipped;
     }
 
     /// The refusals, 1 to 16, that were met less often than that.
@@ -76,9 +85,15 @@ impl Tally {
 impl fmt::Display for Tally {
     fn fmt(&self, f: &mut fmt::Formatter) -> fmt::Result {
         let Tally { plans, listed, changed, states, packets, accepted, .. } = self;
+        let Tally { contested, turned, skipped, .. } = self;
         writeln!(f, "{plans} plans, {listed} calls in lists, {changed} on changed bytes")?;
         writeln!(f, "{states} changed bytes were a state's")?;
         writeln!(f, "most at once: {packets} packets, {accepted} accepted connections")?;
+        write!(
+            f,
+            "{contested} picks among several candidates, {turned} not of the first in order; "
+        )?;
+        writeln!(f, "{skipped} times several waited at a booked side")?;
         write!(f, "{:>8}", "answer")?;
         (0..ANSWERS).try_for_each(|answer| write!(f, " {answer:>7}"))?;
         for (name, row) in NAMES.iter().zip(&self.answers) {

@@ -10,6 +10,8 @@ use differential::PROVED;
 const LISTED: usize = 1_000_000;
 const CHANGED: usize = 200_000;
 const LEAST: usize = 1_000;
+/// How often at least an output picks another of several candidates than the first in order.
+const TURNED: usize = 5_000;
 /// A seed for each thread.
 const SEEDS: [u64; 2] = [2028, 2029];
 
@@ -28,4 +30,5 @@ fn lists_and_changed_bytes() {
     std::fs::write(file, format!("{tally}\n")).expect("the tally is kept");
     assert!(tally.listed >= LISTED && tally.changed >= CHANGED);
     assert_eq!(tally.rarer_than(LEAST), [], "{tally}");
+    assert!(tally.turned >= TURNED, "{tally}");
 }

@@ -6,6 +6,7 @@
 use crate::layout::*;
 use crate::load::Net;
 use crate::marks::marks_fit;
+use crate::turns::turns_fit;
 use crate::walks::{numbers, Numbers, Walks, NO_QUEUE};
 
 /// What the check finds, for the phases.
@@ -92,7 +93,10 @@ pub fn check(net: &Net, state: &[u8], found: &mut Found, to: &mut [u16]) -> bool
     if busy && !Busy::new(net, state, &mut counts).check(found, to) {
         return false;
     }
-    allowances_add_up(net, state, &counts) && table_is_one(net, state) && marks_fit(net, state)
+    allowances_add_up(net, state, &counts)
+        && table_is_one(net, state)
+        && marks_fit(net, state)
+        && turns_fit(net, state)
 }
 
 /// Whether any output has something; then which.

@@ -75,10 +75,16 @@ impl Net {
         (self.marks_at() + 64 * a + 4 * p + slot / 8, 1 << (slot % 8))
     }
 
+    /// The first byte of the turns: by output, the rank of the sender served last.
+    #[inline(always)]
+    pub(crate) fn turns_at(&self) -> usize {
+        self.marks_at() + 64 * self.a
+    }
+
     /// The state's bytes.
     #[inline(always)]
     pub(crate) fn size(&self) -> usize {
-        self.marks_at() + 64 * self.a
+        self.turns_at() + self.outputs()
     }
 
     /// Slot minus hub modulo S.
@@ -116,12 +122,17 @@ impl Net {
     /// The first output's row of a group that sends.
     #[inline(always)]
     pub(crate) fn outs_at(&self, group: usize) -> usize {
-        let before = match group {
+        self.outputs_at() + OUT * self.first_out(group)
+    }
+
+    /// The number of the first output of a group that sends.
+    #[inline(always)]
+    pub(crate) fn first_out(&self, group: usize) -> usize {
+        match group {
             ACTIVE_OUT => 0,
             PASSIVE_OUT => self.a,
             _ => self.a + self.p + 6 * group,
-        };
-        self.outputs_at() + OUT * before
+        }
     }
 
     /// The capacities of a router's queues, by their numbers.

@@ -3,8 +3,8 @@
 //!
 //! * [`load`](mod@load): Load, with sets of destinations in words.
 //! * `layout`: where things stand in the state's bytes. `walks`: where a packet may be.
-//! * `check`: refusal 7, with `marks` for the accepted connections. `phases`: Read, Execute, Write.
-//!   `visits`: Start and the other calls.
+//! * `check`: refusal 7, with `marks` for the accepted connections and `turns` for the senders last
+//!   served. `phases`: Read, Execute, Write. `visits`: Start and the other calls.
 
 #![forbid(unsafe_code)]
 #![no_std]
@@ -14,6 +14,7 @@ mod layout;
 pub mod load;
 mod marks;
 mod phases;
+mod turns;
 mod visits;
 mod walks;
 

@@ -6,7 +6,7 @@ use crate::load::Net;
 /// Marks of served pairs and slots of the plan only, each with all its entries, and no entry of two.
 #[inline(always)]
 pub fn marks_fit(net: &Net, state: &[u8]) -> bool {
-    let marks = &state[net.marks_at()..];
+    let marks = &state[net.marks_at()..net.turns_at()];
     let any = marks.chunks_exact(8).fold(0, |any, eight| any | word(eight, 0));
     any == 0 || each_fits(net, state, marks)
 }

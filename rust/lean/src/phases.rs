@@ -3,6 +3,7 @@
 use crate::check::{sender_at, Found, Rows};
 use crate::layout::*;
 use crate::load::Net;
+use crate::turns::{in_turn, rank_asked};
 use crate::walks::{numbers, NO_QUEUE};
 
 /// Each wire's packet joins its queue, each raised flag becomes a credit.
@@ -70,6 +71,7 @@ fn router(net: &Net, state: &mut [u8], x: usize, set: u32) {
     let first = net.group_at(x);
     let choices = net.outs_at(x) + 6;
     let entry = net.table_at() + 256 * x + 2 * state[1] as usize;
+    let turns = net.turns_at() + net.first_out(x);
     let q = first + ROW * Q;
     let mut set = set;
     if set >> Q & 1 != 0 && state[q + 2] == 0 && handle(net, state, x, q) {
@@ -78,23 +80,27 @@ fn router(net: &Net, state: &mut [u8], x: usize, set: u32) {
     for o in 0..4 {
         let senders = set >> (5 + 4 * o) & 15;
         if senders != 0 && state[entry + 64 * o] == 0 {
-            state[choices + OUT * o] = pick(net, state, x, o, first + ROW * (5 + 4 * o), senders);
+            let last = state[turns + o];
+            let row = first + ROW * (5 + 4 * o);
+            state[choices + OUT * o] = pick(net, state, x, o, row, senders, last);
         }
     }
     if set & 15 != 0 {
-        state[choices + OUT * 4] = pick(net, state, x, 4, first, set & 15);
+        let last = state[turns + 4];
+        state[choices + OUT * 4] = pick(net, state, x, 4, first, set & 15, last);
     }
     if set >> Q & 1 != 0 && state[q + 2] != 0 {
-        state[choices + OUT * 5] = pick(net, state, x, 5, q, 1);
+        state[choices + OUT * 5] = pick(net, state, x, 5, q, 1, 3);
     }
 }
 
-/// The first of these senders of output i whose next queue has credit: 1 + its rank, else 0.
+/// The first of these senders of output i, from the one behind the last on, whose next queue has
+/// credit: 1 + its rank, else 0.
 #[inline(always)]
-fn pick(net: &Net, state: &[u8], x: usize, i: usize, first: usize, senders: u32) -> u8 {
-    let mut left = senders;
+fn pick(net: &Net, state: &[u8], x: usize, i: usize, first: usize, senders: u32, last: u8) -> u8 {
+    let mut left = in_turn(senders, last);
     while left != 0 {
-        let rank = take(&mut left);
+        let rank = rank_asked(take(&mut left), last);
         let k = numbers(place(row(state, first + ROW * rank), 0));
         let to = net.next_queue(x, i, &k);
         if to != NO_QUEUE && state[net.row_at(to)] != 0 {
@@ -164,7 +170,7 @@ fn is_free_besides(state: &[u8], side: usize, entry: usize, slots: usize) -> boo
     (0..slots).any(|slot| state[side + 2 * slot] == 0 && side + 2 * slot != entry)
 }
 
-/// Each picked head enters its wire; the slot grows.
+/// Each picked head enters its wire, and its output remembers it; the slot grows.
 #[inline(always)]
 pub fn write(net: &Net, state: &mut [u8], found: &Found, to: &Rows) {
     let mut n = 0;
@@ -174,10 +180,13 @@ pub fn write(net: &Net, state: &mut [u8], found: &Found, to: &Rows) {
         }
         let mut left = set;
         let first = net.outs_at(group);
+        let turns = net.turns_at() + net.first_out(group);
         while left != 0 {
             let i = take(&mut left);
             let wire = first + OUT * i;
-            let Some(from) = sender_at(net, group, i, state[wire + 6]) else { return };
+            let choice = state[wire + 6];
+            let Some(from) = sender_at(net, group, i, choice) else { return };
+            state[turns + i] = choice - 1;
             let [kind, a, p, slot, hub] = pop(state, from);
             state[from + 1] = (group < ACTIVE_OUT) as u8;
             state[from + 2] = 0;

@@ -102,6 +102,18 @@ pub fn largest() -> Draft {
     draft
 }
 
+/// Three routers in a ring. Side 0 of router 0 carries set-ups of active 0 to passive 0 and answers to
+/// active 1, whose own set-ups go the other way: F and K compete at a side that may be booked.
+pub fn detour() -> Draft {
+    let mut draft = Draft::new(3, 4, 3);
+    draft.join((0, 0), (1, 0)).join((1, 2), (2, 0)).join((2, 2), (0, 3));
+    draft.active(0, 1).active(2, 1).passive(1, 1).passive(0, 2);
+    draft.route_passive(0, 0, 0).route_passive(1, 0, 1).route_active(1, 0, 0);
+    draft.route_active(0, 0, 1).route_passive(0, 1, 2).route_passive(2, 1, 2);
+    draft.route_active(0, 1, 0).route_active(1, 1, 2).route_active(2, 1, 1);
+    draft
+}
+
 /// Two routers with two joints: set-ups go by one, answers by the other.
 pub fn parallel_joints() -> Draft {
     let mut draft = Draft::new(2, 3, 1);

@@ -10,7 +10,7 @@ fn t() -> Network {
     Network::load(&named::T).expect("loads")
 }
 
-/// "R = A = P = 1, S = 2: 25 queues, 8 outputs, 1,354 bytes."
+/// "R = A = P = 1, S = 2: 25 queues, 8 outputs, 1,362 bytes."
 #[test]
 fn figures_of_plan_t() {
     let network = t();
@@ -46,7 +46,9 @@ fn figures_of_plan_t() {
     assert_eq!(network.allowance_at(0), 1033);
     assert_eq!([0, 1, 2, 3].map(|side| network.entry_at(0, side, 0)), [1034, 1098, 1162, 1226]);
     assert_eq!(network.marks_at(0), 1290);
-    assert_eq!(network.size(), 1354);
+    let last = outputs.map(|(link, _)| network.last_at(link));
+    assert_eq!(last, [1354, 1355, 1356, 1359, 1360, 1361]);
+    assert_eq!(network.size(), 1362);
 }
 
 /// The mark of (a, p, t) is bit t%8 of byte begin + 64a + 4p + t/8, where the part begins at
@@ -62,7 +64,9 @@ fn figures_of_the_marks() {
     assert_eq!(at(0, 0, 7), (begin, 128));
     assert_eq!(at(0, 0, 8), (begin + 1, 1));
     assert_eq!(at(3, 5, 30), (begin + 3 * 64 + 5 * 4 + 3, 1 << 6));
-    assert_eq!(at(15, 15, 31), (network.size() - 1, 128));
+    assert_eq!(at(15, 15, 31), (begin + 16 * 64 - 1, 128));
+    assert_eq!(network.last_at(Link::Active(0)), begin + 16 * 64);
+    assert_eq!(network.last_at(Link::Back(15)), network.size() - 1);
 }
 
 /// Every bit of the marks' part is one mark's, also those that the plan has no use for.
@@ -82,24 +86,27 @@ fn every_bit_is_a_mark() {
     }
 }
 
-/// "After Start all bytes are 0 but the credits and the allowance; these 26 are 1."
+/// "After Start all bytes are 0 but the credits and the allowance, these 26 are 1, and the senders
+/// last served at the sides and on the way to the unit, these five are 3."
 #[test]
 fn start_of_plan_t() {
     let bytes = t().encode(&t().start());
     let rows = (2..=938).step_by(39).chain([1033]);
-    let mut expected = vec![0; 1354];
+    let mut expected = vec![0; 1362];
     rows.for_each(|at| expected[at] = 1);
+    expected[1356..1361].fill(3);
     assert_eq!(bytes, expected);
 }
 
-/// "At most 21,634 bytes (R, A, P = 16)."
+/// "At most 21,762 bytes (R, A, P = 16)."
 #[test]
 fn largest_state() {
     let network = Network::load(&named::largest().encode()).expect("loads");
-    assert_eq!(network.size(), 21_634);
+    assert_eq!(network.size(), 21_762);
 }
 
-/// Rows of queues and outputs, allowances, tables and marks fill the state, none on another.
+/// Rows of queues and outputs, allowances, tables, marks and senders last served fill the state,
+/// none on another.
 #[test]
 fn every_byte_has_one_place() {
     let mut random = Random::new(61);
@@ -110,6 +117,7 @@ fn every_byte_has_one_place() {
         put(0, 2);
         network.queues().iter().for_each(|&queue| put(network.queue_at(queue), 39));
         network.links().iter().for_each(|&link| put(network.output_at(link), 7));
+        network.links().iter().for_each(|&link| put(network.last_at(link), 1));
         (0..network.plan().actives()).for_each(|active| put(network.allowance_at(active), 1));
         (0..network.plan().routers()).for_each(|router| put(network.entry_at(router, 0, 0), 256));
         (0..network.plan().actives()).for_each(|active| put(network.marks_at(active), 64));

@@ -21,6 +21,9 @@ struct Met {
     refusals: [usize; 17],
     tables_compared: usize,
     longest_wait: usize,
+    contested: usize,
+    turned: usize,
+    most_before: usize,
 }
 
 /// A list of `count` calls from start, each claim tested after each call.
@@ -56,6 +59,9 @@ fn try_run(
     met.tables_compared += claims.tables_compared;
     met.reopened += claims.reopened;
     met.longest_wait = met.longest_wait.max(claims.longest_wait);
+    met.contested += claims.contested;
+    met.turned += claims.turned;
+    met.most_before = met.most_before.max(claims.most_before);
     Ok(())
 }
 
@@ -89,10 +95,12 @@ fn random_lists_on_random_plans() {
     let mut met = Met::default();
     let mut plans = 0;
     while met.calls < 1_000_000 {
-        let network = Network::of(good::loadable(&mut random));
+        let crowded = random.chance(1, 3);
+        let plan = if crowded { good::crowded } else { good::loadable };
+        let network = Network::of(plan(&mut random));
         // Plans with few served pairs are as good, but have little traffic.
         let pairs = Caller::new(&mut random, &network).pairs();
-        if pairs < 6 && random.chance(9 - pairs, 10) {
+        if !crowded && pairs < 6 && random.chance(9 - pairs, 10) {
             continue;
         }
         plans += 1;
@@ -106,6 +114,8 @@ fn random_lists_on_random_plans() {
     assert!(met.accepted > 2_000 && met.declined > 10_000 && met.torn_down > 10_000, "{met:?}");
     assert!(met.closed > 2_000 && met.reopened > 300, "{met:?}");
     assert!(met.tables_compared > 1_000, "{met:?}");
+    // Where several compete, and some see three others go before them.
+    assert!(met.contested > 10_000 && met.turned > 5_000 && met.most_before == 3, "{met:?}");
 }
 
 #[test]
@@ -135,17 +145,20 @@ fn stands_still(mut draft: Draft) -> bool {
     fault.is_some_and(|fault| fault.starts_with("S whole rounds went by without a move"))
 }
 
-/// Two crossing routers whose own actives come before the other router at the unit.
-fn crossing_with_actives_first() -> Draft {
+/// Two crossing routers, each with two actives of its own: these have two turns at the unit for one
+/// of the other router. (With one active each, lists like these did not stand still.)
+fn crossing_with_two_actives_each() -> Draft {
     let mut draft = Draft::new(2, 2, 1);
-    draft.active(0, 0).passive(0, 1).active(1, 0).passive(1, 1).join((0, 2), (1, 2));
-    draft.shortest_routes();
+    for router in 0..2 {
+        draft.active(router, 0).active(router, 1).passive(router, 2);
+    }
+    draft.join((0, 3), (1, 3)).shortest_routes();
     draft
 }
 
 #[test]
 fn rings_stand_still() {
-    assert!(stands_still(crossing_with_actives_first()));
+    assert!(stands_still(crossing_with_two_actives_each()));
     assert!(stands_still(named::answers_ring()));
 }
 
@@ -175,4 +188,15 @@ fn students_rules_of_closing_are_found() {
     let fault = fault_by(|rules| rules.close_frees_early = true).expect("found");
     assert!(fault.starts_with("not a state: a mark that lacks an entry"), "{fault}");
     assert_eq!(fault_by(|rules| rules.close_clears_at_once = true), None);
+}
+
+#[test]
+fn students_rules_of_turns_are_found() {
+    for set in [
+        |rules: &mut Rules| rules.lowest_first = true,
+        |rules: &mut Rules| rules.same_one_again = true,
+    ] {
+        let fault = fault_by(set).expect("found");
+        assert!(fault.contains("others went before sender"), "{fault}");
+    }
 }

@@ -416,10 +416,14 @@ fn capacities_on_the_way_to_a_passive() {
     let mut run = Run::new(&named::narrow_there().encode());
     for launch in 0..6 {
         assert_eq!(run.launch(0, 0, 15 - launch), Ok(()));
-        assert_eq!(run.launch(1, 0, 9 - launch), Ok(()));
     }
     assert_eq!(run.launch(0, 0, 9), Err(11));
-    run.up_to(8);
+    // Active 0's are on their way and fill what is behind U, so that U is left to active 1.
+    run.up_to(6);
+    for launch in 0..6 {
+        assert_eq!(run.launch(1, 0, 9 - launch), Ok(()));
+    }
+    run.up_to(14);
     let router = 0;
     let fed = [
         Queue::U { router, from: 2 },
@@ -428,7 +432,7 @@ fn capacities_on_the_way_to_a_passive() {
         Queue::PassiveIn(0),
     ];
     // Full, and held back until a reply makes room.
-    for round in 8..10 {
+    for round in 14..16 {
         run.up_to(round);
         assert_eq!(fed.map(|queue| run.len(queue)), [4, 3, 2, 1]);
         assert_eq!(fed.map(|queue| run.credit(queue)), [0; 4]);
@@ -438,12 +442,39 @@ fn capacities_on_the_way_to_a_passive() {
     assert_eq!(run.reply(0, 1), Ok(()));
     assert_eq!(run.credit(Queue::PassiveIn(0)), 0);
     run.end();
-    for (round, credits) in [(10, [0, 0, 0, 1]), (11, [0, 0, 1, 0]), (12, [0, 1, 0, 0])] {
+    let credits = [[0, 0, 0, 1], [0, 0, 1, 0], [0, 1, 0, 0], [1, 0, 0, 0]];
+    for (round, credits) in (16..).zip(credits) {
         run.read_of(round);
         assert_eq!(fed.map(|queue| run.credit(queue)), credits);
         run.execute();
         run.end();
     }
+}
+
+/// Both launch at once: U[1] and U[2] take turns, so as many wait in the one as in the other.
+#[test]
+fn capacities_where_two_take_turns() {
+    let mut run = Run::new(&named::narrow_there().encode());
+    for launch in 0..6 {
+        assert_eq!(run.launch(0, 0, 15 - launch), Ok(()));
+        assert_eq!(run.launch(1, 0, 9 - launch), Ok(()));
+    }
+    run.up_to(8);
+    let sides = [1, 2].map(|from| Queue::U { router: 0, from });
+    let waiting = |run: &Run| sides.map(|side| run.len(side));
+    assert_eq!((waiting(&run), sides.map(|side| run.credit(side))), ([3, 3], [1, 1]));
+    assert_eq!([0, 1].map(|active| run.len(Queue::ActiveOut(active))), [0, 0]);
+    assert_eq!(
+        run.queue(Queue::Q { router: 0 }).iter().map(|p| p.active).collect::<Vec<_>>(),
+        [1, 0, 1]
+    );
+    run.up_to(9);
+    run.run_to_write();
+    assert_eq!(run.reply(0, 1), Ok(()));
+    run.end();
+    // Active 1's was the last that went, so active 0's is the next.
+    run.read_of(13);
+    assert_eq!(waiting(&run), [2, 3]);
 }
 
 #[test]

@@ -212,7 +212,7 @@ fn accepted_connections() {
         Connection { passive: 1, ..FROM_0 },
         Connection { passive: 15, ..FROM_0 },
     ] {
-        refused(0, "mark out of range", |_, state| {
+        refused(0, "mark or rank out of range", |_, state| {
             state.marks.insert(mark);
         });
     }
@@ -270,6 +270,34 @@ fn two_marks_that_share_an_entry() {
     // By another side of the router in the middle: the first router's entry is shared all the same.
     assert_eq!(fault_of(&network, [(0, 0, 3), (0, 2, 3)]), Some("two marks that share an entry"));
     assert_eq!(fault_of(&network, [(0, 0, 3), (2, 0, 3)]), None);
+}
+
+/// What an output remembers is the rank of one of its senders; of T's sides 2 and 3 are not joined
+/// and remember the last in order, as at start.
+#[test]
+fn senders_last_served() {
+    let side = |side| Link::Side(Port { router: 0, side });
+    let last = |link: Link, rank| {
+        move |network: &Network, state: &mut State| state.last[network.link_index(link)] = rank
+    };
+    for link in [side(0), side(1), Link::Unit(0)] {
+        for rank in 0..4 {
+            let (network, mut state) = t_after(2);
+            last(link, rank)(&network, &mut state);
+            assert_eq!(network.fault(&state), None);
+        }
+    }
+    for link in [side(0), side(1), side(2), side(3), Link::Unit(0)] {
+        refused(1, "rank out of range", last(link, 4));
+        refused(1, "rank out of range", last(link, 255));
+    }
+    for link in [Link::Back(0), Link::Active(0), Link::Passive(0)] {
+        refused(1, "rank out of range", last(link, 1));
+    }
+    for (link, rank) in [(side(2), 0), (side(2), 2), (side(3), 1)] {
+        refused(1, "a side that is not joined", last(link, rank));
+    }
+    refused(1, "no state", |_, state| state.last.truncate(3));
 }
 
 #[test]
@@ -345,7 +373,8 @@ fn states_that_no_list_reaches() {
     assert!(met.kept > 10_000 && no_states > 1_000 && met.marked > 1_000, "{met:?}");
     assert!(met.parted > 100, "{met:?}");
     for fault in [
-        "slot, entry or mark out of range",
+        "slot, entry, mark or rank out of range",
+        "a side that is not joined and has served a sender",
         "a mark for an unserved pair",
         "a mark that lacks an entry",
         "two marks that share an entry",

@@ -82,12 +82,14 @@ impl<'p> State<'p> {
         Refusal::result(bytes::read(self.plan.bytes(), &mut self.bytes))
     }
 
-    /// Execute: units handle heads, outputs pick senders, declined set-ups are torn down.
+    /// Execute: units handle heads, outputs pick senders, each from the one behind the last served
+    /// on, declined set-ups are torn down.
     pub fn execute(&mut self) -> Result<(), Refusal> {
         Refusal::result(bytes::execute(self.plan.bytes(), &mut self.bytes))
     }
 
-    /// Write: each picked head enters its wire; the slot grows by one.
+    /// Write: each picked head enters its wire, and its output remembers it as the last served; the
+    /// slot grows by one.
     pub fn write(&mut self) -> Result<(), Refusal> {
         Refusal::result(bytes::write(self.plan.bytes(), &mut self.bytes))
     }

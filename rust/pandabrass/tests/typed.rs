@@ -25,7 +25,7 @@ fn round(state: &mut State) -> Result<Option<Packet>, Refusal> {
 #[test]
 fn loads_and_starts() -> Result<(), Refusal> {
     let plan = Plan::load(&T)?;
-    assert_eq!((plan.bytes(), plan.state_size()), (&T[..], 1354));
+    assert_eq!((plan.bytes(), plan.state_size()), (&T[..], 1362));
     assert_eq!((plan.walk(0, 0), plan.walk(0, 1)), (Some(1), None));
     let state = plan.start();
     assert_eq!(state.bytes().iter().filter(|&&byte| byte == 1).count(), 26);
@@ -87,7 +87,12 @@ fn closed_and_opened_again() -> Result<(), Refusal> {
     for _ in 0..8 {
         assert_eq!(round(&mut state)?, None);
     }
-    assert_eq!(state, plan.start());
+    // As at the start, but for whom the outputs served last: K[1,0] by side 0, F[1] by side 1 and
+    // U[0] on the way to the unit.
+    let (start, turns) = (plan.start(), 1354..1362);
+    assert_eq!(state.bytes()[..1354], start.bytes()[..1354]);
+    assert_eq!(start.bytes()[turns.clone()], [0, 0, 3, 3, 3, 3, 3, 0]);
+    assert_eq!(state.bytes()[turns], [0, 0, 1, 0, 3, 3, 0, 0]);
     open(&mut state)?;
     assert_eq!(state, opened);
     Ok(())

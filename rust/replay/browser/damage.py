@@ -5,11 +5,11 @@ import re
 REPORT = 'document.querySelector(".failure")?.textContent ?? ""'
 
 CASES = [
-    ("newer data", '"format":"pandabrass-run/2"', '"format":"pandabrass-run/3"',
-     "The data is newer than this page: format 3, this page shows format 2."),
-    ("older data", '"format":"pandabrass-run/2"', '"format":"pandabrass-run/1"',
-     "The data is older than this page: format 1, this page shows format 2."),
-    ("other data", '"format":"pandabrass-run/2"', '"format":"song"',
+    ("newer data", '"format":"pandabrass-run/3"', '"format":"pandabrass-run/4"',
+     "The data is newer than this page: format 4, this page shows format 3."),
+    ("older data", '"format":"pandabrass-run/3"', '"format":"pandabrass-run/2"',
+     "The data is older than this page: format 2, this page shows format 3."),
+    ("other data", '"format":"pandabrass-run/3"', '"format":"song"',
      "The data is no recorded run: its format is 'song'"),
     ("a broken block", '"note":', '"note"',
      "The data block of the page is damaged"),
@@ -41,9 +41,13 @@ CASES = [
      "Line 1 of the recording is damaged: its call has another number of arguments."),
     ("a connection that is none", " c0,1", " c9,1",
      "Line 26 of the recording is damaged: there is no connection 9."),
-    ("a check sum that is none", "R fd55fe3", "R xyz",
+    ("an output that is none", " l6,2", " lzz,2",
+     "Line 7 of the recording is damaged: there is no output 1295."),
+    ("a sender that is none", " l6,2", " l6,4",
+     "Line 7 of the recording is damaged: output 6 has no sender 4."),
+    ("a check sum that is none", "R b2bdb407", "R xyz",
      "Line 2 of the recording is damaged: its call or its check sum is not readable."),
-    ("an empty line", "\\nX b8cc09ea p2 *0", "\\n",
+    ("an empty line", "\\nX cbd615f5 p2 *0", "\\n",
      "Line 3 of the recording is damaged: its call or its check sum is not readable."),
 ]
 
@@ -76,7 +80,7 @@ def later_places(browser, pages, source, tally):
     """Places that a later program adds are drawn by this page: here four queues in each unit."""
     units = [(router, side) for router in (0, 1) for side in (1, 2, 3)]
     more = [f'["unit","Q[{side}] of r{router}","Q{side}",1,1,{router},{side},4]' for router, side in units]
-    changed = source.replace("],\n\"connections\"", ",\n" + ",\n".join(more) + "],\n\"connections\"", 1)
+    changed = source.replace("],\n\"outputs\"", ",\n" + ",\n".join(more) + "],\n\"outputs\"", 1)
     for router in (0, 1):
         changed = changed.replace(f'"Q",1,1,{router},0,1]', f'"Q",1,1,{router},0,4]', 1)
     page = pages / "damaged.html"

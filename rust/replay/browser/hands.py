@@ -22,6 +22,7 @@ def test(browser, pages, tally):
     odd_signs(browser, pages, tally)
     refusals(browser, pages, tally)
     closing(browser, pages, tally)
+    turns(browser, pages, tally)
     phone(browser, pages, tally)
     browser.size(1280, 800)
 
@@ -251,6 +252,22 @@ def closing(browser, pages, tally):
     tally.check("closed and free", "closed, all free" in browser.run(pane), browser.run(pane))
     press(browser, "End")
     tally.check("opened again", "exactly that of 1 accepted connection" in browser.run(STRIP), browser.run(STRIP))
+
+
+def turns(browser, pages, tally):
+    """The unit's NACK and two ACKs wait for one side; who goes, who went last, and who is next."""
+    browser.open(pages / "turns.html", "37")
+    text = browser.run(NOW)
+    told = "At r0.0 it is the turn of ✕E: K[3,0] of r0 went last. Waiting: ✓C ✓D"
+    tally.check("whose turn it is", told in text, text)
+    browser.click('[data-router="0"] .router-name')
+    row = 'document.querySelector(\'#details [data-output="0"]\').textContent.replace(/\\s+/g, " ").trim()'
+    tally.equal("the turns before", browser.run(row), "r0.0K[3,0]✕E F[0] ✓C K[2,0] ✓D K[3,0]")
+    press(browser, "ArrowRight")
+    tally.equal("the turns after", browser.run(row), "r0.0F[0]✓C K[2,0] ✓D K[3,0]")
+    press(browser, "ArrowRight", "ArrowRight", "ArrowRight")
+    tally.equal("a second NACK waits for its turn", browser.run(row), "r0.0K[2,0]✓D K[3,0] ✕F F[0]")
+    press(browser, "Escape")
 
 
 def phone(browser, pages, tally):

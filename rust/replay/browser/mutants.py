@@ -15,17 +15,19 @@ DATA = [
     ("a flag not raised", " ^q", ""),
     ("a mark not set", " h7,1", ""),
     ("a packet not picked", "=1,S,0,1 *1", "=1,S,0,1"),
-    ("a line left out", "\\nX b8cc09ea p2 *0", ""),
+    ("a line left out", "\\nX cbd615f5 p2 *0", ""),
     ("another owner", " o7,1,w", " o7,0,w"),
     ("an owner too early accepted", " o7,1,l", " o7,1,a"),
     ("an owner not told", " o7,1,w", ""),
     ("another pair's connection", "+1,S,0,0,3,0,0,1", "+1,S,0,0,3,0,0,0"),
     ("another start slot", '[0,0,3,"B"]', '[0,0,2,"B"]'),
-    ("a refusal that changes something", "E0,1,3=4 b6c6831", "E0,1,3!9 b6c6831 s2"),
-    ("another check sum", "X 5c797e84", "X 5c797e85"),
+    ("a refusal that changes something", "E0,1,3=4 9f1693bb", "E0,1,3!9 9f1693bb s2"),
+    ("another check sum", "X 36ff8651", "X 36ff8652"),
     ("a connection not accepted", " c0,1", ""),
     ("a closed connection that stays accepted", " c0,0", ""),
     ("an entry of a closed connection held as declined", " o7,0,c", " o7,0,d"),
+    ("a sender that was served and is not remembered", " l6,2", ""),
+    ("another sender remembered", " l6,2", " l6,1"),
 ]
 
 # Changes of the page's scripts and styles.
@@ -46,6 +48,8 @@ DRAWING = [
     ("picked packets not marked", '+ (picked ? " picked" : "")', ""),
     ("old packets left on the map", "entry.group.remove();", ""),
     ("accepted connections that are shared", "accepted: new Set(state.accepted)", "accepted: state.accepted"),
+    ("senders last served that are shared", "last: state.last.slice()", "last: state.last"),
+    ("turns always from the first in order", "const first = state.last[output] + 1;", "const first = 0;"),
     ("what is closed drawn as declined", 'sign: "−", style: "closing"', 'sign: "−", style: "teardown"'),
     ("closings left out", 'call.letter === "K" && !call.refusal', "false"),
     ("what is left behind drawn as accepted", 'sign: "✕", style: "leftover"', 'sign: "", style: "accepted"'),
@@ -81,7 +85,7 @@ BASE = {
     "a ring at the wrong entry": "t", "refusals left out": "t", "free entries counted wrong": "t",
     "a closed connection that stays accepted": "closed", "an entry of a closed connection held as declined": "closed",
     "accepted connections that are shared": "closed", "what is closed drawn as declined": "closed",
-    "closings left out": "closed",
+    "closings left out": "closed", "turns always from the first in order": "turns",
     "names over one another": "mesh", "a question about all that is booked": "mesh", "letters too small": "largest",
 }
 

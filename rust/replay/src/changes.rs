@@ -30,6 +30,7 @@ pub fn tokens(before: &Seen, after: &Seen, run: &Run, places: &Places) -> Vec<St
         }
     }
     accepted(before, after, &mut tokens);
+    served(before, after, &mut tokens);
     tokens
 }
 
@@ -133,6 +134,15 @@ fn accepted(before: &Seen, after: &Seen, tokens: &mut Vec<String>) {
     }
     for number in after.accepted.iter().filter(|number| !before.accepted.contains(number)) {
         tokens.push(format!("c{},1", base36(*number)));
+    }
+}
+
+/// Outputs that served another sender than the last time.
+fn served(before: &Seen, after: &Seen, tokens: &mut Vec<String>) {
+    for (output, (old, new)) in before.last.iter().zip(&after.last).enumerate() {
+        if old != new {
+            tokens.push(format!("l{},{new}", base36(output)));
+        }
     }
 }
 

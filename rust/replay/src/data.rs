@@ -2,7 +2,7 @@
 
 use trace::{Joint, Plan, Port};
 
-use crate::places::Told;
+use crate::places::{Shared, Told};
 use crate::recording::{Recording, FORMAT};
 
 /// The whole block.
@@ -10,6 +10,7 @@ pub fn block(recording: &Recording) -> String {
     let plan = &recording.plan;
     let names = plan.names();
     let places: Vec<String> = recording.places.told().iter().map(place).collect();
+    let outputs: Vec<String> = recording.places.shared().iter().map(shared).collect();
     let connections: Vec<String> = recording
         .letters()
         .map(|(told, letter)| {
@@ -28,6 +29,7 @@ pub fn block(recording: &Recording) -> String {
             strings(&names.passives)
         ),
         format!("\"places\":[{}]", places.join(",\n")),
+        format!("\"outputs\":[{}]", outputs.join(",")),
         format!("\"connections\":[{}]", connections.join(",")),
         format!("\"start\":{}", string(&recording.start)),
         format!("\"calls\":{}", string(&recording.lines().join("\n"))),
@@ -83,6 +85,12 @@ fn place(told: &Told) -> String {
         told.capacity,
         u8::from(told.credit)
     )
+}
+
+/// An output that several senders share: its name and its senders in order.
+fn shared(told: &Shared) -> String {
+    let senders: Vec<String> = told.senders.iter().map(usize::to_string).collect();
+    format!("[{},[{}]]", string(&told.name), senders.join(","))
 }
 
 /// A list of strings.

@@ -21,12 +21,24 @@ pub struct Told {
     pub credit: bool,
 }
 
-/// All places of a plan.
+/// An output that several senders share.
+#[derive(Clone, Debug)]
+pub struct Shared {
+    /// The output.
+    pub output: Output,
+    /// Its name in words.
+    pub name: String,
+    /// The numbers of its senders, in order.
+    pub senders: Vec<usize>,
+}
+
+/// All places of a plan, and the outputs that several of them share.
 #[derive(Clone, Debug)]
 pub struct Places {
     queues: usize,
     wires: Vec<Option<usize>>,
     told: Vec<Told>,
+    shared: Vec<Shared>,
 }
 
 impl Places {
@@ -40,7 +52,12 @@ impl Places {
             wires.push(wire.as_ref().map(|_| told.len()));
             told.extend(wire);
         }
-        Places { queues, wires, told }
+        Places { queues, wires, told, shared: shared(plan) }
+    }
+
+    /// The outputs that several senders share, numbered as they stand here.
+    pub fn shared(&self) -> &[Shared] {
+        &self.shared
     }
 
     /// The number of a place.
@@ -60,6 +77,19 @@ impl Places {
     pub fn told(&self) -> &[Told] {
         &self.told
     }
+}
+
+/// The sides that are joined, and the ways to the units.
+fn shared(plan: &Plan) -> Vec<Shared> {
+    let leads = |output: &Output| match *output {
+        Output::Side(port) => plan.joint(port) != Joint::Nothing,
+        output => plan.senders(output).len() > 1,
+    };
+    let told = |output| {
+        let senders = plan.senders(output).into_iter().map(|queue| plan.queue_number(queue));
+        Shared { output, name: plan.names().output_words(output), senders: senders.collect() }
+    };
+    plan.outputs().filter(leads).map(told).collect()
 }
 
 /// A queue.

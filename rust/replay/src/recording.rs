@@ -9,7 +9,7 @@ use crate::places::Places;
 use crate::seen::Seen;
 
 /// The format of the data, with its number. A page refuses every number but its own.
-pub const FORMAT: &str = "pandabrass-run/2";
+pub const FORMAT: &str = "pandabrass-run/3";
 
 /// A run as the page needs it.
 #[derive(Clone, Debug)]

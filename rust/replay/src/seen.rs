@@ -44,6 +44,8 @@ pub struct Seen {
     pub allowances: Vec<usize>,
     /// The accepted connections that the state keeps, by their numbers.
     pub accepted: Vec<usize>,
+    /// The rank of the sender served last, by shared output.
+    pub last: Vec<usize>,
 }
 
 impl Seen {
@@ -63,6 +65,7 @@ impl Seen {
             owners: owners(run),
             allowances: net.allowances.clone(),
             accepted: run.book().accepted.clone(),
+            last: places.shared().iter().map(|one| net.out(run.plan(), one.output).last).collect(),
         }
     }
 
@@ -73,6 +76,8 @@ impl Seen {
         let credit = |at: &usize| told[*at].credit && self.credits[*at] != told[*at].capacity;
         let mut picked: Vec<usize> = self.picked.iter().map(|&(queue, _)| queue).collect();
         picked.sort_unstable();
+        let ranks = places.shared().iter().map(|one| one.senders.len()).zip(&self.last).enumerate();
+        let turned = ranks.filter(|(_, (senders, last))| **last + 1 != *senders);
         [
             format!("{},{}", self.phase, self.slot),
             self.packets_text(),
@@ -84,6 +89,7 @@ impl Seen {
             list(picked),
             list(&self.allowances),
             list(&self.accepted),
+            list(turned.map(|(at, (_, last))| format!("{at}:{last}"))),
         ]
         .join("|")
     }

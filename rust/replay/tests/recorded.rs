@@ -86,7 +86,7 @@ fn random_runs_of_library_and_model_are_recorded_alike() {
     }
     // Every token of the format was met.
     let met: String = signs.into_iter().collect();
-    assert_eq!(met, "*+-=>^_achopst");
+    assert_eq!(met, "*+-=>^_achlopst");
 }
 
 #[test]
@@ -120,7 +120,7 @@ fn lines_of_the_first_run() {
         "W p0 s1 >0,p,2 *",
         "R p1 >0,2",
         "X p2 *0",
-        "W p0 s0 >0,t,6 * ^2",
+        "W p0 s0 >0,t,6 * ^2 l2,0",
         "R p1 >0,6 _",
         "X p2 =0,S,1,1 *0 h6,1 t2,0 o2,0,w",
         "W p0 s1 >0,u,b * ^6 h6,0",

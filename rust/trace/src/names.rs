@@ -113,6 +113,17 @@ impl Names {
         }
     }
 
+    /// An output in words: "r0.1", "the way to r0's unit", "camera".
+    pub fn output_words(&self, output: Output) -> String {
+        match output {
+            Output::Active(number) => self.active(number),
+            Output::Passive(number) => self.passive(number),
+            Output::Side(port) => self.port(port),
+            Output::ToUnit(router) => format!("the way to {}'s unit", self.router(router)),
+            Output::FromUnit(router) => format!("the way from {}'s unit", self.router(router)),
+        }
+    }
+
     /// The queue of a name such as `r0.F1` or `drive.in`.
     pub fn find_queue(&self, text: &str) -> Option<Queue> {
         let (owner, queue) = text.rsplit_once('.')?;

@@ -44,13 +44,15 @@ pub struct Row {
     pub packets: Vec<Packet>,
 }
 
-/// An output's wire and choice.
+/// An output's wire and choice, and whom it served last.
 #[derive(Clone, Debug, PartialEq, Eq)]
 pub struct Out {
     /// The packet on the wire.
     pub wire: Option<Packet>,
     /// The rank of the sender it picked.
     pub choice: Option<usize>,
+    /// The rank of the sender it served last; 0 where it has one sender.
+    pub last: usize,
 }
 
 /// A state.
@@ -92,13 +94,14 @@ impl Net {
         let (outs, rest) = rest.split_at_checked(OUTPUT_ROW * outputs)?;
         let (allowances, rest) = rest.split_at_checked(plan.actives())?;
         let (tables, rest) = rest.split_at_checked(SIDE_ROW * SIDES * plan.routers())?;
-        let (marks, _) = rest.split_at_checked(MARK_ROW * plan.actives())?;
+        let (marks, rest) = rest.split_at_checked(MARK_ROW * plan.actives())?;
+        let (turns, _) = rest.split_at_checked(outputs)?;
         let phase = [Phase::Read, Phase::Execute, Phase::Write].get(usize::from(clock[0]))?;
         Some(Net {
             phase: *phase,
             slot: clock[1].into(),
             queues: rows.chunks_exact(QUEUE_ROW).map(row).collect::<Option<_>>()?,
-            outputs: outs.chunks_exact(OUTPUT_ROW).map(out).collect::<Option<_>>()?,
+            outputs: outs.chunks_exact(OUTPUT_ROW).zip(turns).map(out).collect::<Option<_>>()?,
             allowances: allowances.iter().map(|&byte| byte.into()).collect(),
             accepted: accepted(marks, plan),
             slots: plan.slots(),
@@ -129,6 +132,23 @@ impl Net {
     /// An output's wire and choice.
     pub fn out(&self, plan: &Plan, output: Output) -> &Out {
         &self.outputs[plan.output_number(output)]
+    }
+
+    /// The sender that an output served last, where it has several.
+    pub fn last_served(&self, plan: &Plan, output: Output) -> Option<Queue> {
+        let senders = plan.senders(output);
+        let last = senders.get(self.out(plan, output).last).copied();
+        last.filter(|_| senders.len() > 1)
+    }
+
+    /// The senders of an output that have a packet, in the order in which it looks at them: from the
+    /// one behind the last served on.
+    pub fn in_turn(&self, plan: &Plan, output: Output) -> Vec<Queue> {
+        let mut senders = plan.senders(output);
+        let first = (self.out(plan, output).last + 1) % senders.len();
+        senders.rotate_left(first);
+        senders.retain(|&queue| !self.row(plan, queue).packets.is_empty());
+        senders
     }
 
     /// Every packet with its place, and in a queue its number from the head, queues first.
@@ -163,9 +183,9 @@ fn row(bytes: &[u8]) -> Option<Row> {
     })
 }
 
-fn out(bytes: &[u8]) -> Option<Out> {
+fn out((bytes, &last): (&[u8], &u8)) -> Option<Out> {
     let wire = if bytes[0] == 1 { Some(packet(&bytes[1..1 + PACKET])?) } else { None };
-    Some(Out { wire, choice: usize::from(bytes[6]).checked_sub(1) })
+    Some(Out { wire, choice: usize::from(bytes[6]).checked_sub(1), last: last.into() })
 }
 
 /// "Five bytes, in a queue's place or on a wire."

@@ -172,6 +172,18 @@ impl Plan {
         }
     }
 
+    /// The output that a queue sends by; none for in-queues.
+    pub fn output_of(&self, queue: Queue) -> Option<Output> {
+        match queue {
+            Queue::ActiveOut(number) => Some(Output::Active(number)),
+            Queue::PassiveOut(number) => Some(Output::Passive(number)),
+            Queue::U(port) => Some(Output::ToUnit(port.router)),
+            Queue::Q(router) => Some(Output::FromUnit(router)),
+            Queue::F(port) | Queue::K(_, port) => Some(Output::Side(port)),
+            Queue::ActiveIn(_) | Queue::PassiveIn(_) => None,
+        }
+    }
+
     /// The queue that a packet on an output's wire goes to.
     pub fn next_queue(&self, output: Output, packet: &Packet) -> Option<Queue> {
         match output {

@@ -63,6 +63,8 @@ fn compare(plan: &Plan, network: &Network, state: &machine::State) {
         assert_eq!(out.wire.as_ref().map(told), state.wires[at].as_ref().map(modelled));
         let chosen = out.choice.map(|rank| queue(plan.senders(output)[rank]));
         assert_eq!(chosen, state.choices[at]);
+        assert_eq!(out.last, state.last[at]);
+        turns(plan, network, &net, output, state);
         if let (Some(packet), Some(same)) = (&out.wire, &state.wires[at]) {
             let next = plan.next_queue(output, packet).map(queue);
             assert_eq!(next, network.next_queue(link(output), same));
@@ -76,6 +78,21 @@ fn compare(plan: &Plan, network: &Network, state: &machine::State) {
             };
             assert_eq!(entry, state.table.entry(router, side, Slot(slot)));
         }
+    }
+}
+
+/// Whom an output served last, and that a pick is one of those that wait, none before it a candidate.
+fn turns(plan: &Plan, network: &Network, net: &Net, output: Output, state: &machine::State) {
+    let (link, senders) = (link(output), plan.senders(output));
+    let last = net.last_served(plan, output).map(queue);
+    let several = senders.len() > 1;
+    assert_eq!(last, several.then(|| queue(senders[state.last[network.link_index(link)]])));
+    assert!(senders.iter().all(|&sender| plan.output_of(sender) == Some(output)));
+    let waiting: Vec<model::Queue> = net.in_turn(plan, output).into_iter().map(queue).collect();
+    if let Some(picked) = state.choices[network.link_index(link)] {
+        let before = waiting.iter().take_while(|&&queue| queue != picked);
+        assert!(waiting.contains(&picked));
+        assert!(before.into_iter().all(|&queue| !network.is_candidate(state, link, queue)));
     }
 }
 

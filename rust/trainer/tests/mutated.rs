@@ -59,6 +59,8 @@ const WORDS: &[&str] = &[
     "expect",
     "ok",
     "refused",
+    "last",
+    "r0.F1",
     "r0.1",
     "r1",
     "camera",

@@ -62,8 +62,8 @@ fn cases() -> Vec<(String, Vec<String>)> {
     add("orders-number", &["orders", "scripts/orders.run", "--samples", "many"]);
     add("lessons", &["lesson"]);
     add("lesson-json", &["lesson", "3", "--json"]);
-    add("lesson-9", &["lesson", "9"]);
-    for lesson in 1..=8 {
+    add("lesson-10", &["lesson", "10"]);
+    for lesson in 1..=9 {
         add(&format!("lesson-{lesson}-question"), &["lesson", &lesson.to_string()]);
         add(&format!("lesson-{lesson}-answer"), &["lesson", &lesson.to_string(), "--answers"]);
     }

@@ -93,6 +93,24 @@ fn every_wrong_close_is_seen() {
     }
 }
 
+/// What students write instead of turn about: the script of turns sees each of them.
+#[test]
+fn every_wrong_turn_is_seen() {
+    let wrong: [(&str, fn(&mut Rules)); 2] = [
+        ("the first in order is always picked", |rules| rules.lowest_first = true),
+        ("the one served last is asked first", |rules| rules.same_one_again = true),
+    ];
+    let script = open("scripts/turns.run");
+    for (name, set) in wrong {
+        let mut rules = Rules::default();
+        set(&mut rules);
+        let modelled = Modelled::new(&script.plan, rules);
+        let mut player = Player::new(&script, &modelled);
+        player.play(&[], &mut Silent).unwrap();
+        assert!(player.failed > 0, "nobody sees that {name}");
+    }
+}
+
 #[test]
 fn every_lesson_has_its_file() {
     let stored = files("scripts/lessons", ".run");

@@ -2,7 +2,7 @@ use mathlib.Core.Path.{_∙_, sym, ap}
 use native.Mathlib.Omega.{arith}
 use borrow.Author.Tests.{not-true, not-false}
 use Rattle.inspect.proofs.Together.{body-places, body-allowances, body-tables, body-ties, whole-few, phase-few}
-use Rattle.inspect.proofs.Together.{lent-given}
+use Rattle.inspect.proofs.Together.{body-turns, lent-given}
 use borrow.Author.Needs.{needs}
 use Rattle.inspect.proofs.body_ok.Statement.{statement}
 use Rattle.inspect.proofs.body_ok.Tie as tie
@@ -121,10 +121,10 @@ ties-ok-requires c κs =
     let p = c10 .before .before .before .before .before .pre in
     lent-given _ _ _ _ _ _ _ (p .0) (p .1)
 
--- src/lib.rt:121:1
+-- src/lib.rt:161:9
 returns-4 : tie.Need-returns-4
 returns-4 c =
-    let here = c .before in
+    let here = c .before .before in
     let c5 = here .before .before .before .before .before in
     let c10 = c5 .before .before .before .before .before in
     let p = c10 .before .before .before .before .before .pre in
@@ -133,7 +133,32 @@ returns-4 c =
     (c5 .before .before .before .before .allowance-row .ensures, c5 .before .before .before .whole .ensures) at
     (c5 .before .allowances-ok .ensures)) (not-false _ (c5 .if2 .left)) (rw
     (here .before .before .before .before .table-row .ensures, here .before .before .index .ensures .0) at
-    (here .before .sides-ok .ensures)) (not-false _ (here .if3 .left)) (c .ties-ok .ensures)
+    (here .before .sides-ok .ensures)) (not-false _ (here .if3 .left)) (c .before .ties-ok .ensures)
+    (not-true _ (c .if4 .taken))
+
+-- src/lib.rt:163:5
+turns-ok-requires : tie.Need-turns-ok-requires
+turns-ok-requires c κs =
+    let here = c .before .before in
+    let c5 = here .before .before .before .before .before in
+    let c10 = c5 .before .before .before .before .before in
+    let p = c10 .before .before .before .before .before .pre in
+    (p .0 .range, p .1)
+
+-- src/lib.rt:134:1
+returns-5 : tie.Need-returns-5
+returns-5 c =
+    let here = c .before .before .before in
+    let c5 = here .before .before .before .before .before in
+    let c10 = c5 .before .before .before .before .before in
+    let p = c10 .before .before .before .before .before .pre in
+    body-turns _ _ _ (p .0 .range) _ (p .1) (p .2) (c10 .before .places-ok .ensures) (not-false _
+    (c10 .if1 .left)) (rw
+    (c5 .before .before .before .before .allowance-row .ensures, c5 .before .before .before .whole .ensures) at
+    (c5 .before .allowances-ok .ensures)) (not-false _ (c5 .if2 .left)) (rw
+    (here .before .before .before .before .table-row .ensures, here .before .before .index .ensures .0) at
+    (here .before .sides-ok .ensures)) (not-false _ (here .if3 .left)) (c .before .before .ties-ok .ensures)
+    (not-false _ (c .before .if4 .left)) (c .turns-ok .ensures)
 
 pub body-ok-spec : {M : Type 1} → statement M
 body-ok-spec =
@@ -152,4 +177,6 @@ body-ok-spec =
     sides-ok-requires
     returns-3
     ties-ok-requires
-    returns-4)
+    returns-4
+    turns-ok-requires
+    returns-5)

@@ -17,14 +17,16 @@ use Rattle.packets.specs.Answers.{refused, done, taken}
 -- ---- the way to a passive: active out 6, U 4, Q 3, F 2, passive in 1. Nobody replies
 abbrev pub fillThere : List (List Call)
 fillThere =
-    -- round 0: active 0 launches six times, and once more; active 1 six times
+    -- round 0: active 0 launches six times, and once more
     each (launch 0 0) (15 ∷ 14 ∷ 13 ∷ 12 ∷ 11 ∷ 10 ∷ [])
     ∷ (launch 0 0 9 ∷ [])
-    ∷ each (launch 1 0) (9 ∷ 8 ∷ 7 ∷ 6 ∷ 5 ∷ 4 ∷ [])
-    -- rounds 0 to 7; round 8
+    -- rounds 0 to 5; round 6: active 1 launches six times. It waits till active 0's six are past U[1]: else U[1] and
+    -- U[2] would go turn about to the unit, and neither would fill
+    ∷ (manyRounds 6 ++ each (launch 1 0) (9 ∷ 8 ∷ 7 ∷ 6 ∷ 5 ∷ 4 ∷ []))
+    -- rounds 6 to 13; round 14
     ∷ manyRounds 8
     ∷ round
-    -- round 9: the passive replies; rounds 10 to 13: after READ of each
+    -- round 15: the passive replies; rounds 16 to 19: after READ of each
     ∷ inWrite (reply 0 1)
     ∷ (write ∷ read ∷ [])
     ∷ (execute ∷ write ∷ read ∷ [])
@@ -55,14 +57,15 @@ pub filled-there : moments narrowThere there [] fillThere
     -- round 0: the allowance is 6, not 7; a seventh launch finds the out-queue full too, but 11 comes before 12
     ≡ after done (0 ∷ 6 ∷ 6 ∷ 0 ∷ zeros ++ full ++ 0 ∷ []) []
     ∷ after (refused 11) (0 ∷ 6 ∷ 6 ∷ 0 ∷ zeros ++ full ++ 0 ∷ []) []
-    ∷ after done (0 ∷ 0 ∷ 6 ∷ 6 ∷ zeros ++ full ++ 0 ∷ []) []
-    -- round 7: each is full, with credit 0, and two set-ups wait in active 1's out-queue; round 8: still
+    -- round 6: active 0's six have gone ahead, two of them on wires; active 1's six wait
+    ∷ after done (0 ∷ 0 ∷ 0 ∷ 6 ∷ (0 ∷ 1 ∷ 2 ∷ 1 ∷ []) ++ (4 ∷ 1 ∷ 0 ∷ 0 ∷ []) ++ 0 ∷ []) []
+    -- round 13: each is full, with credit 0, and two set-ups wait in active 1's out-queue; round 14: still
     ∷ after done (0 ∷ 0 ∷ 0 ∷ 2 ∷ full ++ zeros ++ 0 ∷ []) []
     ∷ after done (0 ∷ 0 ∷ 0 ∷ 2 ∷ full ++ zeros ++ 0 ∷ []) []
-    -- round 9: the reply makes room and the flag rises; round 10: the credit comes with Read
+    -- round 15: the reply makes room and the flag rises; round 16: the credit comes with Read
     ∷ after done (0 ∷ 0 ∷ 0 ∷ 2 ∷ (4 ∷ 3 ∷ 2 ∷ 0 ∷ []) ++ zeros ++ 1 ∷ []) []
     ∷ after done (0 ∷ 0 ∷ 0 ∷ 2 ∷ (4 ∷ 3 ∷ 2 ∷ 0 ∷ []) ++ (0 ∷ 0 ∷ 0 ∷ 1 ∷ []) ++ 0 ∷ []) []
-    -- rounds 11 to 13: one packet follows from F, one from Q, one from U
+    -- rounds 17 to 19: one packet follows from F, one from Q, one from U
     ∷ after done (0 ∷ 0 ∷ 0 ∷ 2 ∷ (4 ∷ 3 ∷ 1 ∷ 1 ∷ []) ++ (0 ∷ 0 ∷ 1 ∷ 0 ∷ []) ++ 0 ∷ []) []
     ∷ after done (0 ∷ 0 ∷ 0 ∷ 2 ∷ (4 ∷ 2 ∷ 2 ∷ 1 ∷ []) ++ (0 ∷ 1 ∷ 0 ∷ 0 ∷ []) ++ 0 ∷ []) []
     ∷ after done (0 ∷ 0 ∷ 0 ∷ 2 ∷ (3 ∷ 3 ∷ 2 ∷ 1 ∷ []) ++ (1 ∷ 0 ∷ 0 ∷ 0 ∷ []) ++ 0 ∷ []) []

@@ -1,5 +1,6 @@
--- 'Each output picks a sender: the first of F[o], K[0,o] to K[3,o] for a side; the first of U[0] to U[3] to the unit':
--- who goes first where several wait. One list of calls and one theorem each.
+-- An output's order: 'F[o], K[0,o] to K[3,o] for a side', 'U[0] to U[3] to the unit'. Who goes first where several
+-- wait: an output 'starts as if the last in order had sent' (document 02 (b)), so those that wait once each go in
+-- order, as they did when the first in order always went first. One list of calls and one theorem each.
 use mathlib.Core.Path.{_≡_, refl}
 use mathlib.Core.List.{List, [], _∷_, _++_}
 use Prim.Native.Nat.{ℕ}

@@ -23,7 +23,7 @@ use Rattle.machine.specs.Outputs.{outputAt}
 use Rattle.machine.specs.State.{State, blank, start, join}
 use Rattle.machine.specs.Read.{arrive, deliver, lower, settle, doRead}
 use Rattle.machine.specs.Execute.{cameIn, otherFree, mayBook, setUp, tearOne, tearDown, handle, atUnit, unit}
-use Rattle.machine.specs.Execute.{candidate, firstOf, picked, choose, answer, atActive, undo, doExecute}
+use Rattle.machine.specs.Execute.{candidate, firstOf, nextOf, picked, choose, answer, atActive, undo, doExecute}
 use Rattle.machine.specs.Write.{sendHead, sendBy, send, doWrite}
 use Rattle.machine.specs.Visits.{launched, removed, noted, closed}
 use Rattle.machine.specs.Calls.{Outcome, Call, read, execute, write, call}
@@ -126,8 +126,8 @@ watching pl look qs (cs ∷ more) s =
 unfoldable pub moments : List ℕ → (State → List ℕ) → List Queue → List (List Call) → List After
 unfolding anyBelow allBelow upTo spot onCount walkSize bitAt fieldOf capacityAt headOf jointIn planOf portsOf home
     onward arrives backsArrive servedFrom indexIn indexOn queueAt queues outputAt start blank join arrive deliver
-    lower settle doRead cameIn otherFree mayBook setUp tearOne tearDown handle atUnit unit candidate firstOf picked
-    choose answer atActive undo doExecute sendHead sendBy send doWrite launched removed noted closed call
+    lower settle doRead cameIn otherFree mayBook setUp tearOne tearDown handle atUnit unit candidate firstOf nextOf
+    picked choose answer atActive undo doExecute sendHead sendBy send doWrite launched removed noted closed call
 moments b look qs css = let pl : Plan = planOf b in watching pl look qs css (start pl)
 
 -- the same, looked at after each call

@@ -34,8 +34,8 @@ no-connections-requires c κs =
           (c .before .before .before .free-table .kept .1 .0 ∙ c5 .before .before .clear .kept .0),
     )
 
-all-credits-requires : tie.Need-all-credits-requires
-all-credits-requires c κs =
+last-turns-requires : tie.Need-last-turns-requires
+last-turns-requires c κs =
     let c5 = c .before .before .before .before .before in
     let c10 = c5 .before .before .before .before .before in
     let c15 = c10 .before .before .before .before .before in (
@@ -45,35 +45,52 @@ all-credits-requires c κs =
           ∙ c10 .before .clear .kept .0),
     )
 
-allow-requires : tie.Need-allow-requires
-allow-requires c κs =
+all-credits-requires : tie.Need-all-credits-requires
+all-credits-requires c κs =
     let c5 = c .before .before .before .before .before in
     let c10 = c5 .before .before .before .before .before in
     let c15 = c10 .before .before .before .before .before in
     let first = c15 .before .before .before .before in (
       few-counts (first .pre .0),
       long-still (first .pre .1)
-          (c .before .before .before .all-credits .kept .1 .0 ∙ c5 .before .before .no-connections .kept .1 .0
+          (c .before .before .before .last-turns .kept .1 .0 ∙ c5 .before .before .no-connections .kept .1 .0
           ∙ c10 .before .free-table .kept .1 .0 ∙ c15 .clear .kept .0),
+    )
+
+allow-requires : tie.Need-allow-requires
+allow-requires c κs =
+    let c5 = c .before .before .before .before .before in
+    let c10 = c5 .before .before .before .before .before in
+    let c15 = c10 .before .before .before .before .before in
+    let c19 = c15 .before .before .before .before in
+    let first = c19 .before .before .before .before in (
+      few-counts (first .pre .0),
+      long-still (first .pre .1)
+          (c .before .before .before .all-credits .kept .1 .0 ∙ c5 .before .before .last-turns .kept .1 .0
+          ∙ c10 .before .no-connections .kept .1 .0 ∙ c15 .free-table .kept .1 .0 ∙ c19 .clear .kept .0),
     )
 
 same-length : tie.Need-same-length
 same-length c =
     let c5 = c .before .before .before .before .before in
     let c10 = c5 .before .before .before .before .before in
-    let c15 = c10 .before .before .before .before .before in
-    c .before .before .allow .kept .1 .0 ∙ c5 .before .all-credits .kept .1 .0 ∙ c10 .no-connections .kept .1 .0
-    ∙ c10 .before .before .before .before .free-table .kept .1 .0 ∙ c15 .before .before .before .clear .kept .0
+    let c14 = c10 .before .before .before .before in
+    let c18 = c14 .before .before .before .before in
+    c .before .before .allow .kept .1 .0 ∙ c5 .before .all-credits .kept .1 .0 ∙ c10 .last-turns .kept .1 .0
+    ∙ c14 .no-connections .kept .1 .0 ∙ c18 .free-table .kept .1 .0
+    ∙ c18 .before .before .before .before .clear .kept .0
 
 returns : tie.Need-returns
 returns c =
     let c5 = c .before .before .before .before .before in
     let c10 = c5 .before .before .before .before .before in
-    let c15 = c10 .before .before .before .before .before in
-    let row = c15 .before .before .before .before in
+    let c14 = c10 .before .before .before .before in
+    let c18 = c14 .before .before .before .before in
+    let c22 = c18 .before .before .before .before in
+    let row = c22 .before in
     let first = row .before .before .before in
-    start-made (first .pre .0) (first .pre .1) (row .table-row .ensures) (c15 .before .before .before .clear .ensures)
-    (c10 .before .before .before .before .free-table .ensures) (c10 .no-connections .ensures)
+    start-made (first .pre .0) (first .pre .1) (row .table-row .ensures) (c22 .clear .ensures)
+    (c18 .free-table .ensures) (c14 .no-connections .ensures) (c10 .last-turns .ensures)
     (c5 .before .all-credits .ensures) (c .before .before .allow .ensures)
 
 pub start-spec : {M : Type 1} → statement M
@@ -84,6 +101,7 @@ start-spec =
     clear-requires
     free-table-requires
     no-connections-requires
+    last-turns-requires
     all-credits-requires
     allow-requires
     same-length

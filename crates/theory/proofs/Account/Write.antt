@@ -23,11 +23,11 @@ use Rattle.machine.specs.Capacity.{capacity}
 use Rattle.machine.specs.Store.{sameQueue}
 use Rattle.machine.specs.Outputs.{nextBy, senders}
 use Rattle.machine.specs.State.{State, Links, Choice, nobody, sender, withQueue, withWire, withCredit, withFlag}
-use Rattle.machine.specs.State.{withChoice}
 use Rattle.machine.specs.Write.{ofRank, raise, spend, sendHead, sendFrom, sendBy, send}
 use Rattle.machine.specs.Valid.{Drives, bit, goesTo, brings, onWires, fed}
 use Rattle.machine.proofs.Numbers.{sender-exists}
 use Rattle.theory.proofs.Ground.Cells.{queue-away, same-turn, cell-sum, fed-apart, outputs-put}
+use Rattle.theory.proofs.Cases.{turnTaken}
 use Rattle.theory.specs.Invariant.{account, Core, Sendable}
 use Rattle.theory.proofs.Places.Feeders.{belongs-fed}
 use Rattle.theory.proofs.Places.Lines.{head-leaves}
@@ -112,5 +112,5 @@ module _ {pl : Plan} (wired : Wired pl) where
           let p = sent-paid o (g .queue) s d (sender-exists pl o k (g .queue) d (g .rank)) c w (g .down)
           (candidate-ready pl s o (g .queue) (g .ready)) in
           paid-alike (sendFrom pl o (ofRank (senders o) k) s)
-          (withChoice o nobody (sendFrom pl o (ofRank (senders o) k) s)) refl refl refl refl
+          (turnTaken o k (sendFrom pl o (ofRank (senders o) k) s)) refl refl refl refl
           (subst (λ (y : Option Queue). Paid pl (sendFrom pl o y s)) (sym (g .rank)) p)

@@ -22,7 +22,8 @@ use Rattle.feeding.specs.Queue.{Queue, Exists, Q}
 use Rattle.feeding.specs.Feeds.{Output}
 use Rattle.machine.specs.Store.{put, sameQueue, same-queue, queue-same, sameOutput, same-output, output-same}
 use Rattle.machine.specs.State.{State, Lines, Choice, blank, start, withPhase, withSlot, withWire, withCredit}
-use Rattle.machine.specs.State.{withFlag, withChoice, withEntry, withConnection, withAllowance, withLines}
+use Rattle.machine.specs.State.{withFlag, withChoice, withEntry, withConnection, withAllowance, withLastSender}
+use Rattle.machine.specs.State.{withLines}
 use Rattle.machine.specs.Valid.{Drives, Carries, Bounded, Lined}
 use Rattle.machine.proofs.Apart.{full-not, booked-not}
 use Rattle.theory.proofs.Ground.Puts.{put-cases, put-outside, number-one, entry-cases}
@@ -72,6 +73,7 @@ start-kept pl range =
         table = λ r o t n. refl;
         connection = λ a p t n. refl;
         allowance = λ a n. refl;
+        lastSender = λ o n. refl;
       };
     }
 
@@ -94,6 +96,7 @@ FlowKept pl s =
 abbrev LinksKept : Plan → State → Type 0
 LinksKept pl s = Wires pl s × Outside (Drives pl) (s .links .wire) (blank pl .links .wire)
     × Outside (Drives pl) (s .links .choice) (blank pl .links .choice)
+    × Outside (Drives pl) (s .lastSender) (blank pl .lastSender)
 
 abbrev TableKept : Plan → State → Type 0
 TableKept pl s = EntriesIn pl s × FreeEntry pl s
@@ -125,6 +128,7 @@ by-groups pl s slot lines flow links table connections =
             table = table .2;
             connection = connections;
             allowance = flow .2;
+            lastSender = links .3;
           };
     }
 
@@ -139,7 +143,7 @@ module _ {pl : Plan} {s : State} (k : Kept pl s) where
   flow-of = (b .credit, b .flag, b .allowance)
 
   abbrev links-of : LinksKept pl s
-  links-of = (k .wires, b .wire, b .choice)
+  links-of = (k .wires, b .wire, b .choice, b .lastSender)
 
   abbrev table-of : TableKept pl s
   table-of = (k .entries, k .free-entry, b .table)
@@ -174,6 +178,7 @@ module _ {pl : Plan} {s : State} (k : Kept pl s) where
         put-outside sameOutput output-same same-output (Drives pl) (s .links .wire) (blank pl .links .wire) o x h
             (b .wire),
         b .choice,
+        b .lastSender,
       )
       table-of connections-of
 
@@ -186,6 +191,18 @@ module _ {pl : Plan} {s : State} (k : Kept pl s) where
         b .wire,
         put-cases sameOutput output-same same-output (λ (u : Output) (v : Choice). (Drives pl u → ⊥)
             → v ≡ blank pl .links .choice u) (s .links .choice) o x h (λ u ne. b .choice u),
+        b .lastSender,
+      ) table-of connections-of
+
+  -- what an output of the plan remembers
+  pub last-kept : (o : Output) (x : ℕ) → Drives pl o → Kept pl (withLastSender o x s)
+  last-kept o x h =
+      by-groups pl (withLastSender o x s) (k .slot) lines-of flow-of (
+        k .wires,
+        b .wire,
+        b .choice,
+        put-outside sameOutput output-same same-output (Drives pl) (s .lastSender) (blank pl .lastSender) o x h
+            (b .lastSender),
       ) table-of connections-of
 
   -- a credit of a queue of the plan

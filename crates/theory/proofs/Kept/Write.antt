@@ -28,7 +28,8 @@ use Rattle.theory.specs.Invariant.{Sendable}
 use Rattle.theory.proofs.Places.Feeders.{sender-leaves}
 use Rattle.theory.proofs.Places.Lines.{no-mark, head-leaves, line-of, belongs-exists}
 use Rattle.theory.proofs.Places.Makes.{next-belongs}
-use Rattle.theory.proofs.Kept.Parts.{Kept, slot-kept, choice-kept, credit-kept, flag-kept, wire-kept}
+use Rattle.theory.proofs.Kept.Parts.{Kept, slot-kept, choice-kept, last-kept, credit-kept, flag-kept}
+use Rattle.theory.proofs.Kept.Parts.{wire-kept}
 use Rattle.theory.proofs.Kept.Lines.{head-belongs, behind-belong, mark-kept, gone-kept}
 
 module _ {pl : Plan} (wired : Wired pl) (range : InRange (pl .head)) where
@@ -81,7 +82,7 @@ module _ {pl : Plan} (wired : Wired pl) (range : InRange (pl .head)) where
 
       by : (c : Choice) → s .links .choice o ≡ c → Kept pl (sendBy pl o c s)
       by nobody e = k
-      by (sender n) e = choice-kept (chosen n (able n e)) o nobody (λ out. absurd (out d))
+      by (sender n) e = last-kept (choice-kept (chosen n (able n e)) o nobody (λ out. absurd (out d))) o n d
 
   -- the slot after the current one is one of the plan's
   pub turn-kept : (s : State) → Kept pl s → Kept pl (withSlot (slotNext (s .clock .slot) (S pl)) s)

@@ -1,5 +1,5 @@
--- READ, choices, WRITE and an active's tear-down change lines, flow and links alone: the table and the connections
--- stay. A unit leaves the connections.
+-- READ, choices, WRITE and an active's tear-down change lines, flow and links alone, and a sending what its output
+-- remembers: the table and the connections stay. A unit leaves the connections and what outputs remember.
 use mathlib.Core.Path.{_≡_, refl, ap, _∙_}
 use mathlib.Core.Bool.{Bool, true, false, _&&_}
 use mathlib.Core.List.{List, [], _∷_}
@@ -13,6 +13,7 @@ use Rattle.feeding.specs.Queue.{Queue, activeOut, activeIn}
 use Rattle.feeding.specs.Feeds.{Output}
 use Rattle.machine.specs.Outputs.{nextBy, senders}
 use Rattle.machine.specs.State.{State, Lines, Flow, Links, Choice, nobody, sender, withLines, withFlow, withLinks}
+use Rattle.machine.specs.State.{withLastSenders}
 use Rattle.machine.specs.State.{withQueue, withWire, withCredit, withFlag, withHandled, withChoice, join}
 use Rattle.packets.specs.Counters.{creditDown}
 use Rattle.machine.specs.Read.{joinNext, arrive, deliver, lower, settle}
@@ -20,7 +21,7 @@ use Rattle.machine.specs.Execute.{choose, unmarked, hasRoom, marked, tdownOf, a
 use Rattle.machine.specs.Write.{ofRank, raise, spend, sendHead, sendFrom, sendBy, send}
 use Rattle.theory.proofs.Places.Senders.{raise-leaves}
 use Rattle.theory.proofs.Cases.{unit-books, unit-declines, unit-ends, unit-frees, UnitDoes, rests, books}
-use Rattle.theory.proofs.Cases.{declines, ends, frees, unit-does}
+use Rattle.theory.proofs.Cases.{declines, ends, frees, unit-does, turnTaken}
 
 -- what neither lines nor flow nor links change
 pub record Apart {X : Type 0} (f : State → X) : Type 0 where
@@ -35,6 +36,10 @@ table-apart = record { lines = λ x s. refl; flow = λ x s. refl; links = λ x s
 -- and so are the connections.
 pub connections-apart : Apart (λ (s : State). s .connections)
 connections-apart = record { lines = λ x s. refl; flow = λ x s. refl; links = λ x s. refl }
+
+-- And so is what outputs remember.
+pub last-apart : Apart (λ (s : State). s .lastSender)
+last-apart = record { lines = λ x s. refl; flow = λ x s. refl; links = λ x s. refl }
 
 module _ {X : Type 0} {f : State → X} (k : Apart f) where
   -- a packet that joins leaves it
@@ -74,10 +79,10 @@ module _ {X : Type 0} {f : State → X} (k : Apart f) where
     unfolding choose
     choose-leaves o = k .links (choose pl o s .links) s
 
-    -- So does a sending.
-    pub send-leaves : (o : Output) → f (send pl o s) ≡ f s
-    unfolding send sendBy sendHead
-    send-leaves o = by (s .links .choice o)
+    -- So does a head that goes,
+    pub sent-leaves : (o : Output) (y : Option Queue) → f (sendFrom pl o y s) ≡ f s
+    unfolding sendHead
+    sent-leaves o y = from y
       where
         head : (q : Queue) (l : List Packet) → f (sendHead pl o q l s) ≡ f s
         head q [] = refl
@@ -93,11 +98,18 @@ module _ {X : Type 0} {f : State → X} (k : Apart f) where
         from none = refl
         from (some q) = head q (s .lines .queue q)
 
+    -- and so does a sending, if it is not what outputs remember.
+    pub send-leaves : ((x : Output → ℕ) (t : State) → f (withLastSenders x t) ≡ f t) → (o : Output)
+        → f (send pl o s) ≡ f s
+    unfolding send sendBy
+    send-leaves last o = by (s .links .choice o)
+      where
         by : (c : Choice) → f (sendBy pl o c s) ≡ f s
         by nobody = refl
         by (sender n) =
             let t : State = sendFrom pl o (ofRank (senders o) n) s in
-            k .links (withChoice o nobody t .links) t ∙ from (ofRank (senders o) n)
+            last (turnTaken o n t .lastSender) (withChoice o nobody t) ∙ k .links (withChoice o nobody t .links) t
+            ∙ sent-leaves o (ofRank (senders o) n)
 
     -- So does an active's tear-down.
     pub undo-leaves : (a : ℕ) → f (undo pl a s) ≡ f s
@@ -114,13 +126,17 @@ module _ {X : Type 0} {f : State → X} (k : Apart f) where
         by [] = refl
         by (x ∷ rest) = to x rest (unmarked x && hasRoom pl (activeOut a) s)
 
--- A unit leaves the connections.
-pub unit-connections : (pl : Plan) (s : State) (r : ℕ) → unit pl r s .connections ≡ s .connections
-unit-connections pl s r = by (unit-does pl r s)
+-- A unit leaves the connections and what outputs remember: whatever is read of these.
+pub unit-leaves : {X : Type 0} (g : (ℕ → ℕ → ℕ → Bool) → (Output → ℕ) → X) (pl : Plan) (s : State) (r : ℕ)
+    → g (unit pl r s .connections) (unit pl r s .lastSender) ≡ g (s .connections) (s .lastSender)
+unit-leaves {X} g pl s r = by (unit-does pl r s)
   where
-    by : UnitDoes pl r s → unit pl r s .connections ≡ s .connections
-    by (rests e) = ap (λ (u : State). u .connections) e
-    by (books x rest e f q t) = ap (λ (u : State). u .connections) (unit-books pl r s x rest e f q t)
-    by (declines x rest e f q t) = ap (λ (u : State). u .connections) (unit-declines pl r s x rest e f q t)
-    by (ends x rest e f q t) = ap (λ (u : State). u .connections) (unit-ends pl r s x rest e f q t)
-    by (frees x rest e f q t) = ap (λ (u : State). u .connections) (unit-frees pl r s x rest e f q t)
+    of : State → X
+    of u = g (u .connections) (u .lastSender)
+
+    by : UnitDoes pl r s → of (unit pl r s) ≡ of s
+    by (rests e) = ap of e
+    by (books x rest e f q t) = ap of (unit-books pl r s x rest e f q t)
+    by (declines x rest e f q t) = ap of (unit-declines pl r s x rest e f q t)
+    by (ends x rest e f q t) = ap of (unit-ends pl r s x rest e f q t)
+    by (frees x rest e f q t) = ap of (unit-frees pl r s x rest e f q t)

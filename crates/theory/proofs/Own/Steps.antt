@@ -103,7 +103,7 @@ module _ {pl : Plan} (wired : Wired pl) {acc : List Connection} (s : State) (c :
   -- So does a sending.
   pub send-owned : (w : Output) → Drives pl w → ((n : ℕ) → s .links .choice w ≡ sender n → Sendable pl s w n)
       → s .links .wire w ≡ Empty → Owned pl acc (send pl w s)
-  send-owned w d ready z = owned-same s (send pl w s) k (send-leaves table-apart pl s w)
+  send-owned w d ready z = owned-same s (send pl w s) k (send-leaves table-apart pl s (λ x t. refl) w)
       (λ r o u v. send-weighed pl (owns pl r o u v) wired c w d (owns-steady pl r o u v wired) ready z)
 
   -- So does an active that tears down: the tear-down owns what the NACK owned.

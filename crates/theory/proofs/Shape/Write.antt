@@ -18,12 +18,13 @@ use Rattle.feeding.specs.Feeds.{Output, headingOf, outputOf}
 use Rattle.wiring.specs.Wired.{Wired}
 use Rattle.journeys.proofs.Places.{some-same}
 use Rattle.machine.specs.Outputs.{nextBy, senders, outputs, outputAt, outputNumber}
-use Rattle.machine.specs.State.{State, Links, Choice, nobody, sender, withQueue, withWire, withChoice}
+use Rattle.machine.specs.State.{State, Links, Choice, nobody, sender, withQueue, withWire}
 use Rattle.machine.specs.Write.{ofRank, raise, spend, sendHead, sendFrom, sendBy, send, doWrite}
 use Rattle.machine.specs.Valid.{Drives}
 use Rattle.machine.proofs.OutNumbers.{output-at, output-below, drives-at, at-apart}
 use Rattle.theory.proofs.Ground.Cells.{output-here, output-away}
 use Rattle.theory.specs.Invariant.{WiresEmpty, NoChoices, Sendable, ChoicesSendable, Shape, in-read}
+use Rattle.theory.proofs.Cases.{turnTaken}
 use Rattle.theory.proofs.Places.Feeders.{one-feeder, sender-leaves}
 use Rattle.theory.proofs.Places.Senders.{raise-links}
 use Rattle.theory.proofs.Shape.Spared.{Spares, spared-sendable, spares-alike, spares-then, turn-spares}
@@ -33,24 +34,23 @@ use Rattle.theory.proofs.Shape.Spared.{raise-spares, spend-spares}
 abbrev pub sentFrom : Plan → Output → Queue → Packet → List Packet → State → State
 sentFrom pl o q x rest s = withWire o (Full x) (spend (nextBy pl o x) (raise q (withQueue q rest s)))
 
--- an output's turn does nothing; or its choice is cleared; or its choice is cleared and the head of that sender is
--- sent
+-- an output's turn does nothing; or it is taken; or it is taken and the head of the sender that was picked is sent
 pub send-by : (pl : Plan) (s : State) (P : State → Type 0) (o : Output) → (s .links .choice o ≡ nobody → P s)
-    → P (withChoice o nobody s)
+    → ((k : ℕ) → P (turnTaken o k s))
     → ((k : ℕ) (q : Queue) (x : Packet) (rest : List Packet) → s .links .choice o ≡ sender k → ofRank (senders o) k
-    ≡ some q → s .lines .queue q ≡ x ∷ rest → P (withChoice o nobody (sentFrom pl o q x rest s)))
+    ≡ some q → s .lines .queue q ≡ x ∷ rest → P (turnTaken o k (sentFrom pl o q x rest s)))
     → P (send pl o s)
 unfolding send sendBy sendHead
 send-by pl s P o same cleared sent = by (s .links .choice o) refl
   where
     head : (k : ℕ) → s .links .choice o ≡ sender k → (q : Queue) → ofRank (senders o) k ≡ some q → (xs : List Packet)
-        → s .lines .queue q ≡ xs → P (withChoice o nobody (sendHead pl o q xs s))
-    head k e q r [] h = cleared
+        → s .lines .queue q ≡ xs → P (turnTaken o k (sendHead pl o q xs s))
+    head k e q r [] h = cleared k
     head k e q r (x ∷ rest) h = sent k q x rest e r h
 
     from : (k : ℕ) → s .links .choice o ≡ sender k → (y : Option Queue) → ofRank (senders o) k ≡ y
-        → P (withChoice o nobody (sendFrom pl o y s))
-    from k e none r = cleared
+        → P (turnTaken o k (sendFrom pl o y s))
+    from k e none r = cleared k
     from k e (some q) r = head k e q r (s .lines .queue q) refl
 
     by : (c : Choice) → s .links .choice o ≡ c → P (sendBy pl o c s)
@@ -66,7 +66,7 @@ module _ (pl : Plan) where
   -- another output's wire stays
   pub send-wire : (o u : Output) (s : State) → u ≢ o → send pl o s .links .wire u ≡ s .links .wire u
   send-wire o u s ne =
-      send-by pl s (λ (t : State). t .links .wire u ≡ s .links .wire u) o (λ e. refl) refl
+      send-by pl s (λ (t : State). t .links .wire u ≡ s .links .wire u) o (λ e. refl) (λ k. refl)
       (λ k q x rest e r h. output-away (spend (nextBy pl o x) (raise q (withQueue q rest s)) .links .wire) o (Full x) u
       ne
       ∙ ap (λ (l : Links). l .wire u)
@@ -81,14 +81,15 @@ module _ (pl : Plan) where
   pub send-choice : (o u : Output) (s : State) → u ≢ o → send pl o s .links .choice u ≡ s .links .choice u
   send-choice o u s ne =
       send-by pl s (λ (t : State). t .links .choice u ≡ s .links .choice u) o (λ e. refl)
-      (output-away (s .links .choice) o nobody u ne)
+      (λ k. output-away (s .links .choice) o nobody u ne)
       (λ k q x rest e r h. output-away (sentFrom pl o q x rest s .links .choice) o nobody u ne
       ∙ sent-choice o u q x rest s)
 
   -- the output's own choice is cleared
   pub send-clears : (o : Output) (s : State) → send pl o s .links .choice o ≡ nobody
   send-clears o s =
-      send-by pl s (λ (t : State). t .links .choice o ≡ nobody) o (λ e. e) (output-here (s .links .choice) o nobody)
+      send-by pl s (λ (t : State). t .links .choice o ≡ nobody) o (λ e. e)
+      (λ k. output-here (s .links .choice) o nobody)
       (λ k q x rest e r h. output-here (sentFrom pl o q x rest s .links .choice) o nobody)
 
   -- ---- after WRITE there are no choices
@@ -139,21 +140,21 @@ module _ (pl : Plan) where
     pub send-spares : (o u : Output) (s : State) → Drives pl o → Drives pl u → u ≢ o → Spares pl s (send pl o s) u
     send-spares o u s d e ne =
         send-by pl s (λ (t : State). Spares pl s t u) o (λ c. spares-alike s s refl refl refl refl)
-        (spares-alike s (withChoice o nobody s) refl refl refl refl) sent
+        (λ k. spares-alike s (turnTaken o k s) refl refl refl refl) sent
       where
         sent : (k : ℕ) (q : Queue) (x : Packet) (rest : List Packet) → s .links .choice o ≡ sender k
             → ofRank (senders o) k ≡ some q → s .lines .queue q ≡ x ∷ rest
-            → Spares pl s (withChoice o nobody (sentFrom pl o q x rest s)) u
+            → Spares pl s (turnTaken o k (sentFrom pl o q x rest s)) u
         sent k q x rest c r h =
-            spares-then s (withQueue q rest s) (withChoice o nobody (sentFrom pl o q x rest s))
+            spares-then s (withQueue q rest s) (turnTaken o k (sentFrom pl o q x rest s))
             (turn-spares q out rest s)
             (spares-then (withQueue q rest s) (raise q (withQueue q rest s))
-            (withChoice o nobody (sentFrom pl o q x rest s)) (raise-spares q out (withQueue q rest s))
+            (turnTaken o k (sentFrom pl o q x rest s)) (raise-spares q out (withQueue q rest s))
             (spares-then (raise q (withQueue q rest s)) (spend (nextBy pl o x) (raise q (withQueue q rest s)))
-            (withChoice o nobody (sentFrom pl o q x rest s))
+            (turnTaken o k (sentFrom pl o q x rest s))
             (spend-spares (nextBy pl o x) (raise q (withQueue q rest s)) away)
             (spares-alike (spend (nextBy pl o x) (raise q (withQueue q rest s)))
-            (withChoice o nobody (sentFrom pl o q x rest s)) refl refl refl refl)))
+            (turnTaken o k (sentFrom pl o q x rest s)) refl refl refl refl)))
           where
             out : outputOf q ≡ some u → ⊥
             out l = ne (some-same (sym l ∙ sender-leaves o k q r))

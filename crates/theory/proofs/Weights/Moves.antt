@@ -112,12 +112,12 @@ module _ (pl : Plan) (w : Weight) where
       by passing e = plain (rw e)
 
   -- A head that is sent weighs as in its next queue from then on.
-  pub sent-weighed : (s : State) (o : Output) (q y : Queue) (x : Packet) (rest : List Packet) → Drives pl o
+  pub sent-weighed : (s : State) (o : Output) (k : ℕ) (q y : Queue) (x : Packet) (rest : List Packet) → Drives pl o
       → Exists pl q → s .links .wire o ≡ Empty
       → s .lines .queue q ≡ x ∷ rest → mayLeave s q ≡ true → nextBy pl o x ≡ some y
-      → weighed pl w (afterSent pl o s q y x rest) + w (leavesFrom q) x ≡ weighed pl w s + w (inQueue y) x
+      → weighed pl w (afterSent pl o s k q y x rest) + w (leavesFrom q) x ≡ weighed pl w s + w (inQueue y) x
   unfolding weighed inLine onWire
-  sent-weighed s o q y x rest d h z e m n =
+  sent-weighed s o k q y x rest d h z e m n =
       let u : State = spend (some y) (raise q (withQueue q rest s)) in
       let clear : onWire pl w o (raise q (withQueue q rest s) .links .wire o) ≡ 0 =
       ap (λ (l : Links). onWire pl w o (l .wire o)) (raise-links q (withQueue q rest s)) ∙ ap (onWire pl w o) z in
@@ -160,6 +160,6 @@ module _ (pl : Plan) (w : Weight) where
             let belongs = subst (λ (at : Place). Belongs pl at (g .packet)) (head-leaves s q (g .leaves))
             (core-head c q h (g .packet) (g .rest) (g .line)) in
             let same = steady o k q (g .onto) (g .packet) d r (g .next) belongs in
-            let all = sent-weighed s o q (g .onto) (g .packet) (g .rest) d h z (g .line) (g .leaves) (g .next) in
+            let all = sent-weighed s o k q (g .onto) (g .packet) (g .rest) d h z (g .line) (g .leaves) (g .next) in
             ap (weighed pl w) (send-one pl o s k q e r g) ∙ omega arith
         -- ---- folds

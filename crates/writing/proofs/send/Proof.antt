@@ -1,6 +1,6 @@
 use Rattle.plan.specs.Tables.{tablePlan}
 use Rattle.reading.proofs.Offsets.{table-head, range-counts}
-use Rattle.writing.proofs.Turns.{next-small, next-within, next-credit, send-done}
+use Rattle.writing.proofs.Turns.{next-small, next-within, next-credit, last-within, send-done}
 use Rattle.writing.proofs.Turns.{choice-within, send-none, sender-small, sender-within, sender-some, sender-few}
 use Rattle.writing.proofs.Turns.{pair-of, wire-within}
 use native.Mathlib.Omega.{arith}
@@ -14,6 +14,7 @@ use Rattle.acts.proofs.queue_row.Reads as queue-row-reads
 use Rattle.moves.proofs.next.Reads as next-reads
 use Rattle.writing.proofs.enter.Reads as enter-reads
 use Rattle.writing.proofs.rank.Reads as rank-reads
+use Rattle.writing.proofs.remember.Reads as remember-reads
 use Rattle.writing.proofs.sender_of.Reads as sender-of-reads
 use Rattle.writing.proofs.take.Reads as take-reads
 
@@ -135,22 +136,38 @@ enter-requires c κs = (
       .before .before .pre .2),
 )
 
--- src/lib.rt:114:1
+-- src/lib.rt:156:5
+remember-requires : tie.Need-remember-requires
+remember-requires c κs =
+    let c5 = c .before .before .before .before .before in
+    let c10 = c5 .before .before .before .before .before in
+    let c15 = c10 .before .before .before .before .before in
+    let p = c15 .before .before .pre in
+    let k = c10 .before .before .rank .ensures .0 in (
+      range-counts (p .0 .range),
+      p .1,
+      omega arith,
+      last-within (tablePlan _ _ _) (table-head _ _ _) _ _ (p .1) (c15 .output-row .ensures) k
+          (c10 .before .sender-of .ensures) (c5 .before .before .before .before .queue-row .ensures)
+          (c5 .before .before .before .take .ensures) (c .before .before .before .before .next .ensures)
+          (c .before .before .before .enter .ensures) (p .2),
+    )
+
+-- src/lib.rt:134:1
 same-length : tie.Need-same-length
 same-length c = search needs
 
--- src/lib.rt:114:1
+-- src/lib.rt:134:1
 returns-2 : tie.Need-returns-2
 returns-2 c =
-    send-done (tablePlan _ _ _) (table-head _ _ _) _ _
-    (c .before .before .before .before .before .before .before .before .before .before .before .before .before .before
-    .before .before .pre .1) (c .before .before .before .before .before .before .before .before .before .before .before
-    .before .before .before .output-row .ensures)
-    (c .before .before .before .before .before .before .before .before .before .before .before .rank .ensures .0)
-    (c .before .before .before .before .before .before .before .before .before .before .sender-of .ensures)
-    (c .before .before .before .before .before .before .before .before .queue-row .ensures)
-    (c .before .before .before .before .before .before .before .take .ensures)
-    (c .before .before .before .next .ensures) (c .before .before .enter .ensures)
+    let c5 = c .before .before .before .before .before in
+    let c10 = c5 .before .before .before .before .before in
+    let c15 = c10 .before .before .before .before .before in
+    send-done (tablePlan _ _ _) (table-head _ _ _) _ _ (c15 .before .before .before .before .before .pre .1)
+    (c15 .before .before .before .output-row .ensures) (c15 .rank .ensures .0)
+    (c10 .before .before .before .before .sender-of .ensures) (c10 .before .before .queue-row .ensures)
+    (c10 .before .take .ensures) (c5 .before .before .next .ensures) (c5 .before .enter .ensures)
+    (c .before .before .remember .ensures)
 
 pub send-spec : {M : Type 1} → statement M
 send-spec =
@@ -166,5 +183,6 @@ send-spec =
     take-requires
     next-requires
     enter-requires
+    remember-requires
     same-length
     returns-2)

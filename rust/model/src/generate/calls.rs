@@ -44,9 +44,12 @@ impl Caller {
 
     /// The next call, for the state as it is now.
     pub fn next(&mut self, random: &mut Random, network: &Network, state: &State) -> Call {
-        if self.left == 0 {
+        if self.left == 0 && random.chance(1, 2) {
+            self.mood = self.mood.crowd(random, network);
+            self.left = random.within(30..=90);
+        } else if self.left == 0 {
             self.mood = Mood::new(random, network);
-            self.left = random.within(50..=400);
+            self.left = random.within(50..=300);
         }
         self.left -= 1;
         if random.chance(self.mood.stray, 160) {
@@ -128,6 +131,19 @@ impl Mood {
             consume: often(random),
             stray: random.pick(&[0, 4, 16, 48]).unwrap_or(4),
             slots: random.within(1..=network.slots()),
+        }
+    }
+
+    /// Everybody launches; passives hold their answers back until many wait, and then all answer at
+    /// once, so that several senders compete at an output.
+    fn crowd(&self, random: &mut Random, network: &Network) -> Mood {
+        let reply = if self.reply == 0 { 16 } else { 0 };
+        Mood {
+            launch: 15,
+            reply,
+            consume: 15,
+            slots: network.slots(),
+            ..Mood::new(random, network)
         }
     }
 }

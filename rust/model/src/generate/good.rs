@@ -2,6 +2,7 @@
 
 use super::{Draft, Random};
 use crate::fields::{Fields, SIDES};
+use crate::named::detour;
 use crate::plan::{Plan, Port};
 
 /// How the routers are joined.
@@ -31,7 +32,32 @@ pub fn joined(random: &mut Random) -> Fields {
 
 /// A plan that loads: while there is a ring, routes to passives are taken away.
 pub fn loadable(random: &mut Random) -> Plan {
-    let mut fields = joined(random);
+    let fields = joined(random);
+    without_ring(random, fields)
+}
+
+/// A small plan with much room and an interface at every side, that loads: several senders compete
+/// at many outputs. Every third one has a side that is booked by set-ups and shared by answers.
+pub fn crowded(random: &mut Random) -> Plan {
+    let capacities = std::array::from_fn(|_| random.within(2..=7));
+    if random.chance(1, 3) {
+        let mut draft = detour();
+        draft.capacities(capacities).fields_mut().slots = random.within(3..=12);
+        return without_ring(random, draft.fields().clone());
+    }
+    let mut draft = Draft::new(random.within(1..=3), random.within(6..=32), 1);
+    draft.capacities(capacities);
+    for router in 1..draft.fields().routers.len() {
+        join_somewhere(random, &mut draft, router - 1, router);
+    }
+    let ports = draft.free_ports().len();
+    let actives = if random.chance(1, 2) { 1 } else { random.within(1..=ports - 1) };
+    place(random, &mut draft, actives, ports - actives);
+    draft.shortest_routes();
+    without_ring(random, draft.fields().clone())
+}
+
+fn without_ring(random: &mut Random, mut fields: Fields) -> Plan {
     loop {
         match Plan::load(&fields.encode()) {
             Ok(plan) => return plan,
@@ -92,18 +118,22 @@ fn join_somewhere(random: &mut Random, draft: &mut Draft, one: usize, other: usi
     }
 }
 
-/// At least one active and one passive. Half of the time actives stand at the lower routers and
-/// passives at the higher ones, so that many set-ups go one way.
+/// At least one active and one passive.
 fn place_interfaces(random: &mut Random, draft: &mut Draft) {
-    let mut free = draft.free_ports();
-    let most = free.len().min(32);
+    let most = draft.free_ports().len().min(32);
     let total = if random.chance(1, 4) { most } else { random.within(2..=most) };
+    let actives = random.within(1..=total - 1).clamp(total.saturating_sub(16), 16).max(1);
+    place(random, draft, actives, total - actives);
+}
+
+/// So many of them, at free sides. Half of the time actives stand at the lower routers and passives
+/// at the higher ones, so that many set-ups go one way.
+fn place(random: &mut Random, draft: &mut Draft, actives: usize, passives: usize) {
+    let mut free = draft.free_ports();
     let apart = random.chance(1, 2);
     if !apart {
         shuffle(random, &mut free);
     }
-    let actives = random.within(1..=total - 1).clamp(total.saturating_sub(16), 16).max(1);
-    let passives = total - actives;
     for port in free.iter().take(actives) {
         draft.active(port.router, port.side);
     }

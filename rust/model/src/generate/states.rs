@@ -14,7 +14,7 @@ use crate::machine::{Connection, Hub, Kind, Network, Packet, Phase, Slot, State}
 pub type Change = fn(&mut Random, &Network, &mut State);
 
 /// All small changes.
-pub const CHANGES: [Change; 14] = [
+pub const CHANGES: [Change; 15] = [
     change_entry,
     change_slot,
     change_packet,
@@ -24,6 +24,7 @@ pub const CHANGES: [Change; 14] = [
     add_to_wire,
     remove_from_queue,
     change_choice,
+    change_last,
     add_connection,
     turn_mark,
     change_marked_entry,
@@ -151,6 +152,14 @@ fn change_choice(random: &mut Random, network: &Network, state: &mut State) {
     let link = network.links()[random.below(network.links().len())];
     let sender = random.pick(&network.senders(link));
     state.choices[network.link_index(link)] = sender.filter(|_| random.chance(2, 3));
+}
+
+/// Another sender was served last; also one that the output has not, and at a side that is not
+/// joined.
+fn change_last(random: &mut Random, network: &Network, state: &mut State) {
+    let link = network.links()[random.below(network.links().len())];
+    let any = usize::from(random.number() as u8);
+    state.last[network.link_index(link)] = if random.chance(1, 8) { any } else { random.below(5) };
 }
 
 fn spend_credit(state: &mut State, at: usize) -> bool {

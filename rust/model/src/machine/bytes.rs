@@ -64,15 +64,20 @@ impl Network {
     pub fn output_at(&self, link: Link) -> usize {
         let (actives, passives) = (self.plan().actives(), self.plan().passives());
         let queues = 2 * actives + 2 * passives + ROUTER_QUEUES * self.plan().routers();
+        CLOCK + QUEUE_ROW * queues + OUTPUT_ROW * self.output_number(link)
+    }
+
+    /// Outputs are numbered so.
+    fn output_number(&self, link: Link) -> usize {
+        let (actives, passives) = (self.plan().actives(), self.plan().passives());
         let of_router = |router| actives + passives + ROUTER_OUTPUTS * router;
-        let number = match link {
+        match link {
             Link::Active(number) => number,
             Link::Passive(number) => actives + number,
             Link::Side(Port { router, side }) => of_router(router) + side,
             Link::Unit(router) => of_router(router) + 4,
             Link::Back(router) => of_router(router) + 5,
-        };
-        CLOCK + QUEUE_ROW * queues + OUTPUT_ROW * number
+        }
     }
 
     /// The byte of an active's allowance; of A, the first byte after the allowances.
@@ -98,9 +103,14 @@ impl Network {
         self.entry_at(self.plan().routers(), 0, 0) + MARK_ROW * active
     }
 
-    /// How many bytes a state has.
+    /// The byte that holds the rank of the sender that an output served last.
+    pub fn last_at(&self, link: Link) -> usize {
+        self.marks_at(self.plan().actives()) + self.output_number(link)
+    }
+
+    /// How many bytes a state has: one for each output is the last part.
     pub fn size(&self) -> usize {
-        self.marks_at(self.plan().actives())
+        self.marks_at(self.plan().actives()) + self.links().len()
     }
 
     /// Whether the layout has a bit for this mark; also where the plan has no such passive or slot.
@@ -121,6 +131,7 @@ impl Network {
         for &link in self.links() {
             let at = self.output_at(link);
             self.encode_output(state, link, &mut bytes[at..at + OUTPUT_ROW]);
+            bytes[self.last_at(link)] = state.last[self.link_index(link)] as u8;
         }
         for (active, &allowance) in state.allowances.iter().enumerate() {
             bytes[self.allowance_at(active)] = allowance as u8;
@@ -159,7 +170,7 @@ impl Network {
             row[1..1 + PACKET].copy_from_slice(&packet_bytes(packet));
         }
         if let Some(choice) = state.choices[at] {
-            let rank = self.senders(link).iter().position(|&sender| sender == choice);
+            let rank = self.rank(link, choice);
             row[6] = rank.map_or(0, |rank| rank as u8 + 1);
         }
     }
@@ -200,6 +211,7 @@ impl Network {
         for &link in self.links() {
             let at = self.output_at(link);
             self.decode_output(&mut state, link, &bytes[at..at + OUTPUT_ROW])?;
+            state.last[self.link_index(link)] = bytes[self.last_at(link)].into();
         }
         for active in 0..self.plan().actives() {
             state.allowances[active] = bytes[self.allowance_at(active)].into();

@@ -21,6 +21,14 @@ pub struct Claims<'n> {
     accepted: BTreeSet<Connection>,
     /// Whole rounds without a move since a state in READ from which a move is claimed.
     still: Option<usize>,
+    /// By link and rank: how many others have gone before a head that stayed a candidate.
+    passed_by: Vec<Vec<usize>>,
+    /// How many outputs picked while several senders were candidates.
+    pub contested: usize,
+    /// Of these, how many picked another than the first in order.
+    pub turned: usize,
+    /// The most others that ever went before a head that stayed a candidate.
+    pub most_before: usize,
     /// How often the network was empty while some connections were accepted.
     pub tables_compared: usize,
     /// How many connections were accepted that had been closed before.
@@ -38,6 +46,10 @@ impl<'n> Claims<'n> {
             acceptances: HashMap::new(),
             accepted: BTreeSet::new(),
             still: None,
+            passed_by: network.links().iter().map(|&l| vec![0; network.senders(l).len()]).collect(),
+            contested: 0,
+            turned: 0,
+            most_before: 0,
             tables_compared: 0,
             reopened: 0,
             longest_wait: 0,
@@ -85,6 +97,9 @@ impl<'n> Claims<'n> {
             return Err(format!("not a state: {fault}"));
         }
         self.no_queue_over_capacity(state)?;
+        if call == Call::Execute && answer.is_ok() {
+            self.note_turns(state)?;
+        }
         self.note_moves(call, answer.is_ok(), before, state)
     }
 
@@ -95,6 +110,31 @@ impl<'n> Claims<'n> {
                 self.network.queue(state, queue).len() > self.network.capacity(queue)
             });
         over.map_or(Ok(()), |queue| Err(format!("{queue:?} is over its capacity")))
+    }
+
+    /// "A head that stays a candidate sees at most three others go before it on that output": after
+    /// an accepted Execute. What a head has seen is forgotten when it is picked, or when the output
+    /// picks and it is no candidate.
+    fn note_turns(&mut self, state: &State) -> Result<(), String> {
+        for &link in self.network.links() {
+            let at = self.network.link_index(link);
+            let Some(picked) = state.choices[at].and_then(|sender| self.network.rank(link, sender))
+            else {
+                continue;
+            };
+            let candidates = self.network.candidates(state, link);
+            self.contested += usize::from(candidates.len() > 1);
+            self.turned += usize::from(candidates.first().is_some_and(|&first| first != picked));
+            for (rank, others) in self.passed_by[at].iter_mut().enumerate() {
+                let stays = rank != picked && candidates.contains(&rank);
+                *others = if stays { *others + 1 } else { 0 };
+                self.most_before = self.most_before.max(*others);
+                if *others > 3 {
+                    return Err(format!("{others} others went before sender {rank} of {link:?}"));
+                }
+            }
+        }
+        Ok(())
     }
 
     /// "Each accepted Consume that returns an ACK accepts one"; at an accepted Close it "leaves the

@@ -2,7 +2,8 @@
 //! their refusals, refusal 7's condition, and the claims that hold of every list of calls.
 //!
 //! * [`packet`]: packets, slots, hub counts. [`network`]: a loaded plan, its journeys, its links.
-//! * [`state`]: queues, wires, credits, flags, choices, table, allowances, accepted connections.
+//! * [`state`]: queues, wires, credits, flags, choices, table, allowances, accepted connections,
+//!   senders last served.
 //! * [`connection`]: which connection an ACK tells of, and the entries that it makes.
 //! * [`phases`]: what READ, EXECUTE and WRITE do. [`calls`]: the calls with their refusals.
 //! * [`valid`]: what is a state (refusal 7), and [`places`], where a packet of a pair can be.

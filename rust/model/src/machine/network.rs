@@ -134,7 +134,7 @@ impl Network {
         capacities.active_out.min(capacities.active_in)
     }
 
-    /// The queues that may send over a link, in the order they are asked: "`F[o]`, `K[0,o]` to
+    /// The queues that may send over a link, in order: "`F[o]`, `K[0,o]` to
     /// `K[3,o]` for a side; `U[0]` to `U[3]` to the unit; Q to F; an interface's out-queue".
     pub fn senders(&self, link: Link) -> Vec<Queue> {
         match link {
@@ -148,6 +148,21 @@ impl Network {
             Link::Active(number) => vec![Queue::ActiveOut(number)],
             Link::Passive(number) => vec![Queue::PassiveOut(number)],
         }
+    }
+
+    /// A sender's rank: its place in the output's order, from 0.
+    pub fn rank(&self, link: Link, sender: Queue) -> Option<usize> {
+        self.senders(link).iter().position(|&other| other == sender)
+    }
+
+    /// The rank of the last sender in order: what an output remembers before it has served anybody.
+    pub fn last_in_order(&self, link: Link) -> usize {
+        self.senders(link).len() - 1
+    }
+
+    /// Whether the link leads somewhere: all but those of sides that are not joined.
+    pub fn is_joined(&self, link: Link) -> bool {
+        !matches!(link, Link::Side(port) if self.plan.joint(port) == Joint::Nothing)
     }
 
     /// The queue that a packet on this link's wire is bound for.

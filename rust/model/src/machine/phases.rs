@@ -3,6 +3,7 @@
 use super::connection::Connection;
 use super::network::{Link, Network};
 use super::packet::{Hub, Kind, Packet, Slot};
+use super::rules::Rules;
 use super::state::{is_out_queue, Credit, Phase, State, Table};
 use crate::feeding::Queue;
 use crate::plan::Port;
@@ -112,15 +113,37 @@ impl Network {
         }
     }
 
-    /// "(2) Each output picks a sender: the first" that is a candidate; "a router side picks nobody
-    /// when its entry for the current slot is booked".
+    /// "(2) Each output picks a sender", the first that is a candidate when it "looks from the next
+    /// one on" after the last that a WRITE served, "cyclically, in the old order"; "a router side
+    /// picks nobody when its entry for the current slot is booked".
     fn pick(&self, state: &State, link: Link) -> Option<Queue> {
-        if let Link::Side(Port { router, side }) = link {
-            if state.table.entry(router, side, state.slot).is_some() {
-                return None;
-            }
+        if self.is_booked_now(state, link) {
+            return None;
         }
-        self.senders(link).into_iter().find(|&sender| self.is_candidate(state, link, sender))
+        let senders = self.senders(link);
+        let next = self.first_asked(state, link);
+        let mut in_turn = (next..next + senders.len()).map(|rank| senders[rank % senders.len()]);
+        in_turn.find(|&sender| self.is_candidate(state, link, sender))
+    }
+
+    /// Whether this is a router side whose entry for the current slot is booked.
+    pub fn is_booked_now(&self, state: &State, link: Link) -> bool {
+        match link {
+            Link::Side(Port { router, side }) => {
+                state.table.entry(router, side, state.slot).is_some()
+            }
+            _ => false,
+        }
+    }
+
+    /// The rank of the sender that an output asks first.
+    fn first_asked(&self, state: &State, link: Link) -> usize {
+        let last = state.last[self.link_index(link)];
+        match self.rules() {
+            Rules { lowest_first: true, .. } => 0,
+            Rules { same_one_again: true, .. } => last,
+            _ => last + 1,
+        }
     }
 
     /// "(3) If an active's in-queue starts with an unmarked NACK and its out-queue is not full, a
@@ -152,7 +175,8 @@ impl Network {
     }
 
     /// "WRITE: each picked head enters its wire, its queue's flag rises (none for out-queues), the
-    /// next queue's credit falls by one, choices are cleared. The slot grows by one modulo S."
+    /// next queue's credit falls by one, choices are cleared. The slot grows by one modulo S." Each
+    /// output that serves a sender remembers it; one that serves nobody remembers what it did.
     pub(super) fn run_write(&self, state: &mut State) {
         for &link in self.links() {
             let wire = self.link_index(link);
@@ -162,6 +186,9 @@ impl Network {
                 let credit = &mut state.credits[self.queue_index(next)];
                 *credit = Credit(credit.0 - 1);
                 state.wires[wire] = Some(packet);
+                state.last[wire] = self.rank(link, sender).expect("a choice is of a sender");
+            } else if self.rules().turn_lost_when_booked && self.is_booked_now(state, link) {
+                state.last[wire] = (state.last[wire] + 1) % self.senders(link).len();
             }
         }
         state.slot = state.slot.next(self.slots());

@@ -28,6 +28,12 @@ pub struct Rules {
     pub accepted_until_torn_down: bool,
     /// A connection is accepted when its ACK joins the active's in-queue, not when it is consumed.
     pub accepted_at_the_arrival: bool,
+    /// An output always asks its senders from the first in order on, as before request (b).
+    pub lowest_first: bool,
+    /// An output asks the sender that it served last first, and then the others.
+    pub same_one_again: bool,
+    /// In a round in which its entry is booked, a side's turn goes on by one though nobody is served.
+    pub turn_lost_when_booked: bool,
 }
 
 impl Rules {

@@ -1,5 +1,5 @@
 //! The state: queues, wires, credits, flags, handled marks, choices, table, allowances, accepted
-//! connections, phase, slot.
+//! connections, senders last served, phase, slot.
 
 use std::collections::{BTreeSet, VecDeque};
 
@@ -60,6 +60,9 @@ pub struct State {
     /// "The state now keeps the accepted connections, set when an ACK is consumed": a mark for each
     /// connection that is accepted and not closed since.
     pub marks: BTreeSet<Connection>,
+    /// "Each output remembers the last sender that a WRITE served": its rank among the output's
+    /// senders in order, from 0.
+    pub last: Vec<usize>,
 }
 
 impl Table {
@@ -116,7 +119,8 @@ impl Network {
 
     /// "Start: READ, queues, wires and table empty, flags down, no choices, credit of each queue
     /// fed by a wire = its capacity, each active's allowance = the smaller of its two capacities."
-    /// No connection is accepted.
+    /// No connection is accepted; each output remembers a sender "as if the last in order had
+    /// sent".
     pub fn start(&self) -> State {
         let plan = self.plan();
         let queues = Queue::count(plan);
@@ -136,6 +140,7 @@ impl Network {
             table: Table::free(plan.routers(), plan.slots()),
             allowances: vec![self.start_allowance(); plan.actives()],
             marks: BTreeSet::new(),
+            last: self.links().iter().map(|&link| self.last_in_order(link)).collect(),
         }
     }
 
@@ -158,5 +163,12 @@ impl Network {
         let head = self.queue(state, sender).front().filter(|_| ready);
         let next = head.and_then(|head| self.next_queue(link, head));
         next.is_some_and(|next| state.credits[self.queue_index(next)] != Credit(0))
+    }
+
+    /// The candidates among an output's senders, by rank.
+    pub fn candidates(&self, state: &State, link: Link) -> Vec<usize> {
+        let ranked = self.senders(link).into_iter().enumerate();
+        let candidates = ranked.filter(|&(_, sender)| self.is_candidate(state, link, sender));
+        candidates.map(|(rank, _)| rank).collect()
     }
 }

@@ -3,7 +3,7 @@
 use std::collections::HashSet;
 
 use super::connection::OwnEntry;
-use super::network::Network;
+use super::network::{Link, Network};
 use super::packet::{Kind, Packet};
 use super::places::Place;
 use super::state::{Phase, State};
@@ -14,9 +14,9 @@ use crate::fields::SIDES;
 type Condition = fn(&Network, &State) -> bool;
 
 /// The conditions that every call on a state keeps, each with the fault it excludes.
-const CORE: [(&str, Condition); 13] = [
+const CORE: [(&str, Condition); 14] = [
     ("bytes the layout gives to no state", has_form),
-    ("slot, entry or mark out of range", in_range),
+    ("slot, entry, mark or rank out of range", in_range),
     ("a queue over capacity", within_capacity),
     ("a packet out of range or out of place, or a hub that doesn't fit", packets_fit),
     ("a wire full outside READ", wires_empty_outside_read),
@@ -28,6 +28,7 @@ const CORE: [(&str, Condition); 13] = [
     ("credit + queued + wire + raised flag ≠ capacity", credits_add_up),
     ("allowance + SETUPs, ACKs and NACKs ≠ start allowance", allowances_add_up),
     ("a mark for an unserved pair", marks_are_of_served_pairs),
+    ("a side that is not joined and has served a sender", unjoined_sides_have_served_nobody),
 ];
 
 /// What ties the accepted connections to the table. A call keeps these on states reached from
@@ -89,6 +90,7 @@ fn has_form(network: &Network, state: &State) -> bool {
         (state.choices.len(), links),
         (state.table.entries().len(), plan.routers() * SIDES * plan.slots()),
         (state.allowances.len(), plan.actives()),
+        (state.last.len(), links),
     ];
     let sized = sizes.iter().all(|(found, expected)| found == expected);
     let placed = state.marks.iter().all(|mark| network.has_mark_bit(mark));
@@ -108,14 +110,17 @@ fn unused_is_empty(network: &Network, state: &State) -> bool {
 }
 
 /// "Slot … or entry out of range"; the phase is one by its type, packets are tested in their place.
-/// A mark is of a passive and a slot of the plan.
+/// A mark is of a passive and a slot of the plan, and what an output remembers is one of its senders.
 fn in_range(network: &Network, state: &State) -> bool {
     let entry_in_range = |entry: &Option<usize>| entry.is_none_or(|side| side < SIDES);
     let (passives, slots) = (network.plan().passives(), network.slots());
     let mut marks = state.marks.iter();
+    let rank_in_range =
+        |&link: &Link| state.last[network.link_index(link)] < network.senders(link).len();
     state.slot.0 < slots
         && state.table.entries().iter().all(entry_in_range)
         && marks.all(|mark| mark.passive < passives && mark.start.0 < slots)
+        && network.links().iter().all(rank_in_range)
 }
 
 fn within_capacity(network: &Network, state: &State) -> bool {
@@ -194,6 +199,12 @@ fn allowances_add_up(network: &Network, state: &State) -> bool {
 
 fn marks_are_of_served_pairs(network: &Network, state: &State) -> bool {
     state.marks.iter().all(|mark| network.journey(mark.active, mark.passive).is_some())
+}
+
+/// It remembers what it did at start.
+fn unjoined_sides_have_served_nobody(network: &Network, state: &State) -> bool {
+    let mut unjoined = network.links().iter().filter(|&&link| !network.is_joined(link));
+    unjoined.all(|&link| state.last[network.link_index(link)] == network.last_in_order(link))
 }
 
 /// The entries of all marked connections, one connection after the other.

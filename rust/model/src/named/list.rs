@@ -62,6 +62,7 @@ fn loading() -> Vec<Named> {
             ("row-of-four", row_of_four().encode()),
             ("four-routers", four_routers().encode()),
             ("largest", largest().encode()),
+            ("detour", detour().encode()),
             ("parallel-joints", parallel_joints().encode()),
             ("unserved-pairs", unserved_pairs().encode()),
             ("way-back-missing", way_back_missing().encode()),

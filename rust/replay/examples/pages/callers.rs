@@ -1,4 +1,4 @@
-//! The calls of the pages: three lists, and a caller that keeps a network busy.
+//! The calls of the pages: four lists, and a caller that keeps a network busy.
 
 use model::generate::Random;
 use trace::net::Phase;
@@ -58,6 +58,22 @@ pub fn closed() -> Vec<Call> {
     calls.extend([close, close]);
     calls.extend(rounds(7));
     calls.extend(open(&[]));
+    calls
+}
+
+/// One router: answers of the unit and of both passives take turns on the way to active 0, and before
+/// that the set-ups of both actives on the way to the unit.
+pub fn turns() -> Vec<Call> {
+    let launch = |active, passive, slot| Call::Launch { active, passive, slot };
+    let mut calls = vec![launch(1, 0, 4), launch(1, 1, 4), launch(0, 0, 0), launch(0, 1, 0)];
+    calls.extend(rounds(6));
+    // These two entries are active 1's: the unit declines.
+    calls.extend([launch(0, 0, 4), launch(0, 1, 4)]);
+    calls.extend(rounds(1));
+    let replies = [0, 1].map(|passive| Call::Reply { passive, choice: 1 });
+    calls.extend([Call::Read, Call::Execute, replies[0], replies[1], Call::Write]);
+    calls.extend(rounds(6));
+    calls.extend([Call::Read, Call::Execute, Call::Consume { active: 0 }, Call::Write]);
     calls
 }
 

@@ -1,4 +1,4 @@
-//! Writes the pages that the browser tests open into a folder: seven runs and some on random plans
+//! Writes the pages that the browser tests open into a folder: eight runs and some on random plans
 //! for the self-test, and one of 5,000 calls on the largest plan for the times.
 //!
 //!     cargo run --release -p replay --example pages -- FOLDER
@@ -66,6 +66,9 @@ fn main() -> ExitCode {
     write(folder, "declined", "A declined set-up", note, &two, &mut scripted(callers::declined()));
     let note = "A connection is closed and its slots are used again.";
     write(folder, "closed", "A closed connection", note, &two, &mut scripted(callers::closed()));
+    let note = "Several senders at one output take turns.";
+    let one = plans::one_router();
+    write(folder, "turns", "Turn about at an output", note, &one, &mut scripted(callers::turns()));
     let note = "Three sensors, two drives, any calls.";
     write(folder, "arm", "An arm of three routers", note, &plans::arm(), &mut busy(3, 420));
     let note = "Nine routers; sensors left and above, drives below and right.";

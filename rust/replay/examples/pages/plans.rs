@@ -83,6 +83,14 @@ pub fn star() -> Plan {
     named_plan(&named::four_routers(), &["middle"], &[], &[])
 }
 
+/// One router with two actives and two passives.
+pub fn one_router() -> Plan {
+    let mut draft = Draft::new(1, 8, 2);
+    draft.capacities([4, 4, 2, 2, 2, 2, 2, 2]);
+    draft.active(0, 0).active(0, 1).passive(0, 2).passive(0, 3).shortest_routes();
+    named_plan(&draft, &[], &["left", "right"], &["drive", "valve"])
+}
+
 /// The largest plan.
 pub fn largest() -> Plan {
     named_plan(&named::largest(), &[], &[], &[])

@@ -34,6 +34,7 @@ function stateText(state) {
   const ascending = (one, other) => one - other;
   const picked = [...state.picked].map((id) => state.packets.get(id).place).sort(ascending);
   const owner = (entry) => `${entry}:${state.owners[entry]}${state.holds[entry]}`;
+  const turned = (output) => `${output}:${state.last[output]}`;
   const used = (at) => places[at].credit && credits[at] !== places[at].capacity;
   return [
     `${state.phase},${state.slot}`,
@@ -46,6 +47,7 @@ function stateText(state) {
     picked,
     state.allowances,
     [...state.accepted].sort(ascending),
+    numbersWhere(state.last.length, (at) => state.last[at] + 1 !== run.outputs[at].senders.length, turned),
   ].join("|");
 }
 

@@ -38,14 +38,35 @@ function stepHtml(step, current) {
   return `<tr class="go${current ? " current" : ""}" data-call="${step.call}"><td>${cells.join("</td><td>")}</td></tr>`;
 }
 
-/** A router's queues with their packets, credits and flags. */
+/** Whose turn it is at a router, and its queues with their packets, credits and flags. */
 function routerHtml(router) {
   const credits = creditsOf(shown.state);
   const queues = run.places.filter((place) => place.router === router && !isWire(place) && place.credit);
   const used = queues.filter((place) => place.spot !== "cross" || isJoined(place));
   const rows = used.map((place) => queueHtml(place, credits)).join("");
   const head = tableHead("queue", "packets, head first", "capacity", "credit", "flag");
-  return `<h3>${html.router(router)}</h3><table>${head}<tbody>${rows}</tbody></table>`;
+  return `<h3>${html.router(router)}</h3>${turnsHtml(router)}<table>${head}<tbody>${rows}</tbody></table>`;
+}
+
+/** Whose turn it is at each of a router's outputs that several senders share. */
+function turnsHtml(router) {
+  const rows = run.outputs.map((output, number) => (placeOf(output.senders[0]).router === router ? turnHtml(number) : ""));
+  return `<table>${tableHead("way out", "went last", "next, of those that wait")}` +
+    `<tbody>${rows.join("")}</tbody></table>`;
+}
+
+/** The row of an output: the sender that it served last, and the heads that wait, in the order of their turns. */
+function turnHtml(output) {
+  const { state } = shown;
+  const waiting = inTurn(state, output).map((place) =>
+    `${packetChip(state.packets.get(state.held[place][0]))} <small>${queueShort(placeOf(place))}</small>`);
+  const cells = [escapeText(run.outputs[output].name), queueShort(lastServed(state, output)), waiting.join(" ")];
+  return `<tr data-output="${output}"><td>${cells.join("</td><td>")}</td></tr>`;
+}
+
+/** A router's queue without the router. */
+function queueShort(place) {
+  return escapeText(place.name.replace(/ of .*/, ""));
 }
 
 /** Whether the side that a queue's packets leave by is joined. */
@@ -61,7 +82,7 @@ function queueHtml(place, credits) {
     return `${packetChip(packet)} <small>slot ${packet.slot} hub ${packet.hub}</small>`;
   });
   const handled = state.handled[place.number] ? " <small>handled</small>" : "";
-  const cells = [escapeText(place.name.replace(/ of .*/, "")), packets.join("<br>") + handled, place.capacity,
+  const cells = [queueShort(place), packets.join("<br>") + handled, place.capacity,
     credits[place.number], state.flags[place.number] ? "up" : ""];
   return `<tr><td>${cells.join("</td><td>")}</td></tr>`;
 }

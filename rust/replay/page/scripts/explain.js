@@ -112,9 +112,9 @@ function endSentence({ packet }, after) {
   return { html: `${accepted} ${back}`, key: true };
 }
 
-/** What EXECUTE says beside its events: sides that send nobody, and who was picked. */
+/** What EXECUTE says beside its events: sides that send nobody, whose turn it is, and who was picked. */
 function executeSentences(state, others) {
-  const sentences = waitingSentences(state);
+  const sentences = [...waitingSentences(state), ...turnSentences(state)];
   const picked = [...state.picked].map((id) => packetChip(state.packets.get(id)));
   if (picked.length > 0) sentences.push({ html: `Picked to leave: ${listed(picked, 12, " ")}` });
   if (others + sentences.length === 0) sentences.push({ html: "Nothing to handle, nobody to send." });
@@ -132,6 +132,21 @@ function waitingSentences(state) {
     const booked = `Side ${side} of ${html.router(router)} sends nobody: slot ${state.slot} is booked.`;
     sentences.push({ html: `${booked} Waiting: ${heads.join(" ")}` });
   }
+  return sentences;
+}
+
+/** Outputs that picked one of several heads: whose turn it was, and who waits. */
+function turnSentences(state) {
+  const sentences = [];
+  run.outputs.forEach((output, number) => {
+    const heads = inTurn(state, number).map((place) => state.packets.get(state.held[place][0]));
+    const picked = heads.find((packet) => state.picked.has(packet.id));
+    if (heads.length < 2 || !picked) return;
+    const others = heads.filter((packet) => packet !== picked).map(packetChip);
+    const last = escapeText(lastServed(state, number).name);
+    sentences.push({ html: `At ${escapeText(output.name)} it is the turn of ${packetChip(picked)}: ${last} went last. ` +
+      `Waiting: ${others.join(" ")}` });
+  });
   return sentences;
 }
 

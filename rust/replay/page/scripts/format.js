@@ -1,8 +1,8 @@
 // The recording: reads the data block of the page and the lines of its calls.
-// The format `pandabrass-run/2` is described in the README of the crate.
+// The format `pandabrass-run/3` is described in the README of the crate.
 
 /** The format this page shows, and its number. */
-const FORMAT = { name: "pandabrass-run", number: 2 };
+const FORMAT = { name: "pandabrass-run", number: 3 };
 
 /** Refuses data of another format, and data that is newer or older than this page. */
 function checkFormat(format) {
@@ -26,7 +26,7 @@ function parseBlock(text) {
 }
 
 /** Every part that a recording must have. */
-const PARTS = ["title", "note", "plan", "names", "places", "connections", "start", "calls"];
+const PARTS = ["title", "note", "plan", "names", "places", "outputs", "connections", "start", "calls"];
 
 /** The recording, with its calls as lines that are not read yet. */
 function readRun(text) {
@@ -39,6 +39,7 @@ function readRun(text) {
     ...data,
     plan: readPlan(data.plan),
     places: data.places.map(readPlace),
+    outputs: data.outputs.map(([name, senders]) => ({ name, senders })),
     connections: data.connections.map(([active, passive, slot, letter]) => ({ active, passive, slot, letter })),
     lines: data.calls === "" ? [] : data.calls.split("\n"),
   };

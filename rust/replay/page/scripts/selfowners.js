@@ -1,5 +1,5 @@
-// The self-test of owners: what the program tells must follow from the packets and the accepted
-// connections by the documents' rules, which are worked out here once more.
+// The self-test of owners and turns: what the program tells must follow from the packets, the accepted
+// connections and the moves by the documents' rules, which are worked out here once more.
 
 /** Every booked entry has one owner, every free one none, and each is the one that follows. */
 function checkOwners(position) {
@@ -22,6 +22,43 @@ function checkAccepted(position) {
   const told = acceptedBy(position);
   const same = told.size === accepted.size && [...told.keys()].every((connection) => accepted.has(connection));
   must(same, position, `the state keeps ${accepted.size} accepted connections, the calls tell ${told.size}`);
+}
+
+/** An output remembers the sender that a Write served, and only then; at Start the last in order. */
+function checkTurns(position) {
+  const { last } = shown.state;
+  if (position === 0) report.last = run.outputs.map((output) => output.senders.length - 1);
+  const call = run.calls[position - 1];
+  if (position > 0 && call.letter === "W" && !call.refusal) {
+    for (const [, from] of run.lines[position - 1].matchAll(/ >([0-9a-z]+),/g)) noteServed(parseInt(from, 36));
+  }
+  report.last.forEach((rank, output) => {
+    const told = run.outputs[output].name;
+    must(last[output] === rank, position, `${told} served sender ${last[output]} last, by the moves ${rank}`);
+    checkTurnRow(position, output, rank);
+  });
+  report.places = new Map([...shown.state.packets].map(([id, packet]) => [id, packet.place]));
+}
+
+/** Where several heads wait, the details show them in the order of their turns. */
+function checkTurnRow(position, output, last) {
+  const { name, senders } = run.outputs[output];
+  const ranks = [1, 2, 3, 4].map((more) => (last + more) % senders.length);
+  const wanted = ranks.map((rank) => senders[rank]).filter((place) => shown.state.held[place].length > 0);
+  if (wanted.length < 2) return;
+  const row = document.createElement("tbody");
+  row.innerHTML = turnHtml(output);
+  const found = [...row.querySelectorAll("small")].map((queue) => queue.textContent).join(" ");
+  const told = wanted.map((place) => placeOf(place).name.replace(/ of .*/, "")).join(" ");
+  must(found === told, position, `the turns of ${name} are shown as ${found}`);
+}
+
+/** A packet left its queue in a Write. */
+function noteServed(id) {
+  run.outputs.forEach((output, number) => {
+    const rank = output.senders.indexOf(report.places.get(id));
+    if (rank >= 0) report.last[number] = rank;
+  });
 }
 
 /** By connection that is accepted and not closed since, its ACK. */

@@ -2,7 +2,7 @@
 // #selftest at its end. Here: states, calls and moments; what is drawn and owners have files of their own.
 
 /** What the self-test found. */
-const report = { faults: [], packets: 0, booked: 0, tables: 0, round: 0 };
+const report = { faults: [], packets: 0, booked: 0, tables: 0, round: 0, last: [], places: new Map() };
 
 /** Notes a fault unless all is good. */
 function must(good, position, sentence) {
@@ -20,6 +20,7 @@ function selfTest() {
     checkPackets(position);
     checkOwners(position);
     checkAccepted(position);
+    checkTurns(position);
     checkCells(position, small || position % 97 === 0 || position === callCount());
     checkClock(position);
     if (position > 0) checkCall(position);

@@ -35,6 +35,7 @@ function startState() {
     holds: new Array(entries).fill(""),
     allowances: new Array(plan.actives).fill(plan.allowance),
     accepted: new Set(),
+    last: run.outputs.map((output) => output.senders.length - 1),
   };
 }
 
@@ -52,6 +53,7 @@ function copyState(state) {
     holds: state.holds.slice(),
     allowances: state.allowances.slice(),
     accepted: new Set(state.accepted),
+    last: state.last.slice(),
   };
 }
 
@@ -96,6 +98,19 @@ function ownerOf(state, entry) {
 /** Whether an entry is booked. */
 function isBooked(state, entry) {
   return state.table[entry] !== FREE;
+}
+
+/** The senders of an output that have a packet, in the order in which it looks at them: from the one behind the
+    last served on. */
+function inTurn(state, output) {
+  const { senders } = run.outputs[output];
+  const first = state.last[output] + 1;
+  return senders.map((_, at) => senders[(first + at) % senders.length]).filter((place) => state.held[place].length > 0);
+}
+
+/** The sender that an output served last. */
+function lastServed(state, output) {
+  return placeOf(run.outputs[output].senders[state.last[output]]);
 }
 
 /** The credit of every queue: capacity less what is queued, on a wire to it, and its raised flag. */

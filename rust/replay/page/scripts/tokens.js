@@ -38,6 +38,7 @@ const TOKENS = {
   o: { fields: ["code", "code?", "hold?"], apply: setOwner },
   a: { fields: ["number", "number"], apply: (state, [active, allowance]) => { state.allowances[active] = allowance; } },
   c: { fields: ["code", "number"], apply: setAccepted },
+  l: { fields: ["code", "number"], apply: setLast },
 };
 
 /** The fields of a token as values. */
@@ -128,4 +129,11 @@ function setAccepted(state, [connection, accepted]) {
   if (!run.connections[connection]) stop(`there is no connection ${connection}`);
   if (accepted === 1) state.accepted.add(connection);
   else state.accepted.delete(connection);
+}
+
+/** `l`: the sender that an output served last, by its rank. */
+function setLast(state, [output, rank]) {
+  const { senders } = run.outputs[output] ?? stop(`there is no output ${output}`);
+  if (rank >= senders.length) stop(`output ${output} has no sender ${rank}`);
+  state.last[output] = rank;
 }

@@ -39,7 +39,7 @@ pub enum Mistake {
 }
 
 /// All lessons.
-pub const LESSONS: [Lesson; 8] = [
+pub const LESSONS: [Lesson; 9] = [
     Lesson {
         title: "A declined set-up leaves nothing behind?",
         file: "1-declined.run",
@@ -158,6 +158,23 @@ pub const LESSONS: [Lesson; 8] = [
                  comes by and frees it, whosever it is. force is told ACCEPTED and has nothing in \
                  the table: the next set-up may book its slot.",
     },
+    Lesson {
+        title: "The lowest side always goes first?",
+        file: "9-turns.run",
+        script: include_str!("../../../../scripts/lessons/9-turns.run"),
+        question: "left launches three times and right once, in the same round. Both stand before \
+                   r0's unit, left at the lower side. When does right's set-up get in, and who \
+                   gets r0.2 slot 5, which left asks for with its third?",
+        mistake: Mistake::Rule("the first in order is always picked", |rules| {
+            rules.lowest_first = true;
+        }),
+        answer:
+            "An output remembers the sender that it served last and looks from the next one on. \
+                 After left's first set-up it is right's turn: right books slot 5, and left's third \
+                 comes too late. If the first in order is always picked, right waits as long as \
+                 left talks, and is declined. In turn, a head that can go sees at most three \
+                 others go before it.",
+    },
 ];
 
 /// The script of a lesson; its plan is one of those in the repository.
@@ -167,6 +184,9 @@ pub fn script(lesson: &Lesson) -> Script {
         "two.plan" => PlanFile::of_text("two.plan", include_str!("../../../../plans/two.plan")),
         "three.plan" => {
             PlanFile::of_text("three.plan", include_str!("../../../../plans/three.plan"))
+        }
+        "turns.plan" => {
+            PlanFile::of_text("turns.plan", include_str!("../../../../plans/turns.plan"))
         }
         _ => Ok(PlanFile::t()),
     };

@@ -64,7 +64,7 @@ fn difference(right: &Notes, wrong: &Notes, parting: usize) -> (String, String) 
 }
 
 /// What a state holds, thing by thing: the entries, the allowances, the packets, the credits, the
-/// accepted connections.
+/// accepted connections, whom the outputs pick and whom they served last.
 fn facts(plan: &Plan, net: &Net) -> Vec<String> {
     let names = plan.names();
     let sides = (0..plan.routers()).flat_map(|router| (0..SIDES).map(move |s| (router, s)));
@@ -88,6 +88,13 @@ fn facts(plan: &Plan, net: &Net) -> Vec<String> {
     let accepted: Vec<String> =
         net.accepted.iter().map(|&connection| whereabouts::told(names, connection)).collect();
     facts.push(format!("accepted: {}", accepted.join(", ")));
+    for (output, out) in plan.outputs().zip(&net.outputs) {
+        let (words, senders) = (names.output_words(output), plan.senders(output));
+        let picked = out.choice.map(|rank| names.queue(senders[rank]));
+        facts.push(format!("{words}: picks {}", picked.unwrap_or("nobody".to_string())));
+        let last = net.last_served(plan, output).map(|last| names.queue(last));
+        facts.push(format!("{words}: {} went last", last.unwrap_or("nobody".to_string())));
+    }
     facts
 }
 

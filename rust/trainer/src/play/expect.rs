@@ -45,6 +45,12 @@ pub fn find(run: &Run, last: Option<&Step>, expected: &Expected) -> Option<Strin
             differs(there, found)
         }
         Expected::TableOf(connections) => table(run, connections),
+        Expected::Last(queue) => {
+            let output = plan.output_of(*queue)?;
+            let last = net.last_served(plan, output)?;
+            let (output, last_name) = (plan.names().output_words(output), plan.names().queue(last));
+            differs(last == *queue, format!("{last_name} went last by {output}"))
+        }
     }
 }
 

@@ -1,7 +1,8 @@
-//! Where every packet is, what is left of the allowances, and which connections are accepted.
+//! Where every packet is, what is left of the allowances, which connections are accepted, and whose
+//! turn it is where several senders wait.
 
 use trace::run::{letter, Connection, Seated};
-use trace::{words, Names, Run};
+use trace::{words, Names, Output, Place, Queue, Run};
 
 use super::{columns, wrap, Paint};
 
@@ -24,7 +25,36 @@ pub fn text(run: &Run, paint: Paint) -> String {
     let accepted =
         |&number: &usize| format!("{} {}", letter(number), told(names, connections[number]));
     let accepted: Vec<String> = run.book().accepted.iter().map(accepted).collect();
-    text + &listed("allowance", &allowances) + &listed("accepted", &accepted)
+    text += &(listed("allowance", &allowances) + &listed("accepted", &accepted));
+    for output in run.plan().outputs() {
+        text += &turn(run, output).map(|turn| listed("turn", &[turn])).unwrap_or_default();
+    }
+    text
+}
+
+/// Where several senders of an output have a packet, whom it served last and the order of the
+/// others: "r0.0: K[2,0] went last; A in F[0] is next, then B in K[1,0]".
+fn turn(run: &Run, output: Output) -> Option<String> {
+    let (plan, net) = (run.plan(), run.net());
+    let (last, waiting) = (net.last_served(plan, output)?, net.in_turn(plan, output));
+    if waiting.len() < 2 {
+        return None;
+    }
+    let packets = run.packets();
+    let heads = waiting.iter().filter_map(|&queue| {
+        let head = packets.iter().find(|seated| (seated.place, seated.at) == (Place::In(queue), 0));
+        head.map(|seated| format!("{} in {}", run.letter(seated.id), short(plan.names(), queue)))
+    });
+    let heads: Vec<String> = heads.collect();
+    let (next, later) = heads.split_first()?;
+    let (output, last) = (plan.names().output_words(output), short(plan.names(), last));
+    Some(format!("{output}: {last} went last; {next} is next, then {}", later.join(", ")))
+}
+
+/// A router's queue without the router: "K[2,0]".
+fn short(names: &Names, queue: Queue) -> String {
+    let words = names.queue_words(queue);
+    words.split_once(" of ").map_or(words.clone(), |(queue, _)| queue.to_string())
 }
 
 /// A packet: letter, kind, slot, hub, place, connection.

@@ -1,15 +1,15 @@
 //! What a script expects.
 
-use trace::{Connection, Kind};
+use trace::{Connection, Kind, Queue};
 
 use super::parse::Parser;
 use super::Expected;
 use crate::plan::text::port;
-use crate::text::{quoted, Mistake};
+use crate::text::{quoted, At, Mistake};
 
 /// What can be expected.
 const WHAT: &str = "ok, refused, ack, nack, free, side, quiet, round, entry, allowance, accepted, \
-                    not accepted, at, table";
+                    not accepted, at, last, table";
 
 /// What follows `expect`.
 pub fn parse(parser: &mut Parser) -> Result<Expected, Mistake> {
@@ -34,6 +34,7 @@ pub fn parse(parser: &mut Parser) -> Result<Expected, Mistake> {
             Expected::Connected(connection(parser)?, false)
         }
         "at" => at(parser)?,
+        "last" => last(parser)?,
         "table" => table(parser)?,
         text => {
             return Err(Mistake::new(word.at, format!("nothing to expect named {}", quoted(text)))
@@ -98,14 +99,32 @@ fn connection(parser: &mut Parser) -> Result<Connection, Mistake> {
     Ok(Connection { active, passive, start: slot(parser)? })
 }
 
-/// "r0.F1 setup slot 1 hub 1".
-fn at(parser: &mut Parser) -> Result<Expected, Mistake> {
+/// A queue, as in "r0.F1" or "drive.in", and where it stands.
+fn queue(parser: &mut Parser) -> Result<(Queue, At), Mistake> {
     let word = parser.cursor.word("a queue, as in r0.F1 or drive.in")?;
     let queue = parser.names.find_queue(word.text).ok_or_else(|| {
         Mistake::new(word.at, format!("no queue {}", quoted(word.text))).note(
             "queues: ROUTER.U0 to U3, .Q, .F0 to F3, .K01 and so on; ACTIVE.out, .in; PASSIVE.in, .out",
         )
     })?;
+    Ok((queue, word.at))
+}
+
+/// "r0.K10": a queue that shares its output with others.
+fn last(parser: &mut Parser) -> Result<Expected, Mistake> {
+    let (queue, at) = queue(parser)?;
+    match queue {
+        Queue::U(_) | Queue::F(_) | Queue::K(..) => Ok(Expected::Last(queue)),
+        _ => Err(Mistake::new(at, "a queue that shares no output has nothing to take turns with")
+            .note(
+                "of ROUTER.U0 to U3 one went to the unit last, of .F0, .K10, .K20, .K30 by side 0",
+            )),
+    }
+}
+
+/// "r0.F1 setup slot 1 hub 1".
+fn at(parser: &mut Parser) -> Result<Expected, Mistake> {
+    let (queue, _) = queue(parser)?;
     let kinds = [Kind::Setup, Kind::Tdown, Kind::Ack, Kind::Nack];
     let kind = kinds[parser.cursor.one_of(&["setup", "tdown", "ack", "nack"])?];
     let (slot, hub) = slot_and_hub(parser)?;

@@ -99,6 +99,8 @@ pub enum Expected {
     At(Queue, Kind, u32, u32),
     /// The table is that of these connections and nothing else.
     TableOf(Vec<Connection>),
+    /// The output that this queue sends by served it last.
+    Last(Queue),
 }
 
 /// Why a script cannot be run.

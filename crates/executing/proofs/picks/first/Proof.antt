@@ -12,32 +12,32 @@ use Rattle.executing.proofs.picks.first.Lts as lts
 use Rattle.executing.proofs.picks.ready.Reads as ready-reads
 
 abbrev Inv-loop : tie.InvT-loop
-Inv-loop h routes joints homes m n c unit s k₀ k = (k ≤ c) × Passed (tablePlan h routes joints) m n k s
+Inv-loop h routes joints homes m n i c unit s k₀ k = (i ≤ k) × Passed (tablePlan h routes joints) m n i k s
 
 abbrev μ-loop : tie.MeasureT-loop
-μ-loop h routes joints homes m n c unit s k₀ k = c - k
+μ-loop h routes joints homes m n i c unit s k₀ k = c - k
 
 -- src/picks.rt:109:5
 loop-holds : tie.Need-loop-holds Inv-loop μ-loop
-loop-holds c = let p = c .before .pre in (omega arith, passed-none (p .0 .wired) (range-of (p .0)) _ _ _)
+loop-holds c = let p = c .before .pre in (omega arith, passed-none (p .0 .wired) (range-of (p .0)) _ _ _ _)
 
 -- src/picks.rt:110:47
 add-ready : tie.Need-add-ready Inv-loop μ-loop
 add-ready c =
-    let p = c .before .before .before .pre in let q = sends-asks (p .0) (p .2) (c .loop-test .taken) .2 in omega arith
+    let p = c .before .before .before .pre in let q = sends-asks (p .0) (p .3) (c .loop-test .taken) .2 in omega arith
 
 -- src/picks.rt:110:12
 ready-requires : tie.Need-ready-requires Inv-loop μ-loop
 ready-requires c κs =
-    let p = c .before .before .before .pre in let q = sends-asks (p .0) (p .2) (c .loop-test .taken) in (
+    let p = c .before .before .before .pre in let q = sends-asks (p .0) (p .3) (c .loop-test .taken) in (
       p .0,
       q .0,
       q
           .1,
-      sends-by (p .0 .wired) (range-of (p .0)) (p .2) _ (c .loop-test .taken),
-      p .2 .units _ (c .loop-test .taken),
+      sends-by (p .0 .wired) (range-of (p .0)) (p .3) _ (c .loop-test .taken),
+      p .3 .units _ (c .loop-test .taken),
       p
-          .3,
+          .4,
     )
 
 -- src/picks.rt:111:21
@@ -51,8 +51,9 @@ cast-result c = let p = c .before .before .before .before .before .pre in let q 
 -- src/picks.rt:111:13
 returns : tie.Need-returns Inv-loop μ-loop
 returns c =
-    let p = c .before .before .before .before .before .pre in first-found (p .0 .wired) (range-of (p .0)) _ _ _ _ (p
-    .2) (c .before .before .loop-test .taken) (c .before .before .before .loop .inv .1) (c .before .ready .ensures) (c
+    let p = c .before .before .before .before .before .pre in first-found (p .0 .wired) (range-of (p .0)) _ _ _ _ _
+    (p .3) (c .before .before .before .loop .inv .0) (c .before .before .loop-test .taken)
+    (c .before .before .before .loop .inv .1) (c .before .ready .ensures) (c
     .if1 .taken)
 
 -- src/picks.rt:109:9
@@ -69,14 +70,14 @@ loop-again c =
     let p = c .before .before .before .before .before .pre in (
       omega arith,
       passed-more (p .0 .wired) (range-of (p .0))
-          _ _ _ (c .before .before .before .loop .inv .1) (c .before .ready .ensures) (c .if1 .left),
+          _ _ _ _ (c .before .before .before .loop .inv .1) (c .before .ready .ensures) (c .if1 .left),
     )
 
 -- src/picks.rt:91:1
 returns-2 : tie.Need-returns-2 Inv-loop μ-loop
 returns-2 c =
-    let p = c .before .before .before .pre in first-none (p .0 .wired) (range-of (p .0)) _ _ _ (p .2) (c .before .loop
-    .inv .1) (omega arith)
+    let p = c .before .before .before .pre in first-none (p .0 .wired) (range-of (p .0)) _ _ _ _ (p .3)
+    (c .before .loop .inv .1) (omega arith)
 
 pub first-spec : {M : Type 1} → statement M
 first-spec =

@@ -9,11 +9,11 @@ use Rattle.executing.proofs.picks.pick.Tie as tie
 use Rattle.executing.proofs.picks.pick.Reads as reads
 use Rattle.executing.proofs.picks.pick.Lts as lts
 use Rattle.acts.proofs.output_row.Reads as output-row-reads
-use Rattle.executing.proofs.picks.first.Reads as first-reads
+use Rattle.executing.proofs.picks.turn.Reads as turn-reads
 
 -- src/picks.rt:136:9
-first-requires : tie.Need-first-requires
-first-requires c κs = let p = c .before .before .pre in (p .0, p .1, p .2, holds-less _ (λ s o. o .picks .core) (p .3))
+turn-requires : tie.Need-turn-requires
+turn-requires c κs = let p = c .before .before .pre in (p .0, p .1, p .2, holds-less _ (λ s o. o .picks .core) (p .3))
 
 -- src/picks.rt:137:9
 output-row-requires : tie.Need-output-row-requires
@@ -38,8 +38,8 @@ same-length c = search needs
 returns : tie.Need-returns
 returns c =
     let p = c .before .before .before .before .pre in steps-picked (p .0 .wired) (range-of (p .0)) _ (p .2 .drives)
-    (choice-row (p .0) (p .2 .drives) (c .output-row .ensures)) (c .before .first .ensures)
+    (choice-row (p .0) (p .2 .drives) (c .output-row .ensures)) (c .before .turn .ensures)
 
 pub pick-spec : {M : Type 1} → statement M
 pick-spec =
-    tie.close (tie.spec first-requires output-row-requires add-s slice-write-s same-length returns)
+    tie.close (tie.spec turn-requires output-row-requires add-s slice-write-s same-length returns)

@@ -2,14 +2,14 @@ use lib.Dec.{ltb}
 use mathlib.Core.Path.{_∙_}
 use Rattle.forms.proofs.Entries.{bit-none, less-not}
 use borrow.Author.Needs.{needs}
-use Rattle.forms.proofs.sides.over.Statement.{statement}
-use Rattle.forms.proofs.sides.over.Tie as tie
+use Rattle.forms.proofs.over.Statement.{statement}
+use Rattle.forms.proofs.over.Tie as tie
 
--- src/sides.rt:22:5
+-- src/lib.rt:51:5
 bit-requires : tie.Need-bit-requires
 bit-requires c κs = search needs
 
--- src/sides.rt:19:1
+-- src/lib.rt:48:1
 returns : tie.Need-returns
 returns c = bit-none (ltb (c .before .args .m) (c .before .args .x)) (c .bit .ensures) ∙ less-not
     (c .before .args .x) (c .before .args .m)

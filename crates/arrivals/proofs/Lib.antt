@@ -4,6 +4,4 @@ pub mod Everywhere
 pub mod Charts
 pub mod Sizes
 pub mod Sifting
-pub mod Start
-pub mod Sound
 pub mod Meeting

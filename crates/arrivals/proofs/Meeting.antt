@@ -24,8 +24,8 @@ use Rattle.sets.specs.Sets.{has, single, below}
 use Rattle.sets.specs.Laws.{has-single, has-plus, plus-lt, has-cut}
 use Rattle.reach.specs.Reach.{sideSet, beyond, Reached}
 use Rattle.reach.specs.Sizes.{farIn}
-use Rattle.reach.specs.Trails.{Trail, last, more, Tracked, Trailed, Blank}
-use Rattle.reach.proofs.Trailing.{single-le}
+use Rattle.trails.specs.Trails.{Trail, last, more, Tracked, Trailed, Blank}
+use Rattle.trails.proofs.Trailing.{single-le}
 use Rattle.arrivals.specs.Tables.{nextsOf, firstsOf}
 use Rattle.arrivals.specs.Charted.{Charted}
 use Rattle.arrivals.specs.Pairs.{Tables}

@@ -13,7 +13,7 @@ use Rattle.basis.specs.Bounded.{lt-or-ge}
 use Rattle.sets.specs.Sets.{has, single, both, either, less, lowest, rest}
 use Rattle.sets.specs.Laws.{has-either, has-less, has-single, none-has, either-lt}
 use Rattle.reach.proofs.Sweeps.{same-or-not}
-use Rattle.reach.proofs.Trailing.{single-le, lowest-there, lowest-gone, others-kept, others-small}
+use Rattle.trails.proofs.Trailing.{single-le, lowest-there, lowest-gone, others-kept, others-small}
 use Rattle.arrivals.specs.Pairs.{Lacking, Sift}
 
 or-none : (b : Bool) → (b || false) ≡ b

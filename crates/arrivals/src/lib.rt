@@ -1,23 +1,15 @@
-// All walks of a plan at once: at which destinations the walk from each router arrives, which pairs are served, and
-// how long their walks are.
+// All walks of a plan at once: which routers they meet, and which pairs are served. How long they are: see lengths.
 use plan::Head;
-use reach::Span;
 use sets::below;
 use sets::both;
 use sets::either;
-use sets::has;
 use sets::less;
 use sets::single;
 ghost use mathlib.Core.Path.{_≡_};
-ghost use mathlib.Core.Bool.{false};
-ghost use Rattle.basis.specs.Choice.{pick};
-ghost use mathlib.Core.List.{List, []};
-ghost use Prim.Native.Nat.{ℕ, _+_, _*_, _/_, _%_, _≤_, _<_};
-ghost use lib.ListN.{getD, length, replicate};
+ghost use Prim.Native.Nat.{_+_, _*_, _/_, _%_, _≤_, _<_};
+ghost use lib.ListN.{getD, replicate};
 ghost use Rattle.plan.specs.Head.{Counts};
-ghost use Rattle.sets.specs.Sets.{has};
-ghost use Rattle.arrivals.specs.Pairs.{copyOf, maskOf, lengthOf, lengthsBy, Walks};
-ghost use Rattle.arrivals.specs.Tables.{nextOf, nextsOf, PortsIn, firstOf, firstsOf, nearOf, nearsOf, farOf};
+ghost use Rattle.arrivals.specs.Tables.{nextOf, nextsOf, PortsIn, firstOf, firstsOf, farOf};
 
 // Which pairs are served.
 pub mod served;
@@ -42,7 +34,7 @@ fn next_of(v: u8) -> u8
 }
 
 // The router beyond each port, or 16.
-fn nexts(joints: &[u8; 64], routers: usize) -> [u8; 64]
+pub fn nexts(joints: &[u8; 64], routers: usize) -> [u8; 64]
     requires { ⌜ routers ≤ 16 ⌝ }
     ensures { λ t. ⌜ t ≡ nextsOf (now (joints .entry)) routers ⌝ }
 {
@@ -55,7 +47,7 @@ fn nexts(joints: &[u8; 64], routers: usize) -> [u8; 64]
 }
 
 // The port of a destination.
-fn port(homes: &[u8; 32], d: usize, n: usize) -> usize
+pub fn port(homes: &[u8; 32], d: usize, n: usize) -> usize
     requires { ⌜ (d < n) × (n ≤ 32) × PortsIn (now homes) n ⌝ }
     ensures { λ k. ⌜ (k ≡ getD (now (homes .entry)) d 0) × (k < 64) ⌝ }
 {
@@ -71,7 +63,7 @@ fn first_of(by: &[[u32; 4]; 16], t: u32, k: usize, d: usize) -> u32
 }
 
 // By router: the destinations that are one step away.
-fn firsts(by: &[[u32; 4]; 16], homes: &[u8; 32], n: usize, t: &mut [u32; 32])
+pub fn firsts(by: &[[u32; 4]; 16], homes: &[u8; 32], n: usize, t: &mut [u32; 32])
     requires { ⌜ (n ≤ 32) × PortsIn (now homes) n × (now t ≡ replicate 32 0) ⌝ }
     ensures { λ _. ⌜ now (t .exit) ≡ firstsOf (now (by .entry)) (now (homes .entry)) n ⌝ }
 {
@@ -81,128 +73,10 @@ fn firsts(by: &[[u32; 4]; 16], homes: &[u8; 32], n: usize, t: &mut [u32; 32])
     }
 }
 
-// 1 where a destination is one step away, else 0.
-fn near_of(s: u32, d: usize) -> u8
-    requires { ⌜ d < 32 ⌝ }
-    ensures { λ v. ⌜ v ≡ nearOf s d ⌝ }
-{
-    if has(s, d) { 1 } else { 0 }
-}
-
-// By router and passive: 1 where the passive is one step away.
-fn nears(t: &[u32; 32], homes: &[u8; 32], actives: usize, passives: usize, z: &mut [[u8; 16]; 17])
-    requires { ⌜ (actives ≤ 16) × (passives ≤ 16) × PortsIn (now homes) (actives + passives)
-        × (now z ≡ replicate 17 (replicate 16 0)) ⌝ }
-    ensures { λ _. ⌜ now (z .exit) ≡ nearsOf (now (t .entry)) (now (homes .entry)) actives passives ⌝ }
-{
-    for p in 0..passives {
-        let k = port(homes, actives + p, actives + passives);
-        z[k / 4][p] = near_of(t[k / 4], actives + p);
-    }
-}
-
 // The destinations that are passives.
-fn far_of(h: Head) -> u32
+pub fn far_of(h: Head) -> u32
     requires { ⌜ Counts h ⌝ }
     ensures { λ s. ⌜ s ≡ farOf h ⌝ }
 {
     less(below(h.actives + h.passives), below(h.actives))
-}
-
-// A router's sizes.
-fn copied(z: &[[u8; 16]; 17], x: usize) -> [u8; 16]
-    requires { ⌜ x < 17 ⌝ }
-    ensures { λ t. ⌜ t ≡ copyOf (now (z .entry)) x ⌝ }
-{
-    let mut t = [0u8; 16];
-    for p in 0..16 {
-        t[p] = z[x][p];
-    }
-    t
-}
-
-// A size, or 0.
-fn size_if(served: bool, size: u8) -> u8
-    ensures { λ v. ⌜ v ≡ pick served size 0 ⌝ }
-{
-    if served { size } else { 0 }
-}
-
-// A router's sizes for the passives of a set, else 0.
-fn masked(z: &[[u8; 16]; 17], x: usize, w: u32, column: usize) -> [u8; 16]
-    requires { ⌜ (x < 17) × (column ≤ 16) ⌝ }
-    ensures { λ t. ⌜ t ≡ maskOf (now (z .entry)) x w column ⌝ }
-{
-    let mut t = [0u8; 16];
-    for p in 0..16 {
-        t[p] = size_if(has(w, column + p), z[x][p]);
-    }
-    t
-}
-
-// The lengths of the walks of an active at router x that is served with w, where its walks arrive at v.
-fn length_row(z: &[[u8; 16]; 17], x: usize, w: u32, v: u32, column: usize) -> [u8; 16]
-    requires { ⌜ (x < 17) × (column ≤ 16) ⌝ }
-    ensures { λ t. ⌜ t ≡ lengthOf (now (z .entry)) x w v column ⌝ }
-{
-    if w == v {
-        return copied(z, x);
-    }
-    masked(z, x, w, column)
-}
-
-// By active and passive: the length of a served pair's walk, else 0.
-fn lengths_of(
-    z: &[[u8; 16]; 17],
-    arrive: &[u32; 32],
-    served: &[u32; 16],
-    homes: &[u8; 32],
-    h: Head,
-    t: &mut [[u8; 16]; 16],
-)
-    requires { ⌜ Counts h × PortsIn (now homes) (h .actives + h .passives) × (now t ≡ replicate 16 (replicate 16 0)) ⌝ }
-    ensures { λ _. ⌜ now (t .exit)
-        ≡ lengthsBy (now (z .entry)) (now (arrive .entry)) (now (served .entry)) (now (homes .entry)) h ⌝ }
-{
-    let n = h.actives + h.passives;
-    let actives = h.actives;
-    let far = far_of(h);
-    for a in 0..actives {
-        let x = port(homes, a, n) / 4;
-        t[a] = length_row(z, x, served[a], both(arrive[x], far), actives);
-    }
-}
-
-// All walks: where they arrive, by router; how long those of served pairs are, by active and passive; and which pairs
-// are served, by active. Both lent tables are filled in place.
-pub fn walks(
-    h: Head,
-    routes: &[[u8; 32]; 16],
-    joints: &[u8; 64],
-    homes: &[u8; 32],
-    by: &[[u32; 4]; 16],
-    arrive: &mut [u32; 32],
-    lengths: &mut [[u8; 16]; 16],
-) -> [u32; 16]
-    requires { ⌜ Counts h × PortsIn (now homes) (h .actives + h .passives)
-        × ((r o d : ℕ) → h .routers ≤ r → o < 4 → has (getD (getD (now by) r []) o 0) d ≡ false)
-        × (now arrive ≡ replicate 32 0) × (now lengths ≡ replicate 16 (replicate 16 0)) ⌝ }
-    ensures { λ w. ⌜ Walks h (now (routes .entry)) (now (joints .entry)) (now (homes .entry)) (now (by .entry))
-        (now (arrive .exit)) (now (lengths .exit)) w ⌝ }
-{
-    let n = h.actives + h.passives;
-    let next = nexts(joints, h.routers);
-    firsts(by, homes, n, arrive);
-    let mut z = [[0u8; 16]; 17];
-    nears(arrive, homes, h.actives, h.passives, &mut z);
-    let s = Span {
-        routers: h.routers,
-        all: below(n),
-        sized: far_of(h),
-        column: h.actives,
-    };
-    let all = reach::reach(by, &next, routes, s, arrive, &mut z);
-    let w = served::serves(h, joints, homes, by, arrive, all);
-    lengths_of(&z, arrive, &w, homes, h, lengths);
-    w
 }

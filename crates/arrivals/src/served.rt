@@ -20,7 +20,7 @@ ghost use lib.ListN.{getD, length};
 ghost use Rattle.basis.specs.Choice.{pick};
 ghost use Rattle.basis.specs.Bounded.{allBelow};
 ghost use Rattle.sets.specs.Sets.{has, single, either, less};
-ghost use Rattle.reach.specs.Trails.{Blank};
+ghost use Rattle.trails.specs.Trails.{Blank};
 ghost use Rattle.plan.specs.Head.{Counts};
 ghost use Rattle.arrivals.specs.Tables.{PortsIn, OnlyBelow};
 ghost use Rattle.arrivals.specs.Pairs.{atHome, atHomes, plainOf, Lacking, Sift, Chosen, Choices, Servings};

@@ -9,7 +9,7 @@ ghost use mathlib.Core.List.{List, []};
 ghost use Prim.Native.Nat.{ℕ, _+_, _≤_, _<_};
 ghost use lib.ListN.{getD, length, replicate};
 ghost use Rattle.sets.specs.Sets.{has};
-ghost use Rattle.reach.specs.Trails.{Blank};
+ghost use Rattle.trails.specs.Trails.{Blank};
 ghost use Rattle.plan.specs.Head.{Counts};
 ghost use Rattle.plan.specs.Tables.{tablePlan};
 ghost use Rattle.arrivals.specs.Tables.{PortsIn};
@@ -36,7 +36,7 @@ pub fn tracks_in(
     let next = nexts(joints, h.routers);
     let mut t = [0u32; 32];
     firsts(by, homes, n, &mut t);
-    reach::trails::trails(by, &next, h.routers, below(n), &mut t, up);
+    trails::trails(by, &next, h.routers, below(n), &mut t, up);
 }
 
 // The same in a table for any plan.

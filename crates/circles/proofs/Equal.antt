@@ -1,5 +1,5 @@
 -- A ring of feeding queues is a ring of walks or a ring of crossing answers, and each of these is a ring of queues.
-use mathlib.Core.Path.{_≡_, refl, sym, ap, _∙_}
+use mathlib.Core.Path.{_≡_, refl, sym, ap, _∙_, subst}
 use mathlib.Core.Logic.{_⊎_, inl, inr}
 use mathlib.Core.Option.{some}
 use mathlib.Core.Bool.{Bool, true, false}
@@ -273,28 +273,34 @@ module _ (pl : Plan) where
   Early = Amid (Both (Feeds pl) late false)
 
   -- from F to Q
-  two-steps : (r o : ℕ) (x y : Queue) → Early (F r o) x → Early x y → (n : ℕ) × (y ≡ Q n) × Trails pl r n
+  two-steps : (r o : ℕ) (x y : Queue) → Feeds pl (F r o) x → late x ≡ false → Feeds pl x y
+      → (n : ℕ) × (y ≡ Q n) × Trails pl r n
   unfolding Onto
-  two-steps r o x y f g = by (from-f r o x (f .step .step) (f .step .to))
+  two-steps r o x y f early g = by (from-f r o x f early)
     where
       by : Onto r o x → (n : ℕ) × (y ≡ Q n) × Trails pl r n
-      by (n, t, q, s) = (n, from-u n t y (rw q at (g .step .step)), s)
+      by (n, t, q, s) = (n, from-u n t y (subst (λ (k : Queue). Feeds pl k y) q g), s)
 
   three-steps : (w x y z : Queue) → AtUnit w → Early w x → Early x y → Early y z
       → AtUnit z × Trails pl (unitOf w) (unitOf z)
-  three-steps w x y z (r, e) f g h = by (from-q r x (rw e at (f .step .step)))
+  three-steps w x y z (r, e) f g h = by (from-q r x (subst (λ (k : Queue). Feeds pl k x) e (f .step .step)))
     where
       by : (o : ℕ) × (x ≡ F r o) → AtUnit z × Trails pl (unitOf w) (unitOf z)
       by (o, q) =
-          let s = two-steps r o y z (rw q at g) h in
-          ((s .0, s .1), rw (e, s .1) (s .2))
+          let s = two-steps r o y z (subst (λ (k : Queue). Feeds pl k y) q (g .step .step)) (g .step .to)
+          (h .step .step) in (
+            (s .0, s .1),
+            subst (λ (k : Queue). Trails pl (unitOf k) (unitOf z)) (sym e)
+                (subst (λ (k : Queue). Trails pl r (unitOf k)) (sym (s .1)) (s .2)),
+          )
 
   first-unit : (x y z : Queue) → Early x y → Early y z → AtUnit x ⊎ AtUnit y ⊎ AtUnit z
   first-unit (activeOut a) y z f g = absurd (not-both refl (feeds-in (f .before) (activeOut a) (f .into .step)))
   first-unit (passiveOut p) y z f g = absurd (not-both refl (feeds-in (f .before) (passiveOut p) (f .into .step)))
   first-unit (U r i) y z f g = inr (inl (r, from-u r i y (f .step .step)))
   first-unit (Q r) y z f g = inl (r, refl)
-  first-unit (F r o) y z f g = let s = two-steps r o y z f g in inr (inr (s .0, s .1))
+  first-unit (F r o) y z f g =
+      let s = two-steps r o y z (f .step .step) (f .step .to) (g .step .step) in inr (inr (s .0, s .1))
   first-unit (K r i o) y z f g = absurd (not-both refl (f .step .from))
   first-unit (activeIn a) y z f g = absurd (not-both refl (f .step .from))
   first-unit (passiveIn p) y z f g = absurd (not-both refl (f .step .from))
@@ -373,7 +379,10 @@ module _ (pl : Plan) where
       by (late-feeds x y (m .step .from) (m .step .step)) (late-feeds y (m .after) (m .out .from) (m .out .step))
     where
       by : (r i o : ℕ) × (x ≡ K r i o) → (n t u : ℕ) × (y ≡ K n t u) → Crosses pl (crossing x) (crossing y)
-      by (r, i, o, ex) (n, t, u, ey) = rw (ex, ey) (feeds-crosses r i o n t u (rw (ex, ey) at (m .step .step)))
+      by (r, i, o, ex) (n, t, u, ey) =
+          subst (λ (k : Queue). Crosses pl (crossing k) (crossing y)) (sym ex)
+          (subst (λ (k : Queue). Crosses pl (cross r i o) (crossing k)) (sym ey) (feeds-crosses r i o n t u
+          (subst (λ (k : Queue). Feeds pl (K r i o) k) ey (subst (λ (k : Queue). Feeds pl k y) ex (m .step .step)))))
 
   late-ring : Ring (Both (Feeds pl) late true) → Ring (Crosses pl)
   late-ring r = ring-map (Amid (Both (Feeds pl) late true)) (Crosses pl) crossing late-crosses

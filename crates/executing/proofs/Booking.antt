@@ -2,9 +2,8 @@
 use mathlib.Core.Path.{_≡_, refl, sym, _∙_}
 use mathlib.Core.Bool.{Bool, true, false}
 use mathlib.Core.List.{List}
-use Prim.Native.Nat.{ℕ, zero, suc, _+_, _*_, _<_}
+use Prim.Native.Nat.{ℕ, _+_, _*_, _<_}
 use native.Mathlib.Numerals.{add-one}
-use native.Mathlib.Omega.{arith}
 use lib.Dec.{eqb}
 use lib.ListN.{getD}
 use borrow.Author.Tests.{eq-eqb, ne-eqb}
@@ -12,13 +11,8 @@ use Rattle.basis.specs.Bounded.{anyBelow, any-of}
 use Rattle.packets.specs.declared.Entry.{Entry}
 use Rattle.machine.specs.State.{isFree}
 use Rattle.machine.specs.Execute.{otherFree, mayBook}
-use Rattle.layout.specs.Codes.{entryFrom}
+use Rattle.picking.proofs.Bytes.{free-byte}
 use Rattle.executing.specs.Lent.{entriesAt, spares}
-
--- a byte is that of a free entry if it is 0
-pub free-byte : (n : ℕ) → isFree (entryFrom n) ≡ eqb n 0
-free-byte zero = refl
-free-byte (suc n) = sym (ne-eqb (suc n) 0 (λ e. let z : _≡_ {A = ℕ} 0 1 = cc in omega arith))
 
 pub slot-free : (at t : ℕ) (b : List ℕ) → getD b (at + 2 * t) 0 ≡ 0 → isFree (entriesAt at b t) ≡ true
 unfolding entriesAt

@@ -38,7 +38,8 @@ use Rattle.units.specs.declared.Queue.{Queue}
 use Rattle.units.specs.Handled.{setUp, stays, ends, torn, handledBy, handledOf}
 use Rattle.executing.specs.Moments.{Heads}
 use Rattle.executing.specs.Lent.{queueOf, putBack, settled, entriesAt}
-use Rattle.executing.proofs.Bytes.{flag-zero, entry-on}
+use Rattle.picking.proofs.Bytes.{flag-zero}
+use Rattle.executing.proofs.Bytes.{entry-on}
 
 -- ---- the head
 module _ {pl : Plan} (wired : Wired pl) (range : InRange (pl .head)) (r : ℕ) (hr : r < R pl) (x : Packet) (s : State)

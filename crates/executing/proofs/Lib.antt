@@ -1,4 +1,3 @@
-pub mod Steps
 pub mod Bytes
 pub mod Turns
 pub mod Handled
@@ -6,8 +5,5 @@ pub mod Units
 pub mod Booking
 pub mod Tables
 pub mod Needs
-pub mod Senders
-pub mod Choosing
-pub mod Asked
 pub mod Undoing
 pub mod Loops

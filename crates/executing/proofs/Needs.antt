@@ -27,19 +27,17 @@ use Rattle.acts.specs.Counts.{tableFrom}
 use Rattle.moves.specs.Wiring.{Wiring}
 use Rattle.executing.specs.Moments.{Turn, Heads}
 use Rattle.executing.specs.Lent.{Settles}
-use Rattle.executing.proofs.Bytes.{entry-on, queue-room, entry-room}
+use Rattle.picking.proofs.Bytes.{queue-room, entry-room}
+use Rattle.picking.proofs.Tables.{entry-is, range-of, counts-of, is-router}
+use Rattle.executing.proofs.Bytes.{entry-on}
 use Rattle.executing.proofs.Handled.{here, exit-side}
 use Rattle.executing.proofs.Turns.{turns}
 use Rattle.executing.proofs.Units.{settles-as}
-use Rattle.executing.proofs.Tables.{slots-are, exit-is, entry-is, range-of, counts-of}
+use Rattle.executing.proofs.Tables.{slots-are, exit-is}
 
 module _ {h : Head} {routes : List (List ℕ)} {joints homes : List ℕ} (w : Wiring h routes joints homes) where
   abbrev pl : Plan
   pl = tablePlan h routes joints
-
-  pub is-router : {r : ℕ} → r < h .routers → r < R pl
-  unfolding tablePlan
-  is-router l = l
 
   pub base-asks : {r : ℕ} → r < h .routers → Counts h × (r ≤ 256)
   base-asks l = let m = w .range .routers .1 in (counts-of w, omega arith)
@@ -47,11 +45,11 @@ module _ {h : Head} {routes : List (List ℕ)} {joints homes : List ℕ} (w : Wi
   -- Q's row lies inside
   pub unit-room : {r at : ℕ} {b : List ℕ} → r < h .routers → at ≡ queueRow pl (Q r) → Holds pl (Turn pl r) b
       → at + 39 ≤ length b
-  unit-room {r} {at} {b} l ea k = rw ea (queue-room pl (k .state) (k .rest) b (k .same) (Q r) (is-router l))
+  unit-room {r} {at} {b} l ea k = rw ea (queue-room pl (k .state) (k .rest) b (k .same) (Q r) (is-router w l))
 
   module _ {r : ℕ} {x : Packet} {b : List ℕ} (l : r < h .routers) (k : Holds pl (Heads pl r x) b) where
     numbers : PacketOk pl x
-    numbers = here (w .wired) (range-of w) r (is-router l) x (k .state) (k .fit) .ranges
+    numbers = here (w .wired) (range-of w) r (is-router w l) x (k .state) (k .fit) .ranges
 
     pub has-active : x .active < h .actives
     unfolding tablePlan
@@ -77,7 +75,7 @@ module _ {h : Head} {routes : List (List ℕ)} {joints homes : List ℕ} (w : Wi
       side-is = eo ∙ exit-is h routes joints r x
 
       side-small : o < 4
-      side-small = rw side-is (exit-side (w .wired) (range-of w) r (is-router l) x (k .state) (k .fit))
+      side-small = rw side-is (exit-side (w .wired) (range-of w) r (is-router w l) x (k .state) (k .fit))
 
       pub entry-asks : {t : ℕ} → t ≡ x .slot .0 → Counts h × (r ≤ 16) × (o ≤ 4) × (t ≤ 32)
       entry-asks et =
@@ -96,7 +94,7 @@ module _ {h : Head} {routes : List (List ℕ)} {joints homes : List ℕ} (w : Wi
       room : (t : ℕ) → t < h .slots → entryRow pl r o t + 2 ≤ length b
       room t lt =
           let m = w .range .slots .1 in
-          entry-room pl (k .state) (k .rest) b (k .same) r o t (is-router l) side-small (omega arith)
+          entry-room pl (k .state) (k .rest) b (k .same) r o t (is-router w l) side-small (omega arith)
 
       -- the packet's entry
       pub entry-inside : {at t : ℕ} → at ≡ tableFrom h + 2 * (128 * r + 32 * o + t) → t ≡ x .slot .0 → at < length b
@@ -139,12 +137,12 @@ module _ {h : Head} {routes : List (List ℕ)} {joints homes : List ℕ} (w : Wi
           let m = w .range .slots .1 in
           rw ea
           (ap (λ (c : List ℕ). set c (entryRow pl r o t) (entryCode y)) (k .same)
-          ∙ put-entry pl (k .state) (k .rest) r o t y (is-router l) side-small (omega arith))
+          ∙ put-entry pl (k .state) (k .rest) r o t y (is-router w l) side-small (omega arith))
 
       settles-by : {row at t : ℕ} (y : Entry) → row ≡ queueRow pl (Q r) → at ≡ entryRow pl r o t → t ≡ x .slot .0
           → Settles row x (h .slots) (set b at (entryCode y))
       settles-by {row} {at} {t} y er ea et =
-          settles-as (w .wired) (range-of w) r (is-router l) x row (h .slots) (k .state)
+          settles-as (w .wired) (range-of w) r (is-router w l) x row (h .slots) (k .state)
           (withEntry r o t y (k .state)) (k .rest) (set b at (entryCode y)) er (slots-are h routes joints) (k .fit)
           refl (changed y ea et)
 
@@ -164,7 +162,7 @@ module _ {h : Head} {routes : List (List ℕ)} {joints homes : List ℕ} (w : Wi
     -- no entry changed
     pub settles-now : {row : ℕ} → row ≡ queueRow pl (Q r) → Settles row x (h .slots) b
     settles-now {row} er =
-        settles-as (w .wired) (range-of w) r (is-router l) x row (h .slots) (k .state) (k .state) (k .rest) b er
+        settles-as (w .wired) (range-of w) r (is-router w l) x row (h .slots) (k .state) (k .state) (k .rest) b er
         (slots-are h routes joints) (k .fit) refl (k .same)
 
   -- ---- the loop over the units

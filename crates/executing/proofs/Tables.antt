@@ -7,7 +7,7 @@ use lib.ListN.{length, getD, set, length-set}
 use borrow.Author.Tests.{lt-ltb, le-ltb}
 use Rattle.packets.specs.declared.Packet.{Packet}
 use Rattle.plan.specs.declared.Head.{Head}
-use Rattle.plan.specs.Head.{InRange, Counts, destinations}
+use Rattle.plan.specs.Head.{destinations}
 use Rattle.plan.specs.Plan.{Plan, Interface, active, passive, A, S, noSide}
 use Rattle.plan.specs.Rules.{portOf, portOr0, portsOf, home}
 use Rattle.plan.specs.Tables.{tablePlan, interfaceAt}
@@ -18,11 +18,10 @@ use Rattle.paths.specs.Steps.{stepOf}
 use Rattle.feeding.specs.Queue.{Q}
 use Rattle.feeding.specs.Feeds.{Stands}
 use Rattle.theory.proofs.Cases.{exitAt}
-use Rattle.layout.specs.Offsets.{queueRow, entryRow}
-use Rattle.acts.specs.Counts.{tableFrom, table-at}
+use Rattle.layout.specs.Offsets.{queueRow}
 use Rattle.moves.specs.Wiring.{Wiring}
 use Rattle.moves.proofs.Numbered.{port-few}
-use Rattle.executing.proofs.Bytes.{unit-row, entry-at}
+use Rattle.executing.proofs.Bytes.{unit-row}
 
 pub set-length : (b : List ℕ) (i v : ℕ) → length (set b i v) ≡ length b
 set-length b i v = length-set b i v
@@ -45,22 +44,9 @@ module _ (h : Head) (routes : List (List ℕ)) (joints : List ℕ) where
   unfolding tablePlan
   unit-at r en ea = ea ∙ ap (λ (k : ℕ). 2 + 39 * (k + 4)) en ∙ sym (unit-row pl r)
 
-  -- an entry's bytes
-  pub entry-is : (r o t : ℕ) {at : ℕ} → at ≡ tableFrom h + 2 * (128 * r + 32 * o + t) → at ≡ entryRow pl r o t
-  unfolding tablePlan
-  entry-is r o t e =
-      e ∙ ap (λ (k : ℕ). k + 2 * (128 * r + 32 * o + t)) (sym (table-at pl)) ∙ sym (entry-at pl r o t)
-
 module _ {h : Head} {routes : List (List ℕ)} {joints homes : List ℕ} (w : Wiring h routes joints homes) where
   abbrev net : Plan
   net = tablePlan h routes joints
-
-  pub counts-of : Counts h
-  counts-of = (w .range .routers .1, w .range .actives .1, w .range .passives .1)
-
-  pub range-of : InRange (net .head)
-  unfolding tablePlan
-  range-of = w .range
 
   -- ---- where a walk stands
   column : (p : ℕ) → interfaceAt h (h .actives + p) ≡ passive p

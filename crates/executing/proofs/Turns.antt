@@ -1,8 +1,8 @@
--- What each moment of EXECUTE leaves to the next: turns of units, picks of outputs.
+-- What each moment of EXECUTE leaves to the next: turns of units, tear-downs of actives.
 use mathlib.Core.Path.{_≡_, refl, ap, _∙_}
 use mathlib.Core.Logic.{_≢_}
 use mathlib.Core.Bool.{true}
-use Prim.Native.Nat.{ℕ, suc, _+_, _≤_, _<_}
+use Prim.Native.Nat.{ℕ, suc, _≤_, _<_}
 use native.Mathlib.Omega.{arith}
 use Rattle.basis.specs.Fold.{upTo, up-keeps, up-keeps-at}
 use Rattle.packets.specs.declared.Phase.the-variants.{Execute}
@@ -10,18 +10,19 @@ use Rattle.plan.specs.Head.{InRange}
 use Rattle.plan.specs.Plan.{Plan, R, A}
 use Rattle.feeding.specs.Queue.{Q}
 use Rattle.wiring.specs.Wired.{Wired}
-use Rattle.machine.specs.Outputs.{outputs, outputAt}
+use Rattle.machine.specs.Outputs.{outputAt}
 use Rattle.machine.specs.State.{State, Links}
-use Rattle.machine.specs.Execute.{unit, choose, picked, undo}
+use Rattle.machine.specs.Execute.{unit, undo}
 use Rattle.machine.proofs.Apart.{unit-same}
-use Rattle.machine.proofs.OutNumbers.{at-apart, drives-at}
+use Rattle.machine.proofs.OutNumbers.{drives-at}
 use Rattle.theory.specs.Invariant.{Core}
-use Rattle.theory.proofs.Ground.Cells.{queue-away, output-away}
+use Rattle.theory.proofs.Ground.Cells.{queue-away}
 use Rattle.theory.proofs.Account.Units.{unit-by}
 use Rattle.theory.proofs.Shape.Calls.{execute-has}
-use Rattle.theory.proofs.Keeps.{inv-of, unit-core, choose-core, undo-core}
+use Rattle.theory.proofs.Keeps.{inv-of, unit-core, undo-core}
 use Rattle.acts.specs.Acts.{In}
-use Rattle.executing.specs.Moments.{Turn, chooses, Picks}
+use Rattle.picking.specs.Moments.{Picks}
+use Rattle.executing.specs.Moments.{Turn}
 
 -- before the first unit's turn
 pub turn-first : (pl : Plan) (s : State) → In pl Execute s → Turn pl 0 s
@@ -61,29 +62,6 @@ module _ {pl : Plan} (wired : Wired pl) (range : InRange (pl .head)) where
   -- the first n units' turns
   pub turns : (n : ℕ) (s : State) → n ≤ R pl → Turn pl 0 s → Turn pl n (upTo (unit pl) n s)
   turns n s l t = up-keeps-at (Turn pl) (unit pl) n s (λ i u h g. turn-next i u (omega arith) g) t
-
-  pub pick-next : (n : ℕ) (s : State) → n < outputs pl → Picks pl n s → Picks pl (suc n) (chooses pl n s)
-  unfolding choose
-  pick-next n s h p =
-      record {
-        core = choose-core wired range (outputAt pl n) s (p .core);
-        choices = λ m l k.
-            output-away (s .links .choice) (outputAt pl n) (picked pl s (outputAt pl n)) (outputAt pl m)
-            (at-apart pl m n k h (λ z. omega arith)) ∙ p .choices m (omega arith) k;
-      }
-
-  -- the picks of n outputs, from output m on
-  pub picks-on : (m n : ℕ) (s : State) → m + n ≤ outputs pl → Picks pl m s
-      → Picks pl (m + n) (upTo (λ i. chooses pl (m + i)) n s)
-  picks-on m n s l p =
-      up-keeps-at (λ (i : ℕ) (u : State). Picks pl (m + i) u) (λ i. chooses pl (m + i)) n s
-      (λ i u h g. next i (pick-next (m + i) u (omega arith) g)) (first p)
-    where
-      next : (i : ℕ) {u : State} → Picks pl (suc (m + i)) u → Picks pl (m + suc i) u
-      next i g = let e : suc (m + i) ≡ m + suc i = omega arith in rw (← e) g
-
-      first : {u : State} → Picks pl m u → Picks pl (m + 0) u
-      first g = let e : m ≡ m + 0 = omega arith in rw (← e) g
 
   -- the tear-downs of n actives
   pub undone : (n : ℕ) (s : State) → n ≤ A pl → Core pl s → Core pl (upTo (undo pl) n s)

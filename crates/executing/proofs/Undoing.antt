@@ -33,9 +33,9 @@ use Rattle.layout.proofs.Updates.{put-head, push-queue}
 use Rattle.acts.specs.Acts.{Holds, Steps, holds-then, steps-more}
 use Rattle.moves.specs.Wiring.{Wiring}
 use Rattle.executing.specs.Moments.{Starts}
-use Rattle.executing.proofs.Steps.{steps-same}
-use Rattle.executing.proofs.Bytes.{line-some, queue-room, no-packet, some-packet}
-use Rattle.executing.proofs.Tables.{range-of, counts-of}
+use Rattle.picking.proofs.Steps.{steps-same}
+use Rattle.picking.proofs.Bytes.{line-some, queue-room, no-packet, some-packet}
+use Rattle.picking.proofs.Tables.{range-of, counts-of}
 use Rattle.executing.proofs.Turns.{undone}
 
 -- an active that does nothing

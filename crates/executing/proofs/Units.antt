@@ -29,9 +29,9 @@ use Rattle.layout.proofs.Updates.{put-entry}
 use Rattle.acts.specs.Acts.{Steps}
 use Rattle.executing.specs.Moments.{Turn, Heads}
 use Rattle.executing.specs.Lent.{queueOf, settled, Settles, entriesAt}
-use Rattle.executing.proofs.Steps.{steps-same}
-use Rattle.executing.proofs.Bytes.{line-some, entry-on, line-few, queue-room, no-packet, some-packet, marked}
-use Rattle.executing.proofs.Bytes.{unmarked}
+use Rattle.picking.proofs.Steps.{steps-same}
+use Rattle.picking.proofs.Bytes.{line-some, queue-room, no-packet, some-packet, marked, unmarked}
+use Rattle.executing.proofs.Bytes.{entry-on, line-few}
 use Rattle.executing.proofs.Handled.{here, exit-side, setup-hub, setup-came, tdown-hub, no-ack, no-nack}
 use Rattle.executing.proofs.Handled.{settle-stays, settle-ends, handled-booked, handled-declined, handled-ends}
 use Rattle.executing.proofs.Handled.{handled-freed, may-book-at}

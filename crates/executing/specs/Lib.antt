@@ -1,3 +1,2 @@
 pub mod Moments
-pub mod Senders
 pub mod Lent

@@ -9,8 +9,6 @@ ghost use Rattle.moves.specs.Wiring.{Wiring};
 
 // Each unit handles its head.
 pub mod heads;
-// Each output picks a sender.
-pub mod picks;
 // Each active tears down what was declined.
 pub mod undo;
 
@@ -27,7 +25,7 @@ pub fn execute(h: Head, routes: &[[u8; 32]; 16], joints: &[u8; 64], homes: &[u8;
         (doExecute (tablePlan h (now (routes .entry)) (now (joints .entry)))) (now (s .entry)) (now (s .exit)) ⌝ }
 {
     heads::heads(h, routes, joints, homes, s);
-    picks::picks(h, routes, joints, homes, s);
+    picking::picks(h, routes, joints, homes, s);
     undo::undoes(h, routes, joints, homes, s);
     s[0] = WRITE;
 }

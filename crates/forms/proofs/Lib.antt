@@ -1,5 +1,2 @@
 pub mod Stretch
-pub mod Ranks
-pub mod Entries
 pub mod Meaning
-pub mod Remembered

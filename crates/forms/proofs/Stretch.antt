@@ -1,17 +1,17 @@
 -- Stretches of zero bytes, the words that they make, and rows one behind the other.
 use mathlib.Core.Path.{_≡_, refl, ap, _∙_}
 use mathlib.Core.Logic.{_⊎_, inl, inr}
-use mathlib.Core.Bool.{Bool, true, false}
+use mathlib.Core.Bool.{Bool, true, false, not}
 use mathlib.Core.List.{List}
 use Prim.Native.Nat.{ℕ, zero, suc, _+_, _*_, _≤_, _<_}
 use native.Mathlib.Nat.{add-zero}
 use native.Mathlib.Numerals.{add-one}
 use native.Mathlib.Omega.{arith}
-use lib.Dec.{eqb}
+use lib.Dec.{eqb, ltb, leb}
 use lib.Bits.{bitOr, or-add-and, and-le-l, and-le-r}
 use lib.ListN.{getD}
-use borrow.Author.Tests.{eq-eqb, eqb-true}
-use Rattle.basis.specs.Choice.{pick, also, also-true, also-of, same-test}
+use borrow.Author.Tests.{eq-eqb, eqb-true, ltb-true, ltb-false, lt-leb, le-leb}
+use Rattle.basis.specs.Choice.{pick, also, also-true, also-of, same-test, test}
 use Rattle.basis.specs.Bounded.{allBelow, all-of, lt-or-ge}
 use Rattle.plan.specs.declared.Head.{Head}
 use Rattle.plan.specs.Head.{destinations}
@@ -20,6 +20,18 @@ use Rattle.states.specs.Forms.{zeros}
 use Rattle.states.proofs.Bytes.{zeros-byte}
 use Rattle.layout.specs.Decode.{fourAt}
 use Rattle.forms.specs.Bytes.{wordAt, IdleRow, IdleRows, IdleSide, IdleRouter, QuietBytes}
+
+-- ---- tests as numbers
+pub bit-none : (t : Bool) {v : ℕ} → v ≡ pick t 1 0 → eqb v 0 ≡ not t
+bit-none true e = rw e
+bit-none false e = rw e
+
+pub less-not : (x m : ℕ) → not (ltb m x) ≡ leb x m
+less-not x m = by (test (ltb m x))
+  where
+    by : (ltb m x ≡ true) ⊎ (ltb m x ≡ false) → not (ltb m x) ≡ leb x m
+    by (inl e) = rw (e, lt-leb x m (ltb-true m x e))
+    by (inr e) = rw (e, le-leb x m (ltb-false m x e))
 
 -- ---- the digits of two words together
 pub or-none : (a b : ℕ) → bitOr a b ≡ 0 → (a ≡ 0) × (b ≡ 0)

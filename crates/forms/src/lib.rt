@@ -12,11 +12,8 @@ ghost use Rattle.states.specs.Forms.{zeros};
 ghost use Rattle.layout.specs.Decode.{fourAt};
 ghost use Rattle.forms.specs.Bytes.{wordAt, IdleRow, IdleRows, IdleSide, IdleRouter, QuietBytes};
 
-pub mod sides;
-pub mod turns;
-
 // A byte as a number.
-fn low(x: u8) -> u32
+pub fn low(x: u8) -> u32
     ensures { λ v. ⌜ (v ≡ x) × (v < 256) ⌝ }
 {
     x as u32
@@ -30,21 +27,21 @@ fn wide(x: u8) -> u64
 }
 
 // The digits of two bytes together: zero where both are.
-fn join(a: u8, b: u8) -> u8
+pub fn join(a: u8, b: u8) -> u8
     ensures { λ v. ⌜ eqb v 0 ≡ also (eqb a 0) (eqb b 0) ⌝ }
 {
     a | b
 }
 
 // 1 for true.
-fn bit(t: bool) -> u8
+pub fn bit(t: bool) -> u8
     ensures { λ v. ⌜ v ≡ pick t 1 0 ⌝ }
 {
     if t { 1 } else { 0 }
 }
 
 // Not zero where a byte is greater than its limit.
-fn over(x: u8, m: u8) -> u8
+pub fn over(x: u8, m: u8) -> u8
     ensures { λ v. ⌜ eqb v 0 ≡ leb x m ⌝ }
 {
     bit(x > m)

@@ -23,10 +23,10 @@ use Rattle.states.specs.Forms.{headerForm}
 use Rattle.states.specs.Check.{checkOf, outputsPart, queuesPart, picksPart, allowancesPart, tablesPart}
 use Rattle.states.specs.Check.{connectionsPart, turnsPart}
 use Rattle.forms.specs.Bytes.{QuietBytes, allowancesFit, sidesFit}
-use Rattle.forms.specs.Turns.{turnsFit}
+use Rattle.turns.specs.Turns.{turnsFit}
 use Rattle.forms.proofs.Meaning.{quiet-parts, quiet-spent, tables-fit, allowances-fit}
-use Rattle.forms.proofs.Remembered.{turns-fit}
-use Rattle.lines.specs.Tally.{Tallied}
+use Rattle.turns.proofs.Remembered.{turns-fit}
+use Rattle.frames.specs.Tally.{Tallied}
 use Rattle.lines.specs.Lines.{spentIn, LinesChecked}
 use Rattle.wires.specs.Outputs.{spentOn, OutputsChecked}
 use Rattle.wires.proofs.Picking.{picks-none}

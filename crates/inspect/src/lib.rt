@@ -159,16 +159,16 @@ fn body_ok(
     if !places_ok(h, routes, joints, homes, lengths, by, s, &mut spent) {
         return false;
     }
-    if !forms::sides::allowances_ok(s, acts::allowance_row(h, 0), h.actives, whole(h), &spent) {
+    if !sides::allowances_ok(s, acts::allowance_row(h, 0), h.actives, whole(h), &spent) {
         return false;
     }
-    if !forms::sides::sides_ok(s, acts::table_row(h), 4 * h.routers, index(h.slots)) {
+    if !sides::sides_ok(s, acts::table_row(h), 4 * h.routers, index(h.slots)) {
         return false;
     }
     if !ties::ties_ok(h, routes, joints, homes, lengths, s) {
         return false;
     }
-    forms::turns::turns_ok(h, joints, s)
+    turns::turns_ok(h, joints, s)
 }
 
 // Whether bytes are a state's.

@@ -24,7 +24,7 @@ use Rattle.machine.specs.Valid.{sum}
 use Rattle.states.specs.Check.{queueRowTest, queuesPart}
 use Rattle.lines.specs.Lines.{capIn, routerCaps, sameCaps, RowsChecked, LinesChecked, spentIn}
 use Rattle.lines.proofs.Lined.{sum-like}
-use Rattle.lines.proofs.Tallies.{tallied-like}
+use Rattle.frames.proofs.Tallies.{tallied-like}
 use Rattle.lines.proofs.Turns.{rows-none, rows-join, rows-lost}
 
 -- ---- capacities

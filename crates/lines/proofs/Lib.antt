@@ -1,5 +1,3 @@
-pub mod Tallies
-pub mod Frames
 pub mod Lined
 pub mod Rowed
 pub mod Numbers

@@ -19,7 +19,8 @@ use Rattle.valid.specs.Test.{allIn, linedTest, belongsTest}
 use Rattle.layout.specs.Offsets.{packetKind, packetWidth}
 use Rattle.layout.specs.Places.{packetAt, packetsAt}
 use Rattle.states.specs.Forms.{zeros, placesForm}
-use Rattle.lines.specs.Lines.{ofHead, placeTest, placesTest}
+use Rattle.frames.specs.Frame.{ofHead}
+use Rattle.lines.specs.Lines.{placeTest, placesTest}
 
 left-true : (a c : Bool) → also a c ≡ true → a ≡ true
 left-true a c e = also-true {a = a} {b = c} e .0

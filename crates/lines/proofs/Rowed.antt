@@ -28,9 +28,9 @@ use Rattle.layout.specs.Decode.{decode, capacity-most, queueIn}
 use Rattle.states.specs.Forms.{zeros, placesForm, queueForm}
 use Rattle.states.specs.Parts.{frameTest, queueTest}
 use Rattle.states.specs.Check.{queueRowTest}
-use Rattle.lines.specs.Frame.{frameOf}
+use Rattle.frames.specs.Frame.{frameOf}
 use Rattle.lines.specs.Lines.{placesTest}
-use Rattle.lines.proofs.Frames.{frame-law, frame-few}
+use Rattle.frames.proofs.Frames.{frame-law, frame-few}
 use Rattle.lines.proofs.Lined.{places-law, spent-places}
 
 -- EXECUTE's byte is 1

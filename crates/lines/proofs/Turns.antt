@@ -25,8 +25,9 @@ use Rattle.layout.specs.Offsets.{packetWidth}
 use Rattle.layout.specs.Places.{packetAt}
 use Rattle.places.specs.Asked.{Asked}
 use Rattle.lines.specs.Ready.{Ready}
-use Rattle.lines.specs.Tally.{tallied, Tallied}
-use Rattle.lines.specs.Lines.{ofHead, placeTest, placesTest, PlaceChecked, PlacesChecked, RowChecked, RowsChecked}
+use Rattle.frames.specs.Tally.{tallied, Tallied}
+use Rattle.frames.specs.Frame.{ofHead}
+use Rattle.lines.specs.Lines.{placeTest, placesTest, PlaceChecked, PlacesChecked, RowChecked, RowsChecked}
 use Rattle.lines.specs.Lines.{spentIn, Rests, Skipped, Coming}
 use Rattle.feeding.specs.Role.{isUnit}
 use Rattle.machine.specs.Capacity.{capacity}
@@ -40,11 +41,11 @@ use Rattle.states.specs.Forms.{zeros}
 use Rattle.states.specs.Check.{queueRowTest}
 use Rattle.states.proofs.Quiet.{zeros-row}
 use Rattle.forms.specs.Bytes.{IdleRow}
-use Rattle.lines.specs.Frame.{frameOf, fedOf, unitOf}
-use Rattle.lines.proofs.Frames.{frame-few, fed-law, unit-law}
+use Rattle.frames.specs.Frame.{frameOf, fedOf, unitOf}
+use Rattle.frames.proofs.Frames.{frame-few, fed-law, unit-law}
 use Rattle.lines.proofs.Rowed.{row-law, row-spent}
 use Rattle.lines.proofs.Lined.{sum-like}
-use Rattle.lines.proofs.Tallies.{tallied-none, tallied-then, tallied-like, tallied-one}
+use Rattle.frames.proofs.Tallies.{tallied-none, tallied-then, tallied-like, tallied-one}
 
 -- a packet whose numbers pass
 pub numbers-ok : (pl : Plan) (x : Packet) (more : Bool) → also (packetTest pl x) more ≡ true → PacketOk pl x
@@ -187,9 +188,6 @@ module _ (pl : Plan) (q : Queue) (done : Bool) (i : ℕ) (b : List ℕ) (t : Lis
 module _ (pl : Plan) (b : List ℕ) (from : ℕ) (t : List ℕ) where
   abbrev rowAt : ℕ → Bool
   rowAt k = queueRowTest pl b (queueAt pl (from + k))
-
-  abbrev spentFrom : ℕ → ℕ → ℕ
-  spentFrom a k = spentIn pl b a (from + k)
 
   pub rows-none : RowsChecked pl b from 0 true t t
   unfolding sum

@@ -1,4 +1,2 @@
 pub mod Ready
-pub mod Tally
-pub mod Frame
 pub mod Lines

@@ -1,8 +1,8 @@
 -- What the check of the queues' rows gives: whether each passes, and what their packets have spent.
 use mathlib.Core.Path.{_≡_}
-use mathlib.Core.Bool.{Bool, true, false}
+use mathlib.Core.Bool.{Bool, true}
 use mathlib.Core.List.{List}
-use Prim.Native.Nat.{ℕ, zero, suc, _+_, _*_, _-_, _%_, _≤_, _<_}
+use Prim.Native.Nat.{ℕ, _+_, _*_, _-_, _%_, _≤_, _<_}
 use lib.Dec.{leb, ltb, eqb}
 use lib.ListN.{getD, replicate}
 use Rattle.basis.specs.Choice.{pick, also}
@@ -20,12 +20,8 @@ use Rattle.layout.specs.Places.{packetAt, packetsAt}
 use Rattle.layout.specs.Decode.{decode}
 use Rattle.states.specs.Check.{queueRowTest, queuesPart}
 use Rattle.forms.specs.Bytes.{IdleRow}
-use Rattle.lines.specs.Tally.{Tallied}
-
--- only the head of a queue can have been handled
-abbrev pub ofHead : Bool → ℕ → Bool
-ofHead done zero = done
-ofHead done (suc k) = false
+use Rattle.frames.specs.Frame.{ofHead}
+use Rattle.frames.specs.Tally.{Tallied}
 
 -- the k-th place from i on: a packet of one of four kinds that belongs there
 unfoldable pub placeTest : Plan → Queue → Bool → ℕ → List ℕ → ℕ → Bool

@@ -21,12 +21,10 @@ ghost use Rattle.layout.specs.Decode.{decode};
 ghost use Rattle.acts.specs.Counts.{stateSize, queueCount};
 ghost use Rattle.moves.specs.Lent.{Lent};
 ghost use Rattle.lines.specs.Ready.{Ready};
-ghost use Rattle.lines.specs.Tally.{tallied, Tallied};
-ghost use Rattle.lines.specs.Frame.{frameOf, fedInRouter, fedOf, unitOf};
+ghost use Rattle.frames.specs.Tally.{tallied, Tallied};
+ghost use Rattle.frames.specs.Frame.{frameOf, fedInRouter, fedOf, unitOf};
 ghost use Rattle.lines.specs.Lines.{PlaceChecked, PlacesChecked, RowChecked, RowsChecked, Coming, LinesChecked};
 ghost use Rattle.lines.specs.Lines.{capIn, routerCaps, sameCaps, Rests, Skipped};
-
-pub mod frame;
 
 // A byte as an index.
 fn index(x: u8) -> usize
@@ -43,7 +41,7 @@ pub fn tally(spent: &mut [u8; 16], x: Packet)
     let a = index(x.active);
     let n = spent[a];
     let k = x.kind;
-    spent[a] = frame::counted(n, frame::spends(k));
+    spent[a] = frames::counted(n, frames::spends(k));
 }
 
 // Whether a packet's numbers are the plan's and its pair is served.
@@ -102,7 +100,7 @@ fn place_ok(
     if !packet_ok(h, lengths, x) {
         return false;
     }
-    let first = frame::of_head(done, k);
+    let first = frames::of_head(done, k);
     let kind = x.kind;
     if !places::fits(
         h.actives,
@@ -179,10 +177,10 @@ fn row_frame(h: Head, joints: &[u8; 64], s: &[u8], n: usize, i: usize, cap: u8, 
         (getD (now (s .entry)) i 0) (getD (now (s .entry)) (i + 1) 0) (getD (now (s .entry)) (i + 2) 0)
         (getD (now (s .entry)) (i + 3) 0) w ⌝ }
 {
-    let fed = frame::fed_at(h, joints, n);
-    let unit = frame::unit_at(h, n);
+    let fed = frames::fed_at(h, joints, n);
+    let unit = frames::unit_at(h, n);
     let executes = s[0] == 1;
-    frame::frame_ok(
+    frames::frame_ok(
         cap,
         fed,
         unit,

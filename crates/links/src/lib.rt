@@ -1,8 +1,6 @@
 // What leaves by each side, and the cells that lead from crossing to crossing (crate peel).
 // What is where at first, and what comes to each router.
 pub mod starts;
-// What leads on from router to router and from side to side.
-pub mod words;
 
 use sets::both;
 use sets::either;

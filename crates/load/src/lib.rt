@@ -67,11 +67,11 @@ pub fn fill(
     if !(joined & fit) {
         return Loaded::Refused(Refusal::BadField);
     }
-    if !plan::interfaces::homes(h, joints, homes) {
+    if !interfaces::homes(h, joints, homes) {
         return Loaded::Refused(Refusal::BadJoint);
     }
     let mut arrive = [0u32; 32];
-    let served = arrivals::walks(h, routes, joints, homes, by, &mut arrive, lengths);
+    let served = lengths::walks(h, routes, joints, homes, by, &mut arrive, lengths);
     if circles::ring_found(by, joints, homes, &arrive, &served, h) {
         return Loaded::Refused(Refusal::HasRing);
     }

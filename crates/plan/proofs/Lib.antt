@@ -1,4 +1,3 @@
 pub mod Bytes
 pub mod JointLaws
-pub mod PortLaws
 pub mod Fill

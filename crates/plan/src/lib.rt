@@ -3,7 +3,6 @@
 use kinds::Credit;
 
 pub mod counts;
-pub mod interfaces;
 pub mod joints;
 
 // The plan's first 45 bits: counts, the slot count and the eight capacities, in the plan's order: of the actives'

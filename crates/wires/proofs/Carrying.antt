@@ -23,8 +23,8 @@ use Rattle.valid.proofs.Packets.{belongs-decides}
 use Rattle.acts.specs.Counts.{queues-by}
 use Rattle.places.specs.Asked.{Asked}
 use Rattle.lines.specs.Ready.{Ready}
-use Rattle.lines.specs.Tally.{tallied}
-use Rattle.lines.proofs.Tallies.{tallied-one}
+use Rattle.frames.specs.Tally.{tallied}
+use Rattle.frames.proofs.Tallies.{tallied-one}
 use Rattle.lines.proofs.Turns.{asking}
 use Rattle.moves.specs.Wiring.{Wiring}
 use Rattle.moves.specs.Next.{noQueue, numberOr}

@@ -37,7 +37,7 @@ use Rattle.states.specs.Parts.{isNobody, outputTest}
 use Rattle.states.specs.Check.{outputRowTest}
 use Rattle.states.proofs.Bytes.{zeros-get, zeros-byte}
 use Rattle.states.proofs.Quiet.{zeros-part, zeros-output}
-use Rattle.lines.proofs.Tallies.{tallied-none, tallied-like}
+use Rattle.frames.proofs.Tallies.{tallied-none, tallied-like}
 use Rattle.wires.specs.Outputs.{fullAt, Carried, OutputChecked}
 use Rattle.wires.proofs.Bytes.{also-right, not-read, not-write, empty-byte, nobody-byte, decode-phase}
 use Rattle.wires.proofs.Bytes.{outputs-are, output-row}

@@ -20,8 +20,8 @@ use Rattle.states.specs.Forms.{zeros}
 use Rattle.states.specs.Check.{outputRowTest, outputsPart}
 use Rattle.states.proofs.Bytes.{zeros-byte}
 use Rattle.states.proofs.Quiet.{zeros-part}
-use Rattle.lines.specs.Tally.{Tallied}
-use Rattle.lines.proofs.Tallies.{tallied-none, tallied-then, tallied-like}
+use Rattle.frames.specs.Tally.{Tallied}
+use Rattle.frames.proofs.Tallies.{tallied-none, tallied-then, tallied-like}
 use Rattle.wires.specs.Outputs.{bringsTo, spentOn, Brought, OutputChecked, OutputsChecked}
 use Rattle.wires.proofs.Bringing.{sum-none, sum-start, sum-more, brought-none, brought-then, brought-like}
 use Rattle.wires.proofs.Bytes.{outputs-are}

@@ -43,7 +43,7 @@ use Rattle.acts.specs.Counts.{queueCount, outputCount, outputsFrom, queues-by}
 use Rattle.states.specs.Forms.{queueForm, outputForm}
 use Rattle.states.specs.Parts.{frameTest, queueTest, isNobody, outputTest, pickTestOf, pickTest}
 use Rattle.states.specs.Check.{queueRowTest, outputRowTest, queuesPart, outputsPart, picksPart}
-use Rattle.lines.proofs.Frames.{unit-law}
+use Rattle.frames.proofs.Frames.{unit-law}
 use Rattle.moves.specs.Wiring.{Wiring}
 use Rattle.moves.specs.Next.{noQueue, numberOr}
 use Rattle.wires.specs.Picks.{senderOf, mayLeaveAt, maySend}

@@ -15,7 +15,7 @@ use Rattle.machine.specs.Valid.{sum, goesTo, brings, inWire, spends}
 use Rattle.valid.specs.Test.{boundTest}
 use Rattle.layout.specs.Decode.{decode}
 use Rattle.states.specs.Check.{outputRowTest, outputsPart}
-use Rattle.lines.specs.Tally.{Tallied}
+use Rattle.frames.specs.Tally.{Tallied}
 
 -- the row at i has a full wire, with a packet of one of four kinds, and nobody is picked
 unfoldable pub fullAt : ℕ → List ℕ → Bool

@@ -13,7 +13,7 @@ use Rattle.machine.specs.Outputs.{outputAt}
 use Rattle.machine.specs.Execute.{candidate}
 use Rattle.layout.specs.Offsets.{handledByte}
 use Rattle.layout.specs.Decode.{decode}
-use Rattle.lines.specs.Frame.{unitOf}
+use Rattle.frames.specs.Frame.{unitOf}
 use Rattle.moves.specs.Next.{noQueue, baseOf}
 
 -- ---- the sender of rank k at output m, as a queue's number

@@ -61,7 +61,7 @@ fn may_leave(h: Head, s: &[u8], n: usize, i: usize) -> bool
     requires { ⌜ Counts h × (i + 2 < length (now s)) ⌝ }
     ensures { λ r. ⌜ r ≡ mayLeaveAt h (now (s .entry)) n i ⌝ }
 {
-    if lines::frame::unit_at(h, n) {
+    if frames::unit_at(h, n) {
         return s[i + 2] != 0;
     }
     true

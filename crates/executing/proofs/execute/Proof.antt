@@ -6,7 +6,7 @@ use Rattle.executing.proofs.execute.Tie as tie
 use Rattle.executing.proofs.execute.Reads as reads
 use Rattle.executing.proofs.execute.Lts as lts
 use Rattle.executing.proofs.heads.heads.Reads as heads-reads
-use Rattle.executing.proofs.picks.picks.Reads as picks-reads
+use Rattle.picking.proofs.picks.Reads as picks-reads
 use Rattle.executing.proofs.undo.undoes.Reads as undoes-reads
 
 heads-requires : tie.Need-heads-requires

@@ -1,6 +1,6 @@
 use lib.Dec.{ltb}
 use mathlib.Core.Path.{_∙_}
-use Rattle.forms.proofs.Entries.{bit-none, less-not}
+use Rattle.forms.proofs.Stretch.{bit-none, less-not}
 use borrow.Author.Needs.{needs}
 use Rattle.forms.proofs.over.Statement.{statement}
 use Rattle.forms.proofs.over.Tie as tie

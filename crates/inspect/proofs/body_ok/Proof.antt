@@ -10,8 +10,8 @@ use Rattle.inspect.proofs.body_ok.Reads as reads
 use Rattle.inspect.proofs.body_ok.Lts as lts
 use Rattle.acts.proofs.allowance_row.Reads as allowance-row-reads
 use Rattle.acts.proofs.table_row.Reads as table-row-reads
-use Rattle.forms.proofs.sides.allowances_ok.Reads as allowances-ok-reads
-use Rattle.forms.proofs.sides.sides_ok.Reads as sides-ok-reads
+use Rattle.sides.proofs.allowances_ok.Reads as allowances-ok-reads
+use Rattle.sides.proofs.sides_ok.Reads as sides-ok-reads
 use Rattle.inspect.proofs.index.Reads as index-reads
 use Rattle.inspect.proofs.none_spent.Reads as none-spent-reads
 use Rattle.inspect.proofs.places_ok.Reads as places-ok-reads

@@ -8,7 +8,7 @@ use Rattle.lines.proofs.place_ok.Statement.{statement}
 use Rattle.lines.proofs.place_ok.Tie as tie
 use Rattle.lines.proofs.place_ok.Reads as reads
 use Rattle.lines.proofs.place_ok.Lts as lts
-use Rattle.lines.proofs.frame.of_head.Reads as of-head-reads
+use Rattle.frames.proofs.of_head.Reads as of-head-reads
 use Rattle.lines.proofs.packet_ok.Reads as packet-ok-reads
 use Rattle.lines.proofs.tally.Reads as tally-reads
 use Rattle.places.proofs.fits.Reads as fits-reads

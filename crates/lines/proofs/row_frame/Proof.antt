@@ -3,9 +3,9 @@ use Rattle.lines.proofs.row_frame.Statement.{statement}
 use Rattle.lines.proofs.row_frame.Tie as tie
 use Rattle.lines.proofs.row_frame.Reads as reads
 use Rattle.lines.proofs.row_frame.Lts as lts
-use Rattle.lines.proofs.frame.fed_at.Reads as fed-at-reads
-use Rattle.lines.proofs.frame.frame_ok.Reads as frame-ok-reads
-use Rattle.lines.proofs.frame.unit_at.Reads as unit-at-reads
+use Rattle.frames.proofs.fed_at.Reads as fed-at-reads
+use Rattle.frames.proofs.frame_ok.Reads as frame-ok-reads
+use Rattle.frames.proofs.unit_at.Reads as unit-at-reads
 
 -- src/lib.rt:147:9
 fed-at-requires : tie.Need-fed-at-requires

@@ -3,8 +3,8 @@ use Rattle.lines.proofs.tally.Statement.{statement}
 use Rattle.lines.proofs.tally.Tie as tie
 use Rattle.lines.proofs.tally.Reads as reads
 use Rattle.lines.proofs.tally.Lts as lts
-use Rattle.lines.proofs.frame.counted.Reads as counted-reads
-use Rattle.lines.proofs.frame.spends.Reads as spends-reads
+use Rattle.frames.proofs.counted.Reads as counted-reads
+use Rattle.frames.proofs.spends.Reads as spends-reads
 use Rattle.lines.proofs.index.Reads as index-reads
 
 -- src/lib.rt:40:9
@@ -29,7 +29,7 @@ element-write-spent c = search needs
 
 -- src/lib.rt:36:1
 returns : tie.Need-returns
-unfolding Rattle.lines.specs.Tally.tallied
+unfolding Rattle.frames.specs.Tally.tallied
 returns c = simp (c .counted .ensures, c .before .spends .ensures .0, c .before .before .before .index .ensures .0)
 
 pub tally-spec : {M : Type 1} → statement M

@@ -10,12 +10,12 @@ use Rattle.load.proofs.fill.Statement.{statement}
 use Rattle.load.proofs.fill.Tie as tie
 use Rattle.load.proofs.fill.Reads as reads
 use Rattle.load.proofs.fill.Lts as lts
-use Rattle.arrivals.proofs.walks.Reads as walks-reads
+use Rattle.lengths.proofs.walks.Reads as walks-reads
 use Rattle.circles.proofs.ring_found.Reads as ring-found-reads
 use Rattle.load.proofs.length_ok.Reads as length-ok-reads
 use Rattle.plan.proofs.counts.head_ok.Reads as head-ok-reads
 use Rattle.plan.proofs.counts.read_head.Reads as read-head-reads
-use Rattle.plan.proofs.interfaces.homes.Reads as homes-reads
+use Rattle.interfaces.proofs.homes.Reads as homes-reads
 use Rattle.plan.proofs.joints.joints.Reads as joints-reads
 use Rattle.routes.proofs.routes.Reads as routes-reads
 

@@ -13,6 +13,8 @@ use Rattle.machine.specs.Runs.Watch.{round, manyRounds, inWrite, packet,
 use Rattle.machine.specs.Runs.Watch.{each, after, moments}
 use Rattle.plan.specs.Samples.{widerT, narrowThere, narrowBack}
 use Rattle.packets.specs.Answers.{refused, done, taken}
+use Rattle.machine.specs.Runs.Turns.{skipped-changes-nothing}
+use Rattle.machine.specs.Runs.Watch.{once}
 
 -- ---- the way to a passive: active out 6, U 4, Q 3, F 2, passive in 1. Nobody replies
 abbrev pub fillThere : List (List Call)
@@ -71,7 +73,7 @@ pub filled-there : moments narrowThere there [] fillThere
     ∷ after done (0 ∷ 0 ∷ 0 ∷ 2 ∷ (3 ∷ 3 ∷ 2 ∷ 1 ∷ []) ++ (1 ∷ 0 ∷ 0 ∷ 0 ∷ []) ++ 0 ∷ []) []
     ∷ []
 unfolding moments
-filled-there = refl
+filled-there = once skipped-changes-nothing refl
 
 -- ---- the way back: passive in 4, passive out 2, K 1, active in 5. Four set-ups to passive 1 and one to passive 0
 abbrev pub fillBack : List (List Call)
@@ -128,7 +130,7 @@ pub filled-back : moments narrowBack back [] fillBack
     ∷ after done (1 ∷ (0 ∷ 0 ∷ 0 ∷ 0 ∷ 0 ∷ 4 ∷ []) ++ 4 ∷ 1 ∷ 1 ∷ []) []
     ∷ []
 unfolding moments
-filled-back = refl
+filled-back = once filled-there refl
 
 -- ---- an out-queue of 2 that holds a TDOWN, with an allowance left: Launch gives 12
 abbrev pub fillOut : List (List Call)
@@ -166,4 +168,4 @@ pub out-queue-full : moments widerT allowance0 (activeOut 0 ∷ []) fillOut
     ∷ after done (0 ∷ []) ((setup 4 ∷ setup 5 ∷ []) ∷ [])
     ∷ []
 unfolding moments
-out-queue-full = refl
+out-queue-full = once filled-back refl

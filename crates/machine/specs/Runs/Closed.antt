@@ -15,6 +15,8 @@ use Rattle.machine.specs.Runs.Watch.{after, moments, accepts}
 use Rattle.machine.specs.Runs.Declined.{bothSides, otherAck}
 use Rattle.plan.specs.Samples.{planT, twoRouters, allSides}
 use Rattle.packets.specs.Answers.{refused, done, taken}
+use Rattle.machine.specs.Runs.Capacities.{out-queue-full}
+use Rattle.machine.specs.Runs.Watch.{once}
 
 -- ---- two routers, S=4. Active 1, at the second router, is connected from slot 0 on; active 0, at the first, from slot
 -- 2
@@ -127,7 +129,7 @@ pub opened-closed-opened : moments twoRouters tableAndKept places openedClosedOp
     ∷ after (taken ack) (bothBooked 1 1) quiet
     ∷ []
 unfolding moments
-opened-closed-opened = refl
+opened-closed-opened = once out-queue-full refl
 
 -- ---- accepted, closed and accepted again on plan T: told by the calls and their answers, the connection is accepted
 -- once, though its ACK was consumed twice
@@ -140,7 +142,7 @@ acceptedTwice = connects ∷ (close 0 0 0 ∷ manyRounds 4) ∷ connects ∷ []
 
 pub accepted-once : accepts planT acceptedTwice ≡ connection 0 0 0 ∷ []
 unfolding accepts
-accepted-once = refl
+accepted-once = once opened-closed-opened refl
 
 -- ---- the refusals' order, 8, 9, 10, 16, 12, where the conditions of two or more hold at once. Three actives, two
 -- passives, S=4; actives 0 and 1 are not served with passive 1
@@ -180,7 +182,7 @@ pub closes-in-order : moments allSides allowance [] closesTried
     ∷ after (refused 8) (0 ∷ []) []
     ∷ []
 unfolding moments
-closes-in-order = refl
+closes-in-order = once accepted-once refl
 
 -- ---- a Close with the out-queue full, which is accepted later; and it costs no allowance: plan T
 abbrev pub closedLater : List (List Call)
@@ -207,4 +209,4 @@ pub closed-later : moments planT allowanceAndKept (activeOut 0 ∷ []) closedLat
     ∷ after done (0 ∷ 0 ∷ 0 ∷ []) ((packet Tdown 0 0 0 1 ∷ []) ∷ [])
     ∷ []
 unfolding moments
-closed-later = refl
+closed-later = once closes-in-order refl

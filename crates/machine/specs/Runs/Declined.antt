@@ -12,6 +12,8 @@ use Rattle.machine.specs.Calls.{Call, read, execute, write, launch, repl
 use Rattle.machine.specs.Runs.Watch.{round, packet, entryIn, after, steady, watch}
 use Rattle.plan.specs.Samples.{twoRouters}
 use Rattle.packets.specs.Answers.{done, taken}
+use Rattle.machine.specs.Runs.Entries.{entries-told}
+use Rattle.machine.specs.Runs.Watch.{once}
 
 -- The walks to the passive leave each router by its side 1: that side's entries for slots 0 to 3, at the first router,
 -- then at the second
@@ -166,4 +168,4 @@ pub second-declines : watch twoRouters bothSides (activeOut 0 ∷ Q 0 ∷ Q 1 �
     ++ steady second quiet
     ++ steady second quiet
 unfolding watch
-second-declines = refl
+second-declines = once entries-told refl

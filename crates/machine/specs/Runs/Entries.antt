@@ -8,6 +8,8 @@ use Rattle.machine.specs.Calls.{Call, read, execute, write, launch, entr
 use Rattle.machine.specs.Runs.Watch.{manyRounds, slotIn, after, moments}
 use Rattle.plan.specs.Samples.{allSides}
 use Rattle.packets.specs.Answers.{refused, holds}
+use Rattle.machine.specs.Runs.Heads.{one-head-a-round}
+use Rattle.machine.specs.Runs.Watch.{once}
 
 -- active 0 comes in to router 0 by side 0, active 1 by side 1, active 2 to router 1 by side 2 and then to router 0 by
 -- side 3. All go to passive 0, at side 2 of router 0
@@ -64,4 +66,4 @@ pub entries-told : moments allSides currentSlot [] asking
     ∷ after (refused 9) (3 ∷ []) []
     ∷ []
 unfolding moments
-entries-told = refl
+entries-told = once one-head-a-round refl

@@ -11,6 +11,7 @@ use Rattle.machine.specs.Calls.{Call, read, execute, write, launch, repl
 use Rattle.machine.specs.Runs.Watch.{round, packet, slotIn, entryIn, after, steady, watch}
 use Rattle.plan.specs.Samples.{planT}
 use Rattle.packets.specs.Answers.{done, taken}
+use Rattle.machine.specs.Runs.Watch.{once}
 
 -- the entries of side 1, by which the walk to the passive leaves: slot 0, slot 1
 abbrev pub side1 : State → List ℕ
@@ -124,4 +125,4 @@ pub launch-in-round-1 : watch planT slotAndSide1 (F 0 1 ∷ passiveIn 0 ∷ []) 
     ++ after done (0 ∷ bookedSide) hasReached ∷ after done (0 ∷ bookedSide) hasReached
     ∷ after done (1 ∷ bookedSide) hasReached ∷ []
 unfolding watch
-launch-in-round-1 = refl
+launch-in-round-1 = once launch-in-round-0 refl

@@ -13,6 +13,8 @@ use Rattle.machine.specs.Runs.Watch.{round, manyRounds, inWrite, packet,
 use Rattle.machine.specs.Runs.Watch.{moments}
 use Rattle.plan.specs.Samples.{narrowThere}
 use Rattle.packets.specs.Answers.{done}
+use Rattle.machine.specs.Runs.Order.{unit-first-then-sides}
+use Rattle.machine.specs.Runs.Watch.{once}
 
 abbrev pub headsInTurn : List (List Call)
 headsInTurn =
@@ -66,4 +68,4 @@ pub one-head-a-round : moments narrowThere watched (Q 0 ∷ []) headsInTurn
     ∷ after done (4 ∷ 1 ∷ 2 ∷ 0 ∷ []) ((nextBooked ∷ []) ∷ [])
     ∷ []
 unfolding moments
-one-head-a-round = refl
+one-head-a-round = once unit-first-then-sides refl

@@ -10,6 +10,8 @@ use Rattle.machine.specs.Runs.Watch.{round, packet, after, steady, watch
 use Rattle.machine.specs.Runs.FirstBookings.{side1, free, bookedSide, launchedSetup, setup, ack, launchInRound0}
 use Rattle.plan.specs.Samples.{planT}
 use Rattle.packets.specs.Answers.{done, taken}
+use Rattle.machine.specs.Runs.Refusals.{flag-before-mark}
+use Rattle.machine.specs.Runs.Watch.{once}
 
 abbrev pub lastFreeEntry : List Call
 lastFreeEntry =
@@ -74,4 +76,4 @@ pub last-free-entry : watch planT side1 (activeOut 0 ∷ Q 0 ∷ activeIn 0 ∷ 
     ++ after done bookedSide (inIn nack) ∷ after done bookedSide (inIn nack) ∷ after (taken nack) bookedSide quiet ∷ []
     ++ after done bookedSide quiet ∷ []
 unfolding watch
-last-free-entry = refl
+last-free-entry = once flag-before-mark refl

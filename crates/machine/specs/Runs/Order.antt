@@ -12,6 +12,8 @@ use Rattle.machine.specs.Calls.{Call, read, execute, write, launch, repl
 use Rattle.machine.specs.Runs.Watch.{round, manyRounds, packet, entryIn, after, moments}
 use Rattle.plan.specs.Samples.{narrowThere, narrowBack}
 use Rattle.packets.specs.Answers.{done}
+use Rattle.machine.specs.Runs.Spent.{allowance-spent}
+use Rattle.machine.specs.Runs.Watch.{once}
 
 -- ---- U[1], U[2] and U[3]: three actives launch with slot 5 in round 0, and their set-ups come to the router in round
 -- 1. (U[0] before U[1] is seen in Entries.)
@@ -60,7 +62,7 @@ pub lower-side-first : moments narrowThere slot5 (U 0 1 ∷ U 0 2 ∷ U 0 3 ∷ 
     ∷ after done bookedSide (seen [] [] [] (packet Nack 2 0 5 0 ∷ []))
     ∷ []
 unfolding moments
-lower-side-first = refl
+lower-side-first = once allowance-spent refl
 
 -- ---- F[1], K[0,1] and K[3,1]: a NACK of the unit and an ACK of each passive, all for active 0, which is at side 1
 abbrev pub threeAnswers : List (List Call)
@@ -110,4 +112,4 @@ pub unit-first-then-sides : moments narrowBack nothing (F 0 1 ∷ K 0 0 1 ∷ K 
     ∷ after done [] (waiting [] [] [] (nack ∷ ack0 ∷ ack1 ∷ []))
     ∷ []
 unfolding moments
-unit-first-then-sides = refl
+unit-first-then-sides = once lower-side-first refl

@@ -13,6 +13,8 @@ use Rattle.machine.specs.Runs.Watch.{watch}
 use Rattle.machine.specs.Runs.FirstBookings.{launchedSetup, setup, ack}
 use Rattle.plan.specs.Samples.{planT, widerT, allSides}
 use Rattle.packets.specs.Answers.{refused, done, taken}
+use Rattle.machine.specs.Runs.FirstBookings.{launch-in-round-1}
+use Rattle.machine.specs.Runs.Watch.{once}
 
 -- ---- '**Read, Execute, Write**: 8 another phase'. Plan T, with a set-up on its way
 abbrev pub phasesTried : List Call
@@ -49,7 +51,7 @@ pub phases-in-turn : watch planT currentSlot (activeOut 0 ∷ U 0 0 ∷ []) phas
     ∷ after done (1 ∷ []) (setupAt [] (launchedSetup ∷ []))
     ∷ []
 unfolding watch
-phases-in-turn = refl
+phases-in-turn = once launch-in-round-1 refl
 
 -- ---- '**Launch**: 8 not READ; 9 a number out of range; 10 pair not served; 11 allowance 0; 12 out-queue full'. Three
 -- actives, two passives, S=4, capacities 1; actives 0 and 1 are not served with passive 1
@@ -106,7 +108,7 @@ pub launch-in-order : moments allSides allowances (activeOut 0 ∷ activeOut 1 �
     ∷ after done (0 ∷ 0 ∷ []) (outQueues [] (packet Setup 1 0 0 0 ∷ []))
     ∷ []
 unfolding moments
-launch-in-order = refl
+launch-in-order = once phases-in-turn refl
 
 -- ---- '**Reply**: 8 not WRITE; 9 number or choice out of range; 14 in-queue flag up; 13 in-queue empty; 12 out-queue
 -- full'. Plan T
@@ -165,7 +167,7 @@ pub reply-in-order : moments planT passiveFlag (passiveIn 0 ∷ passiveOut 0 ∷
     ∷ after (refused 13) down (waitsAtPassive [] (ack ∷ []))
     ∷ []
 unfolding moments
-reply-in-order = refl
+reply-in-order = once launch-in-order refl
 
 -- ---- '**Consume**: 8 not WRITE; 9; 14; 13; 15 head is an unmarked NACK'. Plan T; 9 and 14 never hold of one active
 abbrev pub consumesTried : List (List Call)
@@ -207,7 +209,7 @@ pub consume-in-order : moments planT allowanceAndFlag (activeIn 0 ∷ []) consum
     ∷ after (refused 13) (1 ∷ 0 ∷ []) ([] ∷ [])
     ∷ []
 unfolding moments
-consume-in-order = refl
+consume-in-order = once reply-in-order refl
 
 -- ---- 15 and 14. S=8, active out 2: two set-ups, slots 6 and 7, both declined in turn by the passive
 abbrev pub bothDeclined : List Call
@@ -262,7 +264,7 @@ pub unmarked-while-full : moments widerT allowanceAndFlag (activeOut 0 ∷ activ
     ∷ after (taken secondMarked) (1 ∷ 1 ∷ []) (waitsAtActive (later ∷ tdown7 ∷ []) [])
     ∷ []
 unfolding moments
-unmarked-while-full = refl
+unmarked-while-full = once consume-in-order refl
 
 -- the first NACK is left until the second has come
 abbrev pub bothWait : List (List Call)
@@ -282,4 +284,4 @@ pub flag-before-mark : moments widerT allowanceAndFlag (activeOut 0 ∷ activeIn
     ∷ after (taken secondMarked) (2 ∷ 1 ∷ []) (waitsAtActive (tdown7 ∷ []) [])
     ∷ []
 unfolding moments
-flag-before-mark = refl
+flag-before-mark = once unmarked-while-full refl

@@ -12,6 +12,8 @@ use Rattle.machine.specs.Runs.Watch.{round, packet, allowanceIn, after, 
 use Rattle.machine.specs.Runs.FirstBookings.{launchedSetup, ack}
 use Rattle.plan.specs.Samples.{planT}
 use Rattle.packets.specs.Answers.{refused, done, taken}
+use Rattle.machine.specs.Runs.LastFree.{last-free-entry}
+use Rattle.machine.specs.Runs.Watch.{once}
 
 abbrev pub allowanceSpent : List Call
 allowanceSpent =
@@ -75,4 +77,4 @@ pub allowance-spent : watch planT allowance0 (activeOut 0 ∷ activeIn 0 ∷ [])
     -- round 9: the launch is accepted
     ++ after done spent (inOut (packet Setup 0 0 1 0)) ∷ []
 unfolding watch
-allowance-spent = refl
+allowance-spent = once last-free-entry refl

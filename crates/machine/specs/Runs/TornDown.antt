@@ -12,6 +12,8 @@ use Rattle.machine.specs.Runs.Watch.{manyRounds, inWrite, packet, entryI
 use Rattle.machine.specs.Runs.Declined.{bothSides}
 use Rattle.plan.specs.Samples.{twoRouters, fourRouters}
 use Rattle.packets.specs.Answers.{refused, done, taken}
+use Rattle.machine.specs.Runs.Closed.{closed-later}
+use Rattle.machine.specs.Runs.Watch.{once}
 
 -- ---- two routers, S=4: active 0 launches with slot 2, and the passive declines
 abbrev pub overTwo : List (List Call)
@@ -98,7 +100,7 @@ pub torn-over-two : moments twoRouters allowanceAndBoth places overTwo
     ∷ after done (allFree 1) quiet
     ∷ []
 unfolding moments
-torn-over-two = refl
+torn-over-two = once closed-later refl
 
 -- ---- three routers, S=3: active 1 launches with slot 1, over routers 1 to 3 of four; the passive declines
 abbrev pub overThree : List (List Call)
@@ -186,4 +188,4 @@ pub torn-over-three : moments fourRouters allowanceAndThree (activeOut 1 ∷ act
     ∷ after done (noneBooked 1) still
     ∷ []
 unfolding moments
-torn-over-three = refl
+torn-over-three = once torn-over-two refl

@@ -13,6 +13,8 @@ use Rattle.machine.specs.Calls.{Call, read, execute, write, launch, repl
 use Rattle.machine.specs.Runs.Watch.{round, manyRounds, inWrite, packet, each, after, moments}
 use Rattle.plan.specs.Samples.{narrowThere, narrowBack, longWayBack}
 use Rattle.packets.specs.Answers.{done}
+use Rattle.machine.specs.Runs.Declined.{second-declines}
+use Rattle.machine.specs.Runs.Watch.{once}
 
 -- the last sender that a side of router 0 served, and the way to its unit
 abbrev pub lastAtSide : ℕ → State → List ℕ
@@ -74,7 +76,7 @@ pub two-in-turn : moments narrowBack (lastAtSide 1) (F 0 1 ∷ K 0 0 1 ∷ []) t
     ∷ after done (0 ∷ []) ([] ∷ [] ∷ [])
     ∷ []
 unfolding moments
-two-in-turn = refl
+two-in-turn = once second-declines refl
 
 -- ---- three senders at side 1: F[1], K[0,1] and K[3,1], of rank 3, with passive 1's ACK
 abbrev pub threeSenders : List (List Call)
@@ -120,7 +122,7 @@ pub three-in-turn : moments narrowBack (lastAtSide 1) (F 0 1 ∷ K 0 0 1 ∷ K 0
     ∷ after done (1 ∷ []) (waiting [] [] [] (nack ∷ first ∷ other ∷ nack ∷ second ∷ []))
     ∷ []
 unfolding moments
-three-in-turn = refl
+three-in-turn = once two-in-turn refl
 
 -- ---- the way to the unit, with four senders U[0] to U[3]. Set-ups leave by a side, side 0 here, and none comes in by
 -- it, or the queues would form a ring: three of the four can wait at once
@@ -151,7 +153,7 @@ pub unit-in-turn : moments narrowThere lastToUnit (U 0 1 ∷ U 0 2 ∷ U 0 3 ∷
     ∷ after done (3 ∷ []) ([] ∷ [] ∷ [] ∷ [])
     ∷ []
 unfolding moments
-unit-in-turn = refl
+unit-in-turn = once three-in-turn refl
 
 -- ---- a round that is skipped: in round 10 active 0's set-up waits in F[1] of router 0 and an ACK in K[2,1], and the
 -- side's entry for slot 10 is booked, by that set-up itself
@@ -174,4 +176,4 @@ pub skipped-changes-nothing : moments longWayBack (lastAtSide 1) (F 0 1 ∷ K 0 
     ∷ after done (2 ∷ []) ([] ∷ [] ∷ [])
     ∷ []
 unfolding moments
-skipped-changes-nothing = refl
+skipped-changes-nothing = once unit-in-turn refl

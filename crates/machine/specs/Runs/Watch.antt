@@ -95,6 +95,12 @@ abbrev pub each : {X Y : Type 0} → (X → Y) → List X → List Y
 each f [] = []
 each f (x ∷ xs) = f x ∷ each f xs
 
+-- ---- runs one after the other
+-- a run that is evaluated once another one is right: a wrong rule falls at the first run that is false of it, and those
+-- behind it are not evaluated
+abbrev pub once : {X Y : Type 0} → X → Y → Y
+once x y = y
+
 -- ---- a run
 -- the answer told of some calls: the first that is not 'done'. Of calls that are all done but the last, the last's
 abbrev pub told : Value → Value → Value

@@ -11,6 +11,8 @@ use Rattle.machine.specs.Calls.{Call, read, execute, write, launch, repl
 use Rattle.machine.specs.Runs.Watch.{manyRounds, packet, entryIn, after, moments, accepts}
 use Rattle.plan.specs.Samples.{fourRouters}
 use Rattle.packets.specs.Answers.{done, taken}
+use Rattle.machine.specs.Runs.TornDown.{torn-over-three}
+use Rattle.machine.specs.Runs.Watch.{once}
 
 -- active 0 launches with slot 2
 abbrev pub goingRound : List (List Call)
@@ -81,10 +83,10 @@ pub going-round : moments fourRouters sides1 (Q 0 ∷ Q 1 ∷ Q 2 ∷ Q 3 ∷ pa
     ∷ after (taken (packet Ack 0 0 0 4)) (slot2 ++ slot0 ++ slot1 ++ slot2) (seen [] [] [] [] [])
     ∷ []
 unfolding moments
-going-round = refl
+going-round = once torn-over-three refl
 
 -- slot 0 minus hub 4 modulo 3: the start slot is 2
 pub start-slot-again : accepts fourRouters goingRound
     ≡ record { active = 0; passive = 0; start = record { 0 = 2 } } ∷ []
 unfolding accepts
-start-slot-again = refl
+start-slot-again = once going-round refl

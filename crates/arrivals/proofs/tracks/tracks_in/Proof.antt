@@ -10,7 +10,7 @@ use Rattle.arrivals.proofs.tracks.tracks_in.Reads as reads
 use Rattle.arrivals.proofs.tracks.tracks_in.Lts as lts
 use Rattle.arrivals.proofs.firsts.Reads as firsts-reads
 use Rattle.arrivals.proofs.nexts.Reads as nexts-reads
-use Rattle.reach.proofs.trails.trails.Reads as trails-reads
+use Rattle.trails.proofs.trails.Reads as trails-reads
 use Rattle.sets.proofs.below.Reads as below-reads
 
 -- src/tracks.rt:33:13

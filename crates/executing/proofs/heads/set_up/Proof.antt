@@ -1,8 +1,10 @@
 use Rattle.executing.proofs.Needs.{near-small}
 use mathlib.Core.Path.{sym, _∙_}
-use Rattle.executing.proofs.Tables.{set-length, slots-are, entry-is, range-of}
+use Rattle.picking.proofs.Tables.{entry-is, range-of}
+use Rattle.executing.proofs.Tables.{set-length, slots-are}
 use Rattle.executing.proofs.Units.{steps-booked, steps-declined}
-use Rattle.executing.proofs.Needs.{is-router, has-active, has-passive, side-asks, side-is, first-asks}
+use Rattle.picking.proofs.Tables.{is-router}
+use Rattle.executing.proofs.Needs.{has-active, has-passive, side-asks, side-is, first-asks}
 use Rattle.executing.proofs.Needs.{book-asks, write-inside, settles-booked, settles-now}
 use Prim.Native.Nat.{_+_, _*_}
 use native.Mathlib.Omega.{arith}

@@ -1,7 +1,9 @@
 use mathlib.Core.Path.{_∙_}
-use Rattle.executing.proofs.Tables.{set-length, slots-are, entry-is, range-of}
+use Rattle.picking.proofs.Tables.{entry-is, range-of}
+use Rattle.executing.proofs.Tables.{set-length, slots-are}
 use Rattle.executing.proofs.Units.{steps-torn}
-use Rattle.executing.proofs.Needs.{is-router, side-asks, side-is, entry-asks, entry-inside, settles-freed}
+use Rattle.picking.proofs.Tables.{is-router}
+use Rattle.executing.proofs.Needs.{side-asks, side-is, entry-asks, entry-inside, settles-freed}
 use borrow.Author.Needs.{needs}
 use Rattle.executing.proofs.heads.tear_down.Statement.{statement}
 use Rattle.executing.proofs.heads.tear_down.Tie as tie

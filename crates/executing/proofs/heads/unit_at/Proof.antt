@@ -1,7 +1,9 @@
-use Rattle.executing.proofs.Tables.{unit-at, range-of}
-use Rattle.executing.proofs.Steps.{steps-by, holds-by}
+use Rattle.picking.proofs.Tables.{range-of}
+use Rattle.executing.proofs.Tables.{unit-at}
+use Rattle.picking.proofs.Steps.{steps-by, holds-by}
 use Rattle.executing.proofs.Units.{steps-empty, steps-marked, heads-by, steps-ack, steps-nack}
-use Rattle.executing.proofs.Needs.{is-router, base-asks, unit-room}
+use Rattle.picking.proofs.Tables.{is-router}
+use Rattle.executing.proofs.Needs.{base-asks, unit-room}
 use native.Mathlib.Omega.{arith}
 use borrow.Author.Needs.{needs}
 use Rattle.executing.proofs.heads.unit_at.Statement.{statement}

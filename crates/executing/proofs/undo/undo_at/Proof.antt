@@ -1,4 +1,4 @@
-use Rattle.executing.proofs.Steps.{steps-by, holds-by}
+use Rattle.picking.proofs.Steps.{steps-by, holds-by}
 use Rattle.executing.proofs.Undoing.{in-row, in-room, steps-none, starts-by, base-asks}
 use native.Mathlib.Omega.{arith}
 use borrow.Author.Needs.{needs}

@@ -47,7 +47,7 @@ enum pandabrass_answer {
     PANDABRASS_NOT_ACCEPTED = 16  /* connection not accepted */
 };
 
-/* A packet's kind, out[0] of pandabrass_consume. */
+/* A packet's kind, out[0] of pandabrass_look. */
 enum pandabrass_kind {
     PANDABRASS_SETUP = 0,
     PANDABRASS_TDOWN = 1,
@@ -92,7 +92,7 @@ uint32_t pandabrass_write(const uint8_t *plan, size_t n, uint8_t *state, size_t 
 uint32_t pandabrass_launch(const uint8_t *plan, size_t n, uint8_t *state, size_t l, uint32_t active, uint32_t passive,
                            uint32_t slot);
 
-/* Close, in READ: 0, or 1 to 10, 16, 12. Gives back the slots of a connection that is accepted: its ACK was consumed,
+/* Close, in READ: 0, or 1 to 10, 16, 12. Gives back the slots of a connection that is accepted: its ACK was dropped,
  * and it was not closed since. `slot` is its start slot, the one it was launched with; of an ACK it is slot minus hub
  * modulo S. The connection is closed at once, so a second Close answers 16. Its slots are free when the TDOWN that
  * joins the active's out-queue has passed its routers; 12 means that the out-queue has no room, and the connection
@@ -104,9 +104,17 @@ uint32_t pandabrass_close(const uint8_t *plan, size_t n, uint8_t *state, size_t 
  * out-queue. */
 uint32_t pandabrass_reply(const uint8_t *plan, size_t n, uint8_t *state, size_t l, uint32_t passive, uint32_t choice);
 
-/* Consume, in WRITE: 0, or 1 to 9, 14, 13, 15. The head of the active's in-queue leaves it: kind, active, passive,
- * slot and hub stand in out[0] to out[4]. An ACK's connection is accepted from then on. */
-uint32_t pandabrass_consume(const uint8_t *plan, size_t n, uint8_t *state, size_t l, uint32_t active, uint8_t out[8]);
+/* Look, in every phase: 0, or 1 to 7, 9, 13. Shows the head of the active's in-queue, which stays there: kind, active,
+ * passive, slot and hub stand in out[0] to out[4]. Writes no byte of the state. A NACK is shown marked or not; right
+ * after a Drop the next head is shown. */
+uint32_t pandabrass_look(const uint8_t *plan, size_t n, const uint8_t *state, size_t l, uint32_t active,
+                         uint8_t out[8]);
+
+/* Drop, in WRITE: 0, or 1 to 9, 14, 13, 15. The head of the active's in-queue, the packet that a Look just before
+ * shows, leaves it, and the active's allowance grows by one. An ACK's connection is accepted from then on, and not when
+ * it was looked at. One packet a round: a second Drop answers 14. 15 means that the head is a NACK whose TDOWN has not
+ * joined the out-queue yet. */
+uint32_t pandabrass_drop(const uint8_t *plan, size_t n, uint8_t *state, size_t l, uint32_t active);
 
 /* Entry, in every phase: 0, or 1 to 7, 9. out[0] is the side, 0 to 3, by which the booking came in, or
  * PANDABRASS_FREE. */
@@ -122,7 +130,7 @@ struct pandabrass_packet {
     uint8_t hub;
 };
 
-/* What an accepted pandabrass_consume put into out. */
+/* What an accepted pandabrass_look put into out. */
 static inline struct pandabrass_packet pandabrass_packet_of(const uint8_t out[8])
 {
     struct pandabrass_packet packet;

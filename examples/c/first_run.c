@@ -1,6 +1,7 @@
 /*
  * Document 01's first run on plan T: Launch (0,0,0) in round 0 is booked in round 2 and waits at the passive from round
- * 4 on; accepted there, its ACK is consumed in round 7 with slot 1, hub 1. Prints every call with its answer.
+ * 4 on; accepted there, its ACK is there in round 7 with slot 1, hub 1: looked at, shown, and only then dropped. Prints
+ * every call with its answer.
  *
  *     cc -I include examples/c/first_run.c target/staticlib/libexport.a -o first_run
  */
@@ -31,16 +32,19 @@ static void end_round(void)
     say("  Write", pandabrass_write(PLAN, sizeof PLAN, state, sizeof state));
 }
 
-static void consume(uint32_t active)
+/* Shows what waits for active 0, if something does, and then drops it: the allowance is back, an ACK's connection is
+ * accepted. */
+static void show_and_drop(void)
 {
     static const char *const kinds[] = {"SETUP", "TDOWN", "ACK", "NACK"};
     uint8_t out[8];
-    uint32_t answer = pandabrass_consume(PLAN, sizeof PLAN, state, sizeof state, active, out);
-    say("  Consume(0)", answer);
+    uint32_t answer = pandabrass_look(PLAN, sizeof PLAN, state, sizeof state, 0, out);
+    say("  Look(0)", answer);
     if (answer == PANDABRASS_ACCEPTED) {
         struct pandabrass_packet packet = pandabrass_packet_of(out);
         printf("    %s, active %u, passive %u, slot %u, hub %u\n", kinds[packet.kind], packet.active, packet.passive,
                packet.slot, packet.hub);
+        say("  Drop(0)", pandabrass_drop(PLAN, sizeof PLAN, state, sizeof state, 0));
     }
 }
 
@@ -70,7 +74,7 @@ int main(void)
         if (round == 3 || round == 4)
             say("  Reply(0,1)", pandabrass_reply(PLAN, sizeof PLAN, state, sizeof state, 0, PANDABRASS_ACCEPT));
         if (round == 6 || round == 7)
-            consume(0);
+            show_and_drop();
         end_round();
     }
     for (uint32_t side = 0; side < 4; side++)

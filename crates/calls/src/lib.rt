@@ -1,13 +1,13 @@
-// The calls of document 01, and Close of document 02, on lent bytes: the plan's by `&`, the state's by `&mut`. Each
-// loads the plan, checks the state, and then goes its own way. A refusal alters no byte, and no byte past the state is
-// written.
+// The calls of document 01, and Close, Look and Drop of document 02, on lent bytes: the plan's by `&`, the state's by
+// `&mut`, and by `&` for Look and Entry. Each loads the plan, checks the state, and then goes its own way. A refusal
+// alters no byte, and no byte past the state is written.
 use inspect::Checked;
 use kinds::Refusal;
 use load::Loaded;
 use packets::Answer;
 use routes::NO_SIDE;
 ghost use mathlib.Core.Path.{_≡_};
-ghost use Rattle.machine.specs.Calls.{read, execute, write, launch, reply, consume, close, entry};
+ghost use Rattle.machine.specs.Calls.{read, execute, write, launch, reply, look, drop, close, entry};
 ghost use Rattle.claims.specs.Calls.{given, startOn, callOn};
 
 pub mod opened;
@@ -176,9 +176,9 @@ pub fn reply(plan: &[u8], state: &mut [u8], passive: usize, choice: usize) -> An
     replying::reply(h, state, passive, choice)
 }
 
-// Consume: the active's head is taken out and returned.
-pub fn consume(plan: &[u8], state: &mut [u8], active: usize) -> Answer
-    ensures { λ r. ⌜ given r (now (state .exit)) ≡ callOn (now (plan .entry)) (consume active) (now (state .entry)) ⌝ }
+// Look: the head of the active's in-queue.
+pub fn look(plan: &[u8], state: &[u8], active: usize) -> Answer
+    ensures { λ r. ⌜ given r (now (state .entry)) ≡ callOn (now (plan .entry)) (look active) (now (state .entry)) ⌝ }
 {
     let mut routes = [[NO_SIDE; 32]; 16];
     let mut joints = [0u8; 64];
@@ -200,7 +200,34 @@ pub fn consume(plan: &[u8], state: &mut [u8], active: usize) -> Answer
     let Checked::State = c else {
         return Answer::Refused(Refusal::NotState);
     };
-    consuming::consume(h, state, active)
+    looking::look(h, state, active)
+}
+
+// Drop: the head of the active's in-queue is removed.
+pub fn drop(plan: &[u8], state: &mut [u8], active: usize) -> Answer
+    ensures { λ r. ⌜ given r (now (state .exit)) ≡ callOn (now (plan .entry)) (drop active) (now (state .entry)) ⌝ }
+{
+    let mut routes = [[NO_SIDE; 32]; 16];
+    let mut joints = [0u8; 64];
+    let mut homes = [0u8; 32];
+    let mut lengths = [[0u8; 16]; 16];
+    let mut by = [[0u32; 4]; 16];
+    let l = load::fill(
+        plan,
+        &mut routes,
+        &mut joints,
+        &mut homes,
+        &mut lengths,
+        &mut by,
+    );
+    let Loaded::Accepted(h) = l else {
+        return Answer::Refused(opened::refusal(l));
+    };
+    let c = inspect::inspect(h, &routes, &joints, &homes, &lengths, &by, state);
+    let Checked::State = c else {
+        return Answer::Refused(Refusal::NotState);
+    };
+    dropping::drop(h, state, active)
 }
 
 // Close: the tear-down of an accepted connection joins the active's out-queue, and the connection is accepted no more.

@@ -9,4 +9,6 @@ pub mod Demand2
 pub mod Bridge
 pub mod Demand3
 pub mod FirstRun
+pub mod OnBytes
 pub mod TurnAbout
+pub mod LookDrop

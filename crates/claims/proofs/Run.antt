@@ -1,6 +1,6 @@
 -- A list of calls on bytes runs as the rules do: along it the bytes are those of the rules' states, with the same
 -- bytes past them.
-use mathlib.Core.Path.{_≡_, refl, sym, ap, _∙_}
+use mathlib.Core.Path.{_≡_, refl, sym, ap, ap₂, _∙_}
 use mathlib.Core.Bool.{Bool, true, false}
 use mathlib.Core.List.{List, [], _∷_}
 use Prim.Native.Nat.{ℕ, _+_, _≤_}
@@ -100,9 +100,9 @@ module _ (p : List ℕ) (h : Head) (loads : loadOf p ≡ Accepted h) (ruled : Ru
       → acceptedBy p cs (encode (planOf p) s rest) acc ≡ acceptedAfter (planOf p) cs s acc
   accepted-encode [] s rest acc g = refl
   accepted-encode (c ∷ cs) s rest acc g =
-      ap (λ (x : Given). acceptedBy p cs (x .bytes) (accept (planOf p) c (x .answer) acc))
-      (on-encode p h loads c s rest (ruled .good s g))
-      ∙ accepted-encode cs (call (planOf p) c s .state) rest (accept (planOf p) c (call (planOf p) c s .answer) acc)
+      ap₂ (λ (x : Given) (t : State). acceptedBy p cs (x .bytes) (accept (planOf p) c t (x .answer) acc))
+      (on-encode p h loads c s rest (ruled .good s g)) (decode-good p h loads s rest (ruled .good s g))
+      ∙ accepted-encode cs (call (planOf p) c s .state) rest (accept (planOf p) c s (call (planOf p) c s .answer) acc)
       (ruled .keeps c s g)
 
   -- the whole rounds are the rules'
@@ -125,12 +125,12 @@ module _ (p : List ℕ) (h : Head) (loads : loadOf p ≡ Accepted h) (ruled : Ru
       ∙ ap (λ (n : ℕ). launchesCall d c (call (planOf p) c s .answer) + n)
       (launches-encode d cs (call (planOf p) c s .state) rest (ruled .keeps c s g))
 
-  -- the Consumes that accepted a triple are the rules'
+  -- the Drops that accepted a triple are the rules'
   pub acceptances-encode : (d : Connection) (cs : List Call) (s : State) (rest : List ℕ) → ruled .Reached s
       → acceptancesIn p d cs (encode (planOf p) s rest) ≡ acceptances (planOf p) d cs s
   acceptances-encode d [] s rest g = refl
   acceptances-encode d (c ∷ cs) s rest g =
-      ap (λ (x : Given). acceptsCall (planOf p) d c (x .answer) + acceptancesIn p d cs (x .bytes))
-      (on-encode p h loads c s rest (ruled .good s g))
-      ∙ ap (λ (n : ℕ). acceptsCall (planOf p) d c (call (planOf p) c s .answer) + n)
+      ap₂ (λ (x : Given) (t : State). acceptsCall (planOf p) d c t (x .answer) + acceptancesIn p d cs (x .bytes))
+      (on-encode p h loads c s rest (ruled .good s g)) (decode-good p h loads s rest (ruled .good s g))
+      ∙ ap (λ (n : ℕ). acceptsCall (planOf p) d c s (call (planOf p) c s .answer) + n)
       (acceptances-encode d cs (call (planOf p) c s .state) rest (ruled .keeps c s g))

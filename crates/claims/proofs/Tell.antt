@@ -29,7 +29,8 @@ use Rattle.machine.specs.Capacity.{capacity}
 use Rattle.machine.specs.State.{State}
 use Rattle.machine.specs.Visits.{isEmpty, headUnmarked}
 use Rattle.machine.specs.Guards.{Guard, guard}
-use Rattle.machine.specs.Calls.{ofLaunch, ofReply, ofConsume, ofClose, ofEntry, Call, turn, visit, isPhase, guards}
+use Rattle.machine.specs.Calls.{ofLaunch, ofReply, ofLook, ofDrop, ofClose, ofEntry, Call, turn, visit, isPhase}
+use Rattle.machine.specs.Calls.{guards}
 use Rattle.machine.specs.Conditions.{QueueIsFull, UnmarkedHead, conditions}
 use Rattle.machine.proofs.Apart.{phase-of, phase-is}
 use Rattle.theory.proofs.Cases.{unmarked-kind}
@@ -147,7 +148,12 @@ module _ (pl : Plan) (wired : Wired pl) (s : State) where
       ),
     ),
   )
-  calls-tell (visit (ofConsume a)) = (
+  calls-tell (visit (ofLook a)) = (
+    refl,
+    not-less a (A pl),
+    λ n. (refl, none-queued (s .lines .queue (activeIn a)), λ k. record {}),
+  )
+  calls-tell (visit (ofDrop a)) = (
     refl,
     other-phase (s .clock .phase) Write,
     λ n. (

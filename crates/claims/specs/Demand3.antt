@@ -1,5 +1,5 @@
 -- Demand 3, 'a single claim about the whole list': plan bytes that Load accepts, the state bytes that an accepted
--- Start left, and any list of the calls Read, Execute, Write, Launch, Reply, Consume, Close and Entry, each on the
+-- Start left, and any list of the calls Read, Execute, Write, Launch, Reply, Look, Drop, Close and Entry, each on the
 -- bytes as the last one left them.
 use mathlib.Core.Path.{_≡_}
 use mathlib.Core.Logic.{_≢_}
@@ -32,10 +32,11 @@ bytesAfter p (c ∷ cs) b = bytesAfter p cs (callOn p c b .bytes)
 abbrev pub stateOf : List ℕ → List ℕ → State
 stateOf p b = decode (planOf p) b
 
--- the connections accepted and not closed since, told by the calls and their answers
+-- the connections accepted and not closed since, told by the calls and the states before them
 abbrev pub acceptedBy : List ℕ → List Call → List ℕ → List Connection → List Connection
 acceptedBy p [] b cs = cs
-acceptedBy p (c ∷ cs) b acc = acceptedBy p cs (callOn p c b .bytes) (accept (planOf p) c (callOn p c b .answer) acc)
+acceptedBy p (c ∷ cs) b acc =
+    acceptedBy p cs (callOn p c b .bytes) (accept (planOf p) c (stateOf p b) (callOn p c b .answer) acc)
 
 -- the whole rounds that end in the list
 abbrev pub roundsIn : List ℕ → List Call → List ℕ → ℕ
@@ -47,11 +48,11 @@ abbrev pub launchesIn : List ℕ → Connection → List Call → List ℕ → �
 launchesIn p d [] b = 0
 launchesIn p d (c ∷ cs) b = launchesCall d c (callOn p c b .answer) + launchesIn p d cs (callOn p c b .bytes)
 
--- how many Consumes of the list accepted a triple, closed since or not
+-- how many Drops of the list accepted a triple, closed since or not
 abbrev pub acceptancesIn : List ℕ → Connection → List Call → List ℕ → ℕ
 acceptancesIn p d [] b = 0
 acceptancesIn p d (c ∷ cs) b =
-    acceptsCall (planOf p) d c (callOn p c b .answer) + acceptancesIn p d cs (callOn p c b .bytes)
+    acceptsCall (planOf p) d c (stateOf p b) (callOn p c b .answer) + acceptancesIn p d cs (callOn p c b .bytes)
 
 -- 'at least one packet changes its queue or wire, or ends, by a Read, an Execute or a Write': a call of the list that
 -- takes it out
@@ -85,8 +86,8 @@ pub record Claim (p b : List ℕ) (cs : List Call) : Type 0 where
   -- accepted so far make'; from document 02 (a) on, 'that of connections accepted and not closed since'
   pub table : (before after : List Call) → cs ≡ before ++ after → Quiet (planOf p) (stateOf p (bytesAfter p before b))
       → MadeBy (planOf p) (acceptedBy p before b []) (stateOf p (bytesAfter p before b) .table)
-  -- 'The state now keeps the accepted connections': those told by the calls and their answers are the state's marks,
-  -- after each call
+  -- 'The state now keeps the accepted connections': those told by the calls and the states before them are the state's
+  -- marks, after each call
   pub told : (before after : List Call) → cs ≡ before ++ after
       → Remembers (acceptedBy p before b []) (stateOf p (bytesAfter p before b))
   -- 'and the list goes on for S whole rounds': whatever stands between them, and with the S-th Write as the last call
@@ -101,7 +102,8 @@ pub record Claim (p b : List ℕ) (cs : List Call) : Type 0 where
   pub answers : (before after : List Call) (c : Call) → cs ≡ before ++ (c ∷ after)
       → callOn p c (bytesAfter p before b) .answer
       ≡ call (planOf p) c (ruledAfter (planOf p) before (start (planOf p))) .answer
-  -- 'the list has at least as many accepted Launches of those three numbers as Consumes that accepted them'
+  -- 'the list has at least as many accepted Launches of those three numbers as Consumes that accepted them', from
+  -- document 02 (c) on as Drops
   pub launches : (before after : List Call) → cs ≡ before ++ after → (d : Connection)
       → acceptancesIn p d before b ≤ launchesIn p d before b
 

@@ -1,12 +1,12 @@
 -- Demand 3 used: document 01's first starred run on plan T, 'Launch (0,0,0) in round 0 .. consumed in round 7 with
--- slot 1, hub 1', by the calls on 1,362 bytes that an accepted Start left, and then an Entry for each entry of the
--- table.
+-- slot 1, hub 1' (looked at and dropped, from document 02 (c) on), by the calls on 1,362 bytes that an accepted Start
+-- left, and then an Entry for each entry of the table.
 use mathlib.Core.Path.{_≡_}
 use mathlib.Core.List.{List, [], _∷_, _++_}
 use Prim.Native.Nat.{ℕ}
 use lib.ListN.{length, replicate}
 use Rattle.packets.specs.declared.Answer.the-variants.{Done}
-use Rattle.packets.specs.Answers.{Value, done, taken, holds, valueOf}
+use Rattle.packets.specs.Answers.{Value, done, shows, holds, valueOf}
 use Rattle.plan.specs.Samples.{planT}
 use Rattle.machine.specs.Calls.{Call, entry}
 use Rattle.machine.specs.Runs.FirstBookings.{launchInRound0, ack}
@@ -22,11 +22,12 @@ abbrev pub allEntries : List Call
 allEntries =
     entry 0 0 0 ∷ entry 0 0 1 ∷ entry 0 1 0 ∷ entry 0 1 1 ∷ entry 0 2 0 ∷ entry 0 2 1 ∷ entry 0 3 0 ∷ entry 0 3 1 ∷ []
 
--- 25 calls that only say that they are done, the ACK, then the table: one entry is booked, with side 0
+-- 25 calls that only say that they are done, the ACK that Look shows, its Drop, then the table: one entry is booked,
+-- with side 0
 abbrev pub firstAnswers : List Value
 firstAnswers =
     replicate 25 done
-    ++ (taken ack ∷ holds 4 ∷ holds 4 ∷ holds 0 ∷ holds 4 ∷ holds 4 ∷ holds 4 ∷ holds 4 ∷ holds 4 ∷ [])
+    ++ (shows ack ∷ done ∷ holds 4 ∷ holds 4 ∷ holds 0 ∷ holds 4 ∷ holds 4 ∷ holds 4 ∷ holds 4 ∷ holds 4 ∷ [])
 
 abbrev pub FirstRun : Type 0
 FirstRun =

@@ -8,7 +8,7 @@ use lib.Seq.{sets}
 use Rattle.packets.specs.declared.Packet.{Packet}
 use Rattle.packets.specs.declared.Entry.{Entry}
 use Rattle.packets.specs.declared.Answer.{Answer}
-use Rattle.packets.specs.declared.Answer.the-variants.{Taken, Holds}
+use Rattle.packets.specs.declared.Answer.the-variants.{Shows, Holds}
 use Rattle.packets.specs.Answers.{entryNumber}
 use Rattle.layout.specs.Places.{packetBytes}
 use Rattle.plan.specs.declared.Head.{Head}
@@ -17,7 +17,7 @@ use Rattle.load.specs.declared.Loaded.the-variants.{Accepted, Refused}
 use Rattle.load.specs.Load.{loadOf}
 use Rattle.acts.specs.Counts.{stateSize}
 use Rattle.claims.specs.Calls.{Given, given}
-use Rattle.export.specs.Numbers.{answerNumber, takenBytes, entryByte, sizeIn, sizeOf}
+use Rattle.export.specs.Numbers.{answerNumber, shownBytes, entryByte, sizeIn, sizeOf}
 
 module _ {x : Answer} {d : List ℕ} {g : Given} (e : given x d ≡ g) where
   pub number-told : {n : ℕ} → n ≡ answerNumber x → n ≡ answerNumber (g .answer)
@@ -26,15 +26,15 @@ module _ {x : Answer} {d : List ℕ} {g : Given} (e : given x d ≡ g) where
   pub bytes-told : d ≡ g .bytes
   bytes-told = ap (λ (y : Given). y .bytes) e
 
-  pub taken-told : (o : List ℕ) {u : List ℕ} → u ≡ takenBytes x o → u ≡ takenBytes (g .answer) o
-  taken-told o f = f ∙ ap (λ (y : Given). takenBytes (y .answer) o) e
+  pub shown-told : (o : List ℕ) {u : List ℕ} → u ≡ shownBytes x o → u ≡ shownBytes (g .answer) o
+  shown-told o f = f ∙ ap (λ (y : Given). shownBytes (y .answer) o) e
 
   pub entry-told : (o : List ℕ) {u : List ℕ} → u ≡ entryByte x o → u ≡ entryByte (g .answer) o
   entry-told o f = f ∙ ap (λ (y : Given). entryByte (y .answer) o) e
 
-pub taken-some : {x : Answer} {p : Packet} (o : List ℕ) {u : List ℕ} → x ≡ Taken p → u ≡ sets o 0 (packetBytes p)
-    → u ≡ takenBytes x o
-taken-some o e f = rw e f
+pub shown-some : {x : Answer} {p : Packet} (o : List ℕ) {u : List ℕ} → x ≡ Shows p → u ≡ sets o 0 (packetBytes p)
+    → u ≡ shownBytes x o
+shown-some o e f = rw e f
 
 pub entry-some : {x : Answer} {k : Entry} (o : List ℕ) {u : List ℕ} → x ≡ Holds k → u ≡ set o 0 (entryNumber k)
     → u ≡ entryByte x o

@@ -5,7 +5,7 @@ use lib.ListN.{set}
 use lib.Seq.{sets}
 use Rattle.kinds.specs.Refusals.{refusalNumber}
 use Rattle.packets.specs.declared.Answer.{Answer}
-use Rattle.packets.specs.declared.Answer.the-variants.{Refused, Done, Taken, Holds}
+use Rattle.packets.specs.declared.Answer.the-variants.{Refused, Done, Shows, Holds}
 use Rattle.packets.specs.Answers.{entryNumber}
 use Rattle.plan.specs.Plan.{planOf}
 use Rattle.load.specs.declared.Loaded.{Loaded}
@@ -18,21 +18,21 @@ use Rattle.layout.specs.Places.{packetBytes}
 abbrev pub answerNumber : Answer → ℕ
 answerNumber (Refused w) = refusalNumber w
 answerNumber Done = 0
-answerNumber (Taken x) = 0
+answerNumber (Shows x) = 0
 answerNumber (Holds e) = 0
 
--- a packet that was taken: kind, active, passive, slot, hub; else the bytes stay
-abbrev pub takenBytes : Answer → List ℕ → List ℕ
-takenBytes (Refused w) b = b
-takenBytes Done b = b
-takenBytes (Taken x) b = sets b 0 (packetBytes x)
-takenBytes (Holds e) b = b
+-- a packet that is shown: kind, active, passive, slot, hub; else the bytes stay
+abbrev pub shownBytes : Answer → List ℕ → List ℕ
+shownBytes (Refused w) b = b
+shownBytes Done b = b
+shownBytes (Shows x) b = sets b 0 (packetBytes x)
+shownBytes (Holds e) b = b
 
 -- an entry: the side, 4 for free; else the bytes stay
 abbrev pub entryByte : Answer → List ℕ → List ℕ
 entryByte (Refused w) b = b
 entryByte Done b = b
-entryByte (Taken x) b = b
+entryByte (Shows x) b = b
 entryByte (Holds e) b = set b 0 (entryNumber e)
 
 -- the state's bytes of a plan that loads, else 0

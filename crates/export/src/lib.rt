@@ -10,9 +10,9 @@ ghost use lib.ListN.{set};
 ghost use lib.Seq.{sets};
 ghost use Rattle.layout.specs.Places.{packetBytes};
 ghost use Rattle.packets.specs.Answers.{entryNumber};
-ghost use Rattle.machine.specs.Calls.{read, execute, write, launch, reply, consume, close, entry};
+ghost use Rattle.machine.specs.Calls.{read, execute, write, launch, reply, look, drop, close, entry};
 ghost use Rattle.claims.specs.Calls.{startOn, callOn};
-ghost use Rattle.export.specs.Numbers.{answerNumber, takenBytes, entryByte, sizeOf};
+ghost use Rattle.export.specs.Numbers.{answerNumber, shownBytes, entryByte, sizeOf};
 
 // Load: 0, or the number of the first refusal that applies, 1 to 6.
 #[no_mangle]
@@ -52,7 +52,7 @@ fn number_of(x: Answer) -> u32
     match x {
         Answer::Refused(w) => load::refusal_number(w) as u32,
         Answer::Done => 0,
-        Answer::Taken(_) => 0,
+        Answer::Shows(_) => 0,
         Answer::Holds(_) => 0,
     }
 }
@@ -148,21 +148,15 @@ pub extern "C" fn pandabrass_reply(plan: &[u8], state: &mut [u8], passive: u32, 
     number_of(calls::reply(plan, state, passive as usize, choice as usize))
 }
 
-// Consume: the packet's kind, active, passive, slot and hub stand in the first five bytes of out.
+// Look: the packet's kind, active, passive, slot and hub stand in the first five bytes of out.
 #[no_mangle]
-pub extern "C" fn pandabrass_consume(
-    plan: &[u8],
-    state: &mut [u8],
-    active: u32,
-    out: &mut [u8; 8],
-) -> u32
-    ensures { λ r. ⌜ (r ≡ answerNumber (callOn (now (plan .entry)) (consume active) (now (state .entry)) .answer))
-        × (now (state .exit) ≡ callOn (now (plan .entry)) (consume active) (now (state .entry)) .bytes)
-        × (now (out .exit) ≡ takenBytes (callOn (now (plan .entry)) (consume active) (now (state .entry)) .answer)
+pub extern "C" fn pandabrass_look(plan: &[u8], state: &[u8], active: u32, out: &mut [u8; 8]) -> u32
+    ensures { λ r. ⌜ (r ≡ answerNumber (callOn (now (plan .entry)) (look active) (now (state .entry)) .answer))
+        × (now (out .exit) ≡ shownBytes (callOn (now (plan .entry)) (look active) (now (state .entry)) .answer)
         (now (out .entry))) ⌝ }
 {
-    let x = calls::consume(plan, state, active as usize);
-    put_taken(x, out);
+    let x = calls::look(plan, state, active as usize);
+    put_shown(x, out);
     number_of(x)
 }
 
@@ -178,16 +172,25 @@ fn put_packet(p: Packet, out: &mut [u8; 8])
     out[4] = p.hub.0;
 }
 
-// The bytes of a packet that was taken.
-fn put_taken(x: Answer, out: &mut [u8; 8])
-    ensures { λ _. ⌜ now (out .exit) ≡ takenBytes x (now (out .entry)) ⌝ }
+// The bytes of a packet that is shown.
+fn put_shown(x: Answer, out: &mut [u8; 8])
+    ensures { λ _. ⌜ now (out .exit) ≡ shownBytes x (now (out .entry)) ⌝ }
 {
     match x {
         Answer::Refused(_) => {}
         Answer::Done => {}
-        Answer::Taken(p) => put_packet(p, out),
+        Answer::Shows(p) => put_packet(p, out),
         Answer::Holds(_) => {}
     }
+}
+
+// Drop.
+#[no_mangle]
+pub extern "C" fn pandabrass_drop(plan: &[u8], state: &mut [u8], active: u32) -> u32
+    ensures { λ r. ⌜ (r ≡ answerNumber (callOn (now (plan .entry)) (drop active) (now (state .entry)) .answer))
+        × (now (state .exit) ≡ callOn (now (plan .entry)) (drop active) (now (state .entry)) .bytes) ⌝ }
+{
+    number_of(calls::drop(plan, state, active as usize))
 }
 
 // Close.
@@ -256,7 +259,7 @@ fn put_entry(x: Answer, out: &mut [u8; 8])
     match x {
         Answer::Refused(_) => {}
         Answer::Done => {}
-        Answer::Taken(_) => {}
+        Answer::Shows(_) => {}
         Answer::Holds(e) => put_side(e, out),
     }
 }

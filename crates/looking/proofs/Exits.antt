@@ -1,42 +1,83 @@
--- Entry's returns, in the order of the code: each from the tests that led to it.
-use mathlib.Core.Path.{_≡_, ap, _∙_}
+-- Look's returns and Entry's, in the order of the code: each from the tests that led to it.
+use mathlib.Core.Path.{_≡_, sym, ap, _∙_}
 use mathlib.Core.List.{List}
 use Prim.Native.Nat.{ℕ, _+_, _*_, _≤_, _<_}
 use native.Mathlib.Omega.{arith}
 use borrow.Author.Tests.{lt-ltb, le-ltb}
-use Rattle.kinds.specs.declared.Refusal.the-variants.{BadNumber}
+use Rattle.kinds.specs.declared.Refusal.the-variants.{BadNumber, QueueEmpty}
+use Rattle.packets.specs.declared.Packet.{Packet}
 use Rattle.packets.specs.declared.Entry.{Entry}
-use Rattle.packets.specs.declared.Answer.the-variants.{Refused, Holds}
+use Rattle.packets.specs.declared.Answer.the-variants.{Refused, Shows, Holds}
 use Rattle.plan.specs.declared.Head.{Head}
 use Rattle.plan.specs.Head.{InRange}
-use Rattle.plan.specs.Plan.{R, S}
-use Rattle.machine.specs.Calls.{ofEntry, entry}
-use Rattle.layout.specs.Decode.{entryAt}
+use Rattle.plan.specs.Plan.{R, A, S}
+use Rattle.feeding.specs.Queue.{activeIn}
+use Rattle.machine.specs.Calls.{ofLook, ofEntry, look, entry, shown}
+use Rattle.layout.specs.Decode.{lengthAt, entryAt}
+use Rattle.layout.specs.Places.{packetAt}
 use Rattle.layout.proofs.Readings.{entry-at}
 use Rattle.acts.specs.Counts.{tableFrom}
-use Rattle.visits.specs.Visits.{Visits}
+use Rattle.visits.specs.Visits.{Visits, activeInRow}
+use Rattle.visits.proofs.Rows.{active-in-row, active-there, active-past}
 use Rattle.visits.proofs.Rows.{router-there, router-past, slot-there, slot-past, entry-byte}
 use Rattle.visits.proofs.Refuse.{passed, here, later, refuses, accepts}
+use Rattle.visits.proofs.Tests.{empty-tells, some-tells, has-head, head-is}
+
+-- ---- Look
+module _ (h : Head) (b : List ℕ) (a : ℕ) where
+  pub look-active : h .actives ≤ a → Visits h (ofLook a) b (Refused BadNumber) b
+  look-active l =
+      record {
+        acts = λ pl e. refuses pl (look a) b BadNumber
+            (λ s rest g k. here (rw (le-ltb a (A pl) (active-past pl e a l))));
+      }
+
+  module _ (active : a < h .actives) (row : ℕ) (at : row ≡ activeInRow h a) where
+    pub look-empty : lengthAt row b ≡ 0 → Visits h (ofLook a) b (Refused QueueEmpty) b
+    look-empty z =
+        record {
+          acts = λ pl e. refuses pl (look a) b QueueEmpty
+              (λ s rest g k. later (rw (lt-ltb a (A pl) (active-there pl e a active)))
+              (here (empty-tells pl s rest b k (activeIn a) (active-there pl e a active) row
+              (at ∙ active-in-row pl e a) z)));
+        }
+
+    pub looked : (lengthAt row b ≡ 0 → ⊥) → (x : Packet) → x ≡ packetAt (row + 4) b → Visits h (ofLook a) b (Shows x) b
+    looked filled x read =
+        record {
+          acts = λ pl e.
+              let there = active-there pl e a active in
+              let i = at ∙ active-in-row pl e a in
+              accepts pl (look a) b
+              (λ s rest g k. later (rw (lt-ltb a (A pl) there))
+              (later (some-tells pl s rest b k (activeIn a) there row i filled) passed))
+              (λ s rest g k.
+              let l = has-head pl s rest b k (activeIn a) there row i filled in
+              ap Shows (read ∙ head-is pl s rest b k (activeIn a) there row i l) ∙ ap shown (sym (l .line)))
+              (λ s rest g k. k);
+        }
+
+-- ---- Entry
 
 module _ (h : Head) (b : List ℕ) (r o t : ℕ) where
-  pub look-router : h .routers ≤ r → Visits h (ofEntry r o t) b (Refused BadNumber) b
-  look-router l =
+  pub entry-router : h .routers ≤ r → Visits h (ofEntry r o t) b (Refused BadNumber) b
+  entry-router l =
       record {
         acts = λ pl e. refuses pl (entry r o t) b BadNumber
             (λ s rest g k. here (rw (le-ltb r (R pl) (router-past pl e r l))));
       }
 
   module _ (router : r < h .routers) where
-    pub look-side : 4 ≤ o → Visits h (ofEntry r o t) b (Refused BadNumber) b
-    look-side l =
+    pub entry-side : 4 ≤ o → Visits h (ofEntry r o t) b (Refused BadNumber) b
+    entry-side l =
         record {
           acts = λ pl e. refuses pl (entry r o t) b BadNumber
               (λ s rest g k. here (rw (lt-ltb r (R pl) (router-there pl e r router), le-ltb o 4 l)));
         }
 
     module _ (side : o < 4) where
-      pub look-slot : h .slots ≤ t → Visits h (ofEntry r o t) b (Refused BadNumber) b
-      look-slot l =
+      pub entry-slot : h .slots ≤ t → Visits h (ofEntry r o t) b (Refused BadNumber) b
+      entry-slot l =
           record {
             acts = λ pl e. refuses pl (entry r o t) b BadNumber
                 (λ s rest g k.
@@ -47,9 +88,9 @@ module _ (h : Head) (b : List ℕ) (r o t : ℕ) where
                 )));
           }
 
-      pub looked : InRange h → t < h .slots → (i : ℕ) (x : Entry) → i ≡ tableFrom h + 2 * (128 * r + 32 * o + t)
+      pub entry-held : InRange h → t < h .slots → (i : ℕ) (x : Entry) → i ≡ tableFrom h + 2 * (128 * r + 32 * o + t)
           → x ≡ entryAt i b → Visits h (ofEntry r o t) b (Holds x) b
-      looked range l i x at read =
+      entry-held range l i x at read =
           record {
             acts = λ pl e.
                 let m = range .slots .1 in

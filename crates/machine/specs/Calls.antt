@@ -12,7 +12,7 @@ use Rattle.packets.specs.declared.Packet.{Packet}
 use Rattle.packets.specs.declared.Phase.{Phase}
 use Rattle.packets.specs.declared.Phase.the-variants.{Read, Execute, Write}
 use Rattle.packets.specs.declared.Answer.{Answer}
-use Rattle.packets.specs.declared.Answer.the-variants.{Refused, Done, Taken, Holds}
+use Rattle.packets.specs.declared.Answer.the-variants.{Refused, Done, Shows, Holds}
 use Rattle.plan.specs.Plan.{Plan, R, A, P, S}
 use Rattle.paths.specs.Served.{served}
 use Rattle.feeding.specs.Queue.{activeOut, activeIn, passiveIn, passiveOut}
@@ -20,7 +20,7 @@ use Rattle.machine.specs.State.{State}
 use Rattle.machine.specs.Read.{doRead}
 use Rattle.machine.specs.Execute.{doExecute, hasRoom}
 use Rattle.machine.specs.Write.{doWrite}
-use Rattle.machine.specs.Visits.{launched, replyKind, replied, removed, noted, closed}
+use Rattle.machine.specs.Visits.{launched, replyKind, replied, dropped, closed}
 use Rattle.machine.specs.Visits.{isEmpty, headUnmarked}
 use Rattle.machine.specs.Guards.{Guard, guard, refusalOf}
 
@@ -29,7 +29,8 @@ use Rattle.machine.specs.Guards.{Guard, guard, refusalOf}
 pub data Visit : Type 0 where
   ofLaunch : ℕ → ℕ → ℕ → Visit
   ofReply : ℕ → ℕ → Visit
-  ofConsume : ℕ → Visit
+  ofLook : ℕ → Visit
+  ofDrop : ℕ → Visit
   ofClose : ℕ → ℕ → ℕ → Visit
   ofEntry : ℕ → ℕ → ℕ → Visit
 
@@ -55,9 +56,13 @@ launch a p t = visit (ofLaunch a p t)
 abbrev pub reply : ℕ → ℕ → Call
 reply p c = visit (ofReply p c)
 
--- Consume (active)
-abbrev pub consume : ℕ → Call
-consume a = visit (ofConsume a)
+-- Look (active)
+abbrev pub look : ℕ → Call
+look a = visit (ofLook a)
+
+-- Drop (active)
+abbrev pub drop : ℕ → Call
+drop a = visit (ofDrop a)
 
 -- Close (active, passive, start slot)
 abbrev pub close : ℕ → ℕ → ℕ → Call
@@ -109,9 +114,14 @@ replyGuards pl p c s =
     ∷ guard QueueFull (not (hasRoom pl (passiveOut p) s))
     ∷ []
 
--- '**Consume** (active): 8 not WRITE; 9; 14; 13; 15 head is an unmarked NACK'
-abbrev pub consumeGuards : Plan → ℕ → State → List Guard
-consumeGuards pl a s =
+-- Document 02 (c): 'Consume becomes two calls. .. Look gives 9 and 13'
+abbrev pub lookGuards : Plan → ℕ → State → List Guard
+lookGuards pl a s =
+    guard BadNumber (not (ltb a (A pl))) ∷ guard QueueEmpty (isEmpty (s .lines .queue (activeIn a))) ∷ []
+
+-- 'and Drop keeps Consume's 8, 9, 14, 13, 15': '8 not WRITE; 9; 14; 13; 15 head is an unmarked NACK'
+abbrev pub dropGuards : Plan → ℕ → State → List Guard
+dropGuards pl a s =
     guard WrongPhase (not (isPhase (s .clock .phase) Write))
     ∷ guard BadNumber (not (ltb a (A pl)))
     ∷ guard FlagUp (s .flow .flag (activeIn a))
@@ -139,7 +149,8 @@ abbrev pub guards : Plan → Call → State → List Guard
 guards pl (turn x) s = guard WrongPhase (not (isPhase (s .clock .phase) x)) ∷ []
 guards pl (visit (ofLaunch a p t)) s = launchGuards pl a p t s
 guards pl (visit (ofReply p c)) s = replyGuards pl p c s
-guards pl (visit (ofConsume a)) s = consumeGuards pl a s
+guards pl (visit (ofLook a)) s = lookGuards pl a s
+guards pl (visit (ofDrop a)) s = dropGuards pl a s
 guards pl (visit (ofClose a p t)) s = closeGuards pl a p t s
 guards pl (visit (ofEntry r o t)) s = entryGuards pl r o t
 
@@ -149,16 +160,19 @@ phaseStep pl Read s = doRead pl s
 phaseStep pl Execute s = doExecute pl s
 phaseStep pl Write s = doWrite pl s
 
--- 'the packet is returned and removed'; an empty in-queue has been refused
-abbrev pub consumed : Plan → ℕ → List Packet → State → Outcome
-consumed pl a [] s = gives (Refused QueueEmpty) s
-consumed pl a (x ∷ rest) s = gives (Taken x) (noted pl x (removed a rest s))
+-- 'Look returns the head'; an empty in-queue has been refused
+abbrev pub shown : List Packet → Answer
+shown [] = Refused QueueEmpty
+shown (x ∷ rest) = Shows x
 
 abbrev pub accepted : Plan → Call → State → Outcome
 accepted pl (turn x) s = gives Done (phaseStep pl x s)
 accepted pl (visit (ofLaunch a p t)) s = gives Done (launched a p t s)
 accepted pl (visit (ofReply p c)) s = gives Done (replied p (replyKind c) (s .lines .queue (passiveIn p)) s)
-accepted pl (visit (ofConsume a)) s = consumed pl a (s .lines .queue (activeIn a)) s
+-- 'in any phase and changes nothing'
+accepted pl (visit (ofLook a)) s = gives (shown (s .lines .queue (activeIn a))) s
+-- 'Drop removes it and returns nothing'
+accepted pl (visit (ofDrop a)) s = gives Done (dropped pl a (s .lines .queue (activeIn a)) s)
 accepted pl (visit (ofClose a p t)) s = gives Done (closed pl a p t s)
 accepted pl (visit (ofEntry r o t)) s = gives (Holds (s .table r o t)) s
 

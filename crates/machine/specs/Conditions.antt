@@ -17,7 +17,7 @@ use Rattle.paths.specs.Served.{Served}
 use Rattle.feeding.specs.Queue.{Queue, activeOut, activeIn, passiveIn, passiveOut}
 use Rattle.machine.specs.Capacity.{capacity}
 use Rattle.machine.specs.State.{State}
-use Rattle.machine.specs.Calls.{ofLaunch, ofReply, ofConsume, ofClose, ofEntry, Call, turn, visit}
+use Rattle.machine.specs.Calls.{ofLaunch, ofReply, ofLook, ofDrop, ofClose, ofEntry, Call, turn, visit}
 
 -- 'out-queue full'
 abbrev pub QueueIsFull : Plan → Queue → State → Type 0
@@ -52,8 +52,11 @@ conditions pl (visit (ofReply p c)) s =
     ∷ condition QueueEmpty (s .lines .queue (passiveIn p) ≡ [])
     ∷ condition QueueFull (QueueIsFull pl (passiveOut p) s)
     ∷ []
--- '**Consume** (active): 8 not WRITE; 9; 14; 13; 15 head is an unmarked NACK'
-conditions pl (visit (ofConsume a)) s =
+-- 'Look gives 9 and 13'
+conditions pl (visit (ofLook a)) s =
+    condition BadNumber (A pl ≤ a) ∷ condition QueueEmpty (s .lines .queue (activeIn a) ≡ []) ∷ []
+-- 'and Drop keeps Consume's 8, 9, 14, 13, 15': '8 not WRITE; 9; 14; 13; 15 head is an unmarked NACK'
+conditions pl (visit (ofDrop a)) s =
     condition WrongPhase (s .clock .phase ≢ Write)
     ∷ condition BadNumber (A pl ≤ a)
     ∷ condition FlagUp (s .flow .flag (activeIn a) ≡ true)

@@ -15,4 +15,5 @@ pub mod Valid
 pub mod Progress
 pub mod Ruled
 pub mod TurnAbout
+pub mod LookDrop
 pub mod Runs

@@ -12,7 +12,7 @@ use Rattle.packets.specs.declared.Wire.the-variants.{Empty, Full}
 use Rattle.packets.specs.declared.Phase.{Phase}
 use Rattle.packets.specs.declared.Phase.the-variants.{Read, Write}
 use Rattle.packets.specs.declared.Answer.{Answer}
-use Rattle.packets.specs.declared.Answer.the-variants.{Refused, Done, Taken, Holds}
+use Rattle.packets.specs.declared.Answer.the-variants.{Refused, Done, Shows, Holds}
 use Rattle.plan.specs.declared.Joint.the-variants.{Nothing}
 use Rattle.plan.specs.Plan.{Plan, R, A, P}
 use Rattle.feeding.specs.Queue.{Queue, passiveIn, Exists}
@@ -83,7 +83,7 @@ isTimed (visit v) = false
 abbrev pub isDone : Answer → ℕ
 isDone (Refused w) = 0
 isDone Done = 1
-isDone (Taken x) = 0
+isDone (Shows x) = 0
 isDone (Holds e) = 0
 
 -- an accepted Read, Execute or Write of that phase

@@ -7,19 +7,17 @@ use Prim.Native.Nat.{ℕ, _+_, _≤_}
 use lib.Dec.{eqb}
 use Rattle.basis.specs.Choice.{pick}
 use Rattle.basis.specs.Among.{In}
-use Rattle.kinds.specs.declared.Refusal.{Refusal}
 use Rattle.packets.specs.declared.Kind.{Kind}
 use Rattle.packets.specs.declared.Kind.the-variants.{Setup, Tdown, Ack, Nack}
 use Rattle.packets.specs.declared.Packet.{Packet}
-use Rattle.packets.specs.declared.Entry.{Entry}
 use Rattle.packets.specs.declared.Answer.{Answer}
-use Rattle.packets.specs.declared.Answer.the-variants.{Refused, Done, Taken, Holds}
 use Rattle.plan.specs.Plan.{Plan, S}
+use Rattle.feeding.specs.Queue.{activeIn}
 use Rattle.machine.specs.Connections.{Connection, connectionOf, sameConnection, MadeBy}
 use Rattle.machine.specs.State.{State, start, hasConnection}
-use Rattle.machine.specs.Calls.{Visit, ofLaunch, ofReply, ofConsume, ofClose, ofEntry, Call, turn, visit}
+use Rattle.machine.specs.Calls.{Visit, ofLaunch, ofReply, ofLook, ofDrop, ofClose, ofEntry, Call, turn, visit}
 use Rattle.machine.specs.Calls.{call}
-use Rattle.machine.specs.Accepted.{accept}
+use Rattle.machine.specs.Accepted.{ifDone, accept}
 use Rattle.machine.specs.Valid.{Valid, Bounded}
 use Rattle.machine.specs.Progress.{Quiet, Waits, Moved, isTimed, isDone, endsRound}
 
@@ -28,10 +26,10 @@ abbrev pub ruledAfter : Plan → List Call → State → State
 ruledAfter pl [] s = s
 ruledAfter pl (c ∷ cs) s = ruledAfter pl cs (call pl c s .state)
 
--- the connections accepted and not closed since, told by the calls and their answers
+-- the connections accepted and not closed since, told by the calls and the states before them
 abbrev pub acceptedAfter : Plan → List Call → State → List Connection → List Connection
 acceptedAfter pl [] s acc = acc
-acceptedAfter pl (c ∷ cs) s acc = acceptedAfter pl cs (call pl c s .state) (accept pl c (call pl c s .answer) acc)
+acceptedAfter pl (c ∷ cs) s acc = acceptedAfter pl cs (call pl c s .state) (accept pl c s (call pl c s .answer) acc)
 
 -- the whole rounds that end in the list
 abbrev pub rounds : Plan → List Call → State → ℕ
@@ -42,7 +40,8 @@ rounds pl (c ∷ cs) s = endsRound c (call pl c s .answer) + rounds pl cs (call 
 abbrev pub launchesVisit : Connection → Visit → Answer → ℕ
 launchesVisit d (ofLaunch a q t) x = pick (eqb a (d .active) && eqb q (d .passive) && eqb t (d .start .0)) (isDone x) 0
 launchesVisit d (ofReply q c) x = 0
-launchesVisit d (ofConsume a) x = 0
+launchesVisit d (ofLook a) x = 0
+launchesVisit d (ofDrop a) x = 0
 launchesVisit d (ofClose a q t) x = 0
 launchesVisit d (ofEntry r o t) x = 0
 
@@ -54,33 +53,32 @@ abbrev pub launches : Plan → Connection → List Call → State → ℕ
 launches pl d [] s = 0
 launches pl d (c ∷ cs) s = launchesCall d c (call pl c s .answer) + launches pl d cs (call pl c s .state)
 
--- accepted Consumes of a triple's ACK, closed since or not: in one call, in a list
+-- accepted Drops of a triple's ACK, closed since or not: in one call, in a list
 abbrev pub acceptsKind : Plan → Connection → Kind → Packet → ℕ
 acceptsKind pl d Setup x = 0
 acceptsKind pl d Tdown x = 0
 acceptsKind pl d Ack x = pick (sameConnection (connectionOf pl x) d) 1 0
 acceptsKind pl d Nack x = 0
 
-abbrev pub acceptsTaken : Plan → Connection → Answer → ℕ
-acceptsTaken pl d (Refused w) = 0
-acceptsTaken pl d Done = 0
-acceptsTaken pl d (Holds e) = 0
-acceptsTaken pl d (Taken x) = acceptsKind pl d (x .kind) x
+abbrev pub acceptsHead : Plan → Connection → List Packet → ℕ
+acceptsHead pl d [] = 0
+acceptsHead pl d (x ∷ rest) = acceptsKind pl d (x .kind) x
 
-abbrev pub acceptsVisit : Plan → Connection → Visit → Answer → ℕ
-acceptsVisit pl d (ofLaunch a q t) x = 0
-acceptsVisit pl d (ofReply q c) x = 0
-acceptsVisit pl d (ofConsume a) x = acceptsTaken pl d x
-acceptsVisit pl d (ofClose a q t) x = 0
-acceptsVisit pl d (ofEntry r o t) x = 0
+abbrev pub acceptsVisit : Plan → Connection → Visit → State → Answer → ℕ
+acceptsVisit pl d (ofLaunch a q t) s x = 0
+acceptsVisit pl d (ofReply q c) s x = 0
+acceptsVisit pl d (ofLook a) s x = 0
+acceptsVisit pl d (ofDrop a) s x = ifDone x (acceptsHead pl d (s .lines .queue (activeIn a))) 0
+acceptsVisit pl d (ofClose a q t) s x = 0
+acceptsVisit pl d (ofEntry r o t) s x = 0
 
-abbrev pub acceptsCall : Plan → Connection → Call → Answer → ℕ
-acceptsCall pl d (turn x) a = 0
-acceptsCall pl d (visit v) a = acceptsVisit pl d v a
+abbrev pub acceptsCall : Plan → Connection → Call → State → Answer → ℕ
+acceptsCall pl d (turn x) s a = 0
+acceptsCall pl d (visit v) s a = acceptsVisit pl d v s a
 
 abbrev pub acceptances : Plan → Connection → List Call → State → ℕ
 acceptances pl d [] s = 0
-acceptances pl d (c ∷ cs) s = acceptsCall pl d c (call pl c s .answer) + acceptances pl d cs (call pl c s .state)
+acceptances pl d (c ∷ cs) s = acceptsCall pl d c s (call pl c s .answer) + acceptances pl d cs (call pl c s .state)
 
 -- the state's connections are those of a list
 pub record Remembers (cs : List Connection) (s : State) : Type 0 where

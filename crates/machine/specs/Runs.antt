@@ -14,3 +14,4 @@ pub mod Turns
 pub mod Entries
 pub mod Refusals
 pub mod Closed
+pub mod Looking

@@ -1,4 +1,4 @@
--- What the accepted calls of the interfaces do: Launch, Reply, Consume and Close.
+-- What the accepted calls of the interfaces do to the state: Launch, Reply, Drop and Close. Look does nothing to it.
 use mathlib.Core.Bool.{Bool, true, false}
 use mathlib.Core.List.{List, [], _∷_}
 use Prim.Native.Nat.{ℕ, _+_, _-_}
@@ -36,12 +36,12 @@ replied p k [] s = s
 replied p k (x ∷ rest) s =
     join (passiveOut p) (repliedAs k x) (withFlag (passiveIn p) true (withQueue (passiveIn p) rest s))
 
--- ---- 'the packet is returned and removed, the flag rises, the allowance grows by one': its removal
+-- ---- 'the packet is .. removed, the flag rises, the allowance grows by one', by document 02 (c) with 'Drop'
 unfoldable pub removed : ℕ → List Packet → State → State
 removed a rest s =
     withAllowance a (s .flow .allowance a + 1) (withFlag (activeIn a) true (withQueue (activeIn a) rest s))
 
--- 'the accepted connections, set when an ACK is consumed': the packet's pair, and slot minus hub
+-- 'an ACK counts as accepted when dropped, with the numbers of the packet': its pair, and slot minus hub
 abbrev pub accepting : Connection → State → State
 accepting c s = withConnection (c .active) (c .passive) (c .start .0) true s
 
@@ -53,6 +53,11 @@ notedKind pl Nack x s = s
 
 unfoldable pub noted : Plan → Packet → State → State
 noted pl x s = notedKind pl (x .kind) x s
+
+-- 'Drop removes it and returns nothing'; an empty in-queue has been refused
+abbrev pub dropped : Plan → ℕ → List Packet → State → State
+dropped pl a [] s = s
+dropped pl a (x ∷ rest) s = noted pl x (removed a rest s)
 
 -- ---- 'it puts a TDOWN in the active's out-queue, slot the start slot, hub the number of routers on the walk, and the
 -- connection leaves the accepted ones'

@@ -5,22 +5,22 @@ use Rattle.packets.specs.declared.Packet.{Packet}
 use Rattle.packets.specs.declared.Entry.{Entry}
 use Rattle.packets.specs.declared.Entry.the-variants.{Free, Booked}
 use Rattle.packets.specs.declared.Answer.{Answer}
-use Rattle.packets.specs.declared.Answer.the-variants.{Refused, Done, Taken, Holds}
+use Rattle.packets.specs.declared.Answer.the-variants.{Refused, Done, Shows, Holds}
 
 -- 'the entry, 4 for free'
 abbrev pub entryNumber : Entry → ℕ
 entryNumber Free = 4
 entryNumber (Booked side) = side
 
--- 'returns only its number'; 'says only that'; 'the packet is returned'; 'the entry'
+-- 'returns only its number'; 'says only that'; 'Look returns the head'; 'the entry'
 pub data Value : Type 0 where
   refused : ℕ → Value
   done : Value
-  taken : Packet → Value
+  shows : Packet → Value
   holds : ℕ → Value
 
 abbrev pub valueOf : Answer → Value
 valueOf (Refused w) = refused (refusalNumber w)
 valueOf Done = done
-valueOf (Taken x) = taken x
+valueOf (Shows x) = shows x
 valueOf (Holds e) = holds (entryNumber e)

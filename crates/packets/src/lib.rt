@@ -43,11 +43,11 @@ pub enum Entry {
     Booked(u8),
 }
 
-// What a call answers: its refusal, only that it was accepted, the packet that it removed, or the entry.
+// What a call answers: its refusal, only that it was accepted, the packet that a Look shows, or the entry.
 pub enum Answer {
     Refused(Refusal),
     Done,
-    Taken(Packet),
+    Shows(Packet),
     Holds(Entry),
 }
 

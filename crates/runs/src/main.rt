@@ -21,10 +21,8 @@ mod words;
 // The number of plan T's queue F[1].
 const T_SIDE_ONE: usize = 11;
 
-// The numbers of active 0's out-queue and in-queue in the plan of two routers.
+// The number of active 0's out-queue in the plan of two routers.
 const TWO_ACTIVE_OUT: usize = 0;
-
-const TWO_ACTIVE_IN: usize = 45;
 
 // Room for the state of a plan of one or two routers.
 fn room() -> [u8; 4096]
@@ -135,33 +133,41 @@ fn booked_in_round_2(plan: &[u8], s: &mut [u8]) -> bool {
     begun & launched & between & booked
 }
 
-// Rounds 3 to 7 of the first run: at the passive from round 4, accepted there, consumed in round 7.
-fn consumed_in_round_7(plan: &[u8], s: &mut [u8]) -> bool {
+// Rounds 3 to 7 of the first run: at the passive from round 4, accepted there, looked at and dropped in round 7.
+fn dropped_in_round_7(plan: &[u8], s: &mut [u8]) -> bool {
     let early = rounds::with_reply(plan, s, 3, 0, 1, Answer::Refused(Refusal::QueueEmpty));
     let accepted = rounds::with_reply(plan, s, 4, 0, 1, Answer::Done);
     let between = rounds::whole(plan, s, 5, 6);
-    let unread = rounds::with_consume(plan, s, 6, 0, Answer::Refused(Refusal::QueueEmpty));
+    let unread = rounds::with_drop(
+        plan,
+        s,
+        6,
+        0,
+        Answer::Refused(Refusal::QueueEmpty),
+        Answer::Refused(Refusal::QueueEmpty),
+    );
     let ack = packet(Kind::Ack, 0, 1, 1);
-    let consumed = rounds::with_consume(plan, s, 7, 0, Answer::Taken(ack));
-    early & accepted & between & unread & consumed
+    let dropped = rounds::with_drop(plan, s, 7, 0, Answer::Shows(ack), Answer::Done);
+    early & accepted & between & unread & dropped
 }
 
 // The first run.
 fn first_run(plan: &[u8], s: &mut [u8]) -> bool {
     let booked = booked_in_round_2(plan, s);
-    let consumed = consumed_in_round_7(plan, s);
-    booked & consumed
+    let dropped = dropped_in_round_7(plan, s);
+    booked & dropped
 }
 
 // 'Launch (0,0,0) in round 0: booked in round 2, waits at the passive from round 4; accepted there, consumed in round 7
-// with slot 1, hub 1.'
+// with slot 1, hub 1.' From document 02 (c) on a Look and a Drop are what Consume was.
 fn launch_in_round_0(plan: &[u8]) {
     say(b"\nPlan T, Launch (0,0,0) in round 0\n");
     let mut s = room();
     let ok = first_run(plan, &mut s);
-    verdict(
+    verdict_of(
         ok,
-        b"booked in round 2, waits at the passive from round 4; accepted there, consumed in round 7 with slot 1, hub 1.",
+        b"01, with 02 (c),",
+        b"booked in round 2, waits at the passive from round 4; accepted there, dropped in round 7 with slot 1, hub 1.",
     );
 }
 
@@ -177,7 +183,7 @@ fn booked_in_round_3(plan: &[u8], s: &mut [u8]) -> bool {
 
 // Rounds 4 to 6 of the second run: in F[1] still after round 4's Write, at the passive in round 6.
 fn late_at_passive(plan: &[u8], s: &mut [u8]) -> bool {
-    let waiting = rounds::with_look(
+    let waiting = rounds::with_queue(
         plan,
         s,
         4,
@@ -216,13 +222,13 @@ fn third_run(plan: &[u8], s: &mut [u8]) -> bool {
     let declined = rounds::with_entry(plan, s, 10, 0, 1, 1, Entry::Free, Entry::Free);
     let back = rounds::whole(plan, s, 11, 12);
     let nack = packet(Kind::Nack, 0, 1, 0);
-    let consumed = rounds::with_consume(plan, s, 12, 0, Answer::Taken(nack));
-    first & launched & between & declined & back & consumed
+    let dropped = rounds::with_drop(plan, s, 12, 0, Answer::Shows(nack), Answer::Done);
+    first & launched & between & declined & back & dropped
 }
 
 // 'After that ACK is consumed, launch (0,0,1): last free entry, NACK with hub 0.'
 fn last_free_entry(plan: &[u8]) {
-    say(b"\nPlan T, launch (0,0,1) after that ACK is consumed\n");
+    say(b"\nPlan T, launch (0,0,1) after that ACK is dropped\n");
     let mut s = room();
     let ok = third_run(plan, &mut s);
     verdict(ok, b"last free entry, NACK with hub 0.");
@@ -238,8 +244,8 @@ fn second_books(plan: &[u8], s: &mut [u8]) -> bool {
     let accepted = rounds::with_reply(plan, s, 4, 0, 1, Answer::Done);
     let after = rounds::whole(plan, s, 5, 7);
     let ack = packet(Kind::Ack, 1, 1, 1);
-    let consumed = rounds::with_consume(plan, s, 7, 1, Answer::Taken(ack));
-    begun & launched & before & booked & between & accepted & after & consumed
+    let dropped = rounds::with_drop(plan, s, 7, 1, Answer::Shows(ack), Answer::Done);
+    begun & launched & before & booked & between & accepted & after & dropped
 }
 
 // Rounds 8 to 16: active 0 launches with start slot 3; the first router books it, the second declines.
@@ -253,27 +259,25 @@ fn second_declines(plan: &[u8], s: &mut [u8]) -> bool {
     launched & before & booked & between & declined & back
 }
 
-// Round 17: the NACK has come, Execute puts the TDOWN into the out-queue and marks the NACK, which is consumed.
+// Round 17: the NACK has come, and is looked at in EXECUTE; Execute puts the TDOWN into the out-queue and marks the
+// NACK, which is looked at again and dropped.
 fn tdown_joins(plan: &[u8], s: &mut [u8]) -> bool {
     rounds::open(17);
     let read = told::read(plan, s);
-    let nack = told::look(
-        s,
-        b" Active 0's in-queue",
-        TWO_ACTIVE_IN,
-        packet(Kind::Nack, 0, 0, 1),
-    );
+    let unmarked = packet(Kind::Nack, 0, 0, 1);
+    let nack = told::look(plan, s, 0, Answer::Shows(unmarked));
     let executed = told::execute(plan, s);
-    let tdown = told::look(
+    let tdown = told::queue(
         s,
-        b" Its out-queue",
+        b" Active 0's out-queue",
         TWO_ACTIVE_OUT,
         packet(Kind::Tdown, 0, 3, 1),
     );
     let marked = packet(Kind::Nack, 0, 0, 0);
-    let consumed = told::consume(plan, s, 0, Answer::Taken(marked));
+    let looked = told::look(plan, s, 0, Answer::Shows(marked));
+    let dropped = told::drop(plan, s, 0, Answer::Done);
     let written = told::write(plan, s);
-    read & nack & executed & tdown & consumed & written
+    read & nack & executed & tdown & looked & dropped & written
 }
 
 // Rounds 18 to 25: the first router frees its entry, the second keeps its own.
@@ -334,7 +338,7 @@ fn sixth_run(plan: &[u8], s: &mut [u8]) -> bool {
 // Document 02 (a): 'it puts a TDOWN in the active's out-queue, slot the start slot, hub the number of routers on the
 // walk, and the connection leaves the accepted ones'.
 fn closed_again(plan: &[u8]) {
-    say(b"\nPlan T, Close (0,0,0) after that ACK is consumed\n");
+    say(b"\nPlan T, Close (0,0,0) after that ACK is dropped\n");
     let mut s = room();
     let ok = sixth_run(plan, &mut s);
     verdict_of(

@@ -75,18 +75,26 @@ pub fn with_reply(
     read & executed & replied & written
 }
 
-// Round n, with a Consume in its WRITE.
-pub fn with_consume(plan: &[u8], s: &mut [u8], n: usize, a: usize, want: Answer) -> bool {
+// Round n, with a Look in its WRITE and then a Drop.
+pub fn with_drop(
+    plan: &[u8],
+    s: &mut [u8],
+    n: usize,
+    a: usize,
+    shown: Answer,
+    want: Answer,
+) -> bool {
     open(n);
     let read = super::told::read(plan, s);
     let executed = super::told::execute(plan, s);
-    let consumed = super::told::consume(plan, s, a, want);
+    let looked = super::told::look(plan, s, a, shown);
+    let dropped = super::told::drop(plan, s, a, want);
     let written = super::told::write(plan, s);
-    read & executed & consumed & written
+    read & executed & looked & dropped & written
 }
 
-// Round n, and then a look at a queue.
-pub fn with_look(
+// Round n, and then the first packet of a queue.
+pub fn with_queue(
     plan: &[u8],
     s: &mut [u8],
     n: usize,
@@ -99,7 +107,7 @@ pub fn with_look(
     let executed = super::told::execute(plan, s);
     let written = super::told::write(plan, s);
     say(b"    after it:");
-    let seen = super::told::look(s, name, queue, want);
+    let seen = super::told::queue(s, name, queue, want);
     say(b"\n");
     read & executed & written & seen
 }

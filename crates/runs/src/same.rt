@@ -6,7 +6,7 @@ use packets::Kind;
 use packets::Packet;
 ghost use mathlib.Core.Path.{_≡_};
 ghost use mathlib.Core.Bool.{true};
-ghost use Rattle.packets.specs.declared.Answer.the-variants.{Refused, Done, Taken, Holds};
+ghost use Rattle.packets.specs.declared.Answer.the-variants.{Refused, Done, Shows, Holds};
 ghost use Rattle.packets.specs.declared.Entry.the-variants.{Free, Booked};
 
 // Whether two kinds are the same.
@@ -87,11 +87,11 @@ fn is_refused(x: Answer, w: Refusal) -> bool
     load::refusal_number(v) == load::refusal_number(w)
 }
 
-// Whether an answer gives a packet.
-fn is_taken(x: Answer, p: Packet) -> bool
-    ensures { λ r. ⌜ (r ≡ true → x ≡ Taken p) ⌝ }
+// Whether an answer shows a packet.
+fn is_shown(x: Answer, p: Packet) -> bool
+    ensures { λ r. ⌜ (r ≡ true → x ≡ Shows p) ⌝ }
 {
-    let Answer::Taken(y) = x else {
+    let Answer::Shows(y) = x else {
         return false;
     };
     same_packet(y, p)
@@ -114,7 +114,7 @@ pub fn same(x: Answer, y: Answer) -> bool
     match y {
         Answer::Done => is_done(x),
         Answer::Refused(w) => is_refused(x, w),
-        Answer::Taken(p) => is_taken(x, p),
+        Answer::Shows(p) => is_shown(x, p),
         Answer::Holds(e) => is_held(x, e),
     }
 }

@@ -62,11 +62,18 @@ pub fn reply(plan: &[u8], s: &mut [u8], p: usize, choice: usize, want: Answer) -
     answered(calls::reply(plan, s, p, choice), want)
 }
 
-// Consume.
-pub fn consume(plan: &[u8], s: &mut [u8], a: usize, want: Answer) -> bool {
-    super::words::say_number(b" Consume (", a);
+// Look.
+pub fn look(plan: &[u8], s: &[u8], a: usize, want: Answer) -> bool {
+    super::words::say_number(b" Look (", a);
     say(b")");
-    answered(calls::consume(plan, s, a), want)
+    answered(calls::look(plan, s, a), want)
+}
+
+// Drop.
+pub fn drop(plan: &[u8], s: &mut [u8], a: usize, want: Answer) -> bool {
+    super::words::say_number(b" Drop (", a);
+    say(b")");
+    answered(calls::drop(plan, s, a), want)
 }
 
 // Close.
@@ -96,8 +103,8 @@ fn first_in(s: &[u8], n: usize) -> Wire {
     Wire::Full(rows::packet_at(s, i + FIRST_PLACE))
 }
 
-// Looks at queue n, which has a name, and says whether its first packet is the one that is expected.
-pub fn look(s: &[u8], name: &[u8], n: usize, want: Packet) -> bool {
+// Writes the first packet of queue n, which has a name, and says whether it is the one that is expected.
+pub fn queue(s: &[u8], name: &[u8], n: usize, want: Packet) -> bool {
     say(name);
     let w = first_in(s, n);
     let Wire::Full(x) = w else {

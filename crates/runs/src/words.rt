@@ -97,7 +97,7 @@ pub fn say_answer(x: Answer) {
     match x {
         Answer::Done => say(b" done"),
         Answer::Refused(w) => say_refusal(w),
-        Answer::Taken(p) => {
+        Answer::Shows(p) => {
             say(b" gives ");
             say_packet(p);
         }

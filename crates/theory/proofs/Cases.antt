@@ -1,5 +1,5 @@
 -- What each step of the rules does, by cases, each with the state that it leaves: a wire's delivery, a unit's turn, an
--- active's tear-down, a sending, what a Consume notes.
+-- active's tear-down, a sending, what a Drop notes.
 use mathlib.Core.Path.{_≡_, refl, ap, ap₂, _∙_}
 use mathlib.Core.Logic.{_⊎_, inl, inr}
 use mathlib.Core.Bool.{Bool, true, false, _&&_, false≢true}
@@ -252,8 +252,8 @@ module _ (pl : Plan) (o : Output) (s : State) where
       by nobody e = none-sent (send-nobody e)
       by (sender k) e = let d = ready k e in sent k (d .queue) e (d .rank) (candidate-heads (d .queue) (d .ready))
 
--- ---- a Consume's packet
--- What a consumed packet notes keeps what the setting of an ACK's connection keeps: any other packet notes nothing.
+-- ---- a Drop's packet
+-- What a dropped packet notes keeps what the setting of an ACK's connection keeps: any other packet notes nothing.
 pub noted-keeps : (pl : Plan) (x : Packet) (s : State) (P : State → Type 0)
     → (x .kind ≡ Ack → P (accepting (connectionOf pl x) s)) → P s → P (noted pl x s)
 unfolding noted

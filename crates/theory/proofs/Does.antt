@@ -22,13 +22,13 @@ use Rattle.feeding.specs.Queue.{activeIn, passiveIn}
 use Rattle.wiring.proofs.Heads.{and-both}
 use Rattle.journeys.proofs.Places.{some-not-none}
 use Rattle.machine.specs.State.{State}
-use Rattle.machine.specs.Visits.{closed, isEmpty, headUnmarked}
+use Rattle.machine.specs.Visits.{removed, noted, dropped, closed, isEmpty, headUnmarked}
 use Rattle.machine.specs.Guards.{Guard, refusalOf, Passed}
-use Rattle.machine.specs.Calls.{Visit, ofLaunch, ofReply, ofConsume, ofClose, ofEntry, Call, turn, visit, close}
-use Rattle.machine.specs.Calls.{Outcome, isPhase, launchGuards, replyGuards, consumeGuards, closeGuards, entryGuards}
-use Rattle.machine.specs.Calls.{guards, consumed, accepted, decided, call}
-use Rattle.theory.specs.Does.{MayLaunch, MayClose, MayLook, Visited, launches, replies, consumes, closes}
-use Rattle.theory.specs.Does.{looks, Does, refuses, turns, visits}
+use Rattle.machine.specs.Calls.{Visit, ofLaunch, ofReply, ofLook, ofDrop, ofClose, ofEntry, Call, turn, visit, drop}
+use Rattle.machine.specs.Calls.{close, Outcome, isPhase, launchGuards, replyGuards, lookGuards, dropGuards, closeGuards}
+use Rattle.machine.specs.Calls.{entryGuards, guards, accepted, decided, call}
+use Rattle.theory.specs.Does.{MayLaunch, MayDrop, MayClose, MayTell, Visited, launches, replies, looks, drops}
+use Rattle.theory.specs.Does.{closes, tells, Does, refuses, turns, visits}
 use Rattle.machine.specs.Progress.{turnsCall}
 use Rattle.machine.proofs.Apart.{phase-of}
 
@@ -90,19 +90,32 @@ module _ (pl : Plan) (s : State) where
         room = not-false _ r;
       }))
 
-  consumes-from : (a : ℕ) (l : List Packet) → s .lines .queue (activeIn a) ≡ l → Passed (consumeGuards pl a s)
-      → Visited pl s (ofConsume a) (consumed pl a (s .lines .queue (activeIn a)) s)
-  consumes-from a [] q (e, (f, (g, (h, (u, n))))) = absurd (true≢false (sym (ap isEmpty q) ∙ h))
-  consumes-from a (x ∷ rest) q (e, (f, (g, (h, (u, n))))) =
-      rw q
-      (consumes a x rest
-      (record {
-        phase = phase-of (s .clock .phase) Write e;
-        active = ltb-true a (A pl) (not-false _ f);
-        down = g;
-        line = q;
-        marked = sym (ap headUnmarked q) ∙ u;
-      }))
+  looks-at : (a : ℕ) (l : List Packet) → s .lines .queue (activeIn a) ≡ l → Passed (lookGuards pl a s)
+      → Visited pl s (ofLook a) (accepted pl (visit (ofLook a)) s)
+  looks-at a [] q (f, (h, n)) = absurd (true≢false (sym (ap isEmpty q) ∙ h))
+  looks-at a (x ∷ rest) q (f, (h, n)) =
+      rw q (looks a x rest (record { active = ltb-true a (A pl) (not-false _ f); line = q }))
+
+  -- the packet that a Drop removes, and those behind it
+  abbrev pub DropFound : ℕ → Type 0
+  DropFound a = (x : Packet) × (rest : List Packet) × MayDrop pl s a x rest
+
+  drop-found : (a : ℕ) (l : List Packet) → s .lines .queue (activeIn a) ≡ l → Passed (dropGuards pl a s) → DropFound a
+  drop-found a [] q (e, (f, (g, (h, (u, n))))) = absurd (true≢false (sym (ap isEmpty q) ∙ h))
+  drop-found a (x ∷ rest) q (e, (f, (g, (h, (u, n))))) = (
+    x,
+    rest,
+    record {
+      phase = phase-of (s .clock .phase) Write e;
+      active = ltb-true a (A pl) (not-false _ f);
+      down = g;
+      line = q;
+      marked = sym (ap headUnmarked q) ∙ u;
+    },
+  )
+
+  drops-from : (a : ℕ) → DropFound a → Visited pl s (ofDrop a) (accepted pl (visit (ofDrop a)) s)
+  drops-from a (x, rest, m) = rw (m .line) (drops a x rest m)
 
   may-close : (a p t : ℕ) → Passed (closeGuards pl a p t s) → MayClose pl s a p t
   may-close a p t (e, (f, (g, (h, (r, n))))) =
@@ -118,8 +131,8 @@ module _ (pl : Plan) (s : State) where
         room = not-false _ r;
       }
 
-  looks-at : (r o t : ℕ) → Passed (entryGuards pl r o t) → MayLook pl r o t
-  looks-at r o t (f, n) =
+  may-tell : (r o t : ℕ) → Passed (entryGuards pl r o t) → MayTell pl r o t
+  may-tell r o t (f, n) =
       let x = and-both (not-false _ f) in
       let y = and-both (x .0) in
       record { router = ltb-true r (R pl) (y .0); side = ltb-true o 4 (y .1); slot = ltb-true t (S pl) (x .1) }
@@ -128,9 +141,10 @@ module _ (pl : Plan) (s : State) where
   accepted-visits : (v : Visit) → Passed (guards pl (visit v) s) → Visited pl s v (accepted pl (visit v) s)
   accepted-visits (ofLaunch a p t) g = launches a p t (may-launch a p t g)
   accepted-visits (ofReply p c) g = replies-to p c (s .lines .queue (passiveIn p)) refl g
-  accepted-visits (ofConsume a) g = consumes-from a (s .lines .queue (activeIn a)) refl g
+  accepted-visits (ofLook a) g = looks-at a (s .lines .queue (activeIn a)) refl g
+  accepted-visits (ofDrop a) g = drops-from a (drop-found a (s .lines .queue (activeIn a)) refl g)
   accepted-visits (ofClose a p t) g = closes a p t (may-close a p t g)
-  accepted-visits (ofEntry r o t) g = looks r o t (looks-at r o t g)
+  accepted-visits (ofEntry r o t) g = tells r o t (may-tell r o t g)
 
   accepted-does : (c : Call) → Passed (guards pl c s) → Does pl s c (accepted pl c s)
   accepted-does (turn x) (e, n) = turns x (phase-of (s .clock .phase) x e)
@@ -140,7 +154,8 @@ module _ (pl : Plan) (s : State) where
   never-7 (turn x) = refl
   never-7 (visit (ofLaunch a p t)) = refl
   never-7 (visit (ofReply p c)) = refl
-  never-7 (visit (ofConsume a)) = refl
+  never-7 (visit (ofLook a)) = refl
+  never-7 (visit (ofDrop a)) = refl
   never-7 (visit (ofClose a p t)) = refl
   never-7 (visit (ofEntry r o t)) = refl
 
@@ -157,7 +172,7 @@ pub refused-turns : (x : Phase) (c : Call) (w : Refusal) → turnsCall x c (Refu
 refused-turns x (turn y) w = pick-same (isPhase y x) 0
 refused-turns x (visit v) w = refl
 
-done-not : {w : Refusal} → _≡_ {A = Answer} Done (Refused w) → ⊥
+pub done-not : {w : Refusal} → _≡_ {A = Answer} Done (Refused w) → ⊥
 done-not e = let z : _≡_ {A = ℕ} 0 1 = cc in omega arith
 
 module _ {pl : Plan} {s : State} where
@@ -165,9 +180,10 @@ module _ {pl : Plan} {s : State} where
   visit-not-refused : {v : Visit} {o : Outcome} → Visited pl s v o → {w : Refusal} → o .answer ≡ Refused w → ⊥
   visit-not-refused (launches a p t m) e = done-not e
   visit-not-refused (replies p c x rest m) e = done-not e
-  visit-not-refused (consumes a x rest m) e = let z : _≡_ {A = ℕ} 0 1 = cc in omega arith
+  visit-not-refused (looks a x rest m) e = let z : _≡_ {A = ℕ} 0 1 = cc in omega arith
+  visit-not-refused (drops a x rest m) e = done-not e
   visit-not-refused (closes a p t m) e = done-not e
-  visit-not-refused (looks r q t m) e = let z : _≡_ {A = ℕ} 0 1 = cc in omega arith
+  visit-not-refused (tells r q t m) e = let z : _≡_ {A = ℕ} 0 1 = cc in omega arith
 
   -- a refused call leaves the state, and is not refused 7
   pub refused-leaves : {c : Call} {o : Outcome} → Does pl s c o → {w : Refusal} → o .answer ≡ Refused w
@@ -175,31 +191,6 @@ module _ {pl : Plan} {s : State} where
   refused-leaves (refuses d v n) {w} e = let same : v ≡ w = cc in (refl, λ k. n (same ∙ k))
   refused-leaves (turns x f) e = absurd (done-not e)
   refused-leaves (visits v o d) e = absurd (visit-not-refused d e)
-
--- ---- an accepted Close
-module _ (pl : Plan) (s : State) (a p t : ℕ) where
-  -- found what it asks, and left the closed state
-  abbrev Closed : State → Type 0
-  Closed u = MayClose pl s a p t × (u ≡ closed pl a p t s)
-
-  visit-closed : {v : Visit} {o : Outcome} → Visited pl s v o → v ≡ ofClose a p t → Closed (o .state)
-  visit-closed (launches b q u m) e = absurd (let z : _≡_ {A = ℕ} 0 1 = cc in omega arith)
-  visit-closed (replies q c x rest m) e = absurd (let z : _≡_ {A = ℕ} 0 1 = cc in omega arith)
-  visit-closed (consumes b x rest m) e = absurd (let z : _≡_ {A = ℕ} 0 1 = cc in omega arith)
-  visit-closed (closes b q u m) e =
-      let x : b ≡ a = cc in
-      let y : q ≡ p = cc in
-      let z : u ≡ t = cc in
-      (rw (x, y, z) at m, rw (x, y, z))
-  visit-closed (looks r q u m) e = absurd (let z : _≡_ {A = ℕ} 0 1 = cc in omega arith)
-
-  does-closed : {c : Call} {o : Outcome} → Does pl s c o → c ≡ close a p t → o .answer ≡ Done → Closed (o .state)
-  does-closed (refuses d w n) e f = absurd (done-not (sym f))
-  does-closed (turns x g) e f = absurd (let z : _≡_ {A = ℕ} 0 1 = cc in omega arith)
-  does-closed (visits v o d) e f = let same : v ≡ ofClose a p t = cc in visit-closed d same
-
-  pub close-done : call pl (close a p t) s .answer ≡ Done → Closed (call pl (close a p t) s .state)
-  close-done f = does-closed (call-does pl s (close a p t)) refl f
 
 -- ---- a call whose refusals do not apply
 passed-none : (gs : List Guard) → refusalOf gs ≡ none → Passed gs
@@ -223,3 +214,30 @@ module _ (pl : Plan) (c : Call) (s : State) (e : refusalOf (guards pl c s) ≡ n
       by : (c : Call) → Passed (guards pl c s) → accepted pl c s .answer ≡ Refused w → ⊥
       by (turn x) g k = done-not k
       by (visit v) g k = visit-not-refused (accepted-visits pl s v g) k
+
+-- ---- a call that is done
+module _ (pl : Plan) (s : State) where
+  -- passed its guards, and gives what the rule gives
+  done-accepted : (c : Call) → call pl c s .answer ≡ Done → Passed (guards pl c s) × (call pl c s ≡ accepted pl c s)
+  unfolding call
+  done-accepted c f = by (refusalOf (guards pl c s)) refl f
+    where
+      by : (w : Option Refusal) → refusalOf (guards pl c s) ≡ w → decided w s (accepted pl c s) .answer ≡ Done
+          → Passed (guards pl c s) × (call pl c s ≡ accepted pl c s)
+      by none e g = (passed-none (guards pl c s) e, call-accepted pl c s e)
+      by (some w) e g = absurd (done-not (sym g))
+
+  -- an accepted Close found what it asks, and left the closed state
+  pub close-done : (a p t : ℕ) → call pl (close a p t) s .answer ≡ Done
+      → MayClose pl s a p t × (call pl (close a p t) s .state ≡ closed pl a p t s)
+  close-done a p t f =
+      let g = done-accepted (close a p t) f in
+      (may-close pl s a p t (g .0), ap (λ (o : Outcome). o .state) (g .1))
+
+  -- an accepted Drop found what it asks, and left the state without the head
+  pub drop-done : (a : ℕ) → call pl (drop a) s .answer ≡ Done → (d : DropFound pl s a)
+      × (call pl (drop a) s .state ≡ noted pl (d .0) (removed a (d .1) s))
+  drop-done a f =
+      let g = done-accepted (drop a) f in
+      let d = drop-found pl s a (s .lines .queue (activeIn a)) refl (g .0) in
+      (d, ap (λ (o : Outcome). o .state) (g .1) ∙ ap (λ (l : List Packet). dropped pl a l s) (d .2 .line))

@@ -29,7 +29,7 @@ use Rattle.machine.specs.Execute.{unit, choose, undo, doExecute}
 use Rattle.machine.specs.Write.{send, doWrite}
 use Rattle.machine.specs.Visits.{launched, replyKind, replied, removed, noted, closed}
 use Rattle.machine.specs.Calls.{Visit, Call, Outcome, phaseStep, call}
-use Rattle.theory.specs.Does.{Visited, launches, replies, consumes, closes, looks, Does, refuses, turns}
+use Rattle.theory.specs.Does.{Visited, launches, replies, looks, drops, closes, tells, Does, refuses, turns}
 use Rattle.theory.specs.Does.{visits}
 use Rattle.machine.specs.Valid.{Belongs, Drives, Ties, Valid}
 use Rattle.machine.specs.Ruled.{Good}
@@ -169,7 +169,7 @@ module _ {pl : Plan} (wired : Wired pl) (range : InRange (pl .head)) where
         turns = write-turns pl wired s (h .0) (h .1) (i .turns);
       }
 
-  -- what a consumed packet notes
+  -- what a dropped packet notes
   noted-inv : (x : Packet) (at : Place) (s : State) → Belongs pl at x → Inv pl s → Inv pl (noted pl x s)
   noted-inv x at s b i =
       record {
@@ -201,7 +201,8 @@ module _ {pl : Plan} (wired : Wired pl) (range : InRange (pl .head)) where
         shape = replied-shape s p (replyKind c) x rest (m .phase) (i .shape);
         turns = turns-alike pl s (replied p (replyKind c) (x ∷ rest) s) refl (i .turns);
       }
-  visit-inv v o s (consumes a x rest m) i =
+  visit-inv v o s (looks a x rest m) i = i
+  visit-inv v o s (drops a x rest m) i =
       noted-inv x (inQueue (activeIn a)) (removed a rest s)
       (core-head (i .core) (activeIn a) (m .active) x rest (m .line))
       (record {
@@ -220,7 +221,7 @@ module _ {pl : Plan} (wired : Wired pl) (range : InRange (pl .head)) where
         shape = closed-shape s a p t (m .phase) (i .shape);
         turns = turns-alike pl s (closed pl a p t s) refl (i .turns);
       }
-  visit-inv v o s (looks r q t m) i = i
+  visit-inv v o s (tells r q t m) i = i
 
   does-inv : (c : Call) (o : Outcome) (s : State) → Does pl s c o → Inv pl s → Inv pl (o .state)
   does-inv c o s (refuses d w n) i = i

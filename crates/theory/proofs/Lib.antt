@@ -14,3 +14,4 @@ pub mod Own
 pub mod Tracked
 pub mod Closes
 pub mod TurnAbout
+pub mod LookDrop

@@ -1,7 +1,7 @@
 -- Along a list of calls from Start: a state keeps core and shape, every booked entry is owned once, the connections
 -- accepted and not closed since are those that the state keeps, and acceptances are counted against launches. From it
 -- the ties that refusal 7 asks, the empty network's table, and demand 3 on the rules.
-use mathlib.Core.Path.{_≡_, refl}
+use mathlib.Core.Path.{_≡_, refl, ap}
 use mathlib.Core.Bool.{Bool, false, false≢true}
 use mathlib.Core.List.{List, [], _∷_}
 use Prim.Native.Nat.{ℕ, _+_, _≤_, _<_}
@@ -13,7 +13,7 @@ use Rattle.packets.specs.declared.Wire.the-variants.{Empty}
 use Rattle.packets.specs.declared.Phase.{Phase}
 use Rattle.packets.specs.declared.Phase.the-variants.{Read, Execute, Write}
 use Rattle.packets.specs.declared.Answer.{Answer}
-use Rattle.packets.specs.declared.Answer.the-variants.{Refused, Done, Holds}
+use Rattle.packets.specs.declared.Answer.the-variants.{Refused, Done, Shows, Holds}
 use Rattle.packets.specs.Counters.{slotNext}
 use Rattle.plan.specs.Head.{InRange}
 use Rattle.plan.specs.Plan.{Plan, R, A, S}
@@ -25,16 +25,16 @@ use Rattle.machine.specs.Read.{deliver, settle, doRead}
 use Rattle.machine.specs.Execute.{unit, choose, undo, doExecute}
 use Rattle.machine.specs.Write.{send, doWrite}
 use Rattle.machine.specs.Visits.{launched, replyKind, replied, removed}
-use Rattle.machine.specs.Calls.{Visit, ofLaunch, ofReply, ofConsume, ofClose, ofEntry, Call, turn, visit, reply}
-use Rattle.machine.specs.Calls.{entry, Outcome, gives, phaseStep, call}
-use Rattle.theory.specs.Does.{Visited, launches, replies, consumes, closes, looks, Does, refuses, turns}
+use Rattle.machine.specs.Calls.{Visit, ofLaunch, ofReply, ofLook, ofDrop, ofClose, ofEntry, Call, turn, visit, reply}
+use Rattle.machine.specs.Calls.{look, entry, Outcome, gives, phaseStep, call}
+use Rattle.theory.specs.Does.{Visited, launches, replies, looks, drops, closes, tells, Does, refuses, turns}
 use Rattle.theory.specs.Does.{visits}
 use Rattle.machine.specs.Connections.{Connection, connection}
 use Rattle.machine.specs.Accepted.{accept}
 use Rattle.machine.specs.Valid.{Drives}
 use Rattle.machine.specs.Progress.{Within}
 use Rattle.machine.specs.Ruled.{Good, Ruled, Remembers, ruledAfter, acceptedAfter, launchesCall}
-use Rattle.machine.specs.Ruled.{launches as launchesIn, acceptsCall, acceptances}
+use Rattle.machine.specs.Ruled.{launches as launchesIn, acceptsHead, acceptsCall, acceptances}
 use Rattle.theory.proofs.Does.{call-does}
 use Rattle.theory.specs.Invariant.{Core, Shape, Sendable, FlagsDown, WiresEmpty, ChoicesSendable, Inv}
 use Rattle.theory.proofs.Shape.Calls.{execute-has, write-has}
@@ -173,15 +173,15 @@ module _ {pl : Plan} (wired : Wired pl) (range : InRange (pl .head)) where
 
       -- after a call c with its outcome
       pub record Told (c : Call) (r : Outcome) : Type 0 where
-        pub owned : Owned pl (accept pl c (r .answer) acc) (r .state)
-        pub remembers : Remembers (accept pl c (r .answer) acc) (r .state)
+        pub owned : Owned pl (accept pl c s (r .answer) acc) (r .state)
+        pub remembers : Remembers (accept pl c s (r .answer) acc) (r .state)
         pub counted : (d : Connection)
-            → Counted pl d (acceptsCall pl d c (r .answer) + m d) (launchesCall d c (r .answer) + n d) (r .state)
+            → Counted pl d (acceptsCall pl d c s (r .answer) + m d) (launchesCall d c (r .answer) + n d) (r .state)
 
       -- nothing is accepted and nothing closed
-      as-before : (c : Call) (r : Outcome) → accept pl c (r .answer) acc ≡ acc
-          → ((d : Connection) → acceptsCall pl d c (r .answer) ≡ 0) → Owned pl acc (r .state) → Remembers acc (r .state)
-          → ((d : Connection) → Counted pl d (m d) (n d) (r .state)) → Told c r
+      as-before : (c : Call) (r : Outcome) → accept pl c s (r .answer) acc ≡ acc
+          → ((d : Connection) → acceptsCall pl d c s (r .answer) ≡ 0) → Owned pl acc (r .state)
+          → Remembers acc (r .state) → ((d : Connection) → Counted pl d (m d) (n d) (r .state)) → Told c r
       as-before c r e z o h f =
           record {
             owned = rw e o;
@@ -189,19 +189,21 @@ module _ {pl : Plan} (wired : Wired pl) (range : InRange (pl .head)) where
             counted = λ d. record { count = let g = z d in omega (arith, f d .count) };
           }
 
-      none-accepted : (c : Call) (w : Refusal) → accept pl c (Refused w) acc ≡ acc
+      none-accepted : (c : Call) (w : Refusal) → accept pl c s (Refused w) acc ≡ acc
       none-accepted (turn x) w = refl
       none-accepted (visit (ofLaunch a p t)) w = refl
       none-accepted (visit (ofReply p x)) w = refl
-      none-accepted (visit (ofConsume a)) w = refl
+      none-accepted (visit (ofLook a)) w = refl
+      none-accepted (visit (ofDrop a)) w = refl
       none-accepted (visit (ofClose a p t)) w = refl
       none-accepted (visit (ofEntry r o t)) w = refl
 
-      none-counted : (c : Call) (w : Refusal) (d : Connection) → acceptsCall pl d c (Refused w) ≡ 0
+      none-counted : (c : Call) (w : Refusal) (d : Connection) → acceptsCall pl d c s (Refused w) ≡ 0
       none-counted (turn x) w d = refl
       none-counted (visit (ofLaunch a p t)) w d = refl
       none-counted (visit (ofReply p x)) w d = refl
-      none-counted (visit (ofConsume a)) w d = refl
+      none-counted (visit (ofLook a)) w d = refl
+      none-counted (visit (ofDrop a)) w d = refl
       none-counted (visit (ofClose a p t)) w d = refl
       none-counted (visit (ofEntry r o t)) w d = refl
 
@@ -231,14 +233,16 @@ module _ {pl : Plan} (wired : Wired pl) (range : InRange (pl .head)) where
           (remembers-same s (replied p (replyKind c) (x ∷ rest) s) (k .remembers) refl)
           (λ d. replied-counted pl d wired s (k .inv .core) (k .counted d) p (replyKind c) x rest (g .passive) kind
           (g .line))
-      visit-told v o (consumes a x rest g) =
+      visit-told v o (looks a x rest g) =
+          as-before (look a) (gives (Shows x) s) refl (λ d. refl) (k .owned) (k .remembers) (k .counted)
+      visit-told v o (drops a x rest g) =
           record {
-            owned = noted-owned (removed a rest s)
-                (removed-owned wired s (k .inv .core) (k .owned) a x rest (g .active) (g .line) (g .marked)) x;
-            remembers = noted-remembers (removed a rest s)
-                (remembers-same s (removed a rest s) (k .remembers) refl) pl x;
+            owned = rw (g .line) (noted-owned (removed a rest s)
+                (removed-owned wired s (k .inv .core) (k .owned) a x rest (g .active) (g .line) (g .marked)) x);
+            remembers = rw (g .line) (noted-remembers (removed a rest s)
+                (remembers-same s (removed a rest s) (k .remembers) refl) pl x);
             counted = λ d. record {
-              count = omega (
+              count = let head = ap (acceptsHead pl d) (g .line) in omega (
                 arith,
                 noted-counted pl d (removed a rest s)
                     (removed-counted pl d s (k .counted d) a x rest (g .active) (g .line)) x .count,
@@ -258,7 +262,7 @@ module _ {pl : Plan} (wired : Wired pl) (range : InRange (pl .head)) where
               );
             };
           }
-      visit-told v o (looks r i t g) =
+      visit-told v o (tells r i t g) =
           as-before (entry r i t) (gives (Holds (s .table r i t)) s) refl (λ d. refl) (k .owned) (k .remembers)
           (k .counted)
 
@@ -271,8 +275,8 @@ module _ {pl : Plan} (wired : Wired pl) (range : InRange (pl .head)) where
           as-before (turn x) (gives Done (phaseStep pl x s)) refl (λ d. refl) (g .owned) (g .remembers) (g .counted)
       told c o (visits v r d) = visit-told v r d
 
-      pub call-tracked : (c : Call) → Tracked pl (accept pl c (call pl c s .answer) acc)
-          (λ d. acceptsCall pl d c (call pl c s .answer) + m d) (λ d. launchesCall d c (call pl c s .answer) + n d)
+      pub call-tracked : (c : Call) → Tracked pl (accept pl c s (call pl c s .answer) acc)
+          (λ d. acceptsCall pl d c s (call pl c s .answer) + m d) (λ d. launchesCall d c (call pl c s .answer) + n d)
           (call pl c s .state)
       call-tracked c =
           let d = told c (call pl c s) (call-does pl s c) in
@@ -307,8 +311,8 @@ module _ {pl : Plan} (wired : Wired pl) (range : InRange (pl .head)) where
         counted = λ d. record { count = omega (arith, k .counted d .count) };
       }
   list-tracked (c ∷ cs) acc m n s k =
-      let g = list-tracked cs (accept pl c (call pl c s .answer) acc)
-      (λ d. acceptsCall pl d c (call pl c s .answer) + m d) (λ d. launchesCall d c (call pl c s .answer) + n d)
+      let g = list-tracked cs (accept pl c s (call pl c s .answer) acc)
+      (λ d. acceptsCall pl d c s (call pl c s .answer) + m d) (λ d. launchesCall d c (call pl c s .answer) + n d)
       (call pl c s .state) (call-tracked acc m n s k c) in
       record {
         inv = g .inv;
@@ -334,7 +338,7 @@ module _ {pl : Plan} (wired : Wired pl) (range : InRange (pl .head)) where
   pub reached-within : (cs : List Call) → Within pl (ruledAfter pl cs (start pl))
   reached-within cs = reached-good cs .valid .capacities
 
-  -- the list has at least as many accepted Launches of a triple as Consumes that accepted it
+  -- the list has at least as many accepted Launches of a triple as Drops that accepted it
   pub reached-launches : (cs : List Call) (d : Connection)
       → acceptances pl d cs (start pl) ≤ launchesIn pl d cs (start pl)
   reached-launches cs d = let m = counted-times pl d (reached cs .counted d) in omega arith
@@ -362,8 +366,8 @@ module _ {pl : Plan} (wired : Wired pl) (range : InRange (pl .head)) where
 
   pub held-kept : (c : Call) (s : State) → Held s → Held (call pl c s .state)
   held-kept c s (acc, m, n, k) = (
-    accept pl c (call pl c s .answer) acc,
-    (λ d. acceptsCall pl d c (call pl c s .answer) + m d),
+    accept pl c s (call pl c s .answer) acc,
+    (λ d. acceptsCall pl d c s (call pl c s .answer) + m d),
     (λ d. launchesCall d c (call pl c s .answer) + n d),
     call-tracked acc m n s k c,
   )

@@ -68,7 +68,7 @@ module _ (pl : Plan) where
         unjoined = λ r o hr ho z. at (ofSide r o) ∙ u .unjoined r o hr ho z;
       }
 
-  -- what a consumed packet notes
+  -- what a dropped packet notes
   pub noted-last : (x : Packet) (s : State) → noted pl x s .lastSender ≡ s .lastSender
   noted-last x s = noted-keeps pl x s (λ (t : State). t .lastSender ≡ s .lastSender) (λ e. refl) refl
 

@@ -10,15 +10,15 @@ use Rattle.kinds.specs.declared.Refusal.the-variants.{NotState}
 use Rattle.packets.specs.declared.Packet.{Packet}
 use Rattle.packets.specs.declared.Phase.{Phase}
 use Rattle.packets.specs.declared.Phase.the-variants.{Read, Write}
-use Rattle.packets.specs.declared.Answer.the-variants.{Refused, Done, Taken, Holds}
+use Rattle.packets.specs.declared.Answer.the-variants.{Refused, Done, Shows, Holds}
 use Rattle.plan.specs.Plan.{Plan, R, A, P, S}
 use Rattle.paths.specs.Served.{served}
 use Rattle.feeding.specs.Queue.{activeOut, activeIn, passiveIn, passiveOut}
 use Rattle.machine.specs.State.{State}
 use Rattle.machine.specs.Execute.{hasRoom, unmarked}
 use Rattle.machine.specs.Visits.{launched, replyKind, replied, removed, noted, closed}
-use Rattle.machine.specs.Calls.{Visit, ofLaunch, ofReply, ofConsume, ofClose, ofEntry, Call, turn, visit, Outcome}
-use Rattle.machine.specs.Calls.{gives, phaseStep}
+use Rattle.machine.specs.Calls.{Visit, ofLaunch, ofReply, ofLook, ofDrop, ofClose, ofEntry, Call, turn, visit}
+use Rattle.machine.specs.Calls.{Outcome, gives, phaseStep}
 
 -- ---- what an accepted visit found
 pub record MayLaunch (pl : Plan) (s : State) (a p t : ℕ) : Type 0 where
@@ -38,7 +38,11 @@ pub record MayReply (pl : Plan) (s : State) (p c : ℕ) (x : Packet) (rest : Lis
   pub line : s .lines .queue (passiveIn p) ≡ x ∷ rest
   pub room : hasRoom pl (passiveOut p) s ≡ true
 
-pub record MayConsume (pl : Plan) (s : State) (a : ℕ) (x : Packet) (rest : List Packet) : Type 0 where
+pub record MayLook (pl : Plan) (s : State) (a : ℕ) (x : Packet) (rest : List Packet) : Type 0 where
+  pub active : a < A pl
+  pub line : s .lines .queue (activeIn a) ≡ x ∷ rest
+
+pub record MayDrop (pl : Plan) (s : State) (a : ℕ) (x : Packet) (rest : List Packet) : Type 0 where
   pub phase : s .clock .phase ≡ Write
   pub active : a < A pl
   pub down : s .flow .flag (activeIn a) ≡ false
@@ -54,7 +58,7 @@ pub record MayClose (pl : Plan) (s : State) (a p t : ℕ) : Type 0 where
   pub accepted : s .connections a p t ≡ true
   pub room : hasRoom pl (activeOut a) s ≡ true
 
-pub record MayLook (pl : Plan) (r o t : ℕ) : Type 0 where
+pub record MayTell (pl : Plan) (r o t : ℕ) : Type 0 where
   pub router : r < R pl
   pub side : o < 4
   pub slot : t < S pl
@@ -64,10 +68,12 @@ pub data Visited (pl : Plan) (s : State) : Visit → Outcome → Type 0 where
   launches : (a p t : ℕ) → MayLaunch pl s a p t → Visited pl s (ofLaunch a p t) (gives Done (launched a p t s))
   replies : (p c : ℕ) (x : Packet) (rest : List Packet) → MayReply pl s p c x rest
       → Visited pl s (ofReply p c) (gives Done (replied p (replyKind c) (x ∷ rest) s))
-  consumes : (a : ℕ) (x : Packet) (rest : List Packet) → MayConsume pl s a x rest
-      → Visited pl s (ofConsume a) (gives (Taken x) (noted pl x (removed a rest s)))
+  looks : (a : ℕ) (x : Packet) (rest : List Packet) → MayLook pl s a x rest
+      → Visited pl s (ofLook a) (gives (Shows x) s)
+  drops : (a : ℕ) (x : Packet) (rest : List Packet) → MayDrop pl s a x rest
+      → Visited pl s (ofDrop a) (gives Done (noted pl x (removed a rest s)))
   closes : (a p t : ℕ) → MayClose pl s a p t → Visited pl s (ofClose a p t) (gives Done (closed pl a p t s))
-  looks : (r o t : ℕ) → MayLook pl r o t → Visited pl s (ofEntry r o t) (gives (Holds (s .table r o t)) s)
+  tells : (r o t : ℕ) → MayTell pl r o t → Visited pl s (ofEntry r o t) (gives (Holds (s .table r o t)) s)
 
 -- ---- a call: refused (7 is asked before it), a phase turned, a visit
 pub data Does (pl : Plan) (s : State) : Call → Outcome → Type 0 where

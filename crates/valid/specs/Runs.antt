@@ -16,7 +16,7 @@ use Rattle.packets.specs.declared.Wire.the-variants.{Full}
 use Rattle.packets.specs.declared.Phase.the-variants.{Execute, Write}
 use Rattle.packets.specs.declared.Entry.the-variants.{Booked}
 use Rattle.packets.specs.declared.Answer.{Answer}
-use Rattle.packets.specs.declared.Answer.the-variants.{Refused, Done, Taken, Holds}
+use Rattle.packets.specs.declared.Answer.the-variants.{Refused, Done, Shows, Holds}
 use Rattle.plan.specs.Head.{capacityAt, headOf}
 use Rattle.plan.specs.Plan.{Plan, jointIn, planOf}
 use Rattle.plan.specs.Rules.{portsOf, home}
@@ -34,7 +34,7 @@ use Rattle.machine.specs.Execute.{cameIn, otherFree, mayBook, setUp, tearOne, t
 use Rattle.machine.specs.Execute.{candidate, firstOf, nextOf, picked, choose, answer, atActive, undo, doExecute}
 use Rattle.machine.specs.Write.{sendHead, sendBy, send, doWrite}
 use Rattle.machine.specs.Visits.{launched, removed, noted, closed}
-use Rattle.machine.specs.Calls.{Call, read, execute, write, launch, reply, consume, close, call}
+use Rattle.machine.specs.Calls.{Call, read, execute, write, launch, reply, drop, close, call}
 use Rattle.machine.specs.Valid.{bit, sum, onWires, total}
 use Rattle.valid.specs.Ties.{numbered, makesTest, claimedBefore, tieTest, pairTies, tiesTest}
 use Rattle.valid.specs.Test.{meetsTest, aheadTest, returnsTest, backTest, fitsTest, packetTest, belongsTest}
@@ -53,10 +53,10 @@ round = read ∷ execute ∷ write ∷ []
 abbrev pub isAccepted : Answer → Bool
 isAccepted (Refused w) = false
 isAccepted Done = true
-isAccepted (Taken x) = true
+isAccepted (Shows x) = true
 isAccepted (Holds e) = true
 
--- each of the calls is isAccepted, and the test passes before each and after the last
+-- each of the calls is accepted, and the test passes before each and after the last
 unfoldable pub allValid : Plan → List Call → State → Bool
 allValid pl [] s = validTest pl s
 allValid pl (c ∷ cs) s =
@@ -74,22 +74,22 @@ unfolding anyBelow allBelow upTo spot onCount bitAt fieldOf capacityAt headOf jo
     validTest allValid
 valid cs = allValid planT cs (start planT)
 
--- 'Launch (0,0,0) in round 0: booked in round 2, waits at the passive from round 4; isAccepted there, consumed in
--- round 7'
+-- 'Launch (0,0,0) in round 0: booked in round 2, waits at the passive from round 4; accepted there, consumed in
+-- round 7': dropped, from document 02 (c) on
 pub t-connects : valid (launch 0 0 0 ∷ round ++ round ++ round ++ round ++ (read ∷ execute ∷ reply 0 1 ∷ write ∷ round)
-    ++ round ++ (read ∷ execute ∷ consume 0 ∷ write ∷ [])) ≡ true
+    ++ round ++ (read ∷ execute ∷ drop 0 ∷ write ∷ [])) ≡ true
 unfolding valid
 t-connects = refl
 
 -- the same passive declines: the NACK is marked, and a TDOWN frees the entry
 pub t-declines : valid (launch 0 0 0 ∷ round ++ round ++ round ++ round ++ (read ∷ execute ∷ reply 0 0 ∷ write ∷ round)
-    ++ round ++ (read ∷ execute ∷ consume 0 ∷ write ∷ round) ++ round ++ round ++ round) ≡ true
+    ++ round ++ (read ∷ execute ∷ drop 0 ∷ write ∷ round) ++ round ++ round ++ round) ≡ true
 unfolding valid
 t-declines = refl
 
 -- the connection is closed: a TDOWN frees its entry
 pub t-closes : valid (launch 0 0 0 ∷ round ++ round ++ round ++ round ++ (read ∷ execute ∷ reply 0 1 ∷ write ∷ round)
-    ++ round ++ (read ∷ execute ∷ consume 0 ∷ write ∷ close 0 0 0 ∷ round) ++ round ++ round ++ round) ≡ true
+    ++ round ++ (read ∷ execute ∷ drop 0 ∷ write ∷ close 0 0 0 ∷ round) ++ round ++ round ++ round) ≡ true
 unfolding valid
 t-closes = refl
 
@@ -258,11 +258,11 @@ answered s =
     (record { kind = Ack; active = 0; passive = 0; slot = record { 0 = 1 }; hub = record { 0 = 1 } } ∷ [])
     (withCredit (activeIn 0) (record { 0 = 0 }) (withAllowance 0 0 s)))
 
--- the state passes, Consume is accepted, and what it leaves does not pass
+-- the state passes, Drop is accepted, and what it leaves does not pass
 unfoldable pub passesThen : Plan → Call → State → List Bool
 unfolding valid
 passesThen pl c s = validTest pl s ∷ isAccepted (call pl c s .answer) ∷ validTest pl (call pl c s .state) ∷ []
 
-pub valid-then-not : passesThen planT (consume 0) (answered (start planT)) ≡ true ∷ true ∷ false ∷ []
+pub valid-then-not : passesThen planT (drop 0) (answered (start planT)) ≡ true ∷ true ∷ false ∷ []
 unfolding passesThen
 valid-then-not = refl

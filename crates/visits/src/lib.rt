@@ -1,5 +1,5 @@
-// What Launch, Reply, Consume, Close and Entry share on the bytes of a good state: the rows of the interfaces' queues,
-// what is read of them, the head that leaves a queue, and the walks' lengths.
+// What Launch, Reply, Look, Drop, Close and Entry share on the bytes of a good state: the rows of the interfaces'
+// queues, what is read of them, the head that leaves a queue, and the walks' lengths.
 use plan::Head;
 ghost use mathlib.Core.Path.{_≡_};
 ghost use Prim.Native.Nat.{_+_, _≤_, _<_};

@@ -26,8 +26,10 @@ pub struct Calls {
     pub close: fn(&[u8], &mut [u8], u32, u32, u32) -> u32,
     /// Reply: passive, choice.
     pub reply: fn(&[u8], &mut [u8], u32, u32) -> u32,
-    /// Consume: active.
-    pub consume: fn(&[u8], &mut [u8], u32, &mut Out) -> u32,
+    /// Look: active.
+    pub look: fn(&[u8], &[u8], u32, &mut Out) -> u32,
+    /// Drop: active.
+    pub drop: fn(&[u8], &mut [u8], u32) -> u32,
     /// Entry: router, side, slot.
     pub entry: fn(&[u8], &[u8], u32, u32, u32, &mut Out) -> u32,
 }
@@ -47,7 +49,8 @@ impl Calls {
                 (self.close)(plan, state, n(active), n(passive), n(slot))
             }
             Call::Reply { passive, choice } => (self.reply)(plan, state, n(passive), n(choice)),
-            Call::Consume { active } => (self.consume)(plan, state, n(active), out),
+            Call::Look { active } => (self.look)(plan, state, n(active), out),
+            Call::Drop { active } => (self.drop)(plan, state, n(active)),
             Call::Entry { router, side, slot } => {
                 (self.entry)(plan, state, n(router), n(side), n(slot), out)
             }
@@ -67,7 +70,8 @@ pub fn narrow(call: Call) -> Call {
             Call::Close { active: n(active), passive: n(passive), slot: n(slot) }
         }
         Call::Reply { passive, choice } => Call::Reply { passive: n(passive), choice: n(choice) },
-        Call::Consume { active } => Call::Consume { active: n(active) },
+        Call::Look { active } => Call::Look { active: n(active) },
+        Call::Drop { active } => Call::Drop { active: n(active) },
         Call::Entry { router, side, slot } => {
             Call::Entry { router: n(router), side: n(side), slot: n(slot) }
         }

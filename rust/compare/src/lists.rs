@@ -127,12 +127,13 @@ impl<'c> List<'c> {
         let active = self.some(random, plan.actives(), |list, n| list.is_active_refused(n));
         let passive = self.some(random, plan.passives(), |list, n| list.is_passive_refused(n));
         match (self.state.phase, random.below(2)) {
+            _ if random.chance(1, 8) => look(random, &self.network, &self.state),
             (Phase::Read, 0) => {
                 Call::Launch { active, passive, slot: random.below(self.network.slots()) }
             }
             (Phase::Read, _) => close(random, &self.network, &self.state),
             (Phase::Write, 0) => Call::Reply { passive, choice: random.below(2) },
-            (Phase::Write, _) => Call::Consume { active },
+            (Phase::Write, _) => Call::Drop { active },
             (Phase::Execute, _) => narrow(stray(random, &self.network)),
         }
     }
@@ -235,6 +236,7 @@ impl<'c> List<'c> {
             Some(state) if state.phase == Phase::Read && random.chance(1, 2) => {
                 close(random, &self.network, state)
             }
+            Some(state) if random.chance(1, 8) => look(random, &self.network, state),
             _ => self.next_call(random),
         };
         let mut after = bytes.clone();
@@ -300,6 +302,15 @@ fn close(random: &mut Random, network: &Network, state: &State) -> Call {
             Call::Close { active, passive, slot: random.below(network.slots()) }
         }
     }
+}
+
+/// A Look at an active for which something waits, if there is one; now and then at any.
+fn look(random: &mut Random, network: &Network, state: &State) -> Call {
+    let actives = network.plan().actives();
+    let waits = |&active: &usize| network.head(state, active).is_some();
+    let waiting: Vec<usize> = (0..actives).filter(waits).collect();
+    let waiting = random.pick(&waiting).filter(|_| !random.chance(1, 4));
+    Call::Look { active: waiting.unwrap_or(random.below(actives)) }
 }
 
 /// What eight bytes are after a call: written only on acceptance.

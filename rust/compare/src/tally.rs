@@ -5,8 +5,12 @@ use std::fmt;
 use model::machine::Call;
 
 /// The calls by name; Start stands before those on a state.
-const NAMES: [&str; 9] =
-    ["Start", "Read", "Execute", "Write", "Launch", "Reply", "Consume", "Entry", "Close"];
+const NAMES: [&str; 10] =
+    ["Start", "Read", "Execute", "Write", "Launch", "Reply", "Look", "Drop", "Entry", "Close"];
+/// The rows of Look and of Drop, each with its own refusals in their order.
+const OF_AN_ACTIVE: [(usize, &[usize]); 2] = [(LOOK, &[9, 13]), (DROP, &[8, 9, 14, 13, 15])];
+const LOOK: usize = 6;
+const DROP: usize = 7;
 /// Accepted, and the refusals 1 to 16.
 const ANSWERS: usize = 17;
 
@@ -48,9 +52,10 @@ impl Tally {
             Call::Write => 3,
             Call::Launch { .. } => 4,
             Call::Reply { .. } => 5,
-            Call::Consume { .. } => 6,
-            Call::Entry { .. } => 7,
-            Call::Close { .. } => 8,
+            Call::Look { .. } => LOOK,
+            Call::Drop { .. } => DROP,
+            Call::Entry { .. } => 8,
+            Call::Close { .. } => 9,
         };
         self.answers[row][answer as usize] += 1;
     }
@@ -79,6 +84,15 @@ impl Tally {
     /// The refusals, 1 to 16, that were met less often than that.
     pub fn rarer_than(&self, least: usize) -> Vec<usize> {
         (1..ANSWERS).filter(|&answer| self.met(answer) < least).collect()
+    }
+
+    /// The refusals of Look and of Drop that these gave less often than that.
+    pub fn rarer_of_an_active(&self, least: usize) -> Vec<(&'static str, usize)> {
+        let each = OF_AN_ACTIVE.iter().flat_map(|&(row, refusals)| {
+            let rare = refusals.iter().filter(move |&&refusal| self.answers[row][refusal] < least);
+            rare.map(move |&refusal| (NAMES[row], refusal))
+        });
+        each.collect()
     }
 }
 

@@ -16,7 +16,8 @@ pub const PROVED: Calls = Calls {
     launch: bytes::launch,
     close: bytes::close,
     reply: bytes::reply,
-    consume: bytes::consume,
+    look: bytes::look,
+    drop: bytes::drop,
     entry: bytes::entry,
 };
 
@@ -31,7 +32,8 @@ pub const LEAN: Calls = Calls {
     launch: lean::launch,
     close: lean::close,
     reply: lean::reply,
-    consume: lean::consume,
+    look: lean::look,
+    drop: lean::drop,
     entry: lean::entry,
 };
 

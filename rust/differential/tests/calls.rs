@@ -6,7 +6,8 @@ use std::thread;
 use compare::{compare, Tally};
 use differential::PROVED;
 
-/// Calls in lists, calls on changed bytes, and how often each refusal is met at least.
+/// Calls in lists, calls on changed bytes, and how often each refusal is met at least: of all calls
+/// together, and of Look and of Drop each of their own.
 const LISTED: usize = 1_000_000;
 const CHANGED: usize = 200_000;
 const LEAST: usize = 1_000;
@@ -30,5 +31,6 @@ fn lists_and_changed_bytes() {
     std::fs::write(file, format!("{tally}\n")).expect("the tally is kept");
     assert!(tally.listed >= LISTED && tally.changed >= CHANGED);
     assert_eq!(tally.rarer_than(LEAST), [], "{tally}");
+    assert_eq!(tally.rarer_of_an_active(LEAST), [], "{tally}");
     assert!(tally.turned >= TURNED, "{tally}");
 }

@@ -122,10 +122,16 @@ pub fn reply(plan: &[u8], state: &mut [u8], passive: u32, choice: u32) -> u32 {
     visits::reply(&net, &mut state[..net.size()], passive, choice)
 }
 
-/// Consume: 1 to 9, 13 to 15, or 0 with kind, active, passive, slot and hub in `out`.
-pub fn consume(plan: &[u8], state: &mut [u8], active: u32, out: &mut [u8; 8]) -> u32 {
+/// Look: 1 to 7, 9, 13, or 0 with kind, active, passive, slot and hub in `out`.
+pub fn look(plan: &[u8], state: &[u8], active: u32, out: &mut [u8; 8]) -> u32 {
+    open!(plan, state, None, net, found, to: NO_ROWS);
+    visits::look(&net, &state[..net.size()], active, out)
+}
+
+/// Drop: 1 to 9, 13 to 15, or 0.
+pub fn drop(plan: &[u8], state: &mut [u8], active: u32) -> u32 {
     open!(plan, state, Some(WRITE), net, found, to: NO_ROWS);
-    visits::consume(&net, &mut state[..net.size()], active, out)
+    visits::drop(&net, &mut state[..net.size()], active)
 }
 
 /// Entry: 1 to 7, 9, or 0 with the entry in `out`, 4 for free.

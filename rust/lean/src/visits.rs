@@ -1,4 +1,4 @@
-//! Start, and what Launch, Close, Reply, Consume and Entry do to a state.
+//! Start, what Launch, Close, Reply and Drop do to a state, and what Look and Entry see.
 
 use crate::layout::*;
 use crate::load::Net;
@@ -126,9 +126,24 @@ pub fn reply(net: &Net, state: &mut [u8], passive: u32, choice: u32) -> u32 {
     0
 }
 
-/// Consume: 9, 14, 13, 15, else the head is taken; an ACK's connection is marked.
+/// Look: 9, 13, else the head, which stays.
 #[inline(always)]
-pub fn consume(net: &Net, state: &mut [u8], active: u32, out: &mut [u8; 8]) -> u32 {
+pub fn look(net: &Net, state: &[u8], active: u32, out: &mut [u8; 8]) -> u32 {
+    let a = active as usize;
+    if a >= net.a {
+        return 9;
+    }
+    let at = net.group_at(ACTIVE_IN) + ROW * a;
+    if state[at + 3] == 0 {
+        return 13;
+    }
+    out[..5].copy_from_slice(&state[at + 4..at + 9]);
+    0
+}
+
+/// Drop: 9, 14, 13, 15, else the head leaves; an ACK's connection is marked.
+#[inline(always)]
+pub fn drop(net: &Net, state: &mut [u8], active: u32) -> u32 {
     let a = active as usize;
     if a >= net.a {
         return 9;
@@ -141,11 +156,9 @@ pub fn consume(net: &Net, state: &mut [u8], active: u32, out: &mut [u8; 8]) -> u
     if state[at + 4] == NACK && state[at + 8] != 0 {
         return 15;
     }
-    let packet = pop(state, at);
+    let [kind, _, p, slot, hub] = pop(state, at);
     state[at + 1] = 1;
     state[net.allowances_at() + a] += 1;
-    out[..5].copy_from_slice(&packet);
-    let [kind, _, p, slot, hub] = packet;
     if kind == ACK {
         let (mark, bit) = net.mark_at(a, p as usize, net.minus(slot, hub) as usize);
         state[mark] |= bit;

@@ -12,7 +12,8 @@ const LEAN: Calls = Calls {
     launch: lean::launch,
     close: lean::close,
     reply: lean::reply,
-    consume: lean::consume,
+    look: lean::look,
+    drop: lean::drop,
     entry: lean::entry,
 };
 
@@ -21,4 +22,5 @@ fn lists_and_changed_bytes() {
     let tally = compare(&LEAN, 2027, 300_000, 100_000);
     println!("{tally}");
     assert_eq!(tally.rarer_than(100), [], "{tally}");
+    assert_eq!(tally.rarer_of_an_active(100), [], "{tally}");
 }

@@ -3,7 +3,7 @@
 use model::generate::calls::Caller;
 use model::generate::{good, Draft, Random};
 use model::machine::claims::Claims;
-use model::machine::{Answer, Call, Hub, Kind, Network, Rules};
+use model::machine::{Answer, Call, Hub, Kind, Network, Rules, State};
 use model::{named, Plan};
 
 /// What a run met, so that a run without traffic is not taken for a good one.
@@ -18,7 +18,15 @@ struct Met {
     declined: usize,
     torn_down: usize,
     replies: usize,
+    /// Looks that gave a packet, by phase.
+    looked: [usize; 3],
     refusals: [usize; 17],
+    /// Of Look and of Drop.
+    look_refusals: [usize; 17],
+    drop_refusals: [usize; 17],
+    heads_kept: usize,
+    kept_at_drops: usize,
+    uncovered: usize,
     tables_compared: usize,
     longest_wait: usize,
     contested: usize,
@@ -50,7 +58,7 @@ fn try_run(
         claims.after(call, answer, &before, &state).map_err(|fault| {
             format!("{fault}, after {call:?} with {answer:?}\nbefore {before:?}")
         })?;
-        met.note(call, answer);
+        met.note(call, answer, network, &before);
         if call == Call::Execute && answer.is_ok() {
             let ended = |q: &usize| state.queues[*q].len() < before.queues[*q].len();
             met.torn_down += (0..state.queues.len()).filter(ended).count();
@@ -62,28 +70,44 @@ fn try_run(
     met.contested += claims.contested;
     met.turned += claims.turned;
     met.most_before = met.most_before.max(claims.most_before);
+    met.heads_kept += claims.heads_kept;
+    met.kept_at_drops += claims.kept_at_drops;
+    met.uncovered += claims.uncovered;
     Ok(())
 }
 
 impl Met {
-    fn note(&mut self, call: Call, answer: Result<Answer, u32>) {
+    fn note(&mut self, call: Call, answer: Result<Answer, u32>, network: &Network, before: &State) {
         self.calls += 1;
         match (call, answer) {
-            (_, Err(refusal)) => self.refusals[refusal as usize] += 1,
+            (_, Err(refusal)) => self.note_refusal(call, refusal as usize),
             (Call::Write, Ok(_)) => self.rounds += 1,
             (Call::Launch { .. }, Ok(_)) => self.launches += 1,
             (Call::Close { .. }, Ok(_)) => self.closed += 1,
             (Call::Reply { .. }, Ok(_)) => self.replies += 1,
-            (Call::Consume { .. }, Ok(Answer::Packet(packet))) => {
+            (Call::Look { .. }, Ok(Answer::Packet(packet))) => {
                 assert!(packet.is_answer());
+                self.looked[before.phase as usize] += 1;
+            }
+            (Call::Drop { active }, Ok(_)) => {
+                let packet = network.head(before, active).expect("something was dropped");
                 match packet.kind {
                     Kind::Ack => self.accepted += 1,
                     _ => {
-                        assert_eq!(packet.hub, Hub(0));
+                        assert_eq!((packet.kind, packet.hub), (Kind::Nack, Hub(0)));
                         self.declined += 1;
                     }
                 }
             }
+            _ => {}
+        }
+    }
+
+    fn note_refusal(&mut self, call: Call, refusal: usize) {
+        self.refusals[refusal] += 1;
+        match call {
+            Call::Look { .. } => self.look_refusals[refusal] += 1,
+            Call::Drop { .. } => self.drop_refusals[refusal] += 1,
             _ => {}
         }
     }
@@ -114,6 +138,14 @@ fn random_lists_on_random_plans() {
     assert!(met.accepted > 2_000 && met.declined > 10_000 && met.torn_down > 10_000, "{met:?}");
     assert!(met.closed > 2_000 && met.reopened > 300, "{met:?}");
     assert!(met.tables_compared > 1_000, "{met:?}");
+    // Looks in every phase, and each refusal of Look and of Drop.
+    assert!(met.looked.iter().all(|&count| count > 5_000), "{met:?}");
+    assert!([9, 13].iter().all(|&refusal| met.look_refusals[refusal] > 1_000), "{met:?}");
+    let drop_refusals = [8, 9, 13, 14, 15].map(|refusal| met.drop_refusals[refusal]);
+    assert!(drop_refusals.iter().all(|&count| count > 1_000), "{met:?}");
+    // A Look gives the same over every other call of a phase, and the next head after a Drop.
+    assert!(met.heads_kept > 100_000 && met.kept_at_drops > 10_000, "{met:?}");
+    assert!(met.uncovered > 2_000, "{met:?}");
     // Where several compete, and some see three others go before them.
     assert!(met.contested > 10_000 && met.turned > 5_000 && met.most_before == 3, "{met:?}");
 }
@@ -198,5 +230,22 @@ fn students_rules_of_turns_are_found() {
     ] {
         let fault = fault_by(set).expect("found");
         assert!(fault.contains("others went before sender"), "{fault}");
+    }
+}
+
+/// A Look changes nothing, and a connection is accepted by the Drop of its own ACK.
+#[test]
+fn students_rules_of_looking_are_found() {
+    let fault = fault_by(|rules| rules.look_raises_the_flag = true).expect("found");
+    assert!(fault.starts_with("a Look changed the state"), "{fault}");
+    let fault = fault_by(|rules| rules.allowance_at_the_look = true).expect("found");
+    assert!(fault.starts_with("not a state: allowance + SETUPs"), "{fault}");
+    for set in [
+        |rules: &mut Rules| rules.next_head_accepted = true,
+        |rules: &mut Rules| rules.accepted_at_the_look = true,
+    ] {
+        let fault = fault_by(set).expect("found");
+        let others = "the state keeps other connections than the calls tell";
+        assert!(fault.starts_with(others), "{fault}");
     }
 }

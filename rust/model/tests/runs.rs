@@ -1,139 +1,11 @@
 //! The runs of document 01 and of document 02's requests, round by round, and more of the same
 //! kind: those that are proved by evaluation.
 
-use model::machine::{Connection, Hub, Kind, Network, Packet, Rules, Slot, State};
+mod common;
+
+use common::{packet, packet_of, Run};
+use model::machine::{Kind, Network, Packet, Rules, Slot};
 use model::{named, Queue};
-
-/// A network that is run in whole rounds; the round's number is told by the rounds run so far.
-struct Run {
-    network: Network,
-    state: State,
-    round: usize,
-}
-
-impl Run {
-    fn new(bytes: &[u8]) -> Run {
-        Run::with_rules(bytes, Rules::default())
-    }
-
-    /// By other rules than the documents'.
-    fn with_rules(bytes: &[u8], rules: Rules) -> Run {
-        let network = Network::load(bytes).expect("loads").with_rules(rules);
-        let state = network.start();
-        Run { network, state, round: 0 }
-    }
-
-    fn launch(&mut self, active: usize, passive: usize, slot: usize) -> Result<(), u32> {
-        self.network.launch(&mut self.state, active, passive, slot)
-    }
-
-    fn close(&mut self, active: usize, passive: usize, slot: usize) -> Result<(), u32> {
-        self.network.close(&mut self.state, active, passive, slot)
-    }
-
-    /// The accepted connections, each as active, passive and start slot.
-    fn accepted(&self) -> Vec<(usize, usize, usize)> {
-        let numbers =
-            |&Connection { active, passive, start }: &Connection| (active, passive, start.0);
-        self.state.marks.iter().map(numbers).collect()
-    }
-
-    /// Launches and runs until the ACK is consumed and its round ends; what waits at the passive is
-    /// accepted.
-    fn open(&mut self, active: usize, passive: usize, slot: usize) {
-        assert_eq!(self.launch(active, passive, slot), Ok(()));
-        loop {
-            self.run_to_write();
-            let _ = self.reply(passive, 1);
-            let answer = self.consume(active);
-            self.end();
-            if let Ok(packet) = answer {
-                assert_eq!(packet.kind, Kind::Ack);
-                return;
-            }
-        }
-    }
-
-    /// Whole rounds until no packet is left.
-    fn run_empty(&mut self) {
-        while !self.no_packets() {
-            self.up_to(self.round + 1);
-        }
-    }
-
-    /// Read and Execute: the round's WRITE comes next.
-    fn run_to_write(&mut self) {
-        assert_eq!(self.network.read(&mut self.state), Ok(()));
-        assert_eq!(self.network.execute(&mut self.state), Ok(()));
-    }
-
-    /// Write: the round ends.
-    fn end(&mut self) {
-        assert_eq!(self.network.write(&mut self.state), Ok(()));
-        self.round += 1;
-        assert!(self.round < 100, "what was waited for does not come");
-    }
-
-    /// Whole rounds up to the start of that one.
-    fn up_to(&mut self, round: usize) {
-        while self.round < round {
-            self.run_to_write();
-            self.end();
-        }
-    }
-
-    fn reply(&mut self, passive: usize, choice: usize) -> Result<(), u32> {
-        self.network.reply(&mut self.state, passive, choice)
-    }
-
-    fn consume(&mut self, active: usize) -> Result<Packet, u32> {
-        self.network.consume(&mut self.state, active)
-    }
-
-    fn entry(&self, router: usize, side: usize, slot: usize) -> u32 {
-        self.network.entry(&self.state, router, side, slot).expect("in range")
-    }
-
-    fn queue(&self, queue: Queue) -> Vec<Packet> {
-        self.network.queue(&self.state, queue).iter().copied().collect()
-    }
-
-    fn len(&self, queue: Queue) -> usize {
-        self.queue(queue).len()
-    }
-
-    fn credit(&self, queue: Queue) -> usize {
-        self.state.credits[self.network.queue_index(queue)].0
-    }
-
-    /// The entries of a side, slot by slot.
-    fn side(&self, router: usize, side: usize) -> Vec<u32> {
-        (0..self.network.slots()).map(|slot| self.entry(router, side, slot)).collect()
-    }
-
-    /// Whole rounds up to that one, and its Read.
-    fn read_of(&mut self, round: usize) {
-        self.up_to(round);
-        assert_eq!(self.network.read(&mut self.state), Ok(()));
-    }
-
-    /// After a Read: the round's WRITE comes next.
-    fn execute(&mut self) {
-        assert_eq!(self.network.execute(&mut self.state), Ok(()));
-    }
-
-    fn no_packets(&self) -> bool {
-        self.network.packets(&self.state).next().is_none()
-    }
-}
-
-fn packet(kind: Kind, slot: usize, hub: usize) -> Packet {
-    packet_of((0, 0), kind, slot, hub)
-}
-
-fn packet_of((active, passive): (usize, usize), kind: Kind, slot: usize, hub: usize) -> Packet {
-    Packet { kind, active, passive, slot: Slot(slot), hub: Hub(hub) }
-}
 
 /// Plan T's queue between unit and passive.
 const TO_PASSIVE: Queue = Queue::F { router: 0, to: 1 };
@@ -159,14 +31,14 @@ fn launch_in_round_0() {
     // "Accepted there."
     assert_eq!(run.reply(0, 1), Ok(()));
     run.end();
-    // "Consumed in round 7 with slot 1, hub 1", and not before.
+    // "Consumed in round 7 with slot 1, hub 1", and not before: a Look, and a Drop.
     while run.round < 7 {
         run.run_to_write();
-        assert_eq!(run.consume(0), Err(13));
+        assert_eq!((run.look(0), run.drop(0)), (Err(13), Err(13)));
         run.end();
     }
     run.run_to_write();
-    assert_eq!(run.consume(0), Ok(packet(Kind::Ack, 1, 1)));
+    assert_eq!((run.look(0), run.drop(0)), (Ok(packet(Kind::Ack, 1, 1)), Ok(())));
     assert!(run.no_packets());
     assert_eq!((run.entry(0, 1, 0), run.entry(0, 1, 1)), (0, 4));
 }
@@ -193,7 +65,7 @@ fn launch_in_round_1() {
     assert_eq!(run.queue(Queue::PassiveIn(0)), [packet(Kind::Setup, 1, 1)]);
 }
 
-/// The run of round 0 up to the consumed ACK.
+/// The run of round 0 up to the dropped ACK.
 fn after_the_first_ack() -> Run {
     let mut run = Run::new(&named::T);
     assert_eq!(run.launch(0, 0, 0), Ok(()));
@@ -203,7 +75,7 @@ fn after_the_first_ack() -> Run {
     run.end();
     run.up_to(7);
     run.run_to_write();
-    assert_eq!(run.consume(0), Ok(packet(Kind::Ack, 1, 1)));
+    assert_eq!((run.look(0), run.drop(0)), (Ok(packet(Kind::Ack, 1, 1)), Ok(())));
     run.end();
     run
 }
@@ -214,7 +86,7 @@ fn last_free_entry_is_declined() {
     assert_eq!(run.launch(0, 0, 1), Ok(()));
     let nack = loop {
         run.run_to_write();
-        match run.consume(0) {
+        match run.look_and_drop(0) {
             Ok(packet) => break packet,
             Err(refusal) => assert_eq!(refusal, 13),
         }
@@ -251,17 +123,17 @@ fn a_declined_set_up_is_torn_down() {
     // "NACK slot 0 hub 1."
     assert_eq!(run.queue(Queue::ActiveIn(0)), [packet(Kind::Nack, 0, 1)]);
     assert_eq!((run.entry(0, 1, 3), run.entry(1, 1, 0)), (0, 2));
-    // "TDOWN slot 3 hub 1"; the NACK is marked and can be consumed.
+    // "TDOWN slot 3 hub 1"; the NACK is marked and can be dropped.
     assert_eq!(run.network.execute(&mut run.state), Ok(()));
     assert_eq!(run.queue(Queue::ActiveOut(0)), [packet(Kind::Tdown, 3, 1)]);
-    assert_eq!(run.consume(0), Ok(packet(Kind::Nack, 0, 0)));
+    assert_eq!((run.look(0), run.drop(0)), (Ok(packet(Kind::Nack, 0, 0)), Ok(())));
     run.end();
     run.up_to(run.round + 4);
     // It frees the first router's entry; "the second router keeps its entry".
     assert_eq!((run.entry(0, 1, 3), run.entry(1, 1, 0)), (4, 2));
     run.run_to_write();
     let ack = Packet { active: 1, ..packet(Kind::Ack, 1, 1) };
-    assert_eq!(run.consume(1), Ok(ack));
+    assert_eq!((run.look(1), run.drop(1)), (Ok(ack), Ok(())));
     assert!(run.no_packets());
 }
 
@@ -317,7 +189,7 @@ fn a_passives_decline_over_two_routers() {
     run.end();
     assert_eq!(run.launch(0, 0, 0), Err(11));
     run.run_to_write();
-    assert_eq!(run.consume(0), Ok(packet(Kind::Nack, 0, 0)));
+    assert_eq!((run.look(0), run.drop(0)), (Ok(packet(Kind::Nack, 0, 0)), Ok(())));
     assert_eq!(run.state.allowances[0], 1);
     run.end();
     // Freed router by router.
@@ -351,7 +223,7 @@ fn a_passives_decline_over_three_routers() {
     assert_eq!(run.state.allowances[1], 0);
     run.end();
     run.run_to_write();
-    assert_eq!(run.consume(1), Ok(packet_of((1, 0), Kind::Nack, 1, 0)));
+    assert_eq!((run.look(1), run.drop(1)), (Ok(packet_of((1, 0), Kind::Nack, 1, 0)), Ok(())));
     assert_eq!(run.state.allowances[1], 1);
     run.end();
     // The TDOWN is at the units in rounds 19, 22 and 25, and frees their entries one by one.
@@ -512,7 +384,7 @@ fn a_full_out_queue() {
     run.end();
     run.up_to(7);
     run.run_to_write();
-    assert_eq!(run.consume(0), Ok(packet(Kind::Nack, 7, 0)));
+    assert_eq!((run.look(0), run.drop(0)), (Ok(packet(Kind::Nack, 7, 0)), Ok(())));
     run.end();
     // The TDOWN is in the out-queue, the whole allowance is back.
     assert_eq!(run.state.allowances[0], 2);
@@ -534,7 +406,7 @@ fn a_walk_of_four_routers_that_wraps() {
     run.up_to(22);
     run.run_to_write();
     let ack = packet(Kind::Ack, 0, 4);
-    assert_eq!(run.consume(0), Ok(ack));
+    assert_eq!((run.look(0), run.drop(0)), (Ok(ack), Ok(())));
     // Slot 0 minus hub 4 modulo 3: the start slot.
     assert_eq!(ack.slot.minus(ack.hub, run.network.slots()), Slot(2));
 }
@@ -633,7 +505,7 @@ fn closed_twice() {
 }
 
 #[test]
-fn closed_before_the_ack_is_consumed() {
+fn closed_before_the_ack_is_dropped() {
     let mut run = Run::new(&named::two_routers().encode());
     assert_eq!(run.launch(0, 0, 3), Ok(()));
     while run.queue(Queue::ActiveIn(0)).is_empty() {
@@ -646,7 +518,7 @@ fn closed_before_the_ack_is_consumed() {
     assert_eq!((run.close(0, 0, 3), run.accepted()), (Err(16), vec![]));
     run.run_to_write();
     assert_eq!(run.close(0, 0, 3), Err(8));
-    assert_eq!(run.consume(0), Ok(packet(Kind::Ack, 1, 2)));
+    assert_eq!((run.look(0), run.drop(0)), (Ok(packet(Kind::Ack, 1, 2)), Ok(())));
     assert_eq!((run.close(0, 0, 3), run.accepted()), (Err(8), vec![(0, 0, 3)]));
     run.end();
     assert_eq!((run.close(0, 0, 2), run.close(0, 0, 3)), (Err(16), Ok(())));
@@ -778,9 +650,9 @@ fn a_connection_accepted_at_the_arrival() {
         let _ = run.reply(0, 1);
         run.end();
     }
-    // Closed before anybody was told: the ACK that is consumed then tells of nothing.
+    // Closed before anybody was told: the ACK that is dropped then tells of nothing.
     assert_eq!(run.close(0, 0, 3), Ok(()));
     run.run_to_write();
-    assert_eq!(run.consume(0), Ok(packet(Kind::Ack, 1, 2)));
+    assert_eq!((run.look(0), run.drop(0)), (Ok(packet(Kind::Ack, 1, 2)), Ok(())));
     assert_eq!(run.accepted(), []);
 }

@@ -49,7 +49,8 @@ fn refused(phases: usize, fault: &str, change: impl Fn(&Network, &mut State)) {
         Call::Launch { active: 0, passive: 0, slot: 0 },
         Call::Close { active: 9, passive: 0, slot: 0 },
         Call::Reply { passive: 0, choice: 1 },
-        Call::Consume { active: 9 },
+        Call::Look { active: 9 },
+        Call::Drop { active: 9 },
         Call::Entry { router: 0, side: 9, slot: 0 },
     ] {
         assert_eq!(network.call(&mut state, call), Err(7));
@@ -311,7 +312,8 @@ fn a_candidate_may_stand_without_a_choice() {
 fn refusals_come_in_order() {
     let (network, mut state) = t_after(0);
     assert_eq!(network.reply(&mut state, 9, 9), Err(8));
-    assert_eq!(network.consume(&mut state, 9), Err(8));
+    assert_eq!(network.drop(&mut state, 9), Err(8));
+    assert_eq!((network.look(&state, 1), network.look(&state, 0)), (Err(9), Err(13)));
     assert_eq!(network.launch(&mut state, 1, 0, 0), Err(9));
     assert_eq!(network.launch(&mut state, 0, 1, 0), Err(9));
     assert_eq!(network.launch(&mut state, 0, 0, 2), Err(9));
@@ -324,7 +326,8 @@ fn refusals_come_in_order() {
     assert_eq!(network.reply(&mut state, 0, 2), Err(9));
     assert_eq!(network.reply(&mut state, 0, 0), Ok(()));
     assert_eq!(network.reply(&mut state, 0, 0), Err(14));
-    assert_eq!(network.consume(&mut state, 0), Err(13));
+    assert_eq!((network.drop(&mut state, 1), network.drop(&mut state, 0)), (Err(9), Err(13)));
+    assert_eq!((network.look(&state, 1), network.look(&state, 0)), (Err(9), Err(13)));
     let unserved = named::all().into_iter().find(|plan| plan.name == "no-served-pair");
     let network = Network::load(&unserved.expect("named").bytes).expect("loads");
     assert_eq!(network.launch(&mut network.start(), 0, 0, 0), Err(10));

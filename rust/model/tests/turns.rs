@@ -285,7 +285,8 @@ fn answers_of_two_passives_from_start() {
         if round >= 13 {
             let _ = (network.reply(&mut state, 0, 1), network.reply(&mut state, 1, 1));
         }
-        order.extend(network.consume(&mut state, 0).map(|packet| packet.passive));
+        let head = network.look(&state, 0).ok();
+        order.extend(head.filter(|_| network.drop(&mut state, 0) == Ok(())).map(|p| p.passive));
         assert_eq!(network.write(&mut state), Ok(()));
     }
     assert_eq!(order, [0, 1, 0, 1, 0, 1]);

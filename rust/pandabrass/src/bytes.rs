@@ -38,14 +38,15 @@ extern "C" {
         passive: u32,
         choice: u32,
     ) -> u32;
-    fn pandabrass_consume(
+    fn pandabrass_look(
         plan: *const u8,
         n: usize,
-        state: *mut u8,
+        state: *const u8,
         l: usize,
         active: u32,
         out: *mut u8,
     ) -> u32;
+    fn pandabrass_drop(plan: *const u8, n: usize, state: *mut u8, l: usize, active: u32) -> u32;
     fn pandabrass_entry(
         plan: *const u8,
         n: usize,
@@ -127,21 +128,28 @@ pub fn reply(plan: &[u8], state: &mut [u8], passive: u32, choice: u32) -> u32 {
     unsafe { pandabrass_reply(plan.as_ptr(), n, state.as_mut_ptr(), l, passive, choice) }
 }
 
-/// Consume: 0, or 1 to 9, 13 to 15. The packet's kind, active, passive, slot and hub are put first
-/// in `out`.
-pub fn consume(plan: &[u8], state: &mut [u8], active: u32, out: &mut Out) -> u32 {
+/// Look, in every phase: 0, or 1 to 7, 9, 13. Kind, active, passive, slot and hub of the head are put
+/// first in `out`; the head stays.
+pub fn look(plan: &[u8], state: &[u8], active: u32, out: &mut Out) -> u32 {
     let (n, l) = (plan.len(), state.len());
     let out = out.as_mut_ptr();
-    // SAFETY: as for `read`; `out` is eight bytes of their own that are lent to be written. Any
-    // number is allowed.
-    unsafe { pandabrass_consume(plan.as_ptr(), n, state.as_mut_ptr(), l, active, out) }
+    // SAFETY: plan and state are lent as for `size`, both to be read; `out` is eight bytes of their
+    // own that are lent to be written. Any number is allowed.
+    unsafe { pandabrass_look(plan.as_ptr(), n, state.as_ptr(), l, active, out) }
+}
+
+/// Drop: 0, or 1 to 9, 13 to 15. The head leaves; an ACK's connection is accepted from then on. By
+/// its path, `bytes::drop`, it is not taken for the `drop` that ends a value.
+pub fn drop(plan: &[u8], state: &mut [u8], active: u32) -> u32 {
+    let (n, l) = (plan.len(), state.len());
+    // SAFETY: as for `read`; any number is allowed.
+    unsafe { pandabrass_drop(plan.as_ptr(), n, state.as_mut_ptr(), l, active) }
 }
 
 /// Entry: 0, or 1 to 7, 9. The side, 4 for free, is put first in `out`.
 pub fn entry(plan: &[u8], state: &[u8], router: u32, side: u32, slot: u32, out: &mut Out) -> u32 {
     let (n, l) = (plan.len(), state.len());
     let out = out.as_mut_ptr();
-    // SAFETY: plan and state are lent as for `size`, both to be read; `out` is eight bytes of their
-    // own that are lent to be written. Any three numbers are allowed.
+    // SAFETY: as for `look`; any three numbers are allowed.
     unsafe { pandabrass_entry(plan.as_ptr(), n, state.as_ptr(), l, router, side, slot, out) }
 }

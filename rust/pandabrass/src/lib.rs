@@ -5,7 +5,8 @@
 //! are those of documents 01 and 02, the state's bytes are those of docs/STATE.md.
 //!
 //! Document 01's first run: a launch in round 0 waits at the passive from round 4 on, is accepted
-//! there, and its ACK is consumed in round 7 with slot 1 and hub 1.
+//! there, and its ACK comes in round 7 with slot 1 and hub 1. A Look gives it in every phase and
+//! changes nothing; the Drop of an ACK gives back the allowance and accepts the connection.
 //!
 //! ```
 //! use pandabrass::{Choice, Entry, Kind, Plan, Refusal};
@@ -22,10 +23,13 @@
 //!     state.write()?;
 //! }
 //! state.read()?;
-//! assert_eq!(state.consume(0), Err(Refusal::WrongPhase));
-//! state.execute()?;
-//! let ack = state.consume(0)?;
+//! let ack = state.look(0)?;
 //! assert_eq!((ack.kind, ack.slot, ack.hub), (Kind::Ack, 1, 1));
+//! assert_eq!(state.drop(0), Err(Refusal::WrongPhase));
+//! state.execute()?;
+//! assert_eq!(state.look(0)?, ack);
+//! state.drop(0)?;
+//! assert_eq!(state.look(0), Err(Refusal::QueueEmpty));
 //! // The connection stays: router 0 sends slot 0 out by side 1, as it came in by side 0.
 //! assert_eq!(state.entry(0, 1, 0)?, Entry::Booked(0));
 //! assert_eq!(state.entry(0, 1, 1)?, Entry::Free);

@@ -32,11 +32,11 @@ pub enum Refusal {
     NoAllowance,
     /// 12, of Launch, Close and Reply: out-queue full.
     QueueFull,
-    /// 13, of Reply and Consume: in-queue empty.
+    /// 13, of Reply, Look and Drop: in-queue empty.
     QueueEmpty,
-    /// 14, of Reply and Consume: in-queue flag up.
+    /// 14, of Reply and Drop: in-queue flag up.
     FlagUp,
-    /// 15, of Consume: head is an unmarked NACK.
+    /// 15, of Drop: head is an unmarked NACK.
     Unmarked,
     /// 16, of Close: connection not accepted.
     NotAccepted,

@@ -100,8 +100,9 @@ impl<'p> State<'p> {
         Refusal::result(bytes::launch(plan, &mut self.bytes, active, passive, slot))
     }
 
-    /// Close: a connection that was accepted leaves the accepted ones, and a TDOWN that frees its
-    /// entries joins the active's out-queue. Its start slot is the one it was launched with.
+    /// Close: a connection that was accepted, by the Drop of its ACK, leaves the accepted ones, and
+    /// a TDOWN that frees its entries joins the active's out-queue. Its start slot is the one it
+    /// was launched with.
     pub fn close(&mut self, active: u32, passive: u32, start: u32) -> Result<(), Refusal> {
         let plan = self.plan.bytes();
         Refusal::result(bytes::close(plan, &mut self.bytes, active, passive, start))
@@ -113,13 +114,24 @@ impl<'p> State<'p> {
         Refusal::result(bytes::reply(plan, &mut self.bytes, passive, choice as u32))
     }
 
-    /// Consume: the packet at the head of the active's in-queue, which leaves it.
-    pub fn consume(&mut self, active: u32) -> Result<Packet, Refusal> {
+    /// Look, in every phase: the packet at the head of the active's in-queue, which stays there. A
+    /// NACK is seen unmarked too, and after a Drop the next head is.
+    pub fn look(&self, active: u32) -> Result<Packet, Refusal> {
         let mut out = [0; 8];
         let plan = self.plan.bytes();
-        Refusal::result(bytes::consume(plan, &mut self.bytes, active, &mut out))?;
+        Refusal::result(bytes::look(plan, &self.bytes, active, &mut out))?;
         let [kind, active, passive, slot, hub, ..] = out;
         Ok(Packet { kind: Kind::of(kind), active, passive, slot, hub })
+    }
+
+    /// Drop, in WRITE: the packet at the head of the active's in-queue, the one that a Look just
+    /// before gives, leaves it, and the active's allowance grows by one. Where it is an ACK, its
+    /// connection is accepted from then on, and can be closed. One packet a round.
+    ///
+    /// This is the documents' Drop and takes the active's number; it has nothing to do with the
+    /// trait `Drop` and the function `drop`, which end a value.
+    pub fn drop(&mut self, active: u32) -> Result<(), Refusal> {
+        Refusal::result(bytes::drop(self.plan.bytes(), &mut self.bytes, active))
     }
 
     /// Entry: what the slot table holds for a router's side and slot.

@@ -5,7 +5,8 @@ use pandabrass::{Choice, Entry, Kind, Packet, Plan, Refusal, State};
 /// Plan T of document 01.
 const T: [u8; 11] = [0x08, 0x42, 0x11, 0x24, 0x92, 0x4C, 0x06, 0x00, 0x00, 0x00, 0x20];
 
-/// A whole round; in its WRITE what waits is accepted, and what is returned is consumed.
+/// A whole round; in its WRITE what waits is accepted, and what has come back is looked at and
+/// dropped.
 fn round(state: &mut State) -> Result<Option<Packet>, Refusal> {
     state.read()?;
     state.execute()?;
@@ -13,11 +14,14 @@ fn round(state: &mut State) -> Result<Option<Packet>, Refusal> {
         Ok(()) | Err(Refusal::QueueEmpty) => {}
         Err(refusal) => return Err(refusal),
     }
-    let packet = match state.consume(0) {
+    let packet = match state.look(0) {
         Ok(packet) => Some(packet),
         Err(Refusal::QueueEmpty) => None,
         Err(refusal) => return Err(refusal),
     };
+    if packet.is_some() {
+        state.drop(0)?;
+    }
     state.write()?;
     Ok(packet)
 }
@@ -56,7 +60,7 @@ fn a_second_launch_is_declined() -> Result<(), Refusal> {
     let ack = Packet { kind: Kind::Ack, active: 0, passive: 0, slot: 1, hub: 1 };
     assert_eq!(packets, [None, None, None, None, None, None, None, Some(ack)]);
     assert_eq!(state.entry(0, 1, 0)?, Entry::Booked(0));
-    // "After that ACK is consumed, launch (0,0,1): last free entry, NACK with hub 0."
+    // After that ACK is dropped, "launch (0,0,1): last free entry, NACK with hub 0".
     state.launch(0, 0, 1)?;
     let mut packet = None;
     while packet.is_none() {
@@ -98,6 +102,38 @@ fn closed_and_opened_again() -> Result<(), Refusal> {
     Ok(())
 }
 
+/// The answer is shown before the allowance is given back: a Look in every phase, and then the Drop.
+#[test]
+fn looked_at_and_dropped() -> Result<(), Refusal> {
+    let plan = Plan::load(&T)?;
+    let mut state = plan.start();
+    state.launch(0, 0, 0)?;
+    for _ in 0..7 {
+        assert_eq!(round(&mut state)?, None);
+    }
+    let ack = Packet { kind: Kind::Ack, active: 0, passive: 0, slot: 1, hub: 1 };
+    // In the wire it is not seen.
+    assert_eq!(state.look(0), Err(Refusal::QueueEmpty));
+    state.read()?;
+    for _ in 0..2 {
+        assert_eq!(state.look(0), Ok(ack));
+        state.execute()?;
+        assert_eq!(state.look(0), Ok(ack));
+        state.write()?;
+        // Not dropped: not accepted, and no allowance.
+        assert_eq!((state.look(0), state.drop(0)), (Ok(ack), Err(Refusal::WrongPhase)));
+        assert_eq!(state.close(0, 0, 0), Err(Refusal::NotAccepted));
+        assert_eq!(state.launch(0, 0, 1), Err(Refusal::NoAllowance));
+        state.read()?;
+    }
+    state.execute()?;
+    state.drop(0)?;
+    assert_eq!(state.look(0), Err(Refusal::QueueEmpty));
+    assert_eq!(state.drop(0), Err(Refusal::FlagUp));
+    state.write()?;
+    state.close(0, 0, 0)
+}
+
 #[test]
 fn refusals_alter_no_byte() -> Result<(), Refusal> {
     let plan = Plan::load(&T)?;
@@ -109,7 +145,9 @@ fn refusals_alter_no_byte() -> Result<(), Refusal> {
     assert_eq!(state.close(0, 1, 0), Err(Refusal::BadNumber));
     assert_eq!(state.close(0, 0, 1), Err(Refusal::NotAccepted));
     assert_eq!(state.reply(0, Choice::Decline), Err(Refusal::WrongPhase));
-    assert_eq!(state.consume(0), Err(Refusal::WrongPhase));
+    assert_eq!(state.drop(0), Err(Refusal::WrongPhase));
+    assert_eq!(state.look(0), Err(Refusal::QueueEmpty));
+    assert_eq!(state.look(1), Err(Refusal::BadNumber));
     assert_eq!(state.entry(0, 4, 0), Err(Refusal::BadNumber));
     assert_eq!(state, before);
     Ok(())

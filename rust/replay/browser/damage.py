@@ -5,11 +5,11 @@ import re
 REPORT = 'document.querySelector(".failure")?.textContent ?? ""'
 
 CASES = [
-    ("newer data", '"format":"pandabrass-run/3"', '"format":"pandabrass-run/4"',
-     "The data is newer than this page: format 4, this page shows format 3."),
-    ("older data", '"format":"pandabrass-run/3"', '"format":"pandabrass-run/2"',
-     "The data is older than this page: format 2, this page shows format 3."),
-    ("other data", '"format":"pandabrass-run/3"', '"format":"song"',
+    ("newer data", '"format":"pandabrass-run/4"', '"format":"pandabrass-run/5"',
+     "The data is newer than this page: format 5, this page shows format 4."),
+    ("older data", '"format":"pandabrass-run/4"', '"format":"pandabrass-run/3"',
+     "The data is older than this page: format 3, this page shows format 4."),
+    ("other data", '"format":"pandabrass-run/4"', '"format":"song"',
      "The data is no recorded run: its format is 'song'"),
     ("a broken block", '"note":', '"note"',
      "The data block of the page is damaged"),

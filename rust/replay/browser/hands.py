@@ -23,6 +23,7 @@ def test(browser, pages, tally):
     refusals(browser, pages, tally)
     closing(browser, pages, tally)
     turns(browser, pages, tally)
+    looking(browser, pages, tally)
     phone(browser, pages, tally)
     browser.size(1280, 800)
 
@@ -268,6 +269,27 @@ def turns(browser, pages, tally):
     press(browser, "ArrowRight", "ArrowRight", "ArrowRight")
     tally.equal("a second NACK waits for its turn", browser.run(row), "r0.0K[2,0]✓D K[3,0] ✕F F[0]")
     press(browser, "Escape")
+
+
+def looking(browser, pages, tally):
+    """Two ACKs wait: looked at, nothing changes; dropped, the first is accepted and the second is seen."""
+    browser.open(pages / "looked.html", "39")
+    text = browser.run(NOW)
+    told = "✓A is the head of left's in-queue. The connection is accepted when it is dropped. A Look changes nothing."
+    tally.check("a Look in READ", "ACK, slot 1, hub 1" in text and told in text, text)
+    tally.check("looked at, not accepted", "0 accepted" in browser.run(STRIP), browser.run(STRIP))
+    press(browser, "a")
+    tally.equal("key a goes to the Drop", browser.run(POSITION), 45)
+    text = browser.run(NOW)
+    tally.check("a Drop", "Drop left" in text and "is accepted. Allowance back to 3." in text, text)
+    tally.check("dropped and accepted", "1 accepted" in browser.run(STRIP), browser.run(STRIP))
+    press(browser, "ArrowRight")
+    tally.check("the next head", "✓B is the head of left's in-queue" in browser.run(NOW), browser.run(NOW))
+    press(browser, "ArrowRight")
+    text = browser.run(NOW)
+    tally.check("one Drop a round", "refused 14: left has taken one in this round, its flag is up" in text, text)
+    row = 'document.querySelector(\'[data-call="44"] span:last-child\').textContent'
+    tally.equal("the Drop in the list", browser.run(row), "Drop left: A is accepted")
 
 
 def phone(browser, pages, tally):

@@ -28,6 +28,10 @@ DATA = [
     ("an entry of a closed connection held as declined", " o7,0,c", " o7,0,d"),
     ("a sender that was served and is not remembered", " l6,2", ""),
     ("another sender remembered", " l6,2", " l6,1"),
+    ("a Look that shows another packet", "H0=A,0,1,1,1 2b5c51c2", "H0=A,0,0,1,1 2b5c51c2"),
+    ("a Look that raises the flag", "H0=A,0,0,1,1 600f3a9", "H0=A,0,0,1,1 600f3a9 ^p"),
+    ("a Look that accepts", "H0=A,0,0,1,1 600f3a9", "H0=A,0,0,1,1 600f3a9 c0,1"),
+    ("a Drop that accepts the next head", " og,0,a a0,3 c0,1", " og,0,a a0,3 c1,1"),
 ]
 
 # Changes of the page's scripts and styles.
@@ -51,6 +55,7 @@ DRAWING = [
     ("senders last served that are shared", "last: state.last.slice()", "last: state.last"),
     ("turns always from the first in order", "const first = state.last[output] + 1;", "const first = 0;"),
     ("what is closed drawn as declined", 'sign: "−", style: "closing"', 'sign: "−", style: "teardown"'),
+    ("acceptances left out", 'event.what === "ended" && event.packet.kind === "A"', "false"),
     ("closings left out", 'call.letter === "K" && !call.refusal', "false"),
     ("what is left behind drawn as accepted", 'sign: "✕", style: "leftover"', 'sign: "", style: "accepted"'),
     ("letters of another connection", 'hold.sign + (owner < 0 ? "" : letterOf(owner))', "hold.sign + letterOf(0)"),
@@ -85,6 +90,8 @@ BASE = {
     "a ring at the wrong entry": "t", "refusals left out": "t", "free entries counted wrong": "t",
     "a closed connection that stays accepted": "closed", "an entry of a closed connection held as declined": "closed",
     "accepted connections that are shared": "closed", "what is closed drawn as declined": "closed",
+    "a Look that shows another packet": "looked", "a Look that raises the flag": "looked",
+    "a Look that accepts": "looked", "a Drop that accepts the next head": "looked",
     "closings left out": "closed", "turns always from the first in order": "turns",
     "names over one another": "mesh", "a question about all that is booked": "mesh", "letters too small": "largest",
 }

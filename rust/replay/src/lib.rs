@@ -4,7 +4,7 @@
 //!   the entries as the run tells them.
 //! * [`page`]: the recording joined with the page's sources, which are in `page/`.
 //!
-//! The format of the recording, `pandabrass-run/3`, is described in the README of this crate.
+//! The format of the recording, `pandabrass-run/4`, is described in the README of this crate.
 //!
 //! ```
 //! use replay::Recording;
@@ -19,7 +19,7 @@
 //! recording.push(&step, &run);
 //! assert!(recording.lines()[0].ends_with(" +0,S,0,0,0,0,0,0 a0,0"));
 //! let page = replay::page(&recording);
-//! assert!(page.starts_with("<!doctype html>") && page.contains("pandabrass-run/3"));
+//! assert!(page.starts_with("<!doctype html>") && page.contains("pandabrass-run/4"));
 //! ```
 
 #![forbid(unsafe_code)]

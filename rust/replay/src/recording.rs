@@ -9,7 +9,7 @@ use crate::places::Places;
 use crate::seen::Seen;
 
 /// The format of the data, with its number. A page refuses every number but its own.
-pub const FORMAT: &str = "pandabrass-run/3";
+pub const FORMAT: &str = "pandabrass-run/4";
 
 /// A run as the page needs it.
 #[derive(Clone, Debug)]
@@ -77,7 +77,8 @@ fn call_text(step: &Step) -> String {
         Call::Launch { active, passive, slot } => format!("L{active},{passive},{slot}"),
         Call::Close { active, passive, slot } => format!("K{active},{passive},{slot}"),
         Call::Reply { passive, choice } => format!("P{passive},{choice}"),
-        Call::Consume { active } => format!("C{active}"),
+        Call::Look { active } => format!("H{active}"),
+        Call::Drop { active } => format!("D{active}"),
         Call::Entry { router, side, slot } => format!("E{router},{side},{slot}"),
     };
     match step.answer {

@@ -54,7 +54,8 @@ fn same(call: model::machine::Call) -> Call {
             Call::Close { active: n(active), passive: n(passive), slot: n(slot) }
         }
         Model::Reply { passive, choice } => Call::Reply { passive: n(passive), choice: n(choice) },
-        Model::Consume { active } => Call::Consume { active: n(active) },
+        Model::Look { active } => Call::Look { active: n(active) },
+        Model::Drop { active } => Call::Drop { active: n(active) },
         Model::Entry { router, side, slot } => {
             Call::Entry { router: n(router), side: n(side), slot: n(slot) }
         }
@@ -109,7 +110,8 @@ fn lines_of_the_first_run() {
     let mut list = vec![Call::Launch { active: 0, passive: 0, slot: 0 }];
     list.push(Call::Launch { active: 0, passive: 0, slot: 1 });
     list.extend(round.repeat(3));
-    list.extend([Call::Entry { router: 0, side: 1, slot: 0 }, Call::Consume { active: 0 }]);
+    list.extend([Call::Entry { router: 0, side: 1, slot: 0 }, Call::Drop { active: 0 }]);
+    list.extend([Call::Look { active: 0 }, Call::Look { active: 1 }]);
     let (lines, _) = record(&plan, &proved, &list);
     let told: Vec<String> = lines.iter().map(told).collect();
     let wanted = [
@@ -125,29 +127,55 @@ fn lines_of_the_first_run() {
         "X p2 =0,S,1,1 *0 h6,1 t2,0 o2,0,w",
         "W p0 s1 >0,u,b * ^6 h6,0",
         "E0,1,0=0",
-        "C0!8",
+        "D0!8",
+        "H0!13",
+        "H1!9",
     ];
     assert_eq!(told, wanted);
+}
+
+/// Plan T's first run: looked at and dropped in round 7.
+fn opened() -> Vec<Call> {
+    let round = [Call::Read, Call::Execute, Call::Write];
+    let (look, drop) = (Call::Look { active: 0 }, Call::Drop { active: 0 });
+    let mut list = vec![Call::Launch { active: 0, passive: 0, slot: 0 }];
+    list.extend(round.repeat(4));
+    list.extend([Call::Read, Call::Execute, Call::Reply { passive: 0, choice: 1 }, Call::Write]);
+    list.extend(round.repeat(2));
+    list.extend([Call::Read, look, Call::Execute, look, drop, look, drop, Call::Write]);
+    list
+}
+
+/// A Look is recorded with what it shows and changes nothing; a Drop accepts.
+#[test]
+fn lines_of_a_dropped_answer() {
+    let plan = plan(&named::T);
+    let (lines, _) = record(&plan, &Proved::new(&plan), &opened());
+    let told: Vec<String> = lines.iter().map(told).collect();
+    let wanted = [
+        "R p1 >0,n _",
+        "H0=A,0,0,1,1",
+        "X p2",
+        "H0=A,0,0,1,1",
+        "D0 -0 ^n o2,0,a a0,1 c0,1",
+        "H0!13",
+        "D0!14",
+        "W p0 s0",
+    ];
+    assert_eq!(told[told.len() - 8..], wanted);
 }
 
 /// An accepted connection is closed: the entry is held for its tear-down until this has freed it.
 #[test]
 fn lines_of_a_closed_connection() {
     let plan = plan(&named::T);
-    let proved = Proved::new(&plan);
-    let round = [Call::Read, Call::Execute, Call::Write];
     let close = Call::Close { active: 0, passive: 0, slot: 0 };
-    let mut list = vec![Call::Launch { active: 0, passive: 0, slot: 0 }];
-    list.extend(round.repeat(4));
-    list.extend([Call::Read, Call::Execute, Call::Reply { passive: 0, choice: 1 }, Call::Write]);
-    list.extend(round.repeat(2));
-    list.extend([Call::Read, Call::Execute, Call::Consume { active: 0 }, Call::Write]);
+    let mut list = opened();
     let opened = list.len();
     list.extend([close, close]);
-    list.extend(round.repeat(3));
-    let (lines, _) = record(&plan, &proved, &list);
+    list.extend([Call::Read, Call::Execute, Call::Write].repeat(3));
+    let (lines, _) = record(&plan, &Proved::new(&plan), &list);
     let told: Vec<String> = lines.iter().map(told).collect();
-    assert_eq!(told[opened - 2], "C0=A,0,0,1,1 -0 ^n o2,0,a a0,1 c0,1");
     let wanted = [
         "K0,0,0 +1,T,0,0,0,1,0,0,0 o2,0,c c0,0",
         "K0,0,0!16",

@@ -40,9 +40,14 @@ pub enum Call {
         /// 1 accept or 0 decline.
         choice: u32,
     },
-    /// Consume.
-    Consume {
-        /// The active that consumes.
+    /// Look.
+    Look {
+        /// The active that looks.
+        active: u32,
+    },
+    /// Drop.
+    Drop {
+        /// The active that drops.
         active: u32,
     },
     /// Entry.
@@ -61,7 +66,7 @@ pub enum Call {
 pub enum Answer {
     /// Nothing.
     Done,
-    /// The packet that Consume took.
+    /// The packet that Look shows.
     Packet(Packet),
     /// The entry that was asked for.
     Entry(Entry),
@@ -107,7 +112,8 @@ impl Calls for Proved {
                 bytes::close(plan, state, active, passive, slot)
             }
             Call::Reply { passive, choice } => bytes::reply(plan, state, passive, choice),
-            Call::Consume { active } => bytes::consume(plan, state, active, &mut out),
+            Call::Look { active } => bytes::look(plan, state, active, &mut out),
+            Call::Drop { active } => bytes::drop(plan, state, active),
             Call::Entry { router, side, slot } => {
                 bytes::entry(plan, state, router, side, slot, &mut out)
             }
@@ -116,7 +122,7 @@ impl Calls for Proved {
             return Err(refusal);
         }
         Ok(match call {
-            Call::Consume { .. } => {
+            Call::Look { .. } => {
                 Answer::Packet(net::packet(&out[..5]).expect("the library returns a packet"))
             }
             Call::Entry { .. } => Answer::Entry(entry(out[0].into())),
@@ -184,7 +190,8 @@ fn modelled(call: Call) -> machine::Call {
         Call::Reply { passive, choice } => {
             machine::Call::Reply { passive: n(passive), choice: n(choice) }
         }
-        Call::Consume { active } => machine::Call::Consume { active: n(active) },
+        Call::Look { active } => machine::Call::Look { active: n(active) },
+        Call::Drop { active } => machine::Call::Drop { active: n(active) },
         Call::Entry { router, side, slot } => {
             machine::Call::Entry { router: n(router), side: n(side), slot: n(slot) }
         }

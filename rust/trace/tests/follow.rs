@@ -8,7 +8,8 @@ use model::machine::{self, Network, Rules};
 use trace::place::SIDES;
 use trace::run::{Cell, Seated};
 use trace::{
-    words, Answer, Call, Calls, Entry, Hold, Kind, Modelled, Names, Plan, Port, Proved, Run, Step,
+    words, Answer, Call, Calls, Entry, Hold, Kind, Modelled, Names, Net, Plan, Port, Proved, Queue,
+    Run, Step,
 };
 
 /// The same call of the crate `trace`.
@@ -27,7 +28,8 @@ fn call(call: machine::Call) -> Call {
         machine::Call::Reply { passive, choice } => {
             Call::Reply { passive: n(passive), choice: n(choice) }
         }
-        machine::Call::Consume { active } => Call::Consume { active: n(active) },
+        machine::Call::Look { active } => Call::Look { active: n(active) },
+        machine::Call::Drop { active } => Call::Drop { active: n(active) },
         machine::Call::Entry { router, side, slot } => {
             Call::Entry { router: n(router), side: n(side), slot: n(slot) }
         }
@@ -117,12 +119,13 @@ fn random_runs_are_followed() {
         for _ in 0..400 {
             let state = network.decode(run.bytes()).unwrap();
             let next = call(caller.next(&mut random, &network, &state));
+            let before = run.net().clone();
             let (step, same) = (run.call(next), other.call(next));
             assert_eq!((step.answer, &step.events), (same.answer, &same.events));
             assert_eq!(run.bytes(), other.bytes());
             assert!(!words::step(&run, &step).is_empty());
             check_owners(&run);
-            tell(&mut told, &plan, &step);
+            tell(&mut told, &plan, &before, &step);
             let kept = run.net().accepted.iter().map(|c| (c.active, c.passive, c.start));
             assert!(kept.eq(told.iter().copied()));
         }
@@ -136,13 +139,25 @@ fn random_runs_are_followed() {
     assert!(declined > 400 && left > 50, "{declined} {left}");
 }
 
-/// The accepted connections as the calls and their answers tell them.
-fn tell(told: &mut BTreeSet<(usize, usize, usize)>, plan: &Plan, step: &Step) {
+/// The accepted connections as the calls and the states before them tell them; and a Look shows the
+/// head, and nothing is changed.
+fn tell(told: &mut BTreeSet<(usize, usize, usize)>, plan: &Plan, before: &Net, step: &Step) {
+    let head = |active: u32| {
+        let row = before.row(plan, Queue::ActiveIn(active as usize));
+        row.packets.first().copied()
+    };
     match (step.call, step.answer) {
-        (_, Ok(Answer::Packet(packet))) if packet.kind == Kind::Ack => {
-            let (slots, hub) = (plan.slots(), usize::from(packet.hub));
-            let start = (usize::from(packet.slot) + slots - hub % slots) % slots;
-            told.insert((packet.active.into(), packet.passive.into(), start));
+        (Call::Look { active }, Ok(answer)) => {
+            assert_eq!(Some(answer), head(active).map(Answer::Packet));
+        }
+        (Call::Drop { active }, Ok(answer)) => {
+            assert_eq!(answer, Answer::Done);
+            let packet = head(active).expect("something was dropped");
+            if packet.kind == Kind::Ack {
+                let (slots, hub) = (plan.slots(), usize::from(packet.hub));
+                let start = (usize::from(packet.slot) + slots - hub % slots) % slots;
+                told.insert((packet.active.into(), packet.passive.into(), start));
+            }
         }
         (Call::Close { active, passive, slot }, Ok(_)) => {
             assert!(told.remove(&(active as usize, passive as usize, slot as usize)));
@@ -183,7 +198,8 @@ fn follow_rule(set: fn(&mut Rules), choice: u32) -> usize {
         let launch = Call::Launch { active: 0, passive: 0, slot: round % 4 };
         let closes = slots.clone().map(|slot| Call::Close { active: 0, passive: 0, slot });
         let reply = Call::Reply { passive: 0, choice };
-        let rest = [launch, Call::Read, Call::Execute, reply, Call::Consume { active: 0 }];
+        let (look, drop) = (Call::Look { active: 0 }, Call::Drop { active: 0 });
+        let rest = [launch, look, Call::Read, look, Call::Execute, reply, look, drop, look];
         for call in closes.chain(rest).chain([Call::Write]) {
             let step = run.call(call);
             assert!(!words::step(&run, &step).is_empty());
@@ -202,5 +218,9 @@ fn another_rule_is_followed_too() {
     assert!(follow_rule(|rules| rules.close_frees_early = true, 1) > 1);
     assert!(follow_rule(|rules| rules.accepted_until_torn_down = true, 1) > 1);
     assert!(follow_rule(|rules| rules.accepted_at_the_arrival = true, 1) > 1);
+    assert!(follow_rule(|rules| rules.accepted_at_the_look = true, 1) > 1);
+    assert!(follow_rule(|rules| rules.next_head_accepted = true, 1) > 1);
+    // Who looks cannot drop.
+    assert_eq!(follow_rule(|rules| rules.look_raises_the_flag = true, 1), 0);
     assert!(follow_rule(|_| {}, 1) > 1);
 }

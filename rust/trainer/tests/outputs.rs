@@ -62,8 +62,8 @@ fn cases() -> Vec<(String, Vec<String>)> {
     add("orders-number", &["orders", "scripts/orders.run", "--samples", "many"]);
     add("lessons", &["lesson"]);
     add("lesson-json", &["lesson", "3", "--json"]);
-    add("lesson-10", &["lesson", "10"]);
-    for lesson in 1..=9 {
+    add("lesson-11", &["lesson", "11"]);
+    for lesson in 1..=10 {
         add(&format!("lesson-{lesson}-question"), &["lesson", &lesson.to_string()]);
         add(&format!("lesson-{lesson}-answer"), &["lesson", &lesson.to_string(), "--answers"]);
     }
@@ -124,7 +124,7 @@ fn the_page_is_written() {
     let file = page.to_string_lossy().to_string();
     let (out, err, status) = run(&["replay", "scripts/declined.run", "-o", &file]);
     assert_eq!((err.as_str(), status), ("", 0));
-    assert!(out.contains("68 calls"), "{out}");
+    assert!(out.contains("69 calls"), "{out}");
     let text = std::fs::read_to_string(&page).unwrap();
     assert!(text.contains("pandabrass-run/") && text.contains("</html>"));
     std::fs::remove_file(&page).unwrap();

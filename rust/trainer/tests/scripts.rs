@@ -72,48 +72,67 @@ fn every_wrong_rule_is_seen() {
     }
 }
 
+/// A rule that students write instead, in words and as it is set.
+type Wrong = (&'static str, fn(&mut Rules));
+
+/// By each of these rules something is not as the script expects.
+fn all_are_seen(file: &str, wrong: &[Wrong]) {
+    let script = open(file);
+    for (name, set) in wrong {
+        let mut rules = Rules::default();
+        set(&mut rules);
+        let modelled = Modelled::new(&script.plan, rules);
+        let mut player = Player::new(&script, &modelled);
+        player.play(&[], &mut Silent).unwrap();
+        assert!(player.failed > 0, "nobody sees that {name}");
+    }
+}
+
 /// What students write instead of Close: the script of closing sees each of them.
 #[test]
 fn every_wrong_close_is_seen() {
-    let wrong: [(&str, fn(&mut Rules)); 5] = [
+    let wrong: [Wrong; 5] = [
         ("the tear-down's hub is one too many", |rules| rules.close_one_too_far = true),
         ("the table is cleared at once", |rules| rules.close_clears_at_once = true),
         ("the entries are freed before the tear-down", |rules| rules.close_frees_early = true),
         ("it is accepted until torn down", |rules| rules.accepted_until_torn_down = true),
         ("it is accepted at the ACK's arrival", |rules| rules.accepted_at_the_arrival = true),
     ];
-    let script = open("scripts/close.run");
-    for (name, set) in wrong {
-        let mut rules = Rules::default();
-        set(&mut rules);
-        let modelled = Modelled::new(&script.plan, rules);
-        let mut player = Player::new(&script, &modelled);
-        player.play(&[], &mut Silent).unwrap();
-        assert!(player.failed > 0, "nobody sees that {name}");
-    }
+    all_are_seen("scripts/close.run", &wrong);
 }
 
 /// What students write instead of turn about: the script of turns sees each of them.
 #[test]
 fn every_wrong_turn_is_seen() {
-    let wrong: [(&str, fn(&mut Rules)); 2] = [
+    let wrong: [Wrong; 2] = [
         ("the first in order is always picked", |rules| rules.lowest_first = true),
         ("the one served last is asked first", |rules| rules.same_one_again = true),
     ];
-    let script = open("scripts/turns.run");
-    for (name, set) in wrong {
-        let mut rules = Rules::default();
-        set(&mut rules);
-        let modelled = Modelled::new(&script.plan, rules);
-        let mut player = Player::new(&script, &modelled);
-        player.play(&[], &mut Silent).unwrap();
-        assert!(player.failed > 0, "nobody sees that {name}");
-    }
+    all_are_seen("scripts/turns.run", &wrong);
+}
+
+/// What students write instead of Look and Drop: the script of looking sees each of them.
+#[test]
+fn every_wrong_look_is_seen() {
+    let wrong: [Wrong; 4] = [
+        ("a Look raises the flag", |rules| rules.look_raises_the_flag = true),
+        ("a Drop accepts the next head", |rules| rules.next_head_accepted = true),
+        ("a Look accepts", |rules| rules.accepted_at_the_look = true),
+        ("a Look gives back the allowance", |rules| rules.allowance_at_the_look = true),
+    ];
+    all_are_seen("scripts/look.run", &wrong);
+}
+
+/// The number of a lesson's file: 10 of "scripts/lessons/10-look.run".
+fn number(file: &str) -> usize {
+    let name = file.rsplit('/').next().unwrap_or(file);
+    name.split('-').next().and_then(|number| number.parse().ok()).expect("a number")
 }
 
 #[test]
 fn every_lesson_has_its_file() {
-    let stored = files("scripts/lessons", ".run");
+    let mut stored = files("scripts/lessons", ".run");
+    stored.sort_by_key(|file| number(file));
     assert_eq!(stored.len(), LESSONS.len());
     for (file, lesson) in stored.iter().zip(&LESSONS) {
         assert_eq!(file, &format!("scripts/lessons/{}", lesson.file));

@@ -1,6 +1,6 @@
 use native.Mathlib.Omega.{arith}
 use Rattle.visits.proofs.Rows.{few-counts, router-few, slot-few, entry-inside}
-use Rattle.looking.proofs.Exits.{look-router, look-side, look-slot, looked}
+use Rattle.looking.proofs.Exits.{entry-router, entry-side, entry-slot, entry-held}
 use borrow.Author.Needs.{needs}
 use Rattle.looking.proofs.entry.Statement.{statement}
 use Rattle.looking.proofs.entry.Tie as tie
@@ -11,17 +11,17 @@ use Rattle.rows.proofs.entry_at.Reads as entry-at-reads
 use Rattle.visits.proofs.index.Reads as index-reads
 
 returns : tie.Need-returns
-returns c = look-router _ _ _ _ _ (c .if1 .taken)
+returns c = entry-router _ _ _ _ _ (c .if1 .taken)
 
 returns-2 : tie.Need-returns-2
-returns-2 c = look-side _ _ _ _ _ (c .before .if1 .left) (omega (arith, c .if2 .taken))
+returns-2 c = entry-side _ _ _ _ _ (c .before .if1 .left) (omega (arith, c .if2 .taken))
 
 index-requires : tie.Need-index-requires
 index-requires c κs = search needs
 
 returns-3 : tie.Need-returns-3
 returns-3 c =
-    look-slot _ _ _ _ _ (c .before .before .before .if1 .left) (omega (arith, c .before .before .if2 .left))
+    entry-slot _ _ _ _ _ (c .before .before .before .if1 .left) (omega (arith, c .before .before .if2 .left))
     (omega (arith, c .before .index .ensures))
 
 entry-row-requires : tie.Need-entry-row-requires
@@ -43,7 +43,7 @@ entry-at-requires c κs =
 returns-4 : tie.Need-returns-4
 returns-4 c =
     let c5 = c .before .before .before .before .before in
-    looked _ _ _ _ _ (c5 .if1 .left) (omega (arith, c .before .before .before .before .if2 .left))
+    entry-held _ _ _ _ _ (c5 .if1 .left) (omega (arith, c .before .before .before .before .if2 .left))
     (c5 .before .before .before .pre .0) (omega (arith, c .before .before .before .index .ensures)) _ _
     (c .before .entry-row .ensures) (c .entry-at .ensures)
 

@@ -8,11 +8,11 @@ use Rattle.packets.specs.declared.Kind.the-variants.{Setup, Tdown, Ack, Nack}
 use Rattle.packets.specs.declared.Packet.{Packet}
 use Rattle.feeding.specs.Queue.{Queue, activeOut, activeIn, passiveIn, passiveOut, U, Q, F, K}
 use Rattle.machine.specs.State.{State}
-use Rattle.machine.specs.Calls.{Call, read, execute, write, launch, reply, consume}
+use Rattle.machine.specs.Calls.{Call, read, execute, write, launch, reply, look, drop}
 use Rattle.machine.specs.Runs.Watch.{round, manyRounds, inWrite, packet, allowanceIn, countIn, creditIn, flagIn}
 use Rattle.machine.specs.Runs.Watch.{each, after, moments}
 use Rattle.plan.specs.Samples.{widerT, narrowThere, narrowBack}
-use Rattle.packets.specs.Answers.{refused, done, taken}
+use Rattle.packets.specs.Answers.{refused, done, shows}
 use Rattle.machine.specs.Runs.Turns.{skipped-changes-nothing}
 use Rattle.machine.specs.Runs.Watch.{once}
 
@@ -93,9 +93,10 @@ fillBack =
     -- round 11: it tries to; round 12; round 13: it replies
     ∷ inWrite (reply 1 1)
     ∷ (write ∷ round ++ inWrite (reply 1 1))
-    -- rounds 14 to 20; round 21: active 0 consumes
+    -- rounds 14 to 20; round 21: active 0 looks, and drops
     ∷ (write ∷ manyRounds 7)
-    ∷ inWrite (consume 0)
+    ∷ inWrite (look 0)
+    ∷ (drop 0 ∷ [])
     ∷ (write ∷ read ∷ [])
     ∷ []
 
@@ -125,8 +126,9 @@ pub filled-back : moments narrowBack back [] fillBack
     ∷ after done (0 ∷ (0 ∷ 0 ∷ 2 ∷ 0 ∷ 1 ∷ 2 ∷ []) ++ 3 ∷ 0 ∷ 3 ∷ []) []
     -- round 20: all five answers are in active 0's in-queue, which is full, with credit 0
     ∷ after done (0 ∷ (0 ∷ 0 ∷ 0 ∷ 0 ∷ 0 ∷ 5 ∷ []) ++ 4 ∷ 1 ∷ 0 ∷ []) []
-    -- round 21: one is consumed, passive 0's; round 22: the credit comes with Read
-    ∷ after (taken (packet Ack 0 0 0 1)) (1 ∷ (0 ∷ 0 ∷ 0 ∷ 0 ∷ 0 ∷ 4 ∷ []) ++ 4 ∷ 1 ∷ 0 ∷ []) []
+    -- round 21: the head is passive 0's; it is dropped; round 22: the credit comes with Read
+    ∷ after (shows (packet Ack 0 0 0 1)) (0 ∷ (0 ∷ 0 ∷ 0 ∷ 0 ∷ 0 ∷ 5 ∷ []) ++ 4 ∷ 1 ∷ 0 ∷ []) []
+    ∷ after done (1 ∷ (0 ∷ 0 ∷ 0 ∷ 0 ∷ 0 ∷ 4 ∷ []) ++ 4 ∷ 1 ∷ 0 ∷ []) []
     ∷ after done (1 ∷ (0 ∷ 0 ∷ 0 ∷ 0 ∷ 0 ∷ 4 ∷ []) ++ 4 ∷ 1 ∷ 1 ∷ []) []
     ∷ []
 unfolding moments
@@ -138,8 +140,9 @@ fillOut =
     -- rounds 0 to 3; round 4: declined
     (launch 0 0 6 ∷ manyRounds 4)
     ∷ inWrite (reply 0 0)
-    -- rounds 5 and 6; round 7: the NACK comes, is marked and consumed
-    ∷ (write ∷ manyRounds 2 ++ inWrite (consume 0))
+    -- rounds 5 and 6; round 7: the NACK comes and is marked, looked at and dropped
+    ∷ (write ∷ manyRounds 2 ++ inWrite (look 0))
+    ∷ (drop 0 ∷ [])
     -- round 8: two launches; round 9: the second again
     ∷ (write ∷ launch 0 0 4 ∷ [])
     ∷ (launch 0 0 5 ∷ [])
@@ -159,8 +162,9 @@ setup t = packet Setup 0 0 t 0
 pub out-queue-full : moments widerT allowance0 (activeOut 0 ∷ []) fillOut
     ≡ after done (1 ∷ []) ([] ∷ [])
     ∷ after done (1 ∷ []) ([] ∷ [])
-    -- round 7: the whole allowance is back, and the TDOWN is still in the out-queue
-    ∷ after (taken (packet Nack 0 0 7 0)) (2 ∷ []) ((tdown ∷ []) ∷ [])
+    -- round 7: once it is dropped the whole allowance is back, and the TDOWN is still in the out-queue
+    ∷ after (shows (packet Nack 0 0 7 0)) (1 ∷ []) ((tdown ∷ []) ∷ [])
+    ∷ after done (2 ∷ []) ((tdown ∷ []) ∷ [])
     -- round 8: room for one set-up
     ∷ after done (1 ∷ []) ((tdown ∷ setup 4 ∷ []) ∷ [])
     ∷ after (refused 12) (1 ∷ []) ((tdown ∷ setup 4 ∷ []) ∷ [])

@@ -9,21 +9,21 @@ use Rattle.packets.specs.declared.Packet.{Packet}
 use Rattle.feeding.specs.Queue.{Queue, activeOut, activeIn, Q}
 use Rattle.machine.specs.Connections.{connection}
 use Rattle.machine.specs.State.{State}
-use Rattle.machine.specs.Calls.{Call, read, execute, write, launch, reply, consume, close}
+use Rattle.machine.specs.Calls.{Call, read, execute, write, launch, reply, look, drop, close}
 use Rattle.machine.specs.Runs.Watch.{manyRounds, inWrite, packet, entryIn, connectionIn, allowanceIn}
 use Rattle.machine.specs.Runs.Watch.{after, moments, accepts}
-use Rattle.machine.specs.Runs.Declined.{bothSides, otherAck}
+use Rattle.machine.specs.Runs.Declined.{bothSides}
 use Rattle.plan.specs.Samples.{planT, twoRouters, allSides}
-use Rattle.packets.specs.Answers.{refused, done, taken}
+use Rattle.packets.specs.Answers.{refused, done, shows}
 use Rattle.machine.specs.Runs.Capacities.{out-queue-full}
 use Rattle.machine.specs.Runs.Watch.{once}
 
 -- ---- two routers, S=4. Active 1, at the second router, is connected from slot 0 on; active 0, at the first, from slot
 -- 2
--- calls up to the WRITE in which active 1 has consumed its ACK: round 7
+-- calls up to the WRITE in which active 1 has dropped its ACK: round 7
 abbrev pub otherConnects : List Call
 otherConnects =
-    launch 1 0 0 ∷ manyRounds 4 ++ inWrite (reply 0 1) ++ write ∷ manyRounds 2 ++ inWrite (consume 1)
+    launch 1 0 0 ∷ manyRounds 4 ++ inWrite (reply 0 1) ++ write ∷ manyRounds 2 ++ inWrite (drop 1)
 
 -- from the end of that WRITE on, or of any later round 4n + 3: active 0 launches with slot 2 in the next round, its
 -- set-up is accepted seven rounds later, and its ACK is on the wire to it at the start of the round four later
@@ -76,11 +76,12 @@ openedClosedOpened =
     ∷ connecting
     -- round 19, READ: the ACK is on the wire: the connection is not accepted yet
     ∷ (close 0 0 2 ∷ [])
-    -- the ACK is there, and still it is not accepted: WRITE is no time to close, either
+    -- the ACK is there and is looked at, and still it is not accepted: WRITE is no time to close, either
     ∷ (read ∷ [])
-    ∷ (execute ∷ close 0 0 2 ∷ [])
-    -- consumed
-    ∷ (consume 0 ∷ [])
+    ∷ (execute ∷ look 0 ∷ [])
+    ∷ (close 0 0 2 ∷ [])
+    -- dropped
+    ∷ (drop 0 ∷ [])
     -- round 20, READ: another start, another pair; the connection itself; once more
     ∷ (write ∷ close 0 0 3 ∷ [])
     ∷ (close 1 0 2 ∷ [])
@@ -98,17 +99,18 @@ openedClosedOpened =
     ∷ (write ∷ manyRounds 1 ++ read ∷ execute ∷ [])
     ∷ connecting
     ∷ (read ∷ execute ∷ [])
-    ∷ (consume 0 ∷ [])
+    ∷ (drop 0 ∷ [])
     ∷ []
 
 pub opened-closed-opened : moments twoRouters tableAndKept places openedClosedOpened
-    ≡ after (taken otherAck) (4 ∷ 4 ∷ 4 ∷ 4 ∷ 2 ∷ 4 ∷ 4 ∷ 4 ∷ 0 ∷ 1 ∷ []) quiet
+    ≡ after done (4 ∷ 4 ∷ 4 ∷ 4 ∷ 2 ∷ 4 ∷ 4 ∷ 4 ∷ 0 ∷ 1 ∷ []) quiet
     ∷ after done (bothBooked 0 1) quiet
-    -- round 19: 16 before the ACK is consumed, 8 in WRITE
+    -- round 19: 16 before the ACK is dropped, 8 in WRITE
     ∷ after (refused 16) (bothBooked 0 1) quiet
     ∷ after done (bothBooked 0 1) (seen [] (ack ∷ []) [] [])
+    ∷ after (shows ack) (bothBooked 0 1) (seen [] (ack ∷ []) [] [])
     ∷ after (refused 8) (bothBooked 0 1) (seen [] (ack ∷ []) [] [])
-    ∷ after (taken ack) (bothBooked 1 1) quiet
+    ∷ after done (bothBooked 1 1) quiet
     -- round 20
     ∷ after (refused 16) (bothBooked 1 1) quiet
     ∷ after (refused 16) (bothBooked 1 1) quiet
@@ -126,16 +128,17 @@ pub opened-closed-opened : moments twoRouters tableAndKept places openedClosedOp
     ∷ after done bothFreed quiet
     ∷ after done (bothBooked 0 1) quiet
     ∷ after done (bothBooked 0 1) (seen [] (ack ∷ []) [] [])
-    ∷ after (taken ack) (bothBooked 1 1) quiet
+    ∷ after done (bothBooked 1 1) quiet
     ∷ []
 unfolding moments
 opened-closed-opened = once out-queue-full refl
 
--- ---- accepted, closed and accepted again on plan T: told by the calls and their answers, the connection is accepted
--- once, though its ACK was consumed twice
+-- ---- accepted, closed and accepted again on plan T: told by the calls and the states before them, the connection is
+-- accepted once, though an ACK of it was looked at and dropped twice
 abbrev pub connects : List Call
 connects =
-    launch 0 0 0 ∷ manyRounds 4 ++ inWrite (reply 0 1) ++ write ∷ manyRounds 2 ++ inWrite (consume 0) ++ write ∷ []
+    launch 0 0 0 ∷ manyRounds 4 ++ inWrite (reply 0 1)
+    ++ write ∷ manyRounds 2 ++ inWrite (look 0) ++ drop 0 ∷ write ∷ []
 
 abbrev pub acceptedTwice : List (List Call)
 acceptedTwice = connects ∷ (close 0 0 0 ∷ manyRounds 4) ∷ connects ∷ []
@@ -201,7 +204,7 @@ abbrev pub allowanceAndKept : State → List ℕ
 allowanceAndKept s = allowanceIn s 0 ∷ entryIn s 0 1 0 ∷ connectionIn s 0 0 0 ∷ []
 
 pub closed-later : moments planT allowanceAndKept (activeOut 0 ∷ []) closedLater
-    ≡ after (taken (packet Ack 0 0 1 1)) (1 ∷ 0 ∷ 1 ∷ []) ([] ∷ [])
+    ≡ after (shows (packet Ack 0 0 1 1)) (1 ∷ 0 ∷ 1 ∷ []) ([] ∷ [])
     ∷ after done (0 ∷ 0 ∷ 1 ∷ []) ((packet Setup 0 0 1 0 ∷ []) ∷ [])
     -- 12: the mark stays
     ∷ after (refused 12) (0 ∷ 0 ∷ 1 ∷ []) ((packet Setup 0 0 1 0 ∷ []) ∷ [])

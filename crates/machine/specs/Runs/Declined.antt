@@ -8,11 +8,11 @@ use Rattle.packets.specs.declared.Kind.the-variants.{Setup, Tdown, Ack, Nack}
 use Rattle.packets.specs.declared.Packet.{Packet}
 use Rattle.feeding.specs.Queue.{activeOut, activeIn, Q}
 use Rattle.machine.specs.State.{State}
-use Rattle.machine.specs.Calls.{Call, read, execute, write, launch, reply, consume}
+use Rattle.machine.specs.Calls.{Call, read, execute, write, launch, reply, look, drop}
 use Rattle.machine.specs.Runs.Watch.{round, packet, entryIn, after, steady, watch}
 use Rattle.plan.specs.Samples.{twoRouters}
-use Rattle.packets.specs.Answers.{done, taken}
-use Rattle.machine.specs.Runs.Entries.{entries-told}
+use Rattle.packets.specs.Answers.{done, shows}
+use Rattle.machine.specs.Runs.Looking.{both-dropped}
 use Rattle.machine.specs.Runs.Watch.{once}
 
 -- The walks to the passive leave each router by its side 1: that side's entries for slots 0 to 3, at the first router,
@@ -47,8 +47,8 @@ secondDeclines =
     -- rounds 5 and 6
     ++ round
     ++ round
-    -- round 7: consumed in its WRITE
-    ++ read ∷ execute ∷ consume 1 ∷ write ∷ []
+    -- round 7: looked at and dropped in its WRITE
+    ++ read ∷ execute ∷ look 1 ∷ drop 1 ∷ write ∷ []
     -- round 8: active 0 launches with slot 3
     ++ launch 0 0 3 ∷ round
     -- rounds 9 to 16
@@ -60,8 +60,8 @@ secondDeclines =
     ++ round
     ++ round
     ++ round
-    -- round 17: the NACK is consumed in its WRITE
-    ++ read ∷ execute ∷ consume 0 ∷ write ∷ []
+    -- round 17: the NACK is looked at and dropped in its WRITE
+    ++ read ∷ execute ∷ look 0 ∷ drop 0 ∷ write ∷ []
     -- rounds 18 to 24
     ++ round
     ++ round
@@ -133,9 +133,9 @@ pub second-declines : watch twoRouters bothSides (activeOut 0 ∷ Q 0 ∷ Q 1 �
     -- rounds 5 and 6
     ++ steady second quiet
     ++ steady second quiet
-    -- round 7: its ACK is consumed
-    ++ after done second quiet ∷ after done second quiet ∷ after (taken otherAck) second quiet ∷ []
-    ++ after done second quiet ∷ []
+    -- round 7: its ACK is looked at and dropped
+    ++ after done second quiet ∷ after done second quiet ∷ after (shows otherAck) second quiet ∷ []
+    ++ after done second quiet ∷ after done second quiet ∷ []
     -- round 8: active 0 launches, then the round
     ++ after done second (inOut setup) ∷ []
     ++ after done second (inOut setup) ∷ after done second (inOut setup) ∷ after done second quiet ∷ []
@@ -153,9 +153,10 @@ pub second-declines : watch twoRouters bothSides (activeOut 0 ∷ Q 0 ∷ Q 1 �
     ++ steady both quiet
     ++ steady both quiet
     -- round 17: the NACK has come, slot 0, hub 1; Execute puts a TDOWN, slot 3, hub 1, into the out-queue and marks
-    -- the NACK, which is consumed
+    -- the NACK, which is looked at and dropped
     ++ after done both (inIn nack) ∷ after done both (seen (tdown ∷ []) [] [] (markedNack ∷ [])) ∷ []
-    ++ after (taken markedNack) both (inOut tdown) ∷ after done both (inOut tdown) ∷ []
+    ++ after (shows markedNack) both (seen (tdown ∷ []) [] [] (markedNack ∷ [])) ∷ []
+    ++ after done both (inOut tdown) ∷ after done both (inOut tdown) ∷ []
     -- round 18: the TDOWN is sent
     ++ after done both (inOut tdown) ∷ after done both (inOut tdown) ∷ after done both quiet ∷ []
     -- round 19
@@ -168,4 +169,4 @@ pub second-declines : watch twoRouters bothSides (activeOut 0 ∷ Q 0 ∷ Q 1 �
     ++ steady second quiet
     ++ steady second quiet
 unfolding watch
-second-declines = once entries-told refl
+second-declines = once both-dropped refl

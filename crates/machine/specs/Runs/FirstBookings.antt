@@ -7,10 +7,10 @@ use Rattle.packets.specs.declared.Kind.the-variants.{Setup, Ack}
 use Rattle.packets.specs.declared.Packet.{Packet}
 use Rattle.feeding.specs.Queue.{activeIn, passiveIn, F}
 use Rattle.machine.specs.State.{State}
-use Rattle.machine.specs.Calls.{Call, read, execute, write, launch, reply, consume}
+use Rattle.machine.specs.Calls.{Call, read, execute, write, launch, reply, look, drop}
 use Rattle.machine.specs.Runs.Watch.{round, packet, slotIn, entryIn, after, steady, watch}
 use Rattle.plan.specs.Samples.{planT}
-use Rattle.packets.specs.Answers.{done, taken}
+use Rattle.packets.specs.Answers.{done, shows}
 use Rattle.machine.specs.Runs.Watch.{once}
 
 -- the entries of side 1, by which the walk to the passive leaves: slot 0, slot 1
@@ -35,7 +35,7 @@ abbrev pub ack : Packet
 ack = packet Ack 0 0 1 1
 
 -- ---- 'Launch (0,0,0) in round 0: booked in round 2, waits at the passive from round 4; accepted there, consumed in
--- round 7 with slot 1, hub 1.'
+-- round 7 with slot 1, hub 1.' From document 02 (c) on a Look and a Drop are what Consume was.
 abbrev pub launchInRound0 : List Call
 launchInRound0 =
     launch 0 0 0 ∷ round
@@ -48,8 +48,8 @@ launchInRound0 =
     -- rounds 5 and 6
     ++ round
     ++ round
-    -- round 7: consumed in its WRITE
-    ++ read ∷ execute ∷ consume 0 ∷ []
+    -- round 7: looked at and dropped in its WRITE
+    ++ read ∷ execute ∷ look 0 ∷ drop 0 ∷ []
 
 -- two queues, here the passive's in-queue and the active's: both are empty
 abbrev pub nowhere : List (List Packet)
@@ -77,9 +77,9 @@ pub launch-in-round-0 : watch planT side1 (passiveIn 0 ∷ activeIn 0 ∷ []) la
     -- rounds 5 and 6
     ++ steady bookedSide nowhere
     ++ steady bookedSide nowhere
-    -- round 7: the ACK has come, and is consumed
-    ++ after done bookedSide waitsAtActive ∷ after done bookedSide waitsAtActive ∷ after (taken ack) bookedSide nowhere
-    ∷ []
+    -- round 7: the ACK has come; Look shows it, slot 1, hub 1, and leaves it; Drop removes it
+    ++ after done bookedSide waitsAtActive ∷ after done bookedSide waitsAtActive ∷ []
+    ++ after (shows ack) bookedSide waitsAtActive ∷ after done bookedSide nowhere ∷ []
 unfolding watch
 launch-in-round-0 = refl
 

@@ -5,11 +5,11 @@ use mathlib.Core.List.{List, [], _∷_, _++_}
 use Rattle.packets.specs.declared.Kind.the-variants.{Setup, Nack}
 use Rattle.packets.specs.declared.Packet.{Packet}
 use Rattle.feeding.specs.Queue.{activeOut, activeIn, Q}
-use Rattle.machine.specs.Calls.{Call, read, execute, write, launch, consume}
+use Rattle.machine.specs.Calls.{Call, read, execute, write, launch, look, drop}
 use Rattle.machine.specs.Runs.Watch.{round, packet, after, steady, watch}
 use Rattle.machine.specs.Runs.FirstBookings.{side1, free, bookedSide, launchedSetup, setup, ack, launchInRound0}
 use Rattle.plan.specs.Samples.{planT}
-use Rattle.packets.specs.Answers.{done, taken}
+use Rattle.packets.specs.Answers.{done, shows}
 use Rattle.machine.specs.Runs.Refusals.{flag-before-mark}
 use Rattle.machine.specs.Runs.Watch.{once}
 
@@ -22,8 +22,8 @@ lastFreeEntry =
     ++ round
     ++ round
     ++ round
-    -- round 12: consumed in its WRITE
-    ++ read ∷ execute ∷ consume 0 ∷ write ∷ []
+    -- round 12: looked at and dropped in its WRITE
+    ++ read ∷ execute ∷ look 0 ∷ drop 0 ∷ write ∷ []
 
 -- the set-up of Launch (0,0,1), and the NACK that it becomes, 'slot and hub kept': slot 1, hub 0
 abbrev pub last : Packet
@@ -60,9 +60,9 @@ pub last-free-entry : watch planT side1 (activeOut 0 ∷ Q 0 ∷ activeIn 0 ∷ 
     -- rounds 5 and 6
     ++ steady bookedSide quiet
     ++ steady bookedSide quiet
-    -- round 7: the ACK is consumed
-    ++ after done bookedSide (inIn ack) ∷ after done bookedSide (inIn ack) ∷ after (taken ack) bookedSide quiet ∷ []
-    ++ after done bookedSide quiet ∷ []
+    -- round 7: the ACK is looked at and dropped
+    ++ after done bookedSide (inIn ack) ∷ after done bookedSide (inIn ack) ∷ []
+    ++ after (shows ack) bookedSide (inIn ack) ∷ after done bookedSide quiet ∷ after done bookedSide quiet ∷ []
     -- round 8: Launch (0,0,1), then the round
     ++ after done bookedSide (inOut last) ∷ []
     ++ after done bookedSide (inOut last) ∷ after done bookedSide (inOut last) ∷ after done bookedSide quiet ∷ []
@@ -72,8 +72,9 @@ pub last-free-entry : watch planT side1 (activeOut 0 ∷ Q 0 ∷ activeIn 0 ∷ 
     ++ after done bookedSide (inQ last) ∷ after done bookedSide (inQ nack) ∷ after done bookedSide quiet ∷ []
     -- round 11
     ++ steady bookedSide quiet
-    -- round 12: the NACK has come with hub 0, so no TDOWN joins the out-queue; it is consumed
-    ++ after done bookedSide (inIn nack) ∷ after done bookedSide (inIn nack) ∷ after (taken nack) bookedSide quiet ∷ []
-    ++ after done bookedSide quiet ∷ []
+    -- round 12: the NACK has come with hub 0, so no TDOWN joins the out-queue; it is looked
+    -- at and dropped
+    ++ after done bookedSide (inIn nack) ∷ after done bookedSide (inIn nack) ∷ []
+    ++ after (shows nack) bookedSide (inIn nack) ∷ after done bookedSide quiet ∷ after done bookedSide quiet ∷ []
 unfolding watch
 last-free-entry = once flag-before-mark refl

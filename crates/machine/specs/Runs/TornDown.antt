@@ -7,11 +7,11 @@ use Rattle.packets.specs.declared.Kind.the-variants.{Setup, Tdown, Nack}
 use Rattle.packets.specs.declared.Packet.{Packet}
 use Rattle.feeding.specs.Queue.{Queue, activeOut, activeIn, passiveIn, Q}
 use Rattle.machine.specs.State.{State}
-use Rattle.machine.specs.Calls.{Call, read, execute, write, launch, reply, consume}
+use Rattle.machine.specs.Calls.{Call, read, execute, write, launch, reply, look, drop}
 use Rattle.machine.specs.Runs.Watch.{manyRounds, inWrite, packet, entryIn, allowanceIn, after, moments}
 use Rattle.machine.specs.Runs.Declined.{bothSides}
 use Rattle.plan.specs.Samples.{twoRouters, fourRouters}
-use Rattle.packets.specs.Answers.{refused, done, taken}
+use Rattle.packets.specs.Answers.{refused, done, shows}
 use Rattle.machine.specs.Runs.Closed.{closed-later}
 use Rattle.machine.specs.Runs.Watch.{once}
 
@@ -25,9 +25,10 @@ overTwo =
     -- rounds 8 to 10, then round 11: the NACK comes, and is marked
     ∷ (write ∷ manyRounds 3 ++ read ∷ [])
     ∷ (execute ∷ [])
-    -- round 12: a launch is tried; the NACK is consumed, and the TDOWN is sent
+    -- round 12: a launch is tried; the NACK is looked at and dropped, and the TDOWN is sent
     ∷ (write ∷ launch 0 0 0 ∷ [])
-    ∷ inWrite (consume 0)
+    ∷ inWrite (look 0)
+    ∷ (drop 0 ∷ [])
     -- round 13, then round 14: the TDOWN is at the first router's unit
     ∷ (write ∷ manyRounds 1 ++ read ∷ [])
     ∷ (execute ∷ [])
@@ -89,8 +90,9 @@ pub torn-over-two : moments twoRouters allowanceAndBoth places overTwo
     ∷ after done (both 0) (seen [] (nack ∷ []) [] [] [])
     ∷ after done (both 0) (seen (tdown ∷ []) (markedNack ∷ []) [] [] [])
     ∷ after (refused 11) (both 0) (seen (tdown ∷ []) (markedNack ∷ []) [] [] [])
-    -- round 12: it is back at Consume
-    ∷ after (taken markedNack) (both 1) (seen (tdown ∷ []) [] [] [] [])
+    -- round 12: nor at the Look; it is back at the Drop
+    ∷ after (shows markedNack) (both 0) (seen (tdown ∷ []) (markedNack ∷ []) [] [] [])
+    ∷ after done (both 1) (seen (tdown ∷ []) [] [] [] [])
     -- round 14: the first router frees its entry and sends the TDOWN on
     ∷ after done (both 1) (seen [] [] (tdown ∷ []) [] [])
     ∷ after done (second 1) (seen [] [] (tdownOn ∷ []) [] [])
@@ -112,9 +114,10 @@ overThree =
     -- rounds 12 to 15, then round 16: the NACK comes, and is marked
     ∷ (write ∷ manyRounds 4 ++ read ∷ [])
     ∷ (execute ∷ [])
-    -- round 17: the NACK is consumed, and the TDOWN is sent
+    -- round 17: the NACK is looked at and dropped, and the TDOWN is sent
     ∷ (write ∷ launch 1 0 0 ∷ [])
-    ∷ inWrite (consume 1)
+    ∷ inWrite (look 1)
+    ∷ (drop 1 ∷ [])
     -- rounds 19, 22 and 25: the TDOWN is at the unit of router 1, of router 2, of router 3
     ∷ (write ∷ manyRounds 1 ++ read ∷ [])
     ∷ (execute ∷ [])
@@ -176,8 +179,9 @@ pub torn-over-three : moments fourRouters allowanceAndThree (activeOut 1 ∷ act
     ∷ after done (three 0) (watched [] (nack3 ∷ []) [] [] [])
     ∷ after done (three 0) (watched (tdown3 ∷ []) (marked3 ∷ []) [] [] [])
     ∷ after (refused 11) (three 0) (watched (tdown3 ∷ []) (marked3 ∷ []) [] [] [])
-    -- round 17: it is back at Consume
-    ∷ after (taken marked3) (three 1) (watched (tdown3 ∷ []) [] [] [] [])
+    -- round 17: it is back at the Drop
+    ∷ after (shows marked3) (three 0) (watched (tdown3 ∷ []) (marked3 ∷ []) [] [] [])
+    ∷ after done (three 1) (watched (tdown3 ∷ []) [] [] [] [])
     -- rounds 19, 22 and 25: freed one by one
     ∷ after done (three 1) (watched [] [] (tdown3 ∷ []) [] [])
     ∷ after done (lastTwo 1) (watched [] [] (tdown2 ∷ []) [] [])

@@ -7,10 +7,10 @@ use Rattle.packets.specs.declared.Kind.the-variants.{Setup, Ack}
 use Rattle.packets.specs.declared.Packet.{Packet}
 use Rattle.feeding.specs.Queue.{passiveIn, Q}
 use Rattle.machine.specs.State.{State}
-use Rattle.machine.specs.Calls.{Call, read, execute, write, launch, reply, consume}
-use Rattle.machine.specs.Runs.Watch.{manyRounds, packet, entryIn, after, moments, accepts}
+use Rattle.machine.specs.Calls.{Call, read, execute, write, launch, reply, look, drop}
+use Rattle.machine.specs.Runs.Watch.{manyRounds, inWrite, packet, entryIn, after, moments, accepts}
 use Rattle.plan.specs.Samples.{fourRouters}
-use Rattle.packets.specs.Answers.{done, taken}
+use Rattle.packets.specs.Answers.{done, shows}
 use Rattle.machine.specs.Runs.TornDown.{torn-over-three}
 use Rattle.machine.specs.Runs.Watch.{once}
 
@@ -32,8 +32,9 @@ goingRound =
     -- round 16: at the passive, which accepts
     ∷ (write ∷ manyRounds 2 ++ read ∷ [])
     ∷ (execute ∷ reply 0 1 ∷ [])
-    -- round 22: the ACK is consumed
-    ∷ (write ∷ manyRounds 5 ++ read ∷ execute ∷ consume 0 ∷ [])
+    -- round 22: the ACK is looked at and dropped
+    ∷ (write ∷ manyRounds 5 ++ inWrite (look 0))
+    ∷ (drop 0 ∷ [])
     ∷ []
 
 -- the entries of side 1 of routers 0 to 3, three each
@@ -80,7 +81,8 @@ pub going-round : moments fourRouters sides1 (Q 0 ∷ Q 1 ∷ Q 2 ∷ Q 3 ∷ pa
     ∷ after done (slot2 ++ slot0 ++ slot1 ++ slot2) (seen [] [] [] [] (setup 0 4))
     ∷ after done (slot2 ++ slot0 ++ slot1 ++ slot2) (seen [] [] [] [] [])
     -- round 22: the ACK, slot 0, hub 4
-    ∷ after (taken (packet Ack 0 0 0 4)) (slot2 ++ slot0 ++ slot1 ++ slot2) (seen [] [] [] [] [])
+    ∷ after (shows (packet Ack 0 0 0 4)) (slot2 ++ slot0 ++ slot1 ++ slot2) (seen [] [] [] [] [])
+    ∷ after done (slot2 ++ slot0 ++ slot1 ++ slot2) (seen [] [] [] [] [])
     ∷ []
 unfolding moments
 going-round = once torn-over-three refl

@@ -27,8 +27,8 @@ whole-requires-3 c κs = search needs
 packet-requires : tie.Need-packet-requires
 packet-requires c κs = search needs
 
-with-consume-requires : tie.Need-with-consume-requires
-with-consume-requires c κs = search needs
+with-drop-requires : tie.Need-with-drop-requires
+with-drop-requires c κs = search needs
 
 same-length : tie.Need-same-length
 same-length c =
@@ -38,7 +38,7 @@ same-length c =
     let c20 = c15 .before .before .before .before .before in
     let c25 = c20 .before .before .before .before .before in
     let c30 = c25 .before .before .before .before .before in
-    c .before .before .with-consume .kept .1 .0 ∙ c5 .before .before .whole3 .kept .1 .0
+    c .before .before .with-drop .kept .1 .0 ∙ c5 .before .before .whole3 .kept .1 .0
     ∙ c10 .before .with-reply .kept .1 .0 ∙ c15 .whole2 .kept .1 .0
     ∙ c15 .before .before .before .before .with-entry .kept .1 .0 ∙ c20 .before .before .before .whole .kept .1 .0
     ∙ c25 .before .before .with-launch .kept .1 .0 ∙ c30 .before .start .kept .1 .0
@@ -58,6 +58,6 @@ second-books-spec =
     with-reply-requires
     whole-requires-3
     packet-requires
-    with-consume-requires
+    with-drop-requires
     same-length
     returns)

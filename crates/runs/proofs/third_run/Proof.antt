@@ -21,8 +21,8 @@ whole-requires-2 c κs = search needs
 packet-requires : tie.Need-packet-requires
 packet-requires c κs = search needs
 
-with-consume-requires : tie.Need-with-consume-requires
-with-consume-requires c κs = search needs
+with-drop-requires : tie.Need-with-drop-requires
+with-drop-requires c κs = search needs
 
 same-length : tie.Need-same-length
 same-length c =
@@ -30,7 +30,7 @@ same-length c =
     let c10 = c5 .before .before .before .before .before in
     let c15 = c10 .before .before .before .before .before in
     let c20 = c15 .before .before .before .before .before in
-    c .before .before .with-consume .kept .1 .0 ∙ c5 .before .before .whole2 .kept .1 .0
+    c .before .before .with-drop .kept .1 .0 ∙ c5 .before .before .whole2 .kept .1 .0
     ∙ c10 .before .with-entry .kept .1 .0 ∙ c15 .whole .kept .1 .0
     ∙ c15 .before .before .before .before .with-launch .kept .1 .0
     ∙ c20 .before .before .before .first-run .kept .1 .0
@@ -48,6 +48,6 @@ third-run-spec =
     with-entry-requires
     whole-requires-2
     packet-requires
-    with-consume-requires
+    with-drop-requires
     same-length
     returns)

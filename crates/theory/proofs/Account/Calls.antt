@@ -1,4 +1,4 @@
--- Launch, Reply, Consume and Close keep the credits' part of the core.
+-- Launch, Reply, Drop and Close keep the credits' part of the core.
 use mathlib.Core.Path.{_≡_, refl}
 use mathlib.Core.Bool.{true, false}
 use mathlib.Core.List.{List, _∷_}

@@ -1,5 +1,5 @@
--- Launch, Reply, Consume and Close keep the places: a SETUP and a closing TDOWN belong in their active's out-queue, an
--- answer in its passive's, and what is consumed goes.
+-- Launch, Reply, Drop and Close keep the places: a SETUP and a closing TDOWN belong in their active's out-queue, an
+-- answer in its passive's, and what is dropped goes.
 use mathlib.Core.Path.{_≡_, refl}
 use mathlib.Core.Logic.{_⊎_}
 use mathlib.Core.Bool.{true, false}
@@ -49,7 +49,7 @@ module _ {pl : Plan} (wired : Wired pl) (range : InRange (pl .head)) where
       (replied-belongs wired range x (inQueue (passiveIn p)) (head-belongs k (passiveIn p) x rest hp e) p kind refl
       answer)
 
-  -- Consume: the head of an active's in-queue goes
+  -- Drop: the head of an active's in-queue goes
   pub removed-kept : (a : ℕ) (x : Packet) (rest : List Packet) (s : State) → a < A pl
       → s .lines .queue (activeIn a) ≡ x ∷ rest → Kept pl s → Kept pl (removed a rest s)
   unfolding removed

@@ -1,5 +1,5 @@
 -- Lists of connections: what is in one, how many times, and without one of them. And the state's connections as those
--- of a list: one more with an ACK that is consumed, one less with a Close.
+-- of a list: one more with an ACK that is dropped, one less with a Close.
 use mathlib.Core.Path.{_≡_, refl, sym, ap, subst, _∙_}
 use mathlib.Core.Logic.{_⊎_, inl, inr}
 use mathlib.Core.Bool.{Bool, true, false, _&&_, false≢true}
@@ -139,7 +139,7 @@ module _ {acc : List Connection} (s : State) (k : Remembers acc s) where
           by (inl q) g = inl (same-connection d c q)
           by (inr q) g = inr (k .only d (rw q at g))
 
-  -- What a consumed packet notes is what its answer tells.
+  -- What a dropped packet notes is what it accepts.
   pub noted-remembers : (pl : Plan) (x : Packet) → Remembers (acceptKind pl (x .kind) x acc) (noted pl x s)
   unfolding noted
   noted-remembers pl x = by (x .kind)

@@ -80,7 +80,7 @@ module _ {pl : Plan} {acc : List Connection} (s : State) (k : Owned pl acc s) wh
   connection-owned a p t x = owned-same s (withConnection a p t x s) k refl
       (λ r o u v. connection-weighed pl (owns pl r o u v) a p t x s)
 
-  -- So does what a consumed packet notes.
+  -- So does what a dropped packet notes.
   pub noted-owned : (x : Packet) → Owned pl acc (noted pl x s)
   noted-owned x = noted-keeps pl x s (Owned pl acc) (λ e. connection-owned (x .active) (x .passive) _ true) k
 
@@ -152,7 +152,7 @@ module _ {pl : Plan} (wired : Wired pl) {acc : List Connection} (s : State) (c :
           let one = replied-owns pl r o u v (inQueue (passiveIn p)) (inQueue (passiveOut p)) kind x q setup in
           omega arith
 
-  -- So does a Consume: what an ACK owned the accepted connection owns, and a marked NACK owned nothing.
+  -- So does a Drop: what an ACK owned the accepted connection owns, and a marked NACK owned nothing.
   pub removed-owned : (a : ℕ) (x : Packet) (rest : List Packet) → a < A pl → s .lines .queue (activeIn a) ≡ x ∷ rest
       → unmarked x ≡ false → Owned pl (acceptKind pl (x .kind) x acc) (removed a rest s)
   unfolding removed made ownsMade

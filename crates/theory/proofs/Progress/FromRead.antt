@@ -24,7 +24,7 @@ use Rattle.machine.specs.State.{State, isFull, join}
 use Rattle.machine.specs.Read.{deliver, settle, lower, doRead}
 use Rattle.machine.specs.Visits.{setupOf, launched, closingOf, closed}
 use Rattle.machine.specs.Calls.{Visit, Call, turn, visit, read, execute, write, Outcome, call}
-use Rattle.theory.specs.Does.{Visited, launches, replies, consumes, closes, looks, Does, refuses, turns}
+use Rattle.theory.specs.Does.{Visited, launches, replies, looks, drops, closes, tells, Does, refuses, turns}
 use Rattle.theory.specs.Does.{visits}
 use Rattle.machine.specs.Valid.{Drives}
 use Rattle.machine.specs.Progress.{isInQueue, UnderWay, Waits, endsRound}
@@ -96,9 +96,10 @@ module _ (pl : Plan) (s : State) (e : s .clock .phase ≡ Read) where
       by : (v : Visit) (r : Outcome) → Visited pl s v r → Before s (r .state) × (endsRound (visit v) (r .answer) ≡ 0)
       by v r (launches a q t m) = (launched-before a q t s, refl)
       by v r (replies q c x rest m) = absurd (read-write (sym e ∙ m .phase))
-      by v r (consumes a x rest m) = absurd (read-write (sym e ∙ m .phase))
+      by v r (looks a x rest m) = (unchanged s, refl)
+      by v r (drops a x rest m) = absurd (read-write (sym e ∙ m .phase))
       by v r (closes a q t m) = (closed-before pl a q t s, refl)
-      by v r (looks i q t m) = (unchanged s, refl)
+      by v r (tells i q t m) = (unchanged s, refl)
 
   only-read : (c : Call) → c ≢ read → Before s (call pl c s .state) × (endsRound c (call pl c s .answer) ≡ 0)
   only-read c = only c (call pl c s) (call-does pl s c)

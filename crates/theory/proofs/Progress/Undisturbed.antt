@@ -13,7 +13,7 @@ use Rattle.plan.specs.Plan.{Plan}
 use Rattle.machine.specs.State.{State, join}
 use Rattle.machine.specs.Visits.{launched, replyKind, removed, noted, closed}
 use Rattle.machine.specs.Calls.{Visit, Call, turn, visit, execute, Outcome, gives, isPhase, phaseStep, call}
-use Rattle.theory.specs.Does.{Visited, launches, replies, consumes, closes, looks, Does, refuses, turns}
+use Rattle.theory.specs.Does.{Visited, launches, replies, looks, drops, closes, tells, Does, refuses, turns}
 use Rattle.theory.specs.Does.{visits}
 use Rattle.machine.specs.Progress.{isTimed, endsRound}
 use Rattle.machine.proofs.Apart.{phase-of, phase-is, read-execute, execute-write}
@@ -42,7 +42,7 @@ module _ (pl : Plan) (p s : State) (k : Same pl p s) where
   pub still : Undisturbed pl p s s
   still = record { same = k; slot = refl; phase = refl; choice = refl }
 
-  -- what a consumed packet notes disturbs nothing
+  -- what a dropped packet notes disturbs nothing
   noted-undisturbed : (x : Packet) (t : State) → Undisturbed pl p s t → Undisturbed pl p s (noted pl x t)
   noted-undisturbed x t u =
       noted-keeps pl x t (Undisturbed pl p s)
@@ -59,12 +59,13 @@ module _ (pl : Plan) (p s : State) (k : Same pl p s) where
       record { same = launch-same pl p s a q t k; slot = refl; phase = refl; choice = refl }
   visits-undisturbed v o (replies q c x rest m) =
       record { same = reply-same pl p s q (replyKind c) x rest k; slot = refl; phase = refl; choice = refl }
-  visits-undisturbed v o (consumes a x rest m) =
+  visits-undisturbed v o (looks a x rest m) = still
+  visits-undisturbed v o (drops a x rest m) =
       noted-undisturbed x (removed a rest s)
       (record { same = remove-same pl p s a rest k; slot = refl; phase = refl; choice = refl })
   visits-undisturbed v o (closes a q t m) =
       record { same = close-same pl p s a q t k; slot = refl; phase = refl; choice = refl }
-  visits-undisturbed v o (looks r i t m) = still
+  visits-undisturbed v o (tells r i t m) = still
 
   untimed : (c : Call) (o : Outcome) → Does pl s c o → isTimed c ≡ false → Undisturbed pl p s (o .state)
   untimed c o (refuses d w n) f = still
@@ -84,9 +85,10 @@ module _ (pl : Plan) (s : State) (e : s .clock .phase ≡ Execute) where
       by : (v : Visit) (r : Outcome) → Visited pl s v r → (r .state ≡ s) × (endsRound (visit v) (r .answer) ≡ 0)
       by v r (launches a q t m) = absurd (read-execute (sym (m .phase) ∙ e))
       by v r (replies q c x rest m) = absurd (execute-write (sym e ∙ m .phase))
-      by v r (consumes a x rest m) = absurd (execute-write (sym e ∙ m .phase))
+      by v r (looks a x rest m) = (refl, refl)
+      by v r (drops a x rest m) = absurd (execute-write (sym e ∙ m .phase))
       by v r (closes a q t m) = absurd (read-execute (sym (m .phase) ∙ e))
-      by v r (looks i q t m) = (refl, refl)
+      by v r (tells i q t m) = (refl, refl)
 
   pub only-execute : (c : Call) → c ≢ execute → (call pl c s .state ≡ s) × (endsRound c (call pl c s .answer) ≡ 0)
   only-execute c = only c (call pl c s) (call-does pl s c)

@@ -1,4 +1,4 @@
--- What a shape has in each phase; and Launch, Reply, Consume and Close keep it.
+-- What a shape has in each phase; and Launch, Reply, Drop and Close keep it.
 use mathlib.Core.Path.{_≡_, refl, sym, ap, _∙_}
 use mathlib.Core.Bool.{Bool, true}
 use mathlib.Core.List.{List, _∷_}
@@ -78,7 +78,7 @@ module _ {pl : Plan} (s : State) where
           (flag-spares (passiveIn p) (λ z. some-not-none z) true (withQueue (passiveIn p) rest s))
           (join-spares (passiveOut p) (repliedAs k x) (withFlag (passiveIn p) true (withQueue (passiveIn p) rest s))))
 
-  -- Consume, in WRITE
+  -- Drop, in WRITE
   pub removed-shape : (a : ℕ) (rest : List Packet) → s .clock .phase ≡ Write → Shape pl s → Shape pl (removed a rest s)
   unfolding removed
   removed-shape a rest q h = spared-shape (removed a rest s) refl refl refl spares q h

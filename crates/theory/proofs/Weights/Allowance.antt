@@ -209,7 +209,7 @@ module _ {pl : Plan} {s : State} (c : Core pl s) where
       (λ b. let all = closed-weighed pl (anywhere (spends b)) c a p t h in
       let none = tdown-spends b (closingOf pl a p t) refl in omega arith)
 
-  -- What a consumed packet notes keeps the allowances.
+  -- What a dropped packet notes keeps the allowances.
   pub noted-allowances : (x : Packet) → Allowances pl (noted pl x s)
   noted-allowances x = noted-keeps pl x s (Allowances pl)
       (λ e. connection-allowances (x .active) (x .passive) _ true) (c .allowances)

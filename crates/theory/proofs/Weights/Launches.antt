@@ -1,4 +1,4 @@
--- A connection is accepted no more times than it was launched: the Consumes that accepted it, closed since or not, and
+-- A connection is accepted no more times than it was launched: the Drops that accepted it, closed since or not, and
 -- the set-ups and ACKs that are on the way, count against the accepted Launches of the same pair and start slot.
 use mathlib.Core.Path.{_≡_, refl, sym, ap, _∙_}
 use mathlib.Core.Logic.{_⊎_, inl, inr}
@@ -131,12 +131,12 @@ module _ (pl : Plan) (d : Connection) where
       connection-counted a p t x =
           same s (withConnection a p t x s) k (connection-weighed pl (anywhere (bears pl d)) a p t x s)
 
-      -- So does what a consumed packet notes.
+      -- So does what a dropped packet notes.
       pub noted-counted : (x : Packet) → Counted pl d m n (noted pl x s)
       noted-counted x =
           noted-keeps pl x s (Counted pl d m n) (λ e. connection-counted (x .active) (x .passive) _ true) k
 
-      -- So does a Consume: an ACK's connection is accepted, and another packet bears none.
+      -- So does a Drop: an ACK's connection is accepted, and another packet bears none.
       pub removed-counted : (a : ℕ) (x : Packet) (rest : List Packet) → a < A pl
           → s .lines .queue (activeIn a) ≡ x ∷ rest
           → Counted pl d (acceptsKind pl d (x .kind) x + m) n (removed a rest s)

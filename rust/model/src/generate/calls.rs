@@ -1,5 +1,5 @@
 //! Random lists of calls that keep a network busy: real rounds with launches, closes, replies and
-//! consumes, and stray calls in any phase with any arguments.
+//! drops, looks in every phase, and stray calls in any phase with any arguments.
 
 use super::Random;
 use crate::feeding::Queue;
@@ -14,7 +14,8 @@ struct Mood {
     close: usize,
     reply: usize,
     accept: usize,
-    consume: usize,
+    look: usize,
+    drop: usize,
     stray: usize,
     /// Launches ask for slots below this.
     slots: usize,
@@ -55,11 +56,13 @@ impl Caller {
         if random.chance(self.mood.stray, 160) {
             return stray(random, network);
         }
-        match state.phase {
+        let looks = random.chance(self.mood.look, 32);
+        let look = if looks { look(random, network, state) } else { None };
+        look.unwrap_or_else(|| match state.phase {
             Phase::Read => self.in_read(random, network, state),
             Phase::Execute => Call::Execute,
             Phase::Write => self.in_write(random, network, state),
-        }
+        })
     }
 
     /// Launches mostly where the allowance is not spent.
@@ -96,25 +99,30 @@ impl Caller {
         }
     }
 
-    /// Mostly where something waits.
+    /// Mostly where something waits, now and then where something was taken in this round already.
     fn in_write(&self, random: &mut Random, network: &Network, state: &State) -> Call {
         let plan = network.plan();
+        let again = random.chance(1, 24);
         let waits = |queue| {
             let flag = state.flags[network.queue_index(queue)];
-            !flag && !network.queue(state, queue).is_empty()
+            if again {
+                flag
+            } else {
+                !flag && !network.queue(state, queue).is_empty()
+            }
         };
         let passives: Vec<usize> =
             (0..plan.passives()).filter(|&n| waits(Queue::PassiveIn(n))).collect();
         let actives: Vec<usize> =
             (0..plan.actives()).filter(|&n| waits(Queue::ActiveIn(n))).collect();
         let reply = random.pick(&passives).filter(|_| random.chance(self.mood.reply, 16));
-        let consume = random.pick(&actives).filter(|_| random.chance(self.mood.consume, 16));
-        match (reply, consume) {
+        let drop = random.pick(&actives).filter(|_| random.chance(self.mood.drop, 16));
+        match (reply, drop) {
             (Some(passive), _) => {
                 let choice = usize::from(random.chance(self.mood.accept, 16));
                 Call::Reply { passive, choice }
             }
-            (None, Some(active)) => Call::Consume { active },
+            (None, Some(active)) => Call::Drop { active },
             (None, None) => Call::Write,
         }
     }
@@ -128,7 +136,8 @@ impl Mood {
             close: random.pick(&[0, 1, 2, 6, 16]).unwrap_or(1),
             reply: often(random),
             accept: random.pick(&[0, 1, 2, 8, 14]).unwrap_or(1),
-            consume: often(random),
+            look: random.pick(&[0, 1, 2, 6, 16]).unwrap_or(1),
+            drop: often(random),
             stray: random.pick(&[0, 4, 16, 48]).unwrap_or(4),
             slots: random.within(1..=network.slots()),
         }
@@ -138,14 +147,17 @@ impl Mood {
     /// once, so that several senders compete at an output.
     fn crowd(&self, random: &mut Random, network: &Network) -> Mood {
         let reply = if self.reply == 0 { 16 } else { 0 };
-        Mood {
-            launch: 15,
-            reply,
-            consume: 15,
-            slots: network.slots(),
-            ..Mood::new(random, network)
-        }
+        Mood { launch: 15, reply, drop: 15, slots: network.slots(), ..Mood::new(random, network) }
     }
+}
+
+/// Mostly where something waits, also with the flag up; else, now and then, wherever.
+fn look(random: &mut Random, network: &Network, state: &State) -> Option<Call> {
+    let actives = network.plan().actives();
+    let waiting: Vec<usize> =
+        (0..actives).filter(|&active| network.head(state, active).is_some()).collect();
+    let any = random.chance(1, 16).then(|| random.below(actives));
+    any.or(random.pick(&waiting)).map(|active| Call::Look { active })
 }
 
 /// Any call with any arguments, in range more often than not.
@@ -161,14 +173,15 @@ pub fn stray(random: &mut Random, network: &Network) -> Call {
     let (active, passive) = (number(plan.actives()), number(plan.passives()));
     let (router, side, slot) = (number(plan.routers()), number(SIDES), number(network.slots()));
     let choice = number(2);
-    match random.below(8) {
+    match random.below(9) {
         0 => Call::Read,
         1 => Call::Execute,
         2 => Call::Write,
         3 => Call::Launch { active, passive, slot },
         4 => Call::Reply { passive, choice },
-        5 => Call::Consume { active },
-        6 => Call::Close { active, passive, slot },
+        5 => Call::Look { active },
+        6 => Call::Drop { active },
+        7 => Call::Close { active, passive, slot },
         _ => Call::Entry { router, side, slot },
     }
 }

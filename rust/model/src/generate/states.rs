@@ -47,7 +47,7 @@ pub fn scramble(random: &mut Random, network: &Network, state: &mut State, count
 }
 
 /// The out-queue of some active is filled up with tear-downs, and a NACK joins its in-queue: Launch
-/// finds it full, and Consume an unmarked NACK. Every other time the active has a connection too:
+/// finds it full, and Drop an unmarked NACK. Every other time the active has a connection too:
 /// Close finds the out-queue full.
 pub fn jam(random: &mut Random, network: &Network, state: &mut State) {
     let plan = network.plan();

@@ -105,21 +105,33 @@ impl Network {
         Ok(())
     }
 
-    /// "Consume (active): 8 not WRITE; 9; 14; 13; 15 head is an unmarked NACK. Else the packet is
-    /// returned and removed, the flag rises, the allowance grows by one." An ACK's connection is
-    /// accepted.
-    pub fn consume(&self, state: &mut State, active: usize) -> Result<Packet, u32> {
+    /// "Look returns the head in any phase and changes nothing." "Look gives 9 and 13." Also with the
+    /// flag up, and also an unmarked NACK.
+    pub fn look(&self, state: &State, active: usize) -> Result<Packet, u32> {
+        self.ensure_state(state)?;
+        ensure(active < self.plan().actives(), RANGE)?;
+        self.head(state, active).ok_or(EMPTY)
+    }
+
+    /// "Drop removes it and returns nothing"; "Drop keeps Consume's 8, 9, 14, 13, 15": 8 not WRITE;
+    /// 9; 14 in-queue flag up; 13 in-queue empty; 15 head is an unmarked NACK. Else "the flag rises,
+    /// the allowance grows by one". "An ACK counts as accepted when dropped, with the numbers of the
+    /// packet that a Look just before would return."
+    pub fn drop(&self, state: &mut State, active: usize) -> Result<(), u32> {
         self.ensure_phase(state, Phase::Write)?;
         ensure(active < self.plan().actives(), RANGE)?;
         let head = self.waiting_head(state, Queue::ActiveIn(active))?;
         ensure(!head.is_unmarked_nack(), UNMARKED)?;
         self.take_head(state, Queue::ActiveIn(active));
-        let returned = self.rules().allowance_at_the_mark && head.kind == Kind::Nack;
+        let at_the_mark = self.rules().allowance_at_the_mark && head.kind == Kind::Nack;
+        let returned = at_the_mark || self.rules().allowance_at_the_look;
         state.allowances[active] += usize::from(!returned);
-        if head.kind == Kind::Ack && !self.rules().accepted_at_the_arrival {
-            state.marks.insert(self.connection(&head));
+        if self.rules().next_head_accepted {
+            self.accept(state, self.head(state, active).or(Some(head)));
+        } else if !self.rules().accepted_at_the_arrival && !self.rules().accepted_at_the_look {
+            self.accept(state, Some(head));
         }
-        Ok(head)
+        Ok(())
     }
 
     /// "Entry (router, side, slot): 9. Else the entry, 4 for free."
@@ -135,6 +147,28 @@ impl Network {
         ensure(in_range, RANGE)?;
         let entry = state.table.entry(router, side, Slot(slot));
         Ok(entry.map_or(FREE, |side| side as u32))
+    }
+
+    /// The head of an active's in-queue, if there is one.
+    pub fn head(&self, state: &State, active: usize) -> Option<Packet> {
+        self.queue(state, Queue::ActiveIn(active)).front().copied()
+    }
+
+    /// If this packet is an ACK, its connection is accepted.
+    fn accept(&self, state: &mut State, head: Option<Packet>) {
+        let ack = head.filter(|head| head.kind == Kind::Ack);
+        state.marks.extend(ack.map(|ack| self.connection(&ack)));
+    }
+
+    /// What a student's Look does besides, after it was accepted.
+    pub(super) fn students_look(&self, state: &mut State, active: usize) {
+        if self.rules().look_raises_the_flag {
+            state.flags[self.queue_index(Queue::ActiveIn(active))] = true;
+        }
+        if self.rules().accepted_at_the_look {
+            self.accept(state, self.head(state, active));
+        }
+        state.allowances[active] += usize::from(self.rules().allowance_at_the_look);
     }
 
     /// 7 not a state, then 8 another phase.

@@ -15,7 +15,7 @@ use crate::feeding::Queue;
 pub struct Claims<'n> {
     network: &'n Network,
     launched: HashMap<Connection, usize>,
-    /// How many Consumes accepted a connection, closed since or not.
+    /// How many Drops accepted a connection, closed since or not.
     acceptances: HashMap<Connection, usize>,
     /// The connections accepted and not closed since.
     accepted: BTreeSet<Connection>,
@@ -29,6 +29,12 @@ pub struct Claims<'n> {
     pub turned: usize,
     /// The most others that ever went before a head that stayed a candidate.
     pub most_before: usize,
+    /// How many heads stayed in sight of a Look over a call that left the phase as it was.
+    pub heads_kept: usize,
+    /// Of these, how many over a Drop of another active.
+    pub kept_at_drops: usize,
+    /// How many Drops brought another head into sight.
+    pub uncovered: usize,
     /// How often the network was empty while some connections were accepted.
     pub tables_compared: usize,
     /// How many connections were accepted that had been closed before.
@@ -50,6 +56,9 @@ impl<'n> Claims<'n> {
             contested: 0,
             turned: 0,
             most_before: 0,
+            heads_kept: 0,
+            kept_at_drops: 0,
+            uncovered: 0,
             tables_compared: 0,
             reopened: 0,
             longest_wait: 0,
@@ -72,7 +81,7 @@ impl<'n> Claims<'n> {
         if let Some(fault) = self.network.fault(state) {
             return Err(format!("not a state: {fault}"));
         }
-        self.note_connections(call, answer)?;
+        self.note_connections(call, answer, before)?;
         // "The state now keeps the accepted connections."
         if state.marks != self.accepted {
             return Err("the state keeps other connections than the calls tell".to_string());
@@ -93,10 +102,12 @@ impl<'n> Claims<'n> {
         if answer.is_err() && before != state {
             return Err(format!("{call:?} was refused and altered the state"));
         }
+        self.look_tells_the_head(call, answer, before, state)?;
         if let Some(fault) = self.network.core_fault(state) {
             return Err(format!("not a state: {fault}"));
         }
         self.no_queue_over_capacity(state)?;
+        self.note_heads(call, answer.is_ok(), before, state)?;
         if call == Call::Execute && answer.is_ok() {
             self.note_turns(state)?;
         }
@@ -110,6 +121,59 @@ impl<'n> Claims<'n> {
                 self.network.queue(state, queue).len() > self.network.capacity(queue)
             });
         over.map_or(Ok(()), |queue| Err(format!("{queue:?} is over its capacity")))
+    }
+
+    /// "Look returns the head in any phase and changes nothing; Drop removes it and returns nothing."
+    /// What a Look just before an accepted Drop gives is the packet that the Drop removes.
+    fn look_tells_the_head(
+        &self,
+        call: Call,
+        answer: Result<Answer, u32>,
+        before: &State,
+        state: &State,
+    ) -> Result<(), String> {
+        match (call, answer) {
+            (Call::Look { .. }, _) if before != state => {
+                Err("a Look changed the state".to_string())
+            }
+            (Call::Look { active }, Ok(given)) => {
+                let head = self.network.head(before, active).map(Answer::Packet);
+                let told = head == Some(given);
+                told.then_some(()).ok_or_else(|| format!("a Look gave {given:?}, not the head"))
+            }
+            (Call::Drop { active }, Ok(given)) => {
+                let within = |state| self.network.queue(state, Queue::ActiveIn(active)).iter();
+                let looked = self.network.look(before, active).ok();
+                let removed = looked.iter().chain(within(state)).eq(within(before));
+                let told = given == Answer::Done && removed;
+                told.then_some(()).ok_or_else(|| "a Drop removed another packet".to_string())
+            }
+            _ => Ok(()),
+        }
+    }
+
+    /// Within a phase no call but a Drop of that active changes what Look gives.
+    fn note_heads(
+        &mut self,
+        call: Call,
+        accepted: bool,
+        before: &State,
+        state: &State,
+    ) -> Result<(), String> {
+        for active in (0..self.network.plan().actives()).filter(|_| before.phase == state.phase) {
+            let heads = [before, state].map(|state| self.network.head(state, active));
+            if accepted && call == (Call::Drop { active }) {
+                self.uncovered += usize::from(heads[1].is_some());
+            } else if heads[0] != heads[1] {
+                return Err(format!("{call:?} changed what a Look of active {active} gives"));
+            } else {
+                let kept = usize::from(heads[0].is_some());
+                self.heads_kept += kept;
+                let drops = accepted && matches!(call, Call::Drop { .. });
+                self.kept_at_drops += kept * usize::from(drops);
+            }
+        }
+        Ok(())
     }
 
     /// "A head that stays a candidate sees at most three others go before it on that output": after
@@ -137,16 +201,25 @@ impl<'n> Claims<'n> {
         Ok(())
     }
 
-    /// "Each accepted Consume that returns an ACK accepts one"; at an accepted Close it "leaves the
-    /// accepted ones".
-    fn note_connections(&mut self, call: Call, answer: Result<Answer, u32>) -> Result<(), String> {
+    /// "An ACK counts as accepted when dropped, with the numbers of the packet that a Look just before
+    /// would return": told by the call and the state before it. At an accepted Close a connection
+    /// "leaves the accepted ones".
+    fn note_connections(
+        &mut self,
+        call: Call,
+        answer: Result<Answer, u32>,
+        before: &State,
+    ) -> Result<(), String> {
         match (call, answer) {
             (Call::Launch { active, passive, slot }, Ok(_)) => {
                 let connection = Connection { active, passive, start: Slot(slot) };
                 *self.launched.entry(connection).or_default() += 1;
             }
-            (Call::Consume { .. }, Ok(Answer::Packet(packet))) if packet.kind == Kind::Ack => {
-                return self.note_acceptance(self.network.connection(&packet));
+            (Call::Drop { active }, Ok(_)) => {
+                let looked = self.network.look(before, active);
+                if let Some(ack) = looked.ok().filter(|head| head.kind == Kind::Ack) {
+                    return self.note_acceptance(self.network.connection(&ack));
+                }
             }
             (Call::Close { active, passive, slot }, Ok(_)) => {
                 let connection = Connection { active, passive, start: Slot(slot) };
@@ -159,7 +232,7 @@ impl<'n> Claims<'n> {
         Ok(())
     }
 
-    /// "At least as many accepted Launches of those three numbers as Consumes that accepted them";
+    /// "At least as many accepted Launches of those three numbers as" Drops "that accepted them";
     /// and a connection is accepted only while it is not.
     fn note_acceptance(&mut self, connection: Connection) -> Result<(), String> {
         let acceptances = self.acceptances.entry(connection).or_default();

@@ -38,9 +38,14 @@ pub enum Call {
         /// 1 accept or 0 decline.
         choice: usize,
     },
-    /// Consume.
-    Consume {
-        /// The active that consumes.
+    /// Look.
+    Look {
+        /// The active that looks.
+        active: usize,
+    },
+    /// Drop.
+    Drop {
+        /// The active that drops.
         active: usize,
     },
     /// Entry.
@@ -59,7 +64,7 @@ pub enum Call {
 pub enum Answer {
     /// "An accepted call with nothing to return says only that."
     Done,
-    /// The packet that Consume returns.
+    /// The packet that Look returns.
     Packet(Packet),
     /// The entry, 4 for free.
     Entry(u32),
@@ -81,7 +86,12 @@ impl Network {
             Call::Reply { passive, choice } => {
                 self.reply(state, passive, choice).map(|()| Answer::Done)
             }
-            Call::Consume { active } => self.consume(state, active).map(Answer::Packet),
+            Call::Look { active } => {
+                let head = self.look(state, active)?;
+                self.students_look(state, active);
+                Ok(Answer::Packet(head))
+            }
+            Call::Drop { active } => self.drop(state, active).map(|()| Answer::Done),
             Call::Entry { router, side, slot } => {
                 self.entry(state, router, side, slot).map(Answer::Entry)
             }

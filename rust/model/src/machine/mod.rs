@@ -8,8 +8,8 @@
 //! * [`phases`]: what READ, EXECUTE and WRITE do. [`calls`]: the calls with their refusals.
 //! * [`valid`]: what is a state (refusal 7), and [`places`], where a packet of a pair can be.
 //! * [`bytes`]: a state's bytes, by docs/STATE.md. [`rules`]: what students write instead.
-//! * [`list`]: calls as values. [`claims`]: demand 3, watched from outside by the calls and their
-//!   answers.
+//! * [`list`]: calls as values. [`claims`]: demand 3, watched from outside by the calls, their answers
+//!   and the states between them.
 
 pub mod bytes;
 pub mod calls;

@@ -14,7 +14,7 @@ pub struct Rules {
     pub last_free_booked: bool,
     /// The TDOWN's slot is slot minus hub without the modulus, 0 where hub is the greater.
     pub slot_minus_hub_unwrapped: bool,
-    /// The allowance grows when the NACK is marked, not when it is consumed.
+    /// The allowance grows when the NACK is marked, not when it is dropped.
     pub allowance_at_the_mark: bool,
     /// A queue's credit grows when a packet arrives, not after one has left.
     pub credit_at_the_arrival: bool,
@@ -26,7 +26,7 @@ pub struct Rules {
     pub close_frees_early: bool,
     /// A closed connection stays accepted until its TDOWN has ended.
     pub accepted_until_torn_down: bool,
-    /// A connection is accepted when its ACK joins the active's in-queue, not when it is consumed.
+    /// A connection is accepted when its ACK joins the active's in-queue, not when it is dropped.
     pub accepted_at_the_arrival: bool,
     /// An output always asks its senders from the first in order on, as before request (b).
     pub lowest_first: bool,
@@ -34,6 +34,15 @@ pub struct Rules {
     pub same_one_again: bool,
     /// In a round in which its entry is booked, a side's turn goes on by one though nobody is served.
     pub turn_lost_when_booked: bool,
+    /// A Look raises the in-queue's flag, as if the head had left.
+    pub look_raises_the_flag: bool,
+    /// A Drop removes the head and then looks at the head for whom to accept: at the next one, where
+    /// there is one.
+    pub next_head_accepted: bool,
+    /// A connection is accepted when its ACK is looked at, not when it is dropped.
+    pub accepted_at_the_look: bool,
+    /// The allowance grows when an answer is looked at, not when it is dropped.
+    pub allowance_at_the_look: bool,
 }
 
 impl Rules {

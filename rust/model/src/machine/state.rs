@@ -57,8 +57,8 @@ pub struct State {
     pub table: Table,
     /// Each active's allowance.
     pub allowances: Vec<usize>,
-    /// "The state now keeps the accepted connections, set when an ACK is consumed": a mark for each
-    /// connection that is accepted and not closed since.
+    /// "The state now keeps the accepted connections", and "an ACK counts as accepted when dropped":
+    /// a mark for each connection that is accepted and not closed since.
     pub marks: BTreeSet<Connection>,
     /// "Each output remembers the last sender that a WRITE served": its rank among the output's
     /// senders in order, from 0.

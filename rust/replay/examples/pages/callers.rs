@@ -1,4 +1,4 @@
-//! The calls of the pages: four lists, and a caller that keeps a network busy.
+//! The calls of the pages: five lists, and a caller that keeps a network busy.
 
 use model::generate::Random;
 use trace::net::Phase;
@@ -9,18 +9,18 @@ fn rounds(count: usize) -> Vec<Call> {
     [Call::Read, Call::Execute, Call::Write].repeat(count)
 }
 
-/// Document 01's first run: launched in round 0, accepted in round 4, consumed in round 7.
+/// Document 01's first run: launched in round 0, accepted in round 4, dropped in round 7.
 pub fn first() -> Vec<Call> {
     let launch = |slot| Call::Launch { active: 0, passive: 0, slot };
     let mut calls = vec![launch(0), launch(1)];
     calls.extend(rounds(4));
     calls.extend([Call::Read, Call::Execute, Call::Reply { passive: 0, choice: 1 }, Call::Write]);
     calls.extend(rounds(2));
-    calls.extend([Call::Read, Call::Execute, Call::Consume { active: 0 }, Call::Write]);
+    calls.extend([Call::Read, Call::Execute, Call::Drop { active: 0 }, Call::Write]);
     // The second set-up asks for the last free entry of the side.
     calls.push(launch(1));
     calls.extend(rounds(4));
-    calls.extend([Call::Read, Call::Execute, Call::Consume { active: 0 }, Call::Write]);
+    calls.extend([Call::Read, Call::Execute, Call::Drop { active: 0 }, Call::Write]);
     calls.extend([0, 1].map(|slot| Call::Entry { router: 0, side: 1, slot }));
     calls
 }
@@ -31,17 +31,17 @@ pub fn declined() -> Vec<Call> {
     calls.extend(rounds(4));
     calls.extend([Call::Read, Call::Execute, Call::Reply { passive: 0, choice: 1 }, Call::Write]);
     calls.extend(rounds(2));
-    calls.extend([Call::Read, Call::Execute, Call::Consume { active: 1 }, Call::Write]);
+    calls.extend([Call::Read, Call::Execute, Call::Drop { active: 1 }, Call::Write]);
     calls.push(Call::Launch { active: 0, passive: 0, slot: 3 });
     calls.extend(rounds(9));
-    calls.extend([Call::Read, Call::Execute, Call::Consume { active: 0 }, Call::Write]);
+    calls.extend([Call::Read, Call::Execute, Call::Drop { active: 0 }, Call::Write]);
     calls.extend(rounds(4));
     calls.extend([(0, 3), (1, 0)].map(|(router, slot)| Call::Entry { router, side: 1, slot }));
     calls
 }
 
 /// Two routers, start 3: opened, closed, and opened again from the same slot. Closed before its ACK
-/// is consumed and closed twice it is refused.
+/// is dropped and closed twice it is refused.
 pub fn closed() -> Vec<Call> {
     let close = Call::Close { active: 0, passive: 0, slot: 3 };
     let open = |late: &[Call]| {
@@ -51,7 +51,7 @@ pub fn closed() -> Vec<Call> {
         calls.extend([Call::Read, Call::Execute, reply, Call::Write]);
         calls.extend(rounds(3));
         calls.extend_from_slice(late);
-        calls.extend([Call::Read, Call::Execute, Call::Consume { active: 0 }, Call::Write]);
+        calls.extend([Call::Read, Call::Execute, Call::Drop { active: 0 }, Call::Write]);
         calls
     };
     let mut calls = open(&[close]);
@@ -73,7 +73,25 @@ pub fn turns() -> Vec<Call> {
     let replies = [0, 1].map(|passive| Call::Reply { passive, choice: 1 });
     calls.extend([Call::Read, Call::Execute, replies[0], replies[1], Call::Write]);
     calls.extend(rounds(6));
-    calls.extend([Call::Read, Call::Execute, Call::Consume { active: 0 }, Call::Write]);
+    calls.extend([Call::Read, Call::Execute, Call::Drop { active: 0 }, Call::Write]);
+    calls
+}
+
+/// One router: two ACKs wait for active 0. Looked at in each phase, and only then dropped: then a Look
+/// shows the second one, and a Drop must wait for the next round.
+pub fn looked() -> Vec<Call> {
+    let launch = |passive| Call::Launch { active: 0, passive, slot: 0 };
+    let close = |passive| Call::Close { active: 0, passive, slot: 0 };
+    let (look, drop) = (Call::Look { active: 0 }, Call::Drop { active: 0 });
+    let mut calls = vec![launch(0), launch(1), look];
+    calls.extend(rounds(6));
+    let replies = [0, 1].map(|passive| Call::Reply { passive, choice: 1 });
+    calls.extend([Call::Read, Call::Execute, replies[0], replies[1], Call::Write]);
+    calls.extend(rounds(4));
+    calls.extend([look, close(0), Call::Read, look, Call::Execute]);
+    calls.extend([look, drop, look, drop, Call::Write, close(1), close(0)]);
+    calls.extend([look, Call::Read, look, Call::Execute, look, drop, look, Call::Write]);
+    calls.extend(rounds(3));
     calls
 }
 
@@ -95,6 +113,9 @@ impl Caller {
     pub fn next(&mut self, run: &Run) -> Call {
         if self.random.chance(1, 30) {
             return self.stray(run);
+        }
+        if self.random.chance(1, 40) {
+            return Call::Look { active: self.random.below(run.plan().actives()) as u32 };
         }
         match run.net().phase {
             Phase::Read => self.close(run).or(self.launch(run)).unwrap_or(Call::Read),
@@ -123,7 +144,7 @@ impl Caller {
         Some(Call::Launch { active: active as u32, passive: passive as u32, slot })
     }
 
-    /// A Reply or a Consume where something waits.
+    /// A Reply or a Drop where something waits.
     fn answer(&mut self, run: &Run) -> Option<Call> {
         let waits = |queue| {
             let row = run.net().row(run.plan(), queue);
@@ -133,8 +154,8 @@ impl Caller {
         let actives = (0..run.plan().actives()).filter(|&n| waits(Queue::ActiveIn(n)));
         let choice = u32::from(self.random.chance(12, 16));
         let replies = passives.map(|n| Call::Reply { passive: n as u32, choice });
-        let consumes = actives.map(|n| Call::Consume { active: n as u32 });
-        let calls: Vec<Call> = replies.chain(consumes).collect();
+        let drops = actives.map(|n| Call::Drop { active: n as u32 });
+        let calls: Vec<Call> = replies.chain(drops).collect();
         let answers = self.random.chance(self.eager, 16);
         self.random.pick(&calls).filter(|_| answers)
     }
@@ -145,14 +166,15 @@ impl Caller {
         let mut below = |bound: usize| self.random.below(bound + 1) as u32;
         let (active, passive) = (below(plan.actives()), below(plan.passives()));
         let (router, side, slot) = (below(plan.routers()), below(4), below(plan.slots()));
-        match below(7) {
+        match below(8) {
             0 => Call::Read,
             1 => Call::Execute,
             2 => Call::Write,
             3 => Call::Launch { active, passive, slot },
             4 => Call::Reply { passive, choice: slot % 3 },
-            5 => Call::Consume { active },
-            6 => Call::Close { active, passive, slot },
+            5 => Call::Look { active },
+            6 => Call::Drop { active },
+            7 => Call::Close { active, passive, slot },
             _ => Call::Entry { router, side, slot },
         }
     }

@@ -1,4 +1,4 @@
-//! Writes the pages that the browser tests open into a folder: eight runs and some on random plans
+//! Writes the pages that the browser tests open into a folder: nine runs and some on random plans
 //! for the self-test, and one of 5,000 calls on the largest plan for the times.
 //!
 //!     cargo run --release -p replay --example pages -- FOLDER
@@ -50,6 +50,15 @@ impl Calls for (Caller, usize) {
     }
 }
 
+/// Short runs on random plans.
+fn random(folder: &Path) {
+    for (number, plan) in plans::random(10).iter().enumerate() {
+        let file = format!("random-{number}");
+        let mut calls = (Caller::new(number as u64, 10), 120);
+        write(folder, &file, &file, "A random plan.", plan, &mut calls);
+    }
+}
+
 fn main() -> ExitCode {
     let Some(folder) = std::env::args().nth(1) else {
         eprintln!("pages: name a folder to write the pages to");
@@ -69,6 +78,8 @@ fn main() -> ExitCode {
     let note = "Several senders at one output take turns.";
     let one = plans::one_router();
     write(folder, "turns", "Turn about at an output", note, &one, &mut scripted(callers::turns()));
+    let note = "Answers are looked at in every phase, and then dropped.";
+    write(folder, "looked", "Look before dropping", note, &one, &mut scripted(callers::looked()));
     let note = "Three sensors, two drives, any calls.";
     write(folder, "arm", "An arm of three routers", note, &plans::arm(), &mut busy(3, 420));
     let note = "Nine routers; sensors left and above, drives below and right.";
@@ -83,9 +94,6 @@ fn main() -> ExitCode {
     let note = "5,000 calls on the largest plan.";
     let mut eager = (Caller::new(7, 14), 5000);
     write(folder, "long", "A long run", note, &largest, &mut eager);
-    for (number, plan) in plans::random(10).iter().enumerate() {
-        let file = format!("random-{number}");
-        write(folder, &file, &file, "A random plan.", plan, &mut busy(number as u64, 120));
-    }
+    random(folder);
     ExitCode::SUCCESS
 }

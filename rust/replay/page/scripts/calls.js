@@ -13,8 +13,9 @@ const CALLS = {
       `Close ${nameOf.active(active)} → ${nameOf.passive(passive)} from slot ${slot}` },
   P: { name: "Reply", phase: 2, args: ["passive", "choice"],
     text: ([passive, choice]) => `Reply ${nameOf.passive(passive)}: ${["decline", "accept"][choice] ?? choice}` },
-  C: { name: "Consume", phase: 2, args: ["active"],
-    text: ([active]) => `Consume ${nameOf.active(active)}`, answer: packetAnswer },
+  H: { name: "Look", args: ["active"],
+    text: ([active]) => `Look ${nameOf.active(active)}`, answer: packetAnswer },
+  D: { name: "Drop", phase: 2, args: ["active"], text: ([active]) => `Drop ${nameOf.active(active)}` },
   E: { name: "Entry", args: ["router", "side", "slot"],
     text: ([router, side, slot]) => `Entry ${nameOf.router(router)}, side ${side}, slot ${slot}`, answer: entryAnswer },
 };

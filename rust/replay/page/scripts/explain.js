@@ -23,6 +23,7 @@ function explain(call, events, before, after) {
   const sentences = events.map((event) => eventSentence(call, event, before, after)).filter(Boolean);
   if (call.letter === "X") sentences.push(...executeSentences(after, sentences.length));
   if (call.letter === "R" || call.letter === "W") sentences.push(...moveSentences(call, events));
+  if (call.letter === "H") sentences.push(lookSentence(call, after));
   return sentences;
 }
 
@@ -101,7 +102,16 @@ function freeSentence(packet, before, then) {
     `${html.router(hop.router)}; ${then}.`, key: true };
 }
 
-/** A packet ends: a tear-down at its last router, an answer that is consumed. */
+/** A Look: what stands at the head, and what is not yet so. */
+function lookSentence({ args: [active] }, state) {
+  const packet = headFor(state, active);
+  const head = `${packetChip(packet)} is the head of ${html.place(packet.place)}.`;
+  const then = packet.kind === "A" ? "The connection is accepted when it is dropped." :
+    packet.hub > 0 ? "Its tear-down is not in the out-queue yet: it cannot be dropped." : "It is marked.";
+  return { html: `${head} ${then} A Look changes nothing.` };
+}
+
+/** A packet ends: a tear-down at its last router, an answer that is dropped. */
 function endSentence({ packet }, after) {
   if (packet.kind === "T") return freeSentence(packet, packet, "hub was 1, it ends");
   const left = after.allowances[packet.active];

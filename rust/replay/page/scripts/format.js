@@ -1,8 +1,8 @@
 // The recording: reads the data block of the page and the lines of its calls.
-// The format `pandabrass-run/3` is described in the README of the crate.
+// The format `pandabrass-run/4` is described in the README of the crate.
 
 /** The format this page shows, and its number. */
-const FORMAT = { name: "pandabrass-run", number: 3 };
+const FORMAT = { name: "pandabrass-run", number: 4 };
 
 /** Refuses data of another format, and data that is newer or older than this page. */
 function checkFormat(format) {

@@ -16,7 +16,7 @@ function checkOwners(position) {
   });
 }
 
-/** The state keeps exactly the connections whose ACK was consumed and that were not closed since. */
+/** The state keeps exactly the connections whose ACK was dropped and that were not closed since. */
 function checkAccepted(position) {
   const { accepted } = shown.state;
   const told = acceptedBy(position);

@@ -51,9 +51,21 @@ function checkCall(position) {
   const { letter, refusal, phase } = run.calls[position - 1];
   const tokens = run.lines[position - 1].split(" ").length - 2;
   must(!refusal || tokens === 0, position, "a refused call changed something");
-  const needed = { R: 0, X: 1, W: 2, L: 0, K: 0, P: 2, C: 2 }[letter];
+  if (letter === "H") checkLook(position, tokens);
+  const needed = { R: 0, X: 1, W: 2, L: 0, K: 0, P: 2, D: 2 }[letter];
   const fits = needed === undefined || (needed !== phase) === (refusal === 8);
   must(fits, position, `the call ${letter} does not fit the phase before it`);
+}
+
+/** A Look changed nothing, and gave the head; 13 where there is none. */
+function checkLook(position, tokens) {
+  const { args: [active], refusal, answer } = run.calls[position - 1];
+  must(tokens === 0, position, "a Look changed something");
+  if (refusal === 9) return;
+  const head = headFor(shown.state, active);
+  const { kind, passive, slot, hub } = head ?? {};
+  const told = head ? [kind, active, passive, slot, hub].join() : "13";
+  must(told === (answer || String(refusal)), position, `a Look gave ${answer || refusal}, at the head is ${told}`);
 }
 
 /** Jumps give the same states as single steps. */
@@ -68,23 +80,25 @@ function checkJumps() {
 /** The lanes have the calls that the lines tell. */
 function checkMoments() {
   const matching = (pattern) => run.lines.filter((line) => pattern.test(line)).length;
-  const lines = { refusal: matching(/^\S+!/), launch: matching(/^L[\d,]+ /), accepted: matching(/^C\d+=A/),
-    close: matching(/^K[\d,]+ /) };
+  const lines = { refusal: matching(/^\S+!/), launch: matching(/^L[\d,]+ /), close: matching(/^K[\d,]+ /) };
   for (const [lane, calls] of Object.entries({ ...lines, ...countKinds() })) {
     const found = run.lanes[lane].length;
     must(found === calls, callCount(), `the lane ${lane} has ${found} calls, the lines ${calls}`);
   }
 }
 
-/** How many calls decline a set-up, and how many make or end a tear-down, by the kinds in the lines alone. */
+/** How many calls decline a set-up, accept by dropping an ACK, and make or end a tear-down, by the kinds in the
+    lines alone. */
 function countKinds() {
   const kinds = new Map();
-  const found = { decline: 0, "tear-down": 0 };
+  const found = { decline: 0, accepted: 0, "tear-down": 0 };
   for (const line of run.lines) {
     const tokens = [...line.matchAll(/ ([-+=])([0-9a-z]+)(?:,([STAN]))?/g)];
     const declines = ([, sign, id, kind]) => sign === "=" && kind === "N" && kinds.get(id) === "S";
     const tears = ([, sign, id, kind]) => (sign === "+" && kind === "T") || (sign === "-" && kinds.get(id) === "T");
+    const accepts = ([, sign, id]) => sign === "-" && kinds.get(id) === "A" && line.startsWith("D");
     found.decline += tokens.some(declines) ? 1 : 0;
+    found.accepted += tokens.some(accepts) ? 1 : 0;
     found["tear-down"] += tokens.some(tears) ? 1 : 0;
     for (const [, , id, kind] of tokens) if (kind) kinds.set(id, kind);
   }

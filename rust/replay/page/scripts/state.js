@@ -100,6 +100,12 @@ function isBooked(state, entry) {
   return state.table[entry] !== FREE;
 }
 
+/** The head of an active's in-queue. */
+function headFor(state, active) {
+  const { number } = run.places.find((place) => place.spot === "active-in" && place.active === active);
+  return state.packets.get(state.held[number][0]);
+}
+
 /** The senders of an output that have a packet, in the order in which it looks at them: from the one behind the
     last served on. */
 function inTurn(state, output) {

@@ -22,7 +22,7 @@ function isLaunch(event) {
   return event.what === "made" && event.packet.kind === "S";
 }
 
-/** A connection comes to be accepted: its ACK is consumed. */
+/** A connection comes to be accepted: its ACK is dropped. */
 function isAccepted(event) {
   return event.what === "ended" && event.packet.kind === "A";
 }
@@ -97,7 +97,8 @@ function shortSentence({ what, packet, before }) {
   const was = before ?? packet;
   const hop = hopAt(was);
   const entry = hop ? `${nameOf.router(hop.router)}.${hop.side} slot ${was.slot}` : "";
-  if (what === "ended") return packet.kind === "T" ? `${letter} frees ${entry} and ends` : "";
+  if (what === "ended" && packet.kind !== "T") return packet.kind === "A" ? `${letter} is accepted` : `NACK of ${letter}`;
+  if (what === "ended") return `${letter} frees ${entry} and ends`;
   if (was.kind === "S" && packet.kind === "N") return hop ? `${nameOf.router(hop.router)} declines ${letter}` : "";
   if (packet.kind === "T") return `${letter} frees ${entry}`;
   return packet.kind === "S" ? `${letter} books ${entry}` : "";
@@ -112,7 +113,7 @@ function startJourney({ packet, parent }) {
 /** What happened to a packet, in a word; nothing for a move. */
 function stepWord({ what, packet, before }) {
   if (what === "made") return packet.kind === "S" ? "launched" : "made";
-  if (what === "ended") return packet.kind === "T" ? "frees, ends" : "consumed";
+  if (what === "ended") return packet.kind === "T" ? "frees, ends" : "dropped";
   if (what !== "changed") return "";
   if (before.kind !== packet.kind) return packet.kind === "A" ? "accepted" : "declined";
   if (packet.kind === "N") return "marked";

@@ -21,7 +21,7 @@ pub struct Connection {
 pub enum Hold {
     /// Its set-up or its ACK is on its way.
     UnderWay,
-    /// Its ACK was consumed.
+    /// Its ACK was dropped.
     Accepted,
     /// It was closed, and its tear-down is on its way.
     Closing,
@@ -29,8 +29,9 @@ pub enum Hold {
     LeftBehind,
     /// Its tear-down is on its way.
     TearingDown,
-    /// Declined or closed, and nothing of it is under way any more. By the documents' rules it then
-    /// owns nothing; by a student's it may, and then for good.
+    /// Declined or closed, or by a student's rule dropped and not accepted, and nothing of it is under
+    /// way any more. By the documents' rules it then owns nothing; by a student's it may, and then for
+    /// good.
     Over,
 }
 
@@ -205,12 +206,12 @@ impl Book {
         launch.declined = Some(by);
     }
 
-    /// An ACK was consumed: its connection is accepted.
+    /// An ACK was dropped: its connection is accepted.
     pub fn accept(&mut self, id: Id) {
         self.launch_mut(id).hold = Hold::Accepted;
     }
 
-    /// A tear-down has ended, or a NACK without one was consumed.
+    /// A tear-down has ended, or a NACK without one was dropped.
     pub fn end(&mut self, id: Id) {
         self.launch_mut(id).hold = Hold::Over;
     }

@@ -139,13 +139,24 @@ pub enum Event {
         /// The packet.
         id: Id,
     },
-    /// Consume: an answer left the network.
-    Consumed {
+    /// Look: an active was shown the head of its in-queue.
+    Looked {
         /// The packet.
         id: Id,
-        /// What was returned.
+        /// As it was shown.
+        packet: Packet,
+        /// The number of the connection that came to be accepted, which only a student's rule does.
+        accepted: Option<usize>,
+    },
+    /// Drop: an answer left the network.
+    Dropped {
+        /// The packet.
+        id: Id,
+        /// As it was, what a Look just before shows.
         packet: Packet,
         /// The active's allowance now.
         allowance: usize,
+        /// The number of the connection that came to be accepted: an ACK's own.
+        accepted: Option<usize>,
     },
 }

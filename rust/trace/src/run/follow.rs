@@ -3,14 +3,14 @@
 use pandabrass::{Entry, Kind, Packet};
 
 use super::event::{Cell, Event, Wait, Why};
-use super::{Connection, Decline, Run};
-use crate::calls::{Answer, Call};
+use super::{Connection, Decline, Hold, Id, Run};
+use crate::calls::Call;
 use crate::net::{Net, Phase};
 use crate::place::{Output, Place, Port, Queue};
 
 impl Run<'_> {
     /// The events of an accepted call; `self.net` is already what it left.
-    pub(super) fn follow(&mut self, before: &Net, call: Call, answer: Answer) -> Vec<Event> {
+    pub(super) fn follow(&mut self, before: &Net, call: Call) -> Vec<Event> {
         let n = |number: u32| number as usize;
         match call {
             Call::Read => self.follow_read(before),
@@ -25,9 +25,8 @@ impl Run<'_> {
                 vec![self.follow_close(before, Connection { active, passive, start: n(slot) })]
             }
             Call::Reply { passive, choice } => vec![self.follow_reply(n(passive), choice == 1)],
-            Call::Consume { active } => {
-                self.follow_consume(n(active), answer).into_iter().collect()
-            }
+            Call::Look { active } => vec![self.follow_look(before, n(active))],
+            Call::Drop { active } => vec![self.follow_drop(before, n(active))],
             Call::Entry { .. } => Vec::new(),
         }
     }
@@ -124,7 +123,7 @@ impl Run<'_> {
     }
 
     /// Why a head was not picked.
-    fn wait(&self, output: Output, packet: &Packet, picked: Option<super::Id>) -> Option<Wait> {
+    fn wait(&self, output: Output, packet: &Packet, picked: Option<Id>) -> Option<Wait> {
         debug_assert_eq!(self.net.phase, Phase::Write);
         if let Output::Side(port) = output {
             let slot = self.net.slot;
@@ -213,15 +212,49 @@ impl Run<'_> {
         Event::Answered { id }
     }
 
-    fn follow_consume(&mut self, active: usize, answer: Answer) -> Option<Event> {
-        let Answer::Packet(packet) = answer else { return None };
-        let id = self.seats.leave(self.plan, Queue::ActiveIn(active));
-        let torn_down = self.book.packets.iter().any(|made| made.parent == Some(id));
-        if packet.kind == Kind::Ack {
-            self.book.accept(id);
-        } else if !torn_down {
-            self.book.end(id);
+    /// The head stays; by a student's rule its connection may come to be accepted.
+    fn follow_look(&mut self, before: &Net, active: usize) -> Event {
+        let into = Queue::ActiveIn(active);
+        let packet = before.row(self.plan, into).packets[0];
+        let id = self.seats.head(self.plan, into);
+        let accepted = self.follow_acceptance(before, &[id]);
+        Event::Looked { id, packet, accepted }
+    }
+
+    /// The head leaves; an ACK's connection is accepted.
+    fn follow_drop(&mut self, before: &Net, active: usize) -> Event {
+        let into = Queue::ActiveIn(active);
+        let packet = before.row(self.plan, into).packets[0];
+        let id = self.seats.leave(self.plan, into);
+        let next = self.seats.queue(self.plan, into).front().copied();
+        let accepted = self.follow_acceptance(before, &[id, next.unwrap_or(id)]);
+        self.follow_end(id, packet.kind);
+        Event::Dropped { id, packet, allowance: self.net.allowances[active], accepted }
+    }
+
+    /// The connection that a call accepted, if it did: the ACK is one of these.
+    fn follow_acceptance(&mut self, before: &Net, acks: &[Id]) -> Option<usize> {
+        let new = |connection: &&Connection| !before.accepted.contains(connection);
+        let connection = *self.net.accepted.iter().find(new)?;
+        let number = self.book.number(connection);
+        let of = |id: &&Id| self.book.connection_of(**id) == number;
+        if let Some(&ack) = acks.iter().find(of) {
+            self.book.accept(ack);
         }
-        Some(Event::Consumed { id, packet, allowance: self.net.allowances[active] })
+        Some(number)
+    }
+
+    /// What becomes of a launch whose answer has left the network.
+    fn follow_end(&mut self, id: Id, kind: Kind) {
+        let launch = *self.book.launch_of(id);
+        let connection = self.book.connections[launch.connection];
+        let torn_down = self.book.packets.iter().any(|made| made.parent == Some(id));
+        match kind {
+            // By a student's rule it was accepted before, or it never is.
+            Kind::Ack if launch.hold != Hold::UnderWay => {}
+            Kind::Ack if self.net.accepted.contains(&connection) => self.book.accept(id),
+            _ if torn_down => {}
+            _ => self.book.end(id),
+        }
     }
 }

@@ -57,10 +57,10 @@ impl<'a> Run<'a> {
         let answer = self.calls.call(&mut self.bytes, call);
         self.number += 1;
         let events = match answer {
-            Ok(answer) => {
+            Ok(_) => {
                 let net = Net::decode(self.plan, &self.bytes).expect("a call leaves a state");
                 let before = std::mem::replace(&mut self.net, net);
-                let events = self.follow(&before, call, answer);
+                let events = self.follow(&before, call);
                 self.book.keep_accepted(&self.net.accepted);
                 events
             }

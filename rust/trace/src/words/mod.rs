@@ -70,7 +70,8 @@ pub fn call(names: &Names, call: Call) -> String {
             1 => format!("reply {} accept", passive(p)),
             choice => format!("reply {} {choice}", passive(p)),
         },
-        Call::Consume { active: a } => format!("consume {}", active(a)),
+        Call::Look { active: a } => format!("look {}", active(a)),
+        Call::Drop { active: a } => format!("drop {}", active(a)),
         Call::Entry { router, side, slot } => {
             format!("entry {}.{side} {slot}", names.router(router as usize))
         }
@@ -136,8 +137,10 @@ pub fn standing(run: &Run, connection: Connection) -> &'static str {
         Some(launch) if launch.closed => "it was closed",
         Some(launch) if launch.declined.is_some() => "it was declined",
         Some(launch) => match run.packet(launch.id).map(|seated| seated.packet.kind) {
-            Some(Kind::Ack) => "its ACK is not consumed yet",
-            _ => "it is under way",
+            Some(Kind::Ack) => "its ACK is not dropped yet",
+            Some(_) => "it is under way",
+            // Only by a student's rule.
+            None => "its ACK was dropped, and it was not accepted",
         },
     }
 }

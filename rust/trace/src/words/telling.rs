@@ -102,12 +102,35 @@ impl<'r, 'a> Telling<'r, 'a> {
             Event::Waits { id, wait, .. } => self.waits(id, wait),
             Event::TornDown { tear_down, .. } => self.torn_down(tear_down),
             Event::Answered { id } => format!("{} becomes {}", name(id), self.shown(id)),
-            Event::Consumed { id, packet: taken, allowance } => {
-                let outcome = if taken.kind == Kind::Ack { "is ACCEPTED" } else { "was declined" };
-                format!("{}: {} {outcome}; allowance {allowance}", packet(&taken), name(id))
+            Event::Looked { id, packet, accepted } => self.looked(id, &packet, accepted),
+            Event::Dropped { id, packet: left, allowance, accepted } => {
+                let outcome = self.outcome(id, left.kind, accepted);
+                format!("{}{outcome}; allowance {allowance}", packet(&left))
             }
             Event::Picked { .. } => return None,
         })
+    }
+
+    /// What became of a connection whose answer was dropped. By a student's rule another one may be
+    /// accepted, or this one was before.
+    fn outcome(&self, id: Id, kind: Kind, accepted: Option<usize>) -> String {
+        let book = self.run.book();
+        let name = self.run.letter(id);
+        match accepted {
+            Some(number) => format!(": {} is ACCEPTED", letter(number)),
+            None if kind == Kind::Nack => format!(": {name} was declined"),
+            None if book.accepted.contains(&book.connection_of(id)) => " leaves".to_string(),
+            None => format!(": {name} is NOT ACCEPTED"),
+        }
+    }
+
+    /// "sees ACK slot 1 hub 1 of A", "sees NACK slot 0 hub 1 of B, unmarked".
+    fn looked(&self, id: Id, seen: &Packet, accepted: Option<usize>) -> String {
+        let unmarked = seen.kind == Kind::Nack && seen.hub > 0;
+        let mark = if unmarked { ", unmarked" } else { "" };
+        let accepted = accepted.map(|number| format!("; {} is ACCEPTED", letter(number)));
+        let accepted = accepted.unwrap_or_default();
+        format!("sees {} of {}{mark}{accepted}", packet(seen), self.run.letter(id))
     }
 
     fn moved(&self, id: Id, from: Place, to: Place) -> String {

@@ -61,7 +61,7 @@ fn list(paint: Paint) -> String {
     let mut text = String::new();
     for (number, lesson) in LESSONS.iter().enumerate() {
         let title = paint.text(Colour::Bold, lesson.title);
-        text += &format!("  {}  {title}\n", number + 1);
+        text += &format!("{:>3}  {title}\n", number + 1);
         text += &format!("       scripts/lessons/{}\n", lesson.file);
     }
     text + "pandabrass lesson N asks the question; docs/TRAINING.md is for teachers.\n"

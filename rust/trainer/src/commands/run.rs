@@ -19,13 +19,15 @@ pub const RUN: Command = Command {
     help: "\
 A script names its plan first, then what is to be done, a statement a line (or with ; between):
   plan FILE | plan bytes HEX..            the plan's file is looked for beside the script
-  launch ACTIVE PASSIVE SLOT              reply PASSIVE accept|decline    consume ACTIVE
+  launch ACTIVE PASSIVE SLOT              reply PASSIVE accept|decline
+  look ACTIVE                             the head of its in-queue, in any phase; nothing changes
+  drop ACTIVE                             removes it; the Drop of an ACK accepts the connection
   close ACTIVE PASSIVE SLOT               an accepted connection, by the slot of its launch
   entry ROUTER.SIDE SLOT                  read    execute    write
   round [N]                               N whole rounds
   until round N    until quiet [within N] to READ|EXECUTE|WRITE
   passive NAME|all accepts|declines|waits standing, from here on, in each WRITE of a whole round
-  active NAME|all consumes|waits          the same
+  active NAME|all drops|waits             the same
   any order [spaced N[..N]] { launch ..; reply .. }
                                           as written; pandabrass orders tries all orders and gaps
   show table    show where

@@ -39,7 +39,7 @@ pub enum Mistake {
 }
 
 /// All lessons.
-pub const LESSONS: [Lesson; 9] = [
+pub const LESSONS: [Lesson; 10] = [
     Lesson {
         title: "A declined set-up leaves nothing behind?",
         file: "1-declined.run",
@@ -116,13 +116,13 @@ pub const LESSONS: [Lesson; 9] = [
         file: "6-allowance.run",
         script: include_str!("../../../../scripts/lessons/6-allowance.run"),
         question:
-            "camera's NACK is marked and its tear-down has ended, but camera has not consumed \
+            "camera's NACK is marked and its tear-down has ended, but camera has not dropped \
                    it. May camera launch again? Where would the next answer go?",
         mistake: Mistake::Rule("the allowance grows at the mark", |rules| {
             rules.allowance_at_the_mark = true;
         }),
         answer: "The marked NACK still takes a place in the in-queue. The allowance counts places \
-                 for answers, so it comes back when the NACK is consumed. Given back at the mark, \
+                 for answers, so it comes back when the NACK is dropped. Given back at the mark, \
                  a second set-up goes out, its NACK sticks before the full in-queue, no tear-down \
                  is made for it, and r0.1 slot 3 stays booked.",
     },
@@ -174,6 +174,24 @@ pub const LESSONS: [Lesson; 9] = [
                  comes too late. If the first in order is always picked, right waits as long as \
                  left talks, and is declined. In turn, a head that can go sees at most three \
                  others go before it.",
+    },
+    Lesson {
+        title: "A Look accepts the connection?",
+        file: "10-look.run",
+        script: include_str!("../../../../scripts/lessons/10-look.run"),
+        question: "camera's ACK has come, and a Look shows it on the panel. Which allowance has \
+                   camera now, and is the connection accepted? camera's program takes what it has \
+                   seen for accepted and closes it. What does the Close say? And which allowance \
+                   and which accepted connection are there after the Drop?",
+        mistake: Mistake::Rule("a Look at an ACK accepts", |rules| {
+            rules.accepted_at_the_look = true;
+        }),
+        answer: "A Look changes nothing: the ACK stays the head, the allowance stays spent, nothing \
+                 is accepted, and a Close says 16. The Drop gives back the allowance and accepts, \
+                 with the numbers of the packet that a Look just before shows. If a Look accepts, \
+                 the connection is closed while its ACK still waits, and the next Look at the same \
+                 ACK accepts it again. Its tear-down is on its way all the same: the panel says \
+                 accepted, and the table keeps no slot for it.",
     },
 ];
 

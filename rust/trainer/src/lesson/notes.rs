@@ -110,7 +110,7 @@ fn alarms(run: &Run, step: &Step) -> Vec<String> {
     }
     let over = step.events.iter().any(|event| match event {
         Event::Freed { ended, .. } => *ended,
-        Event::Consumed { .. } => true,
+        Event::Dropped { .. } => true,
         _ => false,
     });
     for (cell, owner) in run.book().owned() {

@@ -13,8 +13,8 @@ impl Player<'_> {
             }
         }
         for active in 0..self.actives.len() {
-            if self.actives[active] && self.may_consume(active) {
-                self.call(Call::Consume { active: active as u32 }, teller);
+            if self.actives[active] && self.may_drop(active) {
+                self.call(Call::Drop { active: active as u32 }, teller);
             }
         }
     }
@@ -28,8 +28,8 @@ impl Player<'_> {
         !row.flag && !row.packets.is_empty() && room
     }
 
-    /// Whether a Consume would be accepted.
-    pub(super) fn may_consume(&self, active: usize) -> bool {
+    /// Whether a Drop would be accepted.
+    pub(super) fn may_drop(&self, active: usize) -> bool {
         let row = self.run.net().row(self.run.plan(), Queue::ActiveIn(active));
         let ready =
             row.packets.first().is_some_and(|head| head.kind != Kind::Nack || head.hub == 0);

@@ -53,7 +53,7 @@ pub enum Deed {
     ToPhase(trace::net::Phase),
     /// From here on the passive (all, if none) does this in each WRITE.
     Passive(Option<usize>, Option<u32>),
-    /// From here on the active (all, if none) consumes in each WRITE, or waits.
+    /// From here on the active (all, if none) drops in each WRITE, or waits.
     Active(Option<usize>, bool),
     /// These calls in any order, with so many rounds between.
     AnyOrder(Block),

@@ -6,7 +6,7 @@ use trace::{Call, Names, Plan};
 use super::{expects, Deed, Statement};
 use crate::plan::text::unknown;
 use crate::text::words::number;
-use crate::text::{quoted, Cursor, Mistake};
+use crate::text::{quoted, At, Cursor, Mistake};
 
 /// The most rounds that a script may ask for.
 const ROUNDS: u32 = 100_000;
@@ -14,8 +14,12 @@ const ROUNDS: u32 = 100_000;
 const QUIET: usize = 1_000;
 
 /// The statements.
-const STATEMENTS: &str = "launch, close, reply, consume, entry, read, execute, write, round, \
+const STATEMENTS: &str = "launch, close, reply, look, drop, entry, read, execute, write, round, \
                           until, to, passive, active, any, show, expect";
+
+/// What stands for `consume ACTIVE` and for `active NAME consumes`.
+const LOOK_AND_DROP: &str = "'look ACTIVE' shows the answer, 'drop ACTIVE' removes it";
+const STANDING: &str = "'active NAME drops' removes each answer in WRITE; 'look NAME' shows one";
 
 /// The statements after the plan.
 pub fn parse(text: &str, from: usize, plan: &Plan) -> Result<Vec<Statement>, Mistake> {
@@ -37,6 +41,12 @@ pub fn parse(text: &str, from: usize, plan: &Plan) -> Result<Vec<Statement>, Mis
     Ok(statements)
 }
 
+/// A word of Consume, which is two calls since request (c).
+fn two_calls(at: At, word: &str, instead: &str) -> Mistake {
+    let message = format!("no {}: it is two calls now, look and drop", quoted(word));
+    Mistake::new(at, message).note(instead.to_string())
+}
+
 /// Goes through a script with the names of its plan.
 pub struct Parser<'t, 'n> {
     /// The words.
@@ -51,9 +61,8 @@ impl Parser<'_, '_> {
     fn statement(&mut self) -> Result<Deed, Mistake> {
         let word = self.cursor.take();
         Ok(match word.text {
-            "launch" | "close" | "reply" | "consume" | "entry" | "read" | "execute" | "write" => {
-                Deed::Call(self.call(word.text)?)
-            }
+            "launch" | "close" | "reply" | "look" | "drop" | "entry" | "read" | "execute"
+            | "write" => Deed::Call(self.call(word.text)?),
             "round" => {
                 let rounds = if self.cursor.ends() { 1 } else { self.rounds()? };
                 Deed::Rounds(rounds)
@@ -67,7 +76,10 @@ impl Parser<'_, '_> {
             }
             "active" => {
                 let who = self.who("an active", &self.names.actives)?;
-                let does = self.cursor.one_of(&["consumes", "waits"])?;
+                if self.cursor.peek().text == "consumes" {
+                    return Err(two_calls(self.cursor.peek().at, "consumes", STANDING));
+                }
+                let does = self.cursor.one_of(&["drops", "waits"])?;
                 Deed::Active(who, does == 0)
             }
             "any" => Deed::AnyOrder(self.block(word.at)?),
@@ -77,6 +89,7 @@ impl Parser<'_, '_> {
             },
             "expect" => Deed::Expect(expects::parse(self)?),
             "plan" => return Err(Mistake::new(word.at, "a script has one plan, at its beginning")),
+            "consume" => return Err(two_calls(word.at, "consume", LOOK_AND_DROP)),
             text => {
                 return Err(Mistake::new(word.at, format!("no statement {}", quoted(text)))
                     .note(format!("statements: {STATEMENTS}")))
@@ -111,7 +124,8 @@ impl Parser<'_, '_> {
                 let choice = choice.ok_or_else(|| Mistake::new(word.at, message()))?;
                 Call::Reply { passive, choice }
             }
-            "consume" => Call::Consume { active: self.active()? },
+            "look" => Call::Look { active: self.active()? },
+            "drop" => Call::Drop { active: self.active()? },
             _ => {
                 let (router, side) = self.port_numbers()?;
                 Call::Entry { router, side, slot: self.cursor.number("a slot")? }

@@ -18,8 +18,8 @@ is-refused-requires c κs = search needs
 enum-known-y-2 : tie.Need-enum-known-y-2
 enum-known-y-2 c = search needs
 
-is-taken-requires : tie.Need-is-taken-requires
-is-taken-requires c κs = search needs
+is-shown-requires : tie.Need-is-shown-requires
+is-shown-requires c κs = search needs
 
 enum-known-y-3 : tie.Need-enum-known-y-3
 enum-known-y-3 c = search needs
@@ -34,7 +34,7 @@ returns-2 : tie.Need-returns-2
 returns-2 c = λ e. c .is-refused .ensures e ∙ sym (c .before .before .y .given .1)
 
 returns-3 : tie.Need-returns-3
-returns-3 c = λ e. c .is-taken .ensures e ∙ sym (c .before .before .y2 .given .1)
+returns-3 c = λ e. c .is-shown .ensures e ∙ sym (c .before .before .y2 .given .1)
 
 returns-4 : tie.Need-returns-4
 returns-4 c = λ e. c .is-held .ensures e ∙ sym (c .before .before .y3 .given .1)
@@ -48,7 +48,7 @@ same-spec =
     enum-known-y
     is-refused-requires
     enum-known-y-2
-    is-taken-requires
+    is-shown-requires
     enum-known-y-3
     is-held-requires
     returns

@@ -12,7 +12,7 @@ const ACCEPTING: usize = 200;
 /// For how many rounds a connection stays accepted, on an average.
 const CLOSED_AFTER: usize = 500;
 /// The calls on a state.
-const CALLS: usize = 8;
+const CALLS: usize = 9;
 
 /// A call on a state.
 pub struct Case {
@@ -106,8 +106,9 @@ impl<'c> Run<'c> {
         assert!(self.does(Call::Read));
         cases.push(self.case(Some(Call::Execute), false));
         assert!(self.does(Call::Execute));
-        let (reply, consume) = (Call::Reply { passive: 0, choice: 1 }, Call::Consume { active: 0 });
-        cases.extend([reply, consume, Call::Write].map(|call| self.case(Some(call), false)));
+        let reply = Call::Reply { passive: 0, choice: 1 };
+        let (look, drop) = (Call::Look { active: 0 }, Call::Drop { active: 0 });
+        cases.extend([reply, look, drop, Call::Write].map(|call| self.case(Some(call), false)));
         assert!(self.does(Call::Write));
         cases
     }
@@ -125,7 +126,7 @@ impl<'c> Run<'c> {
             self.keep(&mut best[3], Call::Execute);
             assert!(self.does(Call::Execute));
             self.answers(round, &mut best);
-            self.keep(&mut best[6], Call::Write);
+            self.keep(&mut best[7], Call::Write);
             assert!(self.does(Call::Write));
         }
         best.into_iter().flatten().collect()
@@ -148,7 +149,7 @@ impl<'c> Run<'c> {
     fn closes(&mut self, best: &mut Best) {
         for Connection { active, passive, start } in self.decoded().marks {
             let close = Call::Close { active, passive, slot: start.0 };
-            self.keep(&mut best[7], close);
+            self.keep(&mut best[8], close);
             if self.random.chance(1, CLOSED_AFTER) {
                 self.does(close);
             }
@@ -170,7 +171,7 @@ impl<'c> Run<'c> {
         }
     }
 
-    /// Most passives reply and most actives consume.
+    /// Most passives reply, and most actives look and drop.
     fn answers(&mut self, round: usize, best: &mut Best) {
         for passive in 0..self.network.plan().passives() {
             let accepts = round < ACCEPTING && self.random.chance(1, 3);
@@ -181,10 +182,11 @@ impl<'c> Run<'c> {
             }
         }
         for active in 0..self.network.plan().actives() {
-            let consume = Call::Consume { active };
-            self.keep(&mut best[5], consume);
+            self.keep(&mut best[5], Call::Look { active });
+            let drop = Call::Drop { active };
+            self.keep(&mut best[6], drop);
             if self.random.chance(3, 4) {
-                self.does(consume);
+                self.does(drop);
             }
         }
     }

@@ -68,8 +68,9 @@ fn answer(case: &Case) -> u32 {
 
 /// The times of a call on a case's state.
 fn measure(case: &Case) -> Times {
-    // A refused call and Entry leave the state as it is.
-    let keeps = answer(case) != 0 || matches!(case.call, None | Some(Call::Entry { .. }));
+    // A refused call, Look and Entry leave the state as it is.
+    let only_sees = matches!(case.call, None | Some(Call::Look { .. } | Call::Entry { .. }));
+    let keeps = answer(case) != 0 || only_sees;
     let one = |calls: Calls| {
         let (mut state, mut out) = (case.state.clone(), [0; 8]);
         move || {

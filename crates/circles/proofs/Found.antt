@@ -29,11 +29,11 @@ use Rattle.spread.proofs.Laws.{in-both, both-in}
 use Rattle.links.specs.Cells.{leavesOf, maskOf, crossed, crossOf}
 use Rattle.links.specs.Cells.{CrossCells, outOf}
 use Rattle.links.specs.Starts.{startsOf, livesOf}
-use Rattle.words.specs.Words.{nextsOf, linksOf}
+use Rattle.onward.specs.Words.{nextsOf, linksOf}
 use Rattle.links.proofs.Laws.{mask-small, not-empty}
 use Rattle.links.proofs.Members.{member, in-lives, leaves-at, leave-in, in-leave, cell-group, cell-has}
 use Rattle.links.proofs.Members.{mask-in, in-mask, cross-in, cross-is}
-use Rattle.words.proofs.Onward.{goneBy, next-in, in-next, in-links}
+use Rattle.onward.proofs.Onward.{goneBy, next-in, in-next, in-links}
 use Rattle.circles.specs.Circles.{Answers, Crossing, Hands, AnswerRing}
 use Rattle.circles.specs.RingTest.{walkMeets, walkLeaves, isRouter, trailEdge, answered, answerLeaves}
 use Rattle.circles.specs.RingTest.{answerComes, answersPass, handEdge, hasRing}

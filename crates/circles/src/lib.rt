@@ -35,7 +35,7 @@ fn walks_ring(
     let mut used = [0u32; 32];
     links::starts::carried(by, joints, homes, served, n, h.actives, &mut used);
     let mut to = [0u64; 16];
-    let some = words::nexts(by, joints, &used, n, &mut to);
+    let some = onward::nexts(by, joints, &used, n, &mut to);
     peel::words::has_ring(&to, n, some)
 }
 
@@ -57,7 +57,7 @@ fn links_ring(
     let mut gone = [0u32; 64];
     links::leaves(by, arrive, live, n, &mut gone);
     let mut to = [0u64; 64];
-    let some = words::links(&gone, joints, 4 * n, &mut to);
+    let some = onward::links(&gone, joints, 4 * n, &mut to);
     peel::words::has_ring(&to, 4 * n, some)
 }
 

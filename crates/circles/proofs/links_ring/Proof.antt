@@ -1,5 +1,5 @@
 use Rattle.circles.proofs.Found.{links-ring}
-use Rattle.words.proofs.Onward.{links-long}
+use Rattle.onward.proofs.Onward.{links-long}
 use native.Mathlib.Omega.{arith}
 use mathlib.Core.Path.{sym}
 use borrow.Author.Needs.{needs}
@@ -9,7 +9,7 @@ use Rattle.circles.proofs.links_ring.Reads as reads
 use Rattle.circles.proofs.links_ring.Lts as lts
 use Rattle.links.proofs.leaves.Reads as leaves-reads
 use Rattle.links.proofs.starts.live.Reads as live-reads
-use Rattle.words.proofs.links.Reads as links-reads
+use Rattle.onward.proofs.links.Reads as links-reads
 use Rattle.peel.proofs.words.has_ring.Reads as has-ring-reads
 
 -- src/lib.rt:49:9

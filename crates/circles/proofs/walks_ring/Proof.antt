@@ -1,5 +1,5 @@
 use Rattle.circles.proofs.Found.{walks-ring}
-use Rattle.words.proofs.Onward.{nexts-long}
+use Rattle.onward.proofs.Onward.{nexts-long}
 use native.Mathlib.Omega.{arith}
 use mathlib.Core.Path.{sym}
 use borrow.Author.Needs.{needs}
@@ -8,7 +8,7 @@ use Rattle.circles.proofs.walks_ring.Tie as tie
 use Rattle.circles.proofs.walks_ring.Reads as reads
 use Rattle.circles.proofs.walks_ring.Lts as lts
 use Rattle.links.proofs.starts.carried.Reads as carried-reads
-use Rattle.words.proofs.nexts.Reads as nexts-reads
+use Rattle.onward.proofs.nexts.Reads as nexts-reads
 use Rattle.peel.proofs.words.has_ring.Reads as has-ring-reads
 
 -- src/lib.rt:29:5

@@ -1,9 +1,9 @@
 use borrow.Author.Needs.{needs}
-use Rattle.words.proofs.next.Statement.{statement}
-use Rattle.words.proofs.next.Tie as tie
-use Rattle.words.proofs.next.Reads as reads
-use Rattle.words.proofs.next.Lts as lts
-use Rattle.words.proofs.toward.Reads as toward-reads
+use Rattle.onward.proofs.next.Statement.{statement}
+use Rattle.onward.proofs.next.Tie as tie
+use Rattle.onward.proofs.next.Reads as reads
+use Rattle.onward.proofs.next.Lts as lts
+use Rattle.onward.proofs.toward.Reads as toward-reads
 use Rattle.sets.proofs.long.either.Reads as either-reads
 
 -- src/words.rt:32:9
@@ -36,7 +36,7 @@ either-requires-3 c κs = search needs
 
 -- src/words.rt:28:1
 returns : tie.Need-returns
-unfolding Rattle.words.specs.Words.nextOf Rattle.words.specs.Words.fourOf
+unfolding Rattle.onward.specs.Words.nextOf Rattle.onward.specs.Words.fourOf
 returns c = rw (
   c .either3 .ensures,
   c .before .either2 .ensures,

@@ -1,9 +1,9 @@
 use borrow.Author.Tests.{eq-eqb, ne-eqb}
 use borrow.Author.Needs.{needs}
-use Rattle.words.proofs.some.Statement.{statement}
-use Rattle.words.proofs.some.Tie as tie
-use Rattle.words.proofs.some.Reads as reads
-use Rattle.words.proofs.some.Lts as lts
+use Rattle.onward.proofs.some.Statement.{statement}
+use Rattle.onward.proofs.some.Tie as tie
+use Rattle.onward.proofs.some.Reads as reads
+use Rattle.onward.proofs.some.Lts as lts
 use Rattle.sets.proofs.long.with.Reads as with-reads
 
 -- src/words.rt:20:9

@@ -1,10 +1,10 @@
-use Rattle.words.proofs.Onward.{link-none, link-off, link-on}
+use Rattle.onward.proofs.Onward.{link-none, link-off, link-on}
 use borrow.Author.Needs.{needs}
-use Rattle.words.proofs.link.Statement.{statement}
-use Rattle.words.proofs.link.Tie as tie
-use Rattle.words.proofs.link.Reads as reads
-use Rattle.words.proofs.link.Lts as lts
-use Rattle.words.proofs.sides.Reads as sides-reads
+use Rattle.onward.proofs.link.Statement.{statement}
+use Rattle.onward.proofs.link.Tie as tie
+use Rattle.onward.proofs.link.Reads as reads
+use Rattle.onward.proofs.link.Lts as lts
+use Rattle.onward.proofs.sides.Reads as sides-reads
 use Rattle.spread.proofs.partner.Reads as partner-reads
 
 -- src/words.rt:76:13

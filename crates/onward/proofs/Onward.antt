@@ -15,7 +15,7 @@ use Rattle.sets.specs.Laws.{has-single}
 use Rattle.peel.specs.Words.{someOf, firstOf}
 use Rattle.spread.specs.Carried.{partnerOf, beyondOf}
 use Rattle.spread.proofs.Laws.{in-left, in-right, either-in}
-use Rattle.words.specs.Words.{fourOf, towardOf, nextOf, nextsOf, ontoOf, linkOf, linksOf}
+use Rattle.onward.specs.Words.{fourOf, towardOf, nextOf, nextsOf, ontoOf, linkOf, linksOf}
 use Rattle.links.proofs.Laws.{not-empty}
 
 -- ---- four together

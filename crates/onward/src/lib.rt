@@ -9,7 +9,7 @@ ghost use mathlib.Core.Path.{_≡_};
 ghost use Prim.Native.Nat.{_+_, _*_, _≤_, _<_};
 ghost use lib.ListN.{replicate};
 ghost use Rattle.peel.specs.Words.{someOf, firstOf};
-ghost use Rattle.words.specs.Words.{fourOf, towardOf, nextOf, nextsOf, ontoOf, linkOf, linksOf};
+ghost use Rattle.onward.specs.Words.{fourOf, towardOf, nextOf, nextsOf, ontoOf, linkOf, linksOf};
 
 // A set, with x if v, the set of those that it leads to, has some.
 fn some(v: u64, s: u64, x: usize) -> u64

@@ -1,10 +1,10 @@
 use borrow.Author.Tests.{eq-eqb, ne-eqb}
 use mathlib.Core.Path.{sym, _∙_}
 use borrow.Author.Needs.{needs}
-use Rattle.words.proofs.onto.Statement.{statement}
-use Rattle.words.proofs.onto.Tie as tie
-use Rattle.words.proofs.onto.Reads as reads
-use Rattle.words.proofs.onto.Lts as lts
+use Rattle.onward.proofs.onto.Statement.{statement}
+use Rattle.onward.proofs.onto.Tie as tie
+use Rattle.onward.proofs.onto.Reads as reads
+use Rattle.onward.proofs.onto.Lts as lts
 use Rattle.sets.proofs.both.Reads as both-reads
 use Rattle.sets.proofs.long.single.Reads as single-reads
 
@@ -30,7 +30,7 @@ both-requires c κs = search needs
 
 -- src/words.rt:54:9
 returns : tie.Need-returns
-unfolding Rattle.words.specs.Words.ontoOf
+unfolding Rattle.onward.specs.Words.ontoOf
 returns c = rw (eq-eqb _ 0 (sym (c .before .both .ensures) ∙ c .if1 .taken))
 
 -- src/words.rt:56:12
@@ -47,7 +47,7 @@ single-requires c κs = search needs
 
 -- src/words.rt:49:1
 returns-2 : tie.Need-returns-2
-unfolding Rattle.words.specs.Words.ontoOf
+unfolding Rattle.onward.specs.Words.ontoOf
 returns-2 c = rw (ne-eqb _ 0 (λ e. c .before .if1 .left (c .before .before .both .ensures ∙ e))) (c .single .ensures)
 
 pub onto-spec : {M : Type 1} → statement M

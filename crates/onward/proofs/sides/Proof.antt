@@ -1,9 +1,9 @@
 use borrow.Author.Needs.{needs}
-use Rattle.words.proofs.sides.Statement.{statement}
-use Rattle.words.proofs.sides.Tie as tie
-use Rattle.words.proofs.sides.Reads as reads
-use Rattle.words.proofs.sides.Lts as lts
-use Rattle.words.proofs.onto.Reads as onto-reads
+use Rattle.onward.proofs.sides.Statement.{statement}
+use Rattle.onward.proofs.sides.Tie as tie
+use Rattle.onward.proofs.sides.Reads as reads
+use Rattle.onward.proofs.sides.Lts as lts
+use Rattle.onward.proofs.onto.Reads as onto-reads
 use Rattle.sets.proofs.long.either.Reads as either-reads
 
 -- src/words.rt:64:9
@@ -36,7 +36,7 @@ either-requires-3 c κs = search needs
 
 -- src/words.rt:60:1
 returns : tie.Need-returns
-unfolding Rattle.words.specs.Words.fourOf
+unfolding Rattle.onward.specs.Words.fourOf
 returns c = rw (
   c .either3 .ensures,
   c .before .either2 .ensures,

@@ -1,17 +1,17 @@
 use native.Mathlib.Omega.{arith}
 use Rattle.basis.specs.Fold.{upTo, fill, up-none, up-fill, up-done}
-use Rattle.words.specs.Words.{linkOf, linksOf}
-use Rattle.words.proofs.Onward.{somesOf, somes-none, somes-more, somes-done}
+use Rattle.onward.specs.Words.{linkOf, linksOf}
+use Rattle.onward.proofs.Onward.{somesOf, somes-none, somes-more, somes-done}
 use mathlib.Core.Path.{_≡_, _∙_}
 use lib.ListN.{replicate}
 use Prim.Native.Nat.{_-_, _≤_}
 use borrow.Author.Needs.{needs}
-use Rattle.words.proofs.links.Statement.{statement}
-use Rattle.words.proofs.links.Tie as tie
-use Rattle.words.proofs.links.Reads as reads
-use Rattle.words.proofs.links.Lts as lts
-use Rattle.words.proofs.link.Reads as link-reads
-use Rattle.words.proofs.some.Reads as some-reads
+use Rattle.onward.proofs.links.Statement.{statement}
+use Rattle.onward.proofs.links.Tie as tie
+use Rattle.onward.proofs.links.Reads as reads
+use Rattle.onward.proofs.links.Lts as lts
+use Rattle.onward.proofs.link.Reads as link-reads
+use Rattle.onward.proofs.some.Reads as some-reads
 
 abbrev Inv-loop : tie.InvT-loop
 Inv-loop l joints n to₀ s₀ k₀ to s k =

@@ -1,9 +1,9 @@
-use Rattle.words.proofs.Onward.{toward-none, toward-off, toward-on}
+use Rattle.onward.proofs.Onward.{toward-none, toward-off, toward-on}
 use borrow.Author.Needs.{needs}
-use Rattle.words.proofs.toward.Statement.{statement}
-use Rattle.words.proofs.toward.Tie as tie
-use Rattle.words.proofs.toward.Reads as reads
-use Rattle.words.proofs.toward.Lts as lts
+use Rattle.onward.proofs.toward.Statement.{statement}
+use Rattle.onward.proofs.toward.Tie as tie
+use Rattle.onward.proofs.toward.Reads as reads
+use Rattle.onward.proofs.toward.Lts as lts
 use Rattle.sets.proofs.both.Reads as both-reads
 use Rattle.sets.proofs.long.single.Reads as single-reads
 use Rattle.spread.proofs.partner.Reads as partner-reads

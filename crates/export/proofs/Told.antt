@@ -3,21 +3,15 @@ use mathlib.Core.Path.{_≡_, ap, _∙_}
 use mathlib.Core.List.{List}
 use Prim.Native.Nat.{ℕ}
 use Rattle.kinds.specs.declared.Refusal.{Refusal}
-use lib.ListN.{set}
-use lib.Seq.{sets}
-use Rattle.packets.specs.declared.Packet.{Packet}
-use Rattle.packets.specs.declared.Entry.{Entry}
 use Rattle.packets.specs.declared.Answer.{Answer}
-use Rattle.packets.specs.declared.Answer.the-variants.{Shows, Holds}
-use Rattle.packets.specs.Answers.{entryNumber}
-use Rattle.layout.specs.Places.{packetBytes}
 use Rattle.plan.specs.declared.Head.{Head}
 use Rattle.load.specs.declared.Loaded.{Loaded}
 use Rattle.load.specs.declared.Loaded.the-variants.{Accepted, Refused}
 use Rattle.load.specs.Load.{loadOf}
 use Rattle.acts.specs.Counts.{stateSize}
 use Rattle.claims.specs.Calls.{Given, given}
-use Rattle.export.specs.Numbers.{answerNumber, shownBytes, entryByte, sizeIn, sizeOf}
+use Rattle.answers.specs.Numbers.{answerNumber, shownBytes, entryByte}
+use Rattle.export.specs.Size.{sizeIn, sizeOf}
 
 module _ {x : Answer} {d : List ℕ} {g : Given} (e : given x d ≡ g) where
   pub number-told : {n : ℕ} → n ≡ answerNumber x → n ≡ answerNumber (g .answer)
@@ -31,14 +25,6 @@ module _ {x : Answer} {d : List ℕ} {g : Given} (e : given x d ≡ g) where
 
   pub entry-told : (o : List ℕ) {u : List ℕ} → u ≡ entryByte x o → u ≡ entryByte (g .answer) o
   entry-told o f = f ∙ ap (λ (y : Given). entryByte (y .answer) o) e
-
-pub shown-some : {x : Answer} {p : Packet} (o : List ℕ) {u : List ℕ} → x ≡ Shows p → u ≡ sets o 0 (packetBytes p)
-    → u ≡ shownBytes x o
-shown-some o e f = rw e f
-
-pub entry-some : {x : Answer} {k : Entry} (o : List ℕ) {u : List ℕ} → x ≡ Holds k → u ≡ set o 0 (entryNumber k)
-    → u ≡ entryByte x o
-entry-some o e f = rw e f
 
 -- ---- the state's size
 module _ (p : List ℕ) {l : Loaded} (known : l ≡ loadOf p) where

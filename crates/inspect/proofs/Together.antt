@@ -29,7 +29,7 @@ use Rattle.turns.proofs.Remembered.{turns-fit}
 use Rattle.frames.specs.Tally.{Tallied}
 use Rattle.lines.specs.Lines.{spentIn, LinesChecked}
 use Rattle.wires.specs.Outputs.{spentOn, OutputsChecked}
-use Rattle.wires.proofs.Picking.{picks-none}
+use Rattle.choices.proofs.Picking.{picks-none}
 use Rattle.acts.specs.Counts.{stateSize, allowancesFrom, tableFrom, size-by, allowances-at, table-at}
 use Rattle.moves.specs.Lent.{Lent}
 use Rattle.moves.specs.Wiring.{Wiring}

@@ -114,7 +114,7 @@ fn busy_ok(
         return false;
     }
     if s[0] == 2 {
-        return wires::picks::picks_ok(h, routes, joints, homes, s);
+        return choices::picks_ok(h, routes, joints, homes, s);
     }
     true
 }

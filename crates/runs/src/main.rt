@@ -8,15 +8,15 @@ use packets::Answer;
 use packets::Entry;
 use packets::Kind;
 use packets::Packet;
-use words::say;
+use telling::same;
+use telling::words;
+use telling::words::say;
 ghost use mathlib.Core.Path.{_≡_};
 ghost use lib.ListN.{length};
 
 mod closed;
 mod rounds;
-mod same;
 mod told;
-mod words;
 
 // The number of plan T's queue F[1].
 const T_SIDE_ONE: usize = 11;

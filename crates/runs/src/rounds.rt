@@ -1,12 +1,12 @@
 // Rounds, one to a line: Read, Execute and Write, and what else is called in the round.
-use super::words::say;
 use packets::Answer;
 use packets::Entry;
 use packets::Packet;
+use telling::words::say;
 
 // Begins the line of round n.
 pub fn open(n: usize) {
-    super::words::say_number(b"  round ", n);
+    telling::words::say_number(b"  round ", n);
     say(b":");
 }
 

@@ -1,9 +1,9 @@
 // Each call on lent bytes, written with its answer; and whether the answer is the one that is expected.
-use super::words::say;
 use packets::Answer;
 use packets::Entry;
 use packets::Packet;
 use packets::Wire;
+use telling::words::say;
 ghost use mathlib.Core.Path.{_≡_};
 ghost use mathlib.Core.Bool.{true};
 
@@ -18,8 +18,8 @@ const ROW_BYTES: usize = 39;
 fn answered(x: Answer, want: Answer) -> bool
     ensures { λ r. ⌜ (r ≡ true → x ≡ want) ⌝ }
 {
-    super::words::say_answer(x);
-    super::same::same(x, want)
+    telling::words::say_answer(x);
+    telling::same::same(x, want)
 }
 
 // Start.
@@ -52,39 +52,39 @@ pub fn write(plan: &[u8], s: &mut [u8]) -> bool {
 
 // Launch.
 pub fn launch(plan: &[u8], s: &mut [u8], a: usize, p: usize, t: usize, want: Answer) -> bool {
-    super::words::say_three(b" Launch", a, p, t);
+    telling::words::say_three(b" Launch", a, p, t);
     answered(calls::launch(plan, s, a, p, t), want)
 }
 
 // Reply: 1 accepts, 0 declines.
 pub fn reply(plan: &[u8], s: &mut [u8], p: usize, choice: usize, want: Answer) -> bool {
-    super::words::say_two(b" Reply", p, choice);
+    telling::words::say_two(b" Reply", p, choice);
     answered(calls::reply(plan, s, p, choice), want)
 }
 
 // Look.
 pub fn look(plan: &[u8], s: &[u8], a: usize, want: Answer) -> bool {
-    super::words::say_number(b" Look (", a);
+    telling::words::say_number(b" Look (", a);
     say(b")");
     answered(calls::look(plan, s, a), want)
 }
 
 // Drop.
 pub fn drop(plan: &[u8], s: &mut [u8], a: usize, want: Answer) -> bool {
-    super::words::say_number(b" Drop (", a);
+    telling::words::say_number(b" Drop (", a);
     say(b")");
     answered(calls::drop(plan, s, a), want)
 }
 
 // Close.
 pub fn close(plan: &[u8], s: &mut [u8], a: usize, p: usize, t: usize, want: Answer) -> bool {
-    super::words::say_three(b" Close", a, p, t);
+    telling::words::say_three(b" Close", a, p, t);
     answered(calls::close(plan, s, a, p, t), want)
 }
 
 // Entry.
 pub fn entry(plan: &[u8], s: &[u8], r: usize, o: usize, t: usize, want: Entry) -> bool {
-    super::words::say_three(b" Entry", r, o, t);
+    telling::words::say_three(b" Entry", r, o, t);
     answered(calls::entry(plan, s, r, o, t), Answer::Holds(want))
 }
 
@@ -112,7 +112,7 @@ pub fn queue(s: &[u8], name: &[u8], n: usize, want: Packet) -> bool {
         return false;
     };
     say(b" has ");
-    super::words::say_packet(x);
+    telling::words::say_packet(x);
     say(b".");
-    super::same::same_packet(x, want)
+    telling::same::same_packet(x, want)
 }

@@ -29,8 +29,8 @@ use Rattle.lines.proofs.Turns.{asking}
 use Rattle.moves.specs.Wiring.{Wiring}
 use Rattle.moves.specs.Next.{noQueue, numberOr}
 use Rattle.wires.specs.Outputs.{Carried}
-use Rattle.wires.proofs.Bytes.{head-is}
-use Rattle.wires.proofs.Named.{Names, named, not-unnamed}
+use Rattle.choices.proofs.Bytes.{head-is}
+use Rattle.choices.proofs.Named.{Names, named, not-unnamed}
 use Rattle.wires.proofs.Bringing.{brought-one}
 
 none-of : (a b c : Bool) → false ≡ also a b → false ≡ also a (also b c)

@@ -1,7 +1,3 @@
-pub mod Bytes
-pub mod Named
-pub mod Senders
-pub mod Picking
 pub mod Stretches
 pub mod Bringing
 pub mod Carrying

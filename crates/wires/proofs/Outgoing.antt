@@ -39,8 +39,8 @@ use Rattle.states.proofs.Bytes.{zeros-get, zeros-byte}
 use Rattle.states.proofs.Quiet.{zeros-part, zeros-output}
 use Rattle.frames.proofs.Tallies.{tallied-none, tallied-like}
 use Rattle.wires.specs.Outputs.{fullAt, Carried, OutputChecked}
-use Rattle.wires.proofs.Bytes.{also-right, not-read, not-write, empty-byte, nobody-byte, decode-phase}
-use Rattle.wires.proofs.Bytes.{outputs-are, output-row}
+use Rattle.choices.proofs.Bytes.{also-right, not-read, not-write, empty-byte, nobody-byte, decode-phase}
+use Rattle.choices.proofs.Bytes.{outputs-are, output-row}
 use Rattle.wires.proofs.Stretches.{zeros-of}
 use Rattle.wires.proofs.Bringing.{brought-none, brought-like}
 

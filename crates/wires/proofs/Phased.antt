@@ -24,7 +24,7 @@ use Rattle.frames.specs.Tally.{Tallied}
 use Rattle.frames.proofs.Tallies.{tallied-none, tallied-then, tallied-like}
 use Rattle.wires.specs.Outputs.{bringsTo, spentOn, Brought, OutputChecked, OutputsChecked}
 use Rattle.wires.proofs.Bringing.{sum-none, sum-start, sum-more, brought-none, brought-then, brought-like}
-use Rattle.wires.proofs.Bytes.{outputs-are}
+use Rattle.choices.proofs.Bytes.{outputs-are}
 use Rattle.wires.proofs.Stretches.{zeros-of}
 use Rattle.wires.proofs.Outgoing.{write-row, wire-empty, zero-passes, execute-row}
 

@@ -1,5 +1,5 @@
 // The outputs' rows of a state: whether each wire's packet belongs where it goes, how many packets are on the way to
-// each queue, and what the packets on wires have spent; and whether each output picked one that it may pick.
+// each queue, and what the packets on wires have spent. Whom each output picked is looked at in `choices`.
 use forms::four;
 use packets::Packet;
 use plan::Head;
@@ -15,8 +15,6 @@ ghost use Rattle.states.specs.Forms.{zeros};
 ghost use Rattle.states.specs.Check.{outputsPart};
 ghost use Rattle.lines.specs.Ready.{Ready};
 ghost use Rattle.wires.specs.Outputs.{fullAt, UpTo, Carried, OutputChecked, OutputsChecked};
-
-pub mod picks;
 
 // Whether 4 + k bytes from i on are zero, k at most 4.
 fn blank(s: &[u8], i: usize, k: usize) -> bool

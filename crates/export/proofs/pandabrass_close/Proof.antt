@@ -5,7 +5,7 @@ use Rattle.export.proofs.pandabrass_close.Tie as tie
 use Rattle.export.proofs.pandabrass_close.Reads as reads
 use Rattle.export.proofs.pandabrass_close.Lts as lts
 use Rattle.calls.proofs.close.Reads as close-reads
-use Rattle.export.proofs.number_of.Reads as number-of-reads
+use Rattle.answers.proofs.number_of.Reads as number-of-reads
 
 -- src/lib.rt:115:15
 close-requires : tie.Need-close-requires

@@ -5,7 +5,7 @@ use Rattle.export.proofs.pandabrass_drop.Tie as tie
 use Rattle.export.proofs.pandabrass_drop.Reads as reads
 use Rattle.export.proofs.pandabrass_drop.Lts as lts
 use Rattle.calls.proofs.drop.Reads as drop-reads
-use Rattle.export.proofs.number_of.Reads as number-of-reads
+use Rattle.answers.proofs.number_of.Reads as number-of-reads
 
 drop-requires : tie.Need-drop-requires
 drop-requires c κs = search needs

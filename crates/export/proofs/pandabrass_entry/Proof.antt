@@ -5,8 +5,8 @@ use Rattle.export.proofs.pandabrass_entry.Tie as tie
 use Rattle.export.proofs.pandabrass_entry.Reads as reads
 use Rattle.export.proofs.pandabrass_entry.Lts as lts
 use Rattle.calls.proofs.entry.Reads as entry-reads
-use Rattle.export.proofs.number_of.Reads as number-of-reads
-use Rattle.export.proofs.put_entry.Reads as put-entry-reads
+use Rattle.answers.proofs.number_of.Reads as number-of-reads
+use Rattle.answers.proofs.put_entry.Reads as put-entry-reads
 
 -- src/lib.rt:160:9
 entry-requires : tie.Need-entry-requires

@@ -5,7 +5,7 @@ use Rattle.export.proofs.pandabrass_execute.Tie as tie
 use Rattle.export.proofs.pandabrass_execute.Reads as reads
 use Rattle.export.proofs.pandabrass_execute.Lts as lts
 use Rattle.calls.proofs.execute.Reads as execute-reads
-use Rattle.export.proofs.number_of.Reads as number-of-reads
+use Rattle.answers.proofs.number_of.Reads as number-of-reads
 
 -- src/lib.rt:97:15
 execute-requires : tie.Need-execute-requires

@@ -5,7 +5,7 @@ use Rattle.export.proofs.pandabrass_launch.Tie as tie
 use Rattle.export.proofs.pandabrass_launch.Reads as reads
 use Rattle.export.proofs.pandabrass_launch.Lts as lts
 use Rattle.calls.proofs.launch.Reads as launch-reads
-use Rattle.export.proofs.number_of.Reads as number-of-reads
+use Rattle.answers.proofs.number_of.Reads as number-of-reads
 
 -- src/lib.rt:115:15
 launch-requires : tie.Need-launch-requires

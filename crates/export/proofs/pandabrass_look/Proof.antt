@@ -5,8 +5,8 @@ use Rattle.export.proofs.pandabrass_look.Tie as tie
 use Rattle.export.proofs.pandabrass_look.Reads as reads
 use Rattle.export.proofs.pandabrass_look.Lts as lts
 use Rattle.calls.proofs.look.Reads as look-reads
-use Rattle.export.proofs.number_of.Reads as number-of-reads
-use Rattle.export.proofs.put_shown.Reads as put-shown-reads
+use Rattle.answers.proofs.number_of.Reads as number-of-reads
+use Rattle.answers.proofs.put_shown.Reads as put-shown-reads
 
 look-requires : tie.Need-look-requires
 look-requires c κs = search needs

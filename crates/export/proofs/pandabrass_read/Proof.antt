@@ -5,7 +5,7 @@ use Rattle.export.proofs.pandabrass_read.Tie as tie
 use Rattle.export.proofs.pandabrass_read.Reads as reads
 use Rattle.export.proofs.pandabrass_read.Lts as lts
 use Rattle.calls.proofs.read.Reads as read-reads
-use Rattle.export.proofs.number_of.Reads as number-of-reads
+use Rattle.answers.proofs.number_of.Reads as number-of-reads
 
 -- src/lib.rt:88:15
 read-requires : tie.Need-read-requires

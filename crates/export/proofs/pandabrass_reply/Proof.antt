@@ -5,7 +5,7 @@ use Rattle.export.proofs.pandabrass_reply.Tie as tie
 use Rattle.export.proofs.pandabrass_reply.Reads as reads
 use Rattle.export.proofs.pandabrass_reply.Lts as lts
 use Rattle.calls.proofs.reply.Reads as reply-reads
-use Rattle.export.proofs.number_of.Reads as number-of-reads
+use Rattle.answers.proofs.number_of.Reads as number-of-reads
 
 -- src/lib.rt:124:15
 reply-requires : tie.Need-reply-requires

@@ -5,7 +5,7 @@ use Rattle.export.proofs.pandabrass_start.Tie as tie
 use Rattle.export.proofs.pandabrass_start.Reads as reads
 use Rattle.export.proofs.pandabrass_start.Lts as lts
 use Rattle.calls.proofs.start.Reads as start-reads
-use Rattle.export.proofs.number_of.Reads as number-of-reads
+use Rattle.answers.proofs.number_of.Reads as number-of-reads
 
 -- src/lib.rt:79:15
 start-requires : tie.Need-start-requires

@@ -5,7 +5,7 @@ use Rattle.export.proofs.pandabrass_write.Tie as tie
 use Rattle.export.proofs.pandabrass_write.Reads as reads
 use Rattle.export.proofs.pandabrass_write.Lts as lts
 use Rattle.calls.proofs.write.Reads as write-reads
-use Rattle.export.proofs.number_of.Reads as number-of-reads
+use Rattle.answers.proofs.number_of.Reads as number-of-reads
 
 -- src/lib.rt:106:15
 write-requires : tie.Need-write-requires

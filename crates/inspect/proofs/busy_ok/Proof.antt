@@ -15,7 +15,7 @@ use Rattle.inspect.proofs.no_tracks.Reads as no-tracks-reads
 use Rattle.inspect.proofs.none_coming.Reads as none-coming-reads
 use Rattle.lines.proofs.lines_ok.Reads as lines-ok-reads
 use Rattle.wires.proofs.outputs_ok.Reads as outputs-ok-reads
-use Rattle.wires.proofs.picks.picks_ok.Reads as picks-ok-reads
+use Rattle.choices.proofs.picks_ok.Reads as picks-ok-reads
 
 -- src/lib.rt:84:18
 no-tracks-requires : tie.Need-no-tracks-requires

@@ -1,3 +1,3 @@
-pub mod Bytes
+pub mod JointTests
 pub mod JointLaws
 pub mod Fill

@@ -40,8 +40,8 @@ pub const ROUTER_BITS: usize = 32;
 pub const ROUTE_BITS: usize = 3;
 
 // The i-th of the eight capacities.
-pub fn capacity(plan: &[u8], i: usize) -> Credit
-    requires { ⌜ i < 8 ⌝ }
+fn capacity(plan: &[u8], i: usize) -> Credit
+    requires { ⌜ (i < 8) × (6 ≤ length (now plan)) ⌝ }
     ensures { λ r. ⌜ r ≡ capacityAt (now (plan .entry)) i ⌝ }
 {
     let v = fields::field(plan, CAPACITIES_AT + CAPACITY_BITS * i, CAPACITY_BITS);
@@ -50,6 +50,7 @@ pub fn capacity(plan: &[u8], i: usize) -> Credit
 
 // The counts, the slot count and the capacities that the bytes give.
 pub fn read_head(plan: &[u8]) -> Head
+    requires { ⌜ 6 ≤ length (now plan) ⌝ }
     ensures { λ r. ⌜ r ≡ headOf (now (plan .entry)) ⌝ }
 {
     let routers = fields::field(plan, 0, COUNT_BITS) as usize;

@@ -2,6 +2,7 @@
 // port number.
 use crate::Head;
 use crate::Joint;
+use crate::counts::JOINTS_AT;
 ghost use mathlib.Core.Path.{_≡_};
 ghost use Prim.Native.Nat.{_≤_, _<_, _+_, _*_};
 ghost use lib.ListN.{length, replicate};
@@ -11,8 +12,18 @@ ghost use Rattle.basis.specs.Choice.{pick};
 ghost use Rattle.plan.specs.Found.{numbersOf};
 ghost use Rattle.plan.specs.Tables.{jointByte, jointsOf, jointByteOk, jointBytesOk, jointOfByte};
 
-// The byte in which the first joint begins. Its last three bits and the next byte's first five are the joint.
-const FIRST_BYTE: usize = 5;
+// The bits of a joint, of its kind, its number and its partner's side, and where the latter two stand in it.
+const JOINT_BITS: usize = 8;
+
+const KIND_BITS: usize = 2;
+
+const NUMBER_BITS: usize = 4;
+
+const SIDE_BITS: usize = 2;
+
+const NUMBER_AT: usize = 2;
+
+const SIDE_AT: usize = 6;
 
 // A joint's byte is the kind times 64, plus the number, below 16, times 4, plus the partner's side.
 pub const KIND: u8 = 64;
@@ -31,14 +42,16 @@ pub const TO_PASSIVE: u8 = 3;
 // The sides of a router.
 pub const SIDES: usize = 4;
 
-// The i-th joint's eight bits.
-pub fn joint_byte(plan: &[u8], i: usize) -> u8
-    requires { ⌜ 6 + i < length (now plan) ⌝ }
+// The i-th joint's kind, number and side, each read by itself, as a byte.
+fn joint_byte(plan: &[u8], i: usize) -> u8
+    requires { ⌜ (i < 64) × (6 + i < length (now plan)) ⌝ }
     ensures { λ r. ⌜ r ≡ jointByte (now (plan .entry)) i ⌝ }
 {
-    let high = plan[FIRST_BYTE + i];
-    let low = plan[FIRST_BYTE + 1 + i];
-    high % 8 * 32 + low / 8
+    let at = JOINTS_AT + JOINT_BITS * i;
+    let kind = fields::field(plan, at, KIND_BITS);
+    let number = fields::field(plan, at + NUMBER_AT, NUMBER_BITS);
+    let side = fields::field(plan, at + SIDE_AT, SIDE_BITS);
+    kind * KIND + number * NUMBER + side
 }
 
 // One of two numbers.

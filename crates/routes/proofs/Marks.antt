@@ -9,29 +9,18 @@ use native.Mathlib.Nat.{mod-lt, add-zero, zero-add, add-assoc, mul-mod-left}
 use native.Mathlib.Omega.{arith}
 use lib.Dec.{eqb, ltb}
 use lib.ListN.{getD, set, length}
-use lib.Pow.{pow-pos, add-lt-pow, shl-shr, shr-shr}
+use lib.Pow.{pow-pos, shl-shr, shr-shr}
 use lib.Bits.{or-zero-l}
 use borrow.Author.Tests.{eqb-true, eq-eqb, ne-eqb, lt-ltb, le-ltb, ltb-true}
 use Rattle.basis.specs.Choice.{same-test, refuted, affirmed}
 use Rattle.basis.specs.Bounded.{allBelow, all-none, all-at, all-of, lt-or-ge}
-use Rattle.basis.specs.Fold.{upTo, fill, up-none, up-more}
+use Rattle.basis.specs.Fold.{fill, up-none, up-more}
 use Rattle.sets.specs.Sets.{has, single, either}
 use Rattle.sets.specs.Laws.{has-either, has-single, has-cut, has-past, none-has, no-member}
 use Rattle.fields.specs.Bits.{fieldOf}
 use Rattle.fields.specs.Laws.{field-lt}
-use Rattle.fields.proofs.Laws.{field-ends}
 use Rattle.plan.specs.Rules.{routeOk}
 use Rattle.routes.specs.Marks.{sideAt, Side, Put, PutIf, Group, laneOf, Laid, fitsOf, Empty, Row}
-
--- ---- a route in its bytes
--- the byte in which a route ends and the one before hold it, found from the byte behind whose first bit it begins
-pub field-near : (b : List ℕ) (i c : ℕ) → getD b (i + (c + 3 - 1) / 8) 0 < 256 → 1 ≤ i
-    → (getD b (i + (c + 3 - 1) / 8 - 1) 0 * 256 + getD b (i + (c + 3 - 1) / 8) 0) / 2 ^ (7 - (c + 3 - 1) % 8) % 8
-    ≡ fieldOf b (8 * i + c) 3
-field-near b i c low one =
-    let byte : i + (c + 3 - 1) / 8 ≡ (8 * i + c + 3 - 1) / 8 = omega arith in
-    let off : (c + 3 - 1) % 8 ≡ (8 * i + c + 3 - 1) % 8 = omega arith in
-    rw (byte, off) (field-ends b (8 * i + c) 3 (rw (← byte) low) (omega arith) (omega arith) (omega arith))
 
 -- ---- truth
 or-none : (b : Bool) → (b || false) ≡ b

@@ -1,5 +1,6 @@
 // The routes: 3 bits for each router and destination, kept as a table of bytes, router by destination, with 7 where
 // the plan gives no side; and as sets of destinations by router and side.
+use fields::field;
 use plan::Head;
 use plan::counts::JOINTS_AT;
 use plan::counts::ROUTE_BITS;
@@ -8,10 +9,10 @@ use sets::either;
 use sets::long;
 use sets::long::with;
 ghost use mathlib.Core.Path.{_≡_};
-ghost use Prim.Native.Nat.{ℕ, _≤_, _<_, _+_, _*_, _/_, _%_};
+ghost use Prim.Native.Nat.{_≤_, _<_, _+_, _*_, _%_};
 ghost use lib.ListN.{length};
 ghost use Rattle.fields.specs.Bits.{fieldOf};
-ghost use Rattle.sets.specs.Sets.{either, single};
+ghost use Rattle.sets.specs.Sets.{either};
 ghost use Rattle.plan.specs.Head.{Counts, bitCount};
 ghost use Rattle.routes.specs.Marks.{sideAt, fitsOf, laneOf, Put, PutIf, Group, Laid, Empty, Row, NoRoutes};
 ghost use Rattle.routes.specs.Marks.{Routes};
@@ -32,28 +33,6 @@ const UNFIT_AT: usize = 32;
 
 const UNFIT: u64 = 16777216;
 
-// The route at a position, from the byte in which it ends and the one before.
-fn route(plan: &[u8], p: usize) -> usize
-    requires { ⌜ (6 ≤ p) × (p < 200000) × ((p + 2) / 8 < length (now plan)) ⌝ }
-    ensures { λ r. ⌜ r ≡ fieldOf (now (plan .entry)) p 3 ⌝ }
-{
-    let last = p + ROUTE_BITS - 1;
-    let i = last / 8;
-    let both = plan[i - 1] as u32 * 256 + plan[i] as u32;
-    ((both >> (7 - last % 8)) % 8) as usize
-}
-
-// The route that begins c bits after the first bit of byte i, from the byte in which it ends and the one before.
-fn near(plan: &[u8], i: usize, c: usize) -> usize
-    requires { ⌜ (1 ≤ i) × (i < 20000) × (c < 24) × (i + (c + 2) / 8 < length (now plan)) ⌝ }
-    ensures { λ r. ⌜ r ≡ fieldOf (now (plan .entry)) (8 * i + c) 3 ⌝ }
-{
-    let last = c + ROUTE_BITS - 1;
-    let j = i + last / 8;
-    let both = plan[j - 1] as u32 * 256 + plan[j] as u32;
-    ((both >> (7 - last % 8)) % 8) as usize
-}
-
 // The side of column d + k is put into the row, and the column into the side's lane of the word.
 fn put(row: &mut [u8; 32], s: u64, d: usize, k: usize, side: usize) -> u64
     requires { ⌜ (k < 8) × (d + k < 32) × (side < 8) ⌝ }
@@ -65,17 +44,17 @@ fn put(row: &mut [u8; 32], s: u64, d: usize, k: usize, side: usize) -> u64
 
 // The route of column d + k, which begins 3 * k bits after the first bit of byte i, is put into the row and the word.
 fn one(plan: &[u8], i: usize, d: usize, k: usize, row: &mut [u8; 32], s: u64) -> u64
-    requires { ⌜ (1 ≤ i) × (i < 20000) × (k < 8) × (d + k < 32) × (i + (3 * k + 2) / 8 < length (now plan)) ⌝ }
+    requires { ⌜ (i < 20000) × (k < 8) × (d + k < 32) × (8 * i + 3 * k + 3 ≤ 8 * length (now plan)) ⌝ }
     ensures { λ r. ⌜ Put (fieldOf (now (plan .entry)) (8 * i + 3 * k) 3) d k (now (row .entry)) (now (row .exit))
         s r ⌝ }
 {
-    let side = near(plan, i, ROUTE_BITS * k);
-    put(row, s, d, k, side)
+    let side = field(plan, 8 * i + ROUTE_BITS * k, ROUTE_BITS);
+    put(row, s, d, k, side as usize)
 }
 
 // The routes of the eight columns from d on, the first of which begins at a byte's first bit.
 fn eight(plan: &[u8], at: usize, d: usize, row: &mut [u8; 32]) -> u64
-    requires { ⌜ (d + 8 ≤ 32) × (6 ≤ at) × (at < 100000) × (at + 3 * (d + 8) ≤ 8 * length (now plan))
+    requires { ⌜ (d + 8 ≤ 32) × (at < 100000) × (at + 3 * (d + 8) ≤ 8 * length (now plan))
         × ((at + 3 * d) % 8 ≡ 0) ⌝ }
     ensures { λ s. ⌜ Group (sideAt (now (plan .entry)) at) d 8 (now (row .entry)) (now (row .exit)) s ⌝ }
 {
@@ -92,7 +71,7 @@ fn eight(plan: &[u8], at: usize, d: usize, row: &mut [u8; 32]) -> u64
 
 // The same as `one`, where there is a column k among the m columns; else nothing.
 fn one_if(plan: &[u8], i: usize, d: usize, k: usize, m: usize, row: &mut [u8; 32], s: u64) -> u64
-    requires { ⌜ (k < m → 1 ≤ i) × (i < 20000) × (k < 8) × (d + m ≤ 32) × (8 * i + 3 * m ≤ 8 * length (now plan)) ⌝ }
+    requires { ⌜ (i < 20000) × (k < 8) × (d + m ≤ 32) × (8 * i + 3 * m ≤ 8 * length (now plan)) ⌝ }
     ensures { λ r. ⌜ PutIf (fieldOf (now (plan .entry)) (8 * i + 3 * k) 3) d k m (now (row .entry)) (now (row .exit))
         s r ⌝ }
 {
@@ -104,7 +83,7 @@ fn one_if(plan: &[u8], i: usize, d: usize, k: usize, m: usize, row: &mut [u8; 32
 
 // The routes of the m columns from d on, fewer than eight, the first of which begins at a byte's first bit.
 fn tail(plan: &[u8], m: usize, at: usize, d: usize, row: &mut [u8; 32]) -> u64
-    requires { ⌜ (m < 8) × (d + m ≤ 32) × (6 ≤ at) × (at < 100000) × (at + 3 * (d + m) ≤ 8 * length (now plan))
+    requires { ⌜ (m < 8) × (d + m ≤ 32) × (at < 100000) × (at + 3 * (d + m) ≤ 8 * length (now plan))
         × (0 < m → (at + 3 * d) % 8 ≡ 0) ⌝ }
     ensures { λ s. ⌜ Group (sideAt (now (plan .entry)) at) d m (now (row .entry)) (now (row .exit)) s ⌝ }
 {
@@ -120,13 +99,13 @@ fn tail(plan: &[u8], m: usize, at: usize, d: usize, row: &mut [u8; 32]) -> u64
 
 // The routes of the m columns from d on, at most eight, wherever they begin.
 fn some(plan: &[u8], m: usize, at: usize, d: usize, row: &mut [u8; 32]) -> u64
-    requires { ⌜ (m ≤ 8) × (d + m ≤ 32) × (6 ≤ at) × (at < 100000) × (at + 3 * (d + m) ≤ 8 * length (now plan)) ⌝ }
+    requires { ⌜ (m ≤ 8) × (d + m ≤ 32) × (at < 100000) × (at + 3 * (d + m) ≤ 8 * length (now plan)) ⌝ }
     ensures { λ s. ⌜ Group (sideAt (now (plan .entry)) at) d m (now (row .entry)) (now (row .exit)) s ⌝ }
 {
     let mut s = 0u64;
     for k in 0..m {
-        let side = route(plan, at + ROUTE_BITS * (d + k));
-        s = put(row, s, d, k, side);
+        let side = field(plan, at + ROUTE_BITS * (d + k), ROUTE_BITS);
+        s = put(row, s, d, k, side as usize);
     }
     s
 }
@@ -168,7 +147,7 @@ fn fits(s: u64) -> bool
 
 // A row of any number of columns, eight at a time where they begin at a byte's first bit.
 fn long_row(plan: &[u8], n: usize, at: usize, row: &mut [u8; 32], sides: &mut [u32; 4]) -> bool
-    requires { ⌜ (n ≤ 32) × (6 ≤ at) × (at < 100000) × (at + 3 * n ≤ 8 * length (now plan)) × Empty (now sides) ⌝ }
+    requires { ⌜ (n ≤ 32) × (at < 100000) × (at + 3 * n ≤ 8 * length (now plan)) × Empty (now sides) ⌝ }
     ensures { λ ok. ⌜ Row (sideAt (now (plan .entry)) at) n (now (row .entry)) (now (row .exit)) (now (sides .exit))
         ok ⌝ }
 {
@@ -189,7 +168,7 @@ fn long_row(plan: &[u8], n: usize, at: usize, row: &mut [u8; 32], sides: &mut [u
 
 // A row of at most eight columns.
 fn short_row(plan: &[u8], n: usize, at: usize, row: &mut [u8; 32], sides: &mut [u32; 4]) -> bool
-    requires { ⌜ (n ≤ 8) × (6 ≤ at) × (at < 100000) × (at + 3 * n ≤ 8 * length (now plan)) × Empty (now sides) ⌝ }
+    requires { ⌜ (n ≤ 8) × (at < 100000) × (at + 3 * n ≤ 8 * length (now plan)) × Empty (now sides) ⌝ }
     ensures { λ ok. ⌜ Row (sideAt (now (plan .entry)) at) n (now (row .entry)) (now (row .exit))
         (now (sides .exit)) ok ⌝ }
 {
@@ -201,7 +180,7 @@ fn short_row(plan: &[u8], n: usize, at: usize, row: &mut [u8; 32], sides: &mut [
 // The routes of one router, n of them, whose bits start at a position, into its row and into sets of columns by side,
 // which are empty before; answers whether each is a side or none.
 fn read_row(plan: &[u8], n: usize, at: usize, row: &mut [u8; 32], sides: &mut [u32; 4]) -> bool
-    requires { ⌜ (n ≤ 32) × (6 ≤ at) × (at < 100000) × (at + 3 * n ≤ 8 * length (now plan)) × Empty (now sides) ⌝ }
+    requires { ⌜ (n ≤ 32) × (at < 100000) × (at + 3 * n ≤ 8 * length (now plan)) × Empty (now sides) ⌝ }
     ensures { λ ok. ⌜ Row (sideAt (now (plan .entry)) at) n (now (row .entry)) (now (row .exit))
         (now (sides .exit)) ok ⌝ }
 {

@@ -1,4 +1,5 @@
 // Hex digits in a text, and the bytes that they give.
+ghost use mathlib.Core.Path.{_≡_};
 ghost use Prim.Native.Nat.{_+_, _≤_, _<_};
 ghost use lib.ListN.{length};
 ghost use Rattle.show.specs.Hex.{Fits};
@@ -36,8 +37,8 @@ fn joined(byte: u8, d: u8) -> u8
 
 // Puts a digit behind those that the plan has; the answer is how many it has then.
 fn put(plan: &mut [u8; 4096], digits: usize, d: u8) -> usize
-    requires { ⌜ digits < 8192 ⌝ }
-    ensures { λ r. ⌜ r ≤ digits + 1 ⌝ }
+    requires { ⌜ (digits < 8192) × (4096 ≡ length (now plan)) ⌝ }
+    ensures { λ r. ⌜ (r ≤ digits + 1) × (4096 ≡ length (now (plan .exit))) ⌝ }
 {
     if SPACE <= d {
         return digits;
@@ -53,8 +54,8 @@ fn put(plan: &mut [u8; 4096], digits: usize, d: u8) -> usize
 
 // Puts the bytes that a text's digits give into the plan.
 pub fn decode(text: &[u8], plan: &mut [u8; 4096]) -> Decoded
-    requires { ⌜ length (now text) ≤ 4096 ⌝ }
-    ensures { λ r. ⌜ Fits r ⌝ }
+    requires { ⌜ (length (now text) ≤ 4096) × (4096 ≡ length (now plan)) ⌝ }
+    ensures { λ r. ⌜ Fits r × (4096 ≡ length (now (plan .exit))) ⌝ }
 {
     let mut digits: usize = 0;
     for i in 0..text.len() {

@@ -233,13 +233,6 @@ fn show(plan: &[u8]) {
     show_pairs(&routes, &joints, &homes, &lengths, h);
 }
 
-// Shows the plan that the first n bytes of a buffer are.
-fn show_first(plan: [u8; 4096], n: usize)
-    requires { ⌜ n ≤ 4096 ⌝ }
-{
-    show(&plan[..n]);
-}
-
 // Shows the plan that a text gives in hex, or says what is wrong with the text.
 fn show_text(text: &[u8])
     requires { ⌜ length (now text) ≤ 4096 ⌝ }
@@ -247,7 +240,7 @@ fn show_text(text: &[u8])
     let mut plan = io::buffer();
     let d = hex::decode(text, &mut plan);
     match d {
-        Decoded::Bytes(n) => show_first(plan, n),
+        Decoded::Bytes(n) => show(&plan[..n]),
         Decoded::Odd => say(b"The input has an odd count of hex digits.\n"),
         Decoded::Other(i) => {
             count(b"The input's sign ", i);

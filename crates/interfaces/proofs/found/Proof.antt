@@ -8,7 +8,7 @@ use Rattle.basis.specs.Bounded.{allBelow, all-none}
 use Rattle.plan.specs.Tables.{tablePlan}
 use Rattle.plan.specs.Rules.{backOk, jointOfPort, namedOk}
 use Rattle.plan.specs.Found.{foundStep, foundOf}
-use Rattle.plan.proofs.Bytes.{all-and, all-end, byte-fits}
+use Rattle.plan.proofs.JointTests.{all-and, all-end, byte-fits}
 use Rattle.interfaces.proofs.found.Statement.{statement}
 use Rattle.interfaces.proofs.found.Tie as tie
 use Rattle.interfaces.proofs.found.Reads as reads

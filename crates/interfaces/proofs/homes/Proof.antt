@@ -1,5 +1,5 @@
 use borrow.Author.Needs.{needs}
-use Rattle.plan.proofs.Bytes.{all-and, all-end}
+use Rattle.plan.proofs.JointTests.{all-and, all-end}
 use Rattle.interfaces.proofs.PortLaws.{found-ok, found-homes}
 use Rattle.plan.specs.Found.{portOfCell}
 use Rattle.basis.specs.Fold.{upTo, fill, up-none, up-fill, up-done}

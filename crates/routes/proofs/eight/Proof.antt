@@ -21,38 +21,38 @@ add-i c = search needs
 
 -- src/lib.rt:81:9
 one-requires : tie.Need-one-requires
-one-requires c κs = (omega arith, omega arith, omega arith, omega arith, omega arith)
+one-requires c κs = (omega arith, omega arith, omega arith, omega arith)
 
 -- src/lib.rt:82:9
 one-requires-2 : tie.Need-one-requires-2
-one-requires-2 c κs = (omega arith, omega arith, omega arith, omega arith, omega arith)
+one-requires-2 c κs = (omega arith, omega arith, omega arith, omega arith)
 
 -- src/lib.rt:83:9
 one-requires-3 : tie.Need-one-requires-3
-one-requires-3 c κs = (omega arith, omega arith, omega arith, omega arith, omega arith)
+one-requires-3 c κs = (omega arith, omega arith, omega arith, omega arith)
 
 -- src/lib.rt:84:9
 one-requires-4 : tie.Need-one-requires-4
-one-requires-4 c κs = (omega arith, omega arith, omega arith, omega arith, omega arith)
+one-requires-4 c κs = (omega arith, omega arith, omega arith, omega arith)
 
 -- src/lib.rt:85:9
 one-requires-5 : tie.Need-one-requires-5
-one-requires-5 c κs = (omega arith, omega arith, omega arith, omega arith, omega arith)
+one-requires-5 c κs = (omega arith, omega arith, omega arith, omega arith)
 
 -- src/lib.rt:86:9
 one-requires-6 : tie.Need-one-requires-6
-one-requires-6 c κs = (omega arith, omega arith, omega arith, omega arith, omega arith)
+one-requires-6 c κs = (omega arith, omega arith, omega arith, omega arith)
 
 -- src/lib.rt:87:9
 one-requires-7 : tie.Need-one-requires-7
-one-requires-7 c κs = (omega arith, omega arith, omega arith, omega arith, omega arith)
+one-requires-7 c κs = (omega arith, omega arith, omega arith, omega arith)
 
 -- src/lib.rt:88:5
 one-requires-8 : tie.Need-one-requires-8
 one-requires-8 c κs =
     let pre = c .before .before .before .before .before .before .before .before .before .before .before .before .before
     .before .before .before .pre in
-    (omega arith, omega arith, omega arith, omega arith, omega arith)
+    (omega arith, omega arith, omega arith, omega arith)
 
 -- src/lib.rt:75:1
 returns : tie.Need-returns
@@ -63,7 +63,7 @@ returns c =
     let whole : 8 * ((a .at + 3 * a .d) / 8) ≡ a .at + 3 * a .d = omega (
       arith,
       c .before .before .before .before .before .before .before .before .before .before .before .before
-          .before .before .before .before .before .pre .4,
+          .before .before .before .before .before .pre .3,
     ) in
     let side : (k : ℕ) → fieldOf (a .plan .now) (8 * ((a .at + 3 * a .d) / 8) + 3 * k) 3
     ≡ g (a .d + k) = λ k. side-near (a .plan .now) (a .at) (a .d) ((a .at + 3 * a .d) / 8) k whole in

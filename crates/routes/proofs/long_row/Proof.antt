@@ -34,11 +34,11 @@ lead-requires c κs = (omega arith, omega arith)
 
 -- src/lib.rt:146:9
 some-requires : tie.Need-some-requires Inv-loop μ-loop
-some-requires c κs = (omega arith, omega arith, omega arith, omega arith, omega arith)
+some-requires c κs = (omega arith, omega arith, omega arith, omega arith)
 
 -- src/lib.rt:147:5
 lay-requires : tie.Need-lay-requires Inv-loop μ-loop
-lay-requires c κs = (omega arith, c .before .before .before .before .before .pre .4 .four)
+lay-requires c κs = (omega arith, c .before .before .before .before .before .pre .3 .four)
 
 -- src/lib.rt:148:14
 sub-g : tie.Need-sub-g Inv-loop μ-loop
@@ -60,7 +60,7 @@ add-eight c = record { fits = omega arith }
 eight-requires : tie.Need-eight-requires Inv-loop μ-loop
 eight-requires c κs =
     let whole = c .before .before .before .before .before .before .before .lead .ensures .2 (omega arith) in
-    (omega arith, omega arith, omega arith, omega arith, omega arith)
+    (omega arith, omega arith, omega arith, omega arith)
 
 -- src/lib.rt:151:27
 mul-lay : tie.Need-mul-lay Inv-loop μ-loop
@@ -116,7 +116,7 @@ sub-tail c = omega arith
 tail-requires : tie.Need-tail-requires Inv-loop μ-loop
 tail-requires c κs =
     let whole = c .before .before .before .before .before .before .before .lead .ensures .2 in
-    (omega arith, omega arith, omega arith, omega arith, omega arith, λ l. omega (arith, whole (omega arith)))
+    (omega arith, omega arith, omega arith, omega arith, λ l. omega (arith, whole (omega arith)))
 
 -- src/lib.rt:156:5
 lay-requires-3 : tie.Need-lay-requires-3 Inv-loop μ-loop
@@ -140,7 +140,7 @@ returns c =
     let d = f + 8 * ((n - f) / 8) in
     let first = row-first _ (side-small _ _) _ (omega arith)
     (c .before .before .before .before .before .before .before .before .before .before .before .before .before
-    .before .pre .4) (c .before .before .before .before .before .before .before .before .before .before .some
+    .before .pre .3) (c .before .before .before .before .before .before .before .before .before .before .some
     .ensures)
     (c .before .before .before .before .before .before .before .before .lay .ensures) in
     let left : c .before .before .before .before .before .before .before .loop .j ≡ (n - f) / 8 = omega arith in

@@ -9,7 +9,7 @@ use Rattle.routes.proofs.one.Reads as one-reads
 -- src/lib.rt:99:9
 one-requires : tie.Need-one-requires
 one-requires c κs =
-    (c .before .before .before .pre .0 (c .before .if1 .taken), omega arith, omega arith, omega arith, omega arith)
+    (omega arith, omega arith, omega arith, omega arith)
 
 -- src/lib.rt:99:9
 returns : tie.Need-returns

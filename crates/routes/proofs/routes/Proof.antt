@@ -1,6 +1,5 @@
 use Rattle.routes.proofs.Routing.{row-inside}
-use mathlib.Core.Path.{_≡_}
-use Prim.Native.Nat.{_+_, _-_, _≤_, _*_}
+use Prim.Native.Nat.{_+_, _-_, _≤_}
 use borrow.Author.Needs.{needs}
 use native.Mathlib.Omega.{arith}
 use native.Mathlib.Nat.{mul-le-mul-right}
@@ -79,7 +78,6 @@ read-row-requires c κs =
     let inside = row-inside (c5 .before .before .args .h .actives + c5 .before .before .args .h .passives) (c .before
     .before .before .loop .r) (c5 .before .before .args .h .routers) (omega arith) in
     let long = c5 .before .before .pre .1 in (
-      omega arith,
       omega arith,
       omega arith,
       omega arith,

@@ -25,7 +25,7 @@ fits-requires c κs = search needs
 returns : tie.Need-returns
 returns c =
     rw (c .fits2 .ensures)
-    (row-first _ (side-small _ _) _ (omega arith) (c .before .before .before .before .before .before .pre .4)
+    (row-first _ (side-small _ _) _ (omega arith) (c .before .before .before .before .before .before .pre .3)
     (c .before .before .before .some .ensures) (c .before .lay .ensures))
 
 pub short-row-spec : {M : Type 1} → statement M

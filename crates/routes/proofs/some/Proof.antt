@@ -1,6 +1,7 @@
 use mathlib.Core.Path.{_≡_}
-use Prim.Native.Nat.{_+_, _-_, _≤_, _<_}
+use Prim.Native.Nat.{_+_, _-_, _≤_}
 use native.Mathlib.Omega.{arith}
+use borrow.Author.Needs.{needs}
 use Rattle.routes.specs.Marks.{sideAt, Group}
 use Rattle.routes.proofs.Marks.{group-none, group-more, side-of, side-small}
 use Rattle.routes.proofs.some.Statement.{statement}
@@ -8,7 +9,7 @@ use Rattle.routes.proofs.some.Tie as tie
 use Rattle.routes.proofs.some.Reads as reads
 use Rattle.routes.proofs.some.Lts as lts
 use Rattle.routes.proofs.put.Reads as put-reads
-use Rattle.routes.proofs.route.Reads as route-reads
+use Rattle.fields.proofs.field.Reads as field-reads
 
 abbrev Inv-loop : tie.InvT-loop
 Inv-loop plan m at d row₀ s₀ k₀ row s k = (k ≤ m) × Group (sideAt plan at) d k row₀ row s
@@ -21,26 +22,30 @@ loop-holds : tie.Need-loop-holds Inv-loop μ-loop
 loop-holds c = (omega arith, group-none _ _ _)
 
 -- src/lib.rt:98:51
-add-route : tie.Need-add-route Inv-loop μ-loop
-add-route c = record { fits = omega arith }
+add-field : tie.Need-add-field Inv-loop μ-loop
+add-field c = record { fits = omega arith }
 
 -- src/lib.rt:98:37
-mul-route : tie.Need-mul-route Inv-loop μ-loop
-mul-route c = record { fits = omega arith }
+mul-field : tie.Need-mul-field Inv-loop μ-loop
+mul-field c = record { fits = omega arith }
 
 -- src/lib.rt:98:32
-add-route-2 : tie.Need-add-route-2 Inv-loop μ-loop
-add-route-2 c = record { fits = omega arith }
+add-field-2 : tie.Need-add-field-2 Inv-loop μ-loop
+add-field-2 c = record { fits = omega arith }
 
 -- src/lib.rt:98:13
-route-requires : tie.Need-route-requires Inv-loop μ-loop
-route-requires c κs = (omega arith, omega arith, omega arith)
+field-requires : tie.Need-field-requires Inv-loop μ-loop
+field-requires c κs = (omega arith, omega arith, omega arith)
+
+-- src/lib.rt:99:9
+cast-put : tie.Need-cast-put Inv-loop μ-loop
+cast-put c = search needs
 
 -- src/lib.rt:99:9
 put-requires : tie.Need-put-requires Inv-loop μ-loop
 put-requires c κs =
     let a = c .before .before .before .before .before .args in
-    let side = side-of (a .plan .now) (a .at) (a .d + c .before .before .before .loop .k) (c .before .route .ensures) in
+    let side = side-of (a .plan .now) (a .at) (a .d + c .before .before .before .loop .k) (c .before .field .ensures) in
     (omega arith, omega arith, rw side (side-small (a .plan .now) (a .at) (a .d + c .before .before .before .loop .k)))
 
 -- src/lib.rt:97:9
@@ -56,7 +61,7 @@ loop-again : tie.Need-loop-again Inv-loop μ-loop
 loop-again c =
     let a = c .before .before .before .before .before .before .args in
     let side = side-of (a .plan .now) (a .at) (a .d + c .before .before .before .before .loop .k)
-    (c .before .before .route .ensures) in (
+    (c .before .before .field .ensures) in (
       omega arith,
       group-more _ _ _ (c .before .before .before .before .loop .inv .1) (omega arith) side
           (c .put .ensures),
@@ -75,10 +80,11 @@ some-spec =
     Inv-loop
     μ-loop
     loop-holds
-    add-route
-    mul-route
-    add-route-2
-    route-requires
+    add-field
+    mul-field
+    add-field-2
+    field-requires
+    cast-put
     put-requires
     add-k
     loop-less

@@ -21,52 +21,31 @@ add-i c = search needs
 
 -- src/lib.rt:111:9
 one-if-requires : tie.Need-one-if-requires
-one-if-requires c κs =
-    let whole = c .before .before .pre .5 in
-    (λ l. omega (arith, whole (omega arith)), omega arith, omega arith, omega arith, omega arith)
+one-if-requires c κs = (omega arith, omega arith, omega arith, omega arith)
 
 -- src/lib.rt:112:9
 one-if-requires-2 : tie.Need-one-if-requires-2
-one-if-requires-2 c κs =
-    let whole = c .before .before .before .before .pre .5 in
-    (λ l. omega (arith, whole (omega arith)), omega arith, omega arith, omega arith, omega arith)
+one-if-requires-2 c κs = (omega arith, omega arith, omega arith, omega arith)
 
 -- src/lib.rt:113:9
 one-if-requires-3 : tie.Need-one-if-requires-3
-one-if-requires-3 c κs =
-    let c5 = c .before .before .before .before .before in
-    let whole = c5 .before .pre .5 in
-    (λ l. omega (arith, whole (omega arith)), omega arith, omega arith, omega arith, omega arith)
+one-if-requires-3 c κs = (omega arith, omega arith, omega arith, omega arith)
 
 -- src/lib.rt:114:9
 one-if-requires-4 : tie.Need-one-if-requires-4
-one-if-requires-4 c κs =
-    let c5 = c .before .before .before .before .before in
-    let whole = c5 .before .before .before .pre .5 in
-    (λ l. omega (arith, whole (omega arith)), omega arith, omega arith, omega arith, omega arith)
+one-if-requires-4 c κs = (omega arith, omega arith, omega arith, omega arith)
 
 -- src/lib.rt:115:9
 one-if-requires-5 : tie.Need-one-if-requires-5
-one-if-requires-5 c κs =
-    let c5 = c .before .before .before .before .before in
-    let whole = c5 .before .before .before .before .before .pre .5 in
-    (λ l. omega (arith, whole (omega arith)), omega arith, omega arith, omega arith, omega arith)
+one-if-requires-5 c κs = (omega arith, omega arith, omega arith, omega arith)
 
 -- src/lib.rt:116:9
 one-if-requires-6 : tie.Need-one-if-requires-6
-one-if-requires-6 c κs =
-    let c5 = c .before .before .before .before .before in
-    let c10 = c5 .before .before .before .before .before in
-    let whole = c10 .before .before .pre .5 in
-    (λ l. omega (arith, whole (omega arith)), omega arith, omega arith, omega arith, omega arith)
+one-if-requires-6 c κs = (omega arith, omega arith, omega arith, omega arith)
 
 -- src/lib.rt:117:5
 one-if-requires-7 : tie.Need-one-if-requires-7
-one-if-requires-7 c κs =
-    let c5 = c .before .before .before .before .before in
-    let c10 = c5 .before .before .before .before .before in
-    let whole = c10 .before .before .before .before .pre .5 in
-    (λ l. omega (arith, whole (omega arith)), omega arith, omega arith, omega arith, omega arith)
+one-if-requires-7 c κs = (omega arith, omega arith, omega arith, omega arith)
 
 -- src/lib.rt:105:1
 returns : tie.Need-returns
@@ -77,7 +56,7 @@ returns c =
     let a = c15 .args in
     let g : ℕ → ℕ = sideAt (a .plan .now) (a .at) in
     let i : ℕ = (a .at + 3 * a .d) / 8 in
-    let whole : 0 < a .m → 8 * i ≡ a .at + 3 * a .d = λ l. omega (arith, c15 .pre .5 l) in
+    let whole : 0 < a .m → 8 * i ≡ a .at + 3 * a .d = λ l. omega (arith, c15 .pre .4 l) in
     let side : (k : ℕ) → k < a .m → fieldOf (a .plan .now) (8 * i + 3 * k) 3 ≡ g (a .d + k) = λ k l.
     side-near (a .plan .now) (a .at) (a .d) i k (whole (omega arith)) in
     let g0 = begun-none g (a .d) (a .m) (a .row .now) in

@@ -6,7 +6,7 @@ use Rattle.basis.specs.Fold.{upTo, fill, up-none, up-fill, up-done}
 use Rattle.basis.specs.Bounded.{allBelow, all-none}
 use Rattle.plan.specs.declared.Head.{Head}
 use Rattle.plan.specs.Tables.{jointByte, jointsOf, jointByteOk, jointBytesOk}
-use Rattle.plan.proofs.Bytes.{all-and, all-end, joints-tested}
+use Rattle.plan.proofs.JointTests.{all-and, all-end, joints-tested}
 use Rattle.plan.proofs.joints.joints.Statement.{statement}
 use Rattle.plan.proofs.joints.joints.Tie as tie
 use Rattle.plan.proofs.joints.joints.Reads as reads

@@ -11,7 +11,8 @@ use Rattle.show.proofs.hex.digit.Reads as digit-reads
 use Rattle.show.proofs.hex.put.Reads as put-reads
 
 abbrev Inv-loop : tie.InvT-loop
-Inv-loop text plan₀ digits₀ i₀ i-end plan digits i = (i-end ≡ length text) × (i ≤ i-end) × (digits ≤ i)
+Inv-loop text plan₀ digits₀ i₀ i-end plan digits i =
+    (i-end ≡ length text) × (i ≤ i-end) × (digits ≤ i) × (4096 ≡ length plan)
 
 abbrev μ-loop : tie.MeasureT-loop
 μ-loop text plan₀ digits₀ i₀ i-end plan digits i = i-end - i
@@ -30,7 +31,7 @@ digit-requires c κs = search needs
 
 -- src/hex.rt:62:13
 returns : tie.Need-returns Inv-loop μ-loop
-returns c = tt
+returns c = (tt, c .before .before .before .before .loop .inv .3)
 
 -- src/hex.rt:64:9
 put-requires : tie.Need-put-requires Inv-loop μ-loop
@@ -50,11 +51,11 @@ loop-again c = search needs
 
 -- src/hex.rt:67:9
 returns-2 : tie.Need-returns-2 Inv-loop μ-loop
-returns-2 c = tt
+returns-2 c = (tt, c .before .before .loop .inv .3)
 
 -- src/hex.rt:54:1
 returns-3 : tie.Need-returns-3 Inv-loop μ-loop
-returns-3 c = omega arith
+returns-3 c = (omega arith, c .before .before .loop .inv .3)
 
 pub decode-spec : {M : Type 1} → statement M
 decode-spec =

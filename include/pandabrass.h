@@ -62,7 +62,7 @@ enum pandabrass_choice { PANDABRASS_DECLINE = 0, PANDABRASS_ACCEPT = 1 };
 #define PANDABRASS_FREE 4
 
 /* The most bytes that a state of any plan has, and the most that a plan has. */
-#define PANDABRASS_LARGEST_STATE 21762
+#define PANDABRASS_LARGEST_STATE 26130
 #define PANDABRASS_LARGEST_PLAN 262
 
 /* How many bytes a state of this plan has; 0 if the plan does not load. */

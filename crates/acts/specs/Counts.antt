@@ -10,7 +10,7 @@ use Rattle.machine.specs.Outputs.{outputs}
 use Rattle.layout.specs.Offsets.{size, outputsAt, allowancesAt, tableAt, connectionsAt, turnsAt}
 
 abbrev pub queueCount : Head → ℕ
-queueCount h = 2 * destinations h + 21 * h .routers
+queueCount h = 2 * destinations h + 28 * h .routers
 
 abbrev pub outputCount : Head → ℕ
 outputCount h = destinations h + 6 * h .routers

@@ -15,9 +15,9 @@ pub const OUTPUT_WIDTH: usize = 7;
 // How many queues there are.
 pub fn queue_count(h: Head) -> usize
     requires { ⌜ Counts h ⌝ }
-    ensures { λ n. ⌜ (n ≡ queueCount h) × (n ≤ 400) ⌝ }
+    ensures { λ n. ⌜ (n ≡ queueCount h) × (n ≤ 512) ⌝ }
 {
-    2 * (h.actives + h.passives) + 21 * h.routers
+    2 * (h.actives + h.passives) + 28 * h.routers
 }
 
 // How many outputs there are.

@@ -1,5 +1,5 @@
 -- Whom an output picked: what the code tests of its bytes is the test of its choice.
-use mathlib.Core.Path.{_≡_, refl, sym, ap, ap₂, _∙_}
+use mathlib.Core.Path.{_≡_, refl, sym, ap, ap₂, subst, _∙_}
 use mathlib.Core.Logic.{_≢_}
 use mathlib.Core.Bool.{Bool, true, false, not, _||_, false≢true}
 use mathlib.Core.List.{List, [], _∷_}
@@ -20,7 +20,7 @@ use Rattle.plan.specs.Plan.{Plan}
 use Rattle.plan.specs.Tables.{tablePlan}
 use Rattle.feeding.specs.Queue.{Queue, Exists, number, queues, queueAt}
 use Rattle.feeding.specs.Role.{Role, sending, receiving, handling, passing, role, isUnitAs}
-use Rattle.feeding.specs.Feeds.{Output, headPlace, outputOf}
+use Rattle.feeding.specs.Feeds.{Output, Place, headPlace, leavesFrom, outputOf}
 use Rattle.machine.specs.Outputs.{nextBy, senders, outputs, outputAt}
 use Rattle.machine.specs.State.{State, Choice, nobody, sender, isFull}
 use Rattle.machine.specs.Execute.{hasCredit, mayLeaveAs, mayLeave, headReady, candidate}
@@ -45,7 +45,8 @@ use Rattle.states.specs.Parts.{frameTest, queueTest, isNobody, outputTest, pick
 use Rattle.states.specs.Check.{queueRowTest, outputRowTest, queuesPart, outputsPart, picksPart}
 use Rattle.frames.proofs.Frames.{unit-law}
 use Rattle.moves.specs.Wiring.{Wiring}
-use Rattle.moves.specs.Next.{noQueue, numberOr}
+use Rattle.moves.specs.Next.{noQueue, numberOr, AtUnit}
+use Rattle.moves.proofs.Onward.{onward-at}
 use Rattle.choices.specs.Picks.{senderOf, mayLeaveAt, maySend}
 use Rattle.choices.proofs.Bytes.{also-false, also-right, flag-test, some-test, not-write, head-is, decode-phase}
 use Rattle.choices.proofs.Bytes.{outputs-are, output-row}
@@ -55,7 +56,7 @@ use Rattle.choices.proofs.Senders.{sender-leaves, sender-number}
 leaves-as : (k : Role) (done : Bool) → mayLeaveAs k done ≡ pick (isUnitAs k) done true
 leaves-as sending done = refl
 leaves-as receiving done = refl
-leaves-as (handling r) done = refl
+leaves-as (handling r i) done = refl
 leaves-as passing done = refl
 
 not-ready : (pl : Plan) (s : State) (o : Output) (l : List Packet) → headReady pl s o false l ≡ false
@@ -150,6 +151,13 @@ module _ (h : Head) (routes : List (List ℕ)) (joints homes : List ℕ) (w : Wi
         (leaves-as (role q) (s .lines .handled q)
         ∙ ap₂ (λ (u v : Bool). pick u v true) (sym (unit-law h routes joints n))
         (mark-is ∙ flag-test (getD b (i + handledByte) 0)))
+
+    -- on the way to a unit it goes four queues behind
+    pub head-onward : getD b (i + lengthByte) 0 ≢ 0 → {t : Bool} → t ≡ mayLeaveAt h b n i → t ≡ true → (x : Packet)
+        → x ≡ first → AtUnit net o x (n + 4)
+    head-onward ne e f x ex =
+        let at = subst (λ (k : Place). Belongs net k first) (head-leaves s q (sym leave-is ∙ sym e ∙ f)) (belongs ne) in
+        onward-at (w .wired) o n (rw queues-are hn) leaves (subst (Belongs net (leavesFrom q)) (sym ex) at)
 
     -- ---- the code's ways out
     pub send-empty : getD b (i + lengthByte) 0 ≡ 0 → false ≡ maySend net b m n

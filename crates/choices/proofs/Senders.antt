@@ -33,28 +33,33 @@ sender-leaves (ofSide r o) zero q e = rw (← some-same e)
 sender-leaves (ofSide r o) (suc zero) q e = rw (← some-same e)
 sender-leaves (ofSide r o) (suc (suc zero)) q e = rw (← some-same e)
 sender-leaves (ofSide r o) (suc (suc (suc zero))) q e = rw (← some-same e)
-sender-leaves (ofSide r o) (suc (suc (suc (suc k)))) q e = absurd (some-not-none e)
+sender-leaves (ofSide r o) (suc (suc (suc (suc zero)))) q e = rw (← some-same e)
+sender-leaves (ofSide r o) (suc (suc (suc (suc (suc k))))) q e = absurd (some-not-none e)
 sender-leaves (toUnit r) zero q e = rw (← some-same e)
 sender-leaves (toUnit r) (suc zero) q e = rw (← some-same e)
 sender-leaves (toUnit r) (suc (suc zero)) q e = rw (← some-same e)
 sender-leaves (toUnit r) (suc (suc (suc zero))) q e = rw (← some-same e)
 sender-leaves (toUnit r) (suc (suc (suc (suc k)))) q e = absurd (some-not-none e)
 sender-leaves (fromUnit r) zero q e = rw (← some-same e)
-sender-leaves (fromUnit r) (suc k) q e = absurd (some-not-none e)
+sender-leaves (fromUnit r) (suc zero) q e = rw (← some-same e)
+sender-leaves (fromUnit r) (suc (suc zero)) q e = rw (← some-same e)
+sender-leaves (fromUnit r) (suc (suc (suc zero))) q e = rw (← some-same e)
+sender-leaves (fromUnit r) (suc (suc (suc (suc k)))) q e = absurd (some-not-none e)
 
 module _ (h : Head) (routes : List (List ℕ)) (joints : List ℕ) where
   abbrev net : Plan
   net = tablePlan h routes joints
 
   -- a side's sender of rank k
-  side-number : (r o k : ℕ) → r < h .routers → o < 4 → k < 4
-      → baseOf h r + 5 + 4 * o + k ≡ numberOr net (some (senderAt r o k))
+  side-number : (r o k : ℕ) → r < h .routers → o < 4 → k < 5
+      → baseOf h r + 8 + 5 * o + k ≡ numberOr net (some (senderAt r o k))
   unfolding tablePlan number
   side-number r o zero hr ho hk = rw (lt-ltb r (h .routers) hr, lt-ltb o 4 ho)
-  side-number r o (suc k) hr ho hk = by (lt-or-ge k o)
+  side-number r o (suc zero) hr ho hk = rw (lt-ltb r (h .routers) hr, lt-ltb o 4 ho)
+  side-number r o (suc (suc k)) hr ho hk = by (lt-or-ge k o)
     where
       by : (k < o) ⊎ (o ≤ k)
-          → baseOf h r + 5 + 4 * o + suc k ≡ numberOr net (some (K r (pick (ltb k o) k (suc k)) o))
+          → baseOf h r + 8 + 5 * o + suc (suc k) ≡ numberOr net (some (K r (pick (ltb k o) k (suc k)) o))
       by (inl l) =
           let i : k < 4 = omega arith in
           let ne : k ≡ o → ⊥ = λ z. omega arith in
@@ -79,19 +84,21 @@ module _ (h : Head) (routes : List (List ℕ)) (joints : List ℕ) where
             le-ltb (suc k) o j,
           )
 
-  side-rank : (r o k : ℕ) → k < 4 → ofRank (senders (ofSide r o)) k ≡ some (senderAt r o k)
+  side-rank : (r o k : ℕ) → k < 5 → ofRank (senders (ofSide r o)) k ≡ some (senderAt r o k)
   side-rank r o zero l = refl
   side-rank r o (suc zero) l = refl
   side-rank r o (suc (suc zero)) l = refl
   side-rank r o (suc (suc (suc zero))) l = refl
-  side-rank r o (suc (suc (suc (suc k)))) l = absurd (omega arith)
+  side-rank r o (suc (suc (suc (suc zero)))) l = refl
+  side-rank r o (suc (suc (suc (suc (suc k))))) l = absurd (omega arith)
 
-  side-none : (r o k : ℕ) → 4 ≤ k → ofRank (senders (ofSide r o)) k ≡ none
+  side-none : (r o k : ℕ) → 5 ≤ k → ofRank (senders (ofSide r o)) k ≡ none
   side-none r o zero l = absurd (omega arith)
   side-none r o (suc zero) l = absurd (omega arith)
   side-none r o (suc (suc zero)) l = absurd (omega arith)
   side-none r o (suc (suc (suc zero))) l = absurd (omega arith)
-  side-none r o (suc (suc (suc (suc k)))) l = refl
+  side-none r o (suc (suc (suc (suc zero)))) l = absurd (omega arith)
+  side-none r o (suc (suc (suc (suc (suc k))))) l = refl
 
   unit-number : (r k : ℕ) → r < h .routers → k < 4 → baseOf h r + k ≡ numberOr net (some (U r k))
   unfolding tablePlan number
@@ -112,26 +119,29 @@ module _ (h : Head) (routes : List (List ℕ)) (joints : List ℕ) where
   unit-none r (suc (suc (suc (suc k)))) l = refl
 
   queue-number : (r k : ℕ) → r < h .routers
-      → pick (eqb k 0) (baseOf h r + 4) noQueue ≡ numberOr net (ofRank (senders (fromUnit r)) k)
+      → pick (ltb k 4) (baseOf h r + 4 + k) noQueue ≡ numberOr net (ofRank (senders (fromUnit r)) k)
   unfolding tablePlan number
   queue-number r zero hr = rw (lt-ltb r (h .routers) hr)
-  queue-number r (suc k) hr = rw (ne-eqb (suc k) 0 (λ z. omega arith))
+  queue-number r (suc zero) hr = rw (lt-ltb r (h .routers) hr)
+  queue-number r (suc (suc zero)) hr = rw (lt-ltb r (h .routers) hr)
+  queue-number r (suc (suc (suc zero))) hr = rw (lt-ltb r (h .routers) hr)
+  queue-number r (suc (suc (suc (suc k)))) hr = rw (le-ltb (suc (suc (suc (suc k)))) 4 (omega arith))
 
   router-number : (r o k : ℕ) → r < h .routers → o < 6
       → senderIn h r o k ≡ numberOr net (ofRank (senders (routerOutput r o)) k)
   unfolding senderIn
-  router-number r o k hr ho = by (test (ltb o 4)) (test (eqb o 4)) (test (ltb k 4))
+  router-number r o k hr ho = by (test (ltb o 4)) (test (eqb o 4)) (test (ltb k 4)) (test (ltb k 5))
     where
       by : (ltb o 4 ≡ true) ⊎ (ltb o 4 ≡ false) → (eqb o 4 ≡ true) ⊎ (eqb o 4 ≡ false)
-          → (ltb k 4 ≡ true) ⊎ (ltb k 4 ≡ false)
+          → (ltb k 4 ≡ true) ⊎ (ltb k 4 ≡ false) → (ltb k 5 ≡ true) ⊎ (ltb k 5 ≡ false)
           → senderIn h r o k ≡ numberOr net (ofRank (senders (routerOutput r o)) k)
-      by (inl x) y (inl z) =
-          rw (x, z, side-rank r o k (ltb-true k 4 z)) (side-number r o k hr (ltb-true o 4 x) (ltb-true k 4 z))
-      by (inl x) y (inr z) = rw (x, z, side-none r o k (ltb-false k 4 z))
-      by (inr x) (inl y) (inl z) =
+      by (inl x) y v (inl z) =
+          rw (x, z, side-rank r o k (ltb-true k 5 z)) (side-number r o k hr (ltb-true o 4 x) (ltb-true k 5 z))
+      by (inl x) y v (inr z) = rw (x, z, side-none r o k (ltb-false k 5 z))
+      by (inr x) (inl y) (inl z) v =
           rw (x, y, z, unit-rank r k (ltb-true k 4 z)) (unit-number r k hr (ltb-true k 4 z))
-      by (inr x) (inl y) (inr z) = rw (x, y, z, unit-none r k (ltb-false k 4 z))
-      by (inr x) (inr y) z = rw (x, y) (queue-number r k hr)
+      by (inr x) (inl y) (inr z) v = rw (x, y, z, unit-none r k (ltb-false k 4 z))
+      by (inr x) (inr y) z v = rw (x, y) (queue-number r k hr)
 
   -- what the code computes is the number of the sender of that rank
   pub sender-number : (m k : ℕ) → m < outputCount h

@@ -19,8 +19,8 @@ use Rattle.moves.specs.Next.{noQueue, baseOf}
 -- ---- the sender of rank k at output m, as a queue's number
 unfoldable pub senderIn : Head → ℕ → ℕ → ℕ → ℕ
 senderIn h r o k =
-    pick (ltb o 4) (pick (ltb k 4) (baseOf h r + 5 + 4 * o + k) noQueue)
-    (pick (eqb o 4) (pick (ltb k 4) (baseOf h r + k) noQueue) (pick (eqb k 0) (baseOf h r + 4) noQueue))
+    pick (ltb o 4) (pick (ltb k 5) (baseOf h r + 8 + 5 * o + k) noQueue)
+    (pick (eqb o 4) (pick (ltb k 4) (baseOf h r + k) noQueue) (pick (ltb k 4) (baseOf h r + 4 + k) noQueue))
 
 unfoldable pub senderOf : Head → ℕ → ℕ → ℕ
 senderOf h m k =

@@ -32,8 +32,8 @@ fn sender_in(h: Head, r: usize, o: usize, k: usize) -> usize
 {
     let base = moves::base_of(h, r);
     if o < 4 {
-        return if k < 4 {
-            base + 5 + 4 * o + k
+        return if k < 5 {
+            base + 8 + 5 * o + k
         } else {
             moves::NO_QUEUE
         };
@@ -41,7 +41,7 @@ fn sender_in(h: Head, r: usize, o: usize, k: usize) -> usize
     if o == 4 {
         return if k < 4 { base + k } else { moves::NO_QUEUE };
     }
-    if k == 0 { base + 4 } else { moves::NO_QUEUE }
+    if k < 4 { base + 4 + k } else { moves::NO_QUEUE }
 }
 
 // The sender of rank k at output m.
@@ -95,7 +95,7 @@ fn may_send(
         return false;
     }
     let x = rows::packet_at(s, i + 4);
-    let q = moves::next(h, routes, joints, homes, m, x);
+    let q = moves::next(h, routes, joints, homes, m, n + 4, x);
     if q == moves::NO_QUEUE {
         return false;
     }

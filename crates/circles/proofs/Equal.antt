@@ -3,23 +3,25 @@ use mathlib.Core.Path.{_≡_, refl, sym, ap, _∙_, subst}
 use mathlib.Core.Logic.{_⊎_, inl, inr}
 use mathlib.Core.Option.{some}
 use mathlib.Core.Bool.{Bool, true, false}
-use Prim.Native.Nat.{ℕ, _<_}
+use Prim.Native.Nat.{ℕ, zero, suc, _<_}
 use native.Mathlib.Omega.{arith}
 use Rattle.basis.specs.Choice.{not-both}
-use Rattle.basis.specs.Walk.{on, end}
+use Rattle.basis.specs.Walk.{on, way-on, way-at}
 use Rattle.basis.specs.Ring.{Ring, ring-map}
 use Rattle.plan.specs.declared.Joint.{Joint}
 use Rattle.plan.specs.declared.Joint.the-variants.{Nothing, Router, Active, Passive}
-use Rattle.plan.specs.Plan.{Plan, Port, active, passive, A, P, routeTo}
+use Rattle.plan.specs.Plan.{Plan, Port, Interface, active, passive, A, P, routeTo}
 use Rattle.plan.specs.Rules.{home}
-use Rattle.paths.specs.Walk.{onward}
+use Rattle.paths.specs.Walk.{onward, routerOf, Walk, walked}
 use Rattle.paths.specs.Served.{Served}
 use Rattle.feeding.specs.Queue.{Queue, activeOut, activeIn, passiveIn, passiveOut, U, Q, F, K}
 use Rattle.feeding.specs.Feeds.{Heading, ahead, back, headingOf, enters, across, next, Meets, Feeds, FeedRing}
 use Rattle.wiring.specs.Wired.{Wired}
 use Rattle.journeys.specs.Visits.{Visits}
-use Rattle.journeys.proofs.Walks.{onward-on, onward-end}
-use Rattle.journeys.proofs.Places.{some-same, some-not-none, meets-next, goes-from}
+use Rattle.journeys.proofs.Walks.{onward-on}
+use Rattle.journeys.proofs.Sides.{router-not-end, joined-back}
+use Rattle.journeys.proofs.CameIn.{came-in}
+use Rattle.journeys.proofs.Places.{some-same, some-not-none, meets-next}
 use Rattle.journeys.proofs.Fitting.{fits-visits, visits-fit}
 use Rattle.circles.specs.Rounds.{Three, Amid, Both, ring-amid, ring-split, ring-strides, ring-thrice}
 use Rattle.circles.specs.Circles.{Trails, WalkRing, Crossing, Hands, AnswerRing}
@@ -64,54 +66,101 @@ feeds-of pl h x y g =
       goes = rw (c .heads) (g .goes);
     }
 
--- ---- a ring of walks is a ring of queues
-module _ (pl : Plan) where
-  trails-feeds : (x y : ℕ) → Trails pl x y → Three (Feeds pl) (Q x) (Q y)
+-- ---- the router before one on a walk that is entered from a router
+module _ {pl : Plan} (wired : Wired pl) where
+  pub record Before (e : Interface) (from y : Port) (m u : ℕ) : Type 0 where
+    pub side : ℕ
+    pub met : Meets pl e from (record { router = m; side = side })
+    pub goes : onward pl e (record { router = m; side = side }) ≡ on y
+    pub leaves : u ≡ routeTo pl e m
+
+  router-same : {n t m u : ℕ} → Router n t ≡ Router m u → (n ≡ m) × (t ≡ u)
+  router-same e = (cc, cc)
+
+  meets-before : (e : Interface) (from y : Port) (w : Walk pl e from) (m u : ℕ)
+      → pl .joint (y .router) (y .side) ≡ Router m u
+      → ((n t : ℕ) → pl .joint (from .router) (from .side) ≡ Router n t → ⊥) → Meets pl e from y → Before e from y m u
+  meets-before e from y w m u j first met = by (met .steps) (met .here)
+    where
+      by : (k : ℕ) → walked pl e k from ≡ on y → Before e from y m u
+      by zero q =
+          let o = way-on (onward pl e) routerOf w 0 y q in
+          let same : from ≡ y = sym (w .begins) ∙ o .1 in
+          absurd (first m u (ap (λ (x : Port). pl .joint (x .router) (x .side)) same ∙ j))
+      by (suc k) q = made (way-on (onward pl e) routerOf w (suc k) y q)
+        where
+          made : (suc k < w .size) × (w .stop (suc k) ≡ y) → Before e from y m u
+          made (h, g) = named (joined-back wired e (w .stop k) y there)
+            where
+              there : onward pl e (w .stop k) ≡ on y
+              there = w .goes k h ∙ ap on g
+
+              named : pl .joint (y .router) (y .side) ≡ Router (w .stop k .router) (routeTo pl e (w .stop k .router))
+                  → Before e from y m u
+              named f =
+                  let same = router-same (sym f ∙ j) in
+                  let at : w .stop k ≡ record { router = m; side = w .stop k .side } =
+                  λ i. record { router = same .0 i; side = w .stop k .side } in
+                  record {
+                    side = w .stop k .side;
+                    met = record { steps = k; here = way-at (onward pl e) routerOf w k (omega arith) ∙ ap on at };
+                    goes = ap (onward pl e) (sym at) ∙ there;
+                    leaves = sym (same .1) ∙ ap (routeTo pl e) (same .0);
+                  }
+
+  -- ---- a ring of walks is a ring of queues
+  abbrev outOf : Port → Queue
+  outOf x = F ahead (x .router) (x .side)
+
+  trails-feeds : (x y : Port) → Trails pl x y → Three (Feeds pl) (outOf x) (outOf y)
   unfolding Visits next
   trails-feeds x y f = record {
-    one = F x out;
-    two = U y (f .into);
-    first = feeds-of pl ahead (Q x) (F x out) (record {
+    one = U (y .router) (f .into);
+    two = Q (y .router) (f .into);
+    first = feeds-of pl ahead (outOf x) (U (y .router) (f .into)) (record {
       a = f .a;
       p = f .p;
       has-active = f .has-active;
       has-passive = f .has-passive;
       serves = f .serves;
-      visits = (f .from, f .met);
-      goes = refl;
+      visits = ((f .from, f .met), f .leaves);
+      goes = ap (λ (o : ℕ). across pl ahead (f .a) (f .p) (pl .joint (x .router) o)) (f .leaves)
+          ∙ ap (across pl ahead (f .a) (f .p)) (onward-on pl (passive (f .p)) here there (f .next));
     });
-    second = feeds-of pl ahead (F x out) (U y (f .into)) (record {
+    second = feeds-of pl ahead (U (y .router) (f .into)) (Q (y .router) (f .into)) (record {
       a = f .a;
       p = f .p;
       has-active = f .has-active;
       has-passive = f .has-passive;
       serves = f .serves;
-      visits = ((f .from, f .met), refl);
-      goes = ap (across pl ahead (f .a) (f .p)) (onward-on pl (passive (f .p)) here there (f .next));
+      visits = met;
+      goes = ap (λ (i : ℕ). some (Q (y .router) i))
+          (came-in wired (f .a) (f .p) (f .has-active) (f .serves) (met .steps) (y .router) (f .into) (met .here));
     });
-    third = feeds-of pl ahead (U y (f .into)) (Q y) (record {
+    third = feeds-of pl ahead (Q (y .router) (f .into)) (outOf y) (record {
       a = f .a;
       p = f .p;
       has-active = f .has-active;
       has-passive = f .has-passive;
       serves = f .serves;
-      visits = meets-next pl (passive (f .p)) (home pl (active (f .a))) here there (f .met) (f .next);
-      goes = refl;
+      visits = met;
+      goes = ap (λ (o : ℕ). some (F ahead (y .router) o)) (sym (f .turns));
     });
   }
     where
-      out : ℕ
-      out = routeTo pl (passive (f .p)) x
-
       here : Port
-      here = record { router = x; side = f .from }
+      here = record { router = x .router; side = f .from }
 
       there : Port
-      there = record { router = y; side = f .into }
+      there = record { router = y .router; side = f .into }
+
+      met : Meets pl (passive (f .p)) (home pl (active (f .a))) there
+      met = meets-next pl (passive (f .p)) (home pl (active (f .a))) here there (f .met) (f .next)
 
   pub walk-ring : WalkRing pl → FeedRing pl
-  walk-ring r = ring-thrice (Trails pl) (Feeds pl) (λ x. Q x) trails-feeds r
+  walk-ring r = ring-thrice (Trails pl) (Feeds pl) outOf trails-feeds r
 
+module _ (pl : Plan) where
   -- ---- a ring of crossings is a ring of queues
   abbrev crossed : Crossing → Queue
   crossed x = K (x .into .router) (x .into .side) (x .out)
@@ -132,13 +181,14 @@ module _ (pl : Plan) where
   answer-ring r = ring-map (Hands pl) (Feeds pl) crossed (λ x y h. crosses-feeds x y (hands-crosses pl x y h)) r
 
 -- ---- where a ring of queues is
--- answers crossing, and the in-queues: from there nothing goes to a unit
+-- answers on their way from a unit or crossing, and the in-queues: from there nothing goes to a unit
 abbrev late : Queue → Bool
 late (activeOut x) = false
 late (passiveOut x) = false
 late (U r i) = false
-late (Q r) = false
-late (F r o) = false
+late (Q r i) = false
+late (F ahead r o) = false
+late (F back r o) = true
 late (K r i o) = true
 late (activeIn x) = true
 late (passiveIn x) = true
@@ -147,8 +197,8 @@ abbrev isOut : Queue → Bool
 isOut (activeOut x) = true
 isOut (passiveOut x) = true
 isOut (U r i) = false
-isOut (Q r) = false
-isOut (F r o) = false
+isOut (Q r i) = false
+isOut (F h r o) = false
 isOut (K r i o) = false
 isOut (activeIn x) = false
 isOut (passiveIn x) = false
@@ -173,8 +223,10 @@ module _ (pl : Plan) where
   goes-late h (activeOut x) y g l = absurd (false-true l)
   goes-late h (passiveOut x) y g l = absurd (false-true l)
   goes-late h (U r i) y g l = absurd (false-true l)
-  goes-late h (Q r) y g l = absurd (false-true l)
-  goes-late h (F r o) y g l = absurd (false-true l)
+  goes-late h (Q r i) y g l = absurd (false-true l)
+  goes-late h (F ahead r o) y g l = absurd (false-true l)
+  goes-late ahead (F back r o) y g l = absurd (g .visits)
+  goes-late back (F back r o) y g l = across-late (g .a) (g .p) (pl .joint r o) y (g .goes)
 
   feeds-late : (x y : Queue) → Feeds pl x y → late x ≡ true → late y ≡ true
   feeds-late x y f l = let g = goes-of pl x y f in goes-late (g .0) x y (g .1) l
@@ -195,8 +247,8 @@ module _ (pl : Plan) where
   goes-in h (activeOut x) y g = rw (← some-same (g .goes)) (enters-in h (g .a) (g .p) (home pl (active x)))
   goes-in h (passiveOut x) y g = rw (← some-same (g .goes)) (enters-in h (g .a) (g .p) (home pl (passive x)))
   goes-in h (U r i) y g = rw (← some-same (g .goes)) refl
-  goes-in h (Q r) y g = rw (← some-same (g .goes)) refl
-  goes-in h (F r o) y g = across-in h (g .a) (g .p) (pl .joint r o) y (g .goes)
+  goes-in h (Q r i) y g = rw (← some-same (g .goes)) refl
+  goes-in h (F k r o) y g = across-in h (g .a) (g .p) (pl .joint r o) y (g .goes)
   goes-in h (K r i o) y g = across-in h (g .a) (g .p) (pl .joint r o) y (g .goes)
   goes-in h (activeIn x) y g = absurd (some-not-none (g .goes))
   goes-in h (passiveIn x) y g = absurd (some-not-none (g .goes))
@@ -204,110 +256,127 @@ module _ (pl : Plan) where
   feeds-in : (x y : Queue) → Feeds pl x y → isOut y ≡ false
   feeds-in x y f = let g = goes-of pl x y f in goes-in (g .0) x y (g .1)
 
-  -- ---- the steps among U, Q and F
-  from-u : (r i : ℕ) (y : Queue) → Feeds pl (U r i) y → y ≡ Q r
-  unfolding next
-  from-u r i y f = sym (some-same (f .goes))
+  -- ---- the steps among U, Q and F of set-ups and tear-downs
+  -- from F to U
+  across-unit : (a p : ℕ) (j : Joint) (y : Queue) → across pl ahead a p j ≡ some y → late y ≡ false
+      → (n t : ℕ) × (y ≡ U n t) × (j ≡ Router n t)
+  across-unit a p Nothing y q early = absurd (some-not-none q)
+  across-unit a p (Router n t) y q early = (n, t, sym (some-same q), refl)
+  across-unit a p (Active n) y q early = absurd (not-both (ap late (sym (some-same q))) early)
+  across-unit a p (Passive n) y q early = absurd (not-both (ap late (sym (some-same q))) early)
 
-  from-q : (r : ℕ) (y : Queue) → Feeds pl (Q r) y → (o : ℕ) × (y ≡ F r o)
-  unfolding next
-  from-q r y f = (_, sym (some-same (f .goes)))
-
-  -- from F to U: by a set-up or tear-down of a served pair
-  abbrev exit : ℕ → ℕ → Port
-  exit r o = record { router = r; side = o }
-
-  Onto : ℕ → ℕ → Queue → Type 0
-  Onto r o y = (n t : ℕ) × (y ≡ U n t) × Trails pl r n
-
-  from-f : (r o : ℕ) (y : Queue) → Feeds pl (F r o) y → late y ≡ false → Onto r o y
-  unfolding Visits next Onto
-  from-f r o y f early = by (goes-of pl (F r o) y f)
+  from-f : (r o : ℕ) (y : Queue) → Feeds pl (F ahead r o) y → late y ≡ false
+      → (n t : ℕ) × (y ≡ U n t) × (pl .joint r o ≡ Router n t)
+  unfolding Visits next
+  from-f r o y f early = by (goes-of pl (F ahead r o) y f)
     where
-      by : (h : Heading) × Goes pl h (F r o) y → Onto r o y
-      by (back, g) = absurd (not-both (across-late (g .a) (g .p) (pl .joint r o) y (g .goes)) early)
-      by (ahead, g) = walk (g .visits .0 .0) (g .visits .0 .1) (g .visits .1)
-        where
-          walk : (i : ℕ) → Meets pl (passive (g .p)) (home pl (active (g .a))) (exit r i)
-              → o ≡ routeTo pl (passive (g .p)) r → Onto r o y
-          walk i m e = step (goes-from pl (passive (g .p)) (home pl (active (g .a))) (g .serves .ahead) (exit r i) m)
-            where
-              step : ((z : Port) × (onward pl (passive (g .p)) (exit r i) ≡ on z))
-                  ⊎ (onward pl (passive (g .p)) (exit r i) ≡ end) → Onto r o y
-              step (inl (z, q)) = (
-                z .router,
-                z .side,
-                sym (some-same (rw (e, onward-on pl (passive (g .p)) (exit r i) z q) at (g .goes))),
-                record {
-                  a = g .a;
-                  p = g .p;
-                  has-active = g .has-active;
-                  has-passive = g .has-passive;
-                  serves = g .serves;
-                  from = i;
-                  met = m;
-                  into = z .side;
-                  next = q;
-                },
-              )
-              step (inr q) =
-                  let s : passiveIn (g .p) ≡ y =
-                  some-same (rw (e, onward-end pl (passive (g .p)) (exit r i) q) at (g .goes)) in
-                  absurd (not-both (ap late (sym s)) early)
+      by : (h : Heading) × Goes pl h (F ahead r o) y → (n t : ℕ) × (y ≡ U n t) × (pl .joint r o ≡ Router n t)
+      by (back, g) = absurd (g .visits)
+      by (ahead, g) = across-unit (g .a) (g .p) (pl .joint r o) y (g .goes) early
 
-  abbrev unitOf : Queue → ℕ
-  unitOf (activeOut x) = 0
-  unitOf (passiveOut x) = 0
-  unitOf (U r i) = 0
-  unitOf (Q r) = r
-  unitOf (F r o) = 0
-  unitOf (K r i o) = 0
-  unitOf (activeIn x) = 0
-  unitOf (passiveIn x) = 0
+  abbrev linkOf : Queue → Port
+  linkOf (activeOut x) = record { router = 0; side = 0 }
+  linkOf (passiveOut x) = record { router = 0; side = 0 }
+  linkOf (U r i) = record { router = 0; side = 0 }
+  linkOf (Q r i) = record { router = 0; side = 0 }
+  linkOf (F h r o) = record { router = r; side = o }
+  linkOf (K r i o) = record { router = 0; side = 0 }
+  linkOf (activeIn x) = record { router = 0; side = 0 }
+  linkOf (passiveIn x) = record { router = 0; side = 0 }
 
-  abbrev AtUnit : Queue → Type 0
-  AtUnit x = (r : ℕ) × (x ≡ Q r)
+  abbrev AtOut : Queue → Type 0
+  AtOut x = (r o : ℕ) × (x ≡ F ahead r o)
 
   -- a step among the queues that are not late
   abbrev Early : Queue → Queue → Type 0
   Early = Amid (Both (Feeds pl) late false)
 
-  -- from F to Q
-  two-steps : (r o : ℕ) (x y : Queue) → Feeds pl (F r o) x → late x ≡ false → Feeds pl x y
-      → (n : ℕ) × (y ≡ Q n) × Trails pl r n
-  unfolding Onto
-  two-steps r o x y f early g = by (from-f r o x f early)
+module _ {pl : Plan} (wired : Wired pl) where
+  -- from U to Q of the same side
+  from-u : (r i : ℕ) (y : Queue) → Feeds pl (U r i) y → y ≡ Q r i
+  unfolding Visits next
+  from-u r i y f = by (goes-of pl (U r i) y f)
     where
-      by : Onto r o x → (n : ℕ) × (y ≡ Q n) × Trails pl r n
-      by (n, t, q, s) = (n, from-u n t y (subst (λ (k : Queue). Feeds pl k y) q g), s)
+      by : (h : Heading) × Goes pl h (U r i) y → y ≡ Q r i
+      by (back, g) = absurd (g .visits)
+      by (ahead, g) = sym (some-same (g .goes))
+          ∙ ap (Q r) (came-in wired (g .a) (g .p) (g .has-active) (g .serves) (g .visits .steps) r i (g .visits .here))
 
-  three-steps : (w x y z : Queue) → AtUnit w → Early w x → Early x y → Early y z
-      → AtUnit z × Trails pl (unitOf w) (unitOf z)
-  three-steps w x y z (r, e) f g h = by (from-q r x (subst (λ (k : Queue). Feeds pl k x) e (f .step .step)))
+  -- from Q to F: by a set-up or tear-down of a served pair that came in by that side. So its walk left the router
+  -- behind that side by the side that is joined there
+  from-q : (r i : ℕ) (y : Queue) → Feeds pl (Q r i) y → late y ≡ false
+      → (o : ℕ) × (y ≡ F ahead r o)
+      × ((n t : ℕ) → pl .joint n t ≡ Router r i
+      → Trails pl (record { router = n; side = t }) (record { router = r; side = o }))
+  unfolding Visits next
+  from-q r i y f early = by (goes-of pl (Q r i) y f)
     where
-      by : (o : ℕ) × (x ≡ F r o) → AtUnit z × Trails pl (unitOf w) (unitOf z)
-      by (o, q) =
-          let s = two-steps r o y z (subst (λ (k : Queue). Feeds pl k y) q (g .step .step)) (g .step .to)
-          (h .step .step) in (
-            (s .0, s .1),
-            subst (λ (k : Queue). Trails pl (unitOf k) (unitOf z)) (sym e)
-                (subst (λ (k : Queue). Trails pl r (unitOf k)) (sym (s .1)) (s .2)),
+      by : (h : Heading) × Goes pl h (Q r i) y → (o : ℕ) × (y ≡ F ahead r o)
+          × ((n t : ℕ) → pl .joint n t ≡ Router r i
+          → Trails pl (record { router = n; side = t }) (record { router = r; side = o }))
+      by (back, g) = absurd (not-both (ap late (sym (some-same (g .goes)))) early)
+      by (ahead, g) = (routeTo pl (passive (g .p)) r, sym (some-same (g .goes)), walk)
+        where
+          walk : (n t : ℕ) → pl .joint n t ≡ Router r i
+              → Trails pl (record { router = n; side = t })
+              (record { router = r; side = routeTo pl (passive (g .p)) r })
+          walk n t j =
+              let b = meets-before wired (passive (g .p)) (home pl (active (g .a))) (record { router = r; side = i })
+              (g .serves .ahead) n t (wired .named n t r i j .1)
+              (λ m u q. router-not-end (active (g .a)) (sym q ∙ wired .joined (active (g .a)) (g .has-active) .there))
+              (g .visits) in
+              record {
+                a = g .a;
+                p = g .p;
+                has-active = g .has-active;
+                has-passive = g .has-passive;
+                serves = g .serves;
+                from = b .side;
+                met = b .met;
+                leaves = b .leaves;
+                into = i;
+                next = b .goes;
+                turns = refl;
+              }
+
+  three-steps : (w x y z : Queue) → AtOut pl w → Early pl w x → Early pl x y → Early pl y z
+      → AtOut pl z × Trails pl (linkOf pl w) (linkOf pl z)
+  three-steps w x y z (r, o, e) f g h =
+      by (from-f pl r o x (subst (λ (k : Queue). Feeds pl k x) e (f .step .step)) (f .step .to))
+    where
+      by : (n t : ℕ) × (x ≡ U n t) × (pl .joint r o ≡ Router n t) → AtOut pl z × Trails pl (linkOf pl w) (linkOf pl z)
+      by (n, t, q, j) = go (from-u n t y (subst (λ (k : Queue). Feeds pl k y) q (g .step .step)))
+        where
+          made : (u : ℕ) × (z ≡ F ahead n u) × ((m v : ℕ) → pl .joint m v ≡ Router n t
+              → Trails pl (record { router = m; side = v }) (record { router = n; side = u }))
+              → AtOut pl z × Trails pl (linkOf pl w) (linkOf pl z)
+          made (u, s, walk) = (
+            (n, u, s),
+            subst (λ (k : Queue). Trails pl (linkOf pl k) (linkOf pl z)) (sym e)
+                (subst (λ (k : Queue). Trails pl (record { router = r; side = o }) (linkOf pl k)) (sym s) (walk r o j)),
           )
 
-  first-unit : (x y z : Queue) → Early x y → Early y z → AtUnit x ⊎ AtUnit y ⊎ AtUnit z
-  first-unit (activeOut a) y z f g = absurd (not-both refl (feeds-in (f .before) (activeOut a) (f .into .step)))
-  first-unit (passiveOut p) y z f g = absurd (not-both refl (feeds-in (f .before) (passiveOut p) (f .into .step)))
-  first-unit (U r i) y z f g = inr (inl (r, from-u r i y (f .step .step)))
-  first-unit (Q r) y z f g = inl (r, refl)
-  first-unit (F r o) y z f g =
-      let s = two-steps r o y z (f .step .step) (f .step .to) (g .step .step) in inr (inr (s .0, s .1))
-  first-unit (K r i o) y z f g = absurd (not-both refl (f .step .from))
-  first-unit (activeIn a) y z f g = absurd (not-both refl (f .step .from))
-  first-unit (passiveIn p) y z f g = absurd (not-both refl (f .step .from))
+          go : y ≡ Q n t → AtOut pl z × Trails pl (linkOf pl w) (linkOf pl z)
+          go s = made (from-q n t z (subst (λ (k : Queue). Feeds pl k z) s (h .step .step)) (h .step .to))
+
+  first-out : (x y z : Queue) → Early pl x y → Early pl y z → AtOut pl x ⊎ AtOut pl y ⊎ AtOut pl z
+  first-out (activeOut a) y z f g = absurd (not-both refl (feeds-in pl (f .before) (activeOut a) (f .into .step)))
+  first-out (passiveOut p) y z f g = absurd (not-both refl (feeds-in pl (f .before) (passiveOut p) (f .into .step)))
+  first-out (U r i) y z f g =
+      let e = from-u r i y (f .step .step) in
+      let s = from-q r i z (subst (λ (k : Queue). Feeds pl k z) e (g .step .step)) (g .step .to) in
+      inr (inr (r, s .0, s .1))
+  first-out (Q r i) y z f g = let s = from-q r i y (f .step .step) (f .step .to) in inr (inl (r, s .0, s .1))
+  first-out (F ahead r o) y z f g = inl (r, o, refl)
+  first-out (F back r o) y z f g = absurd (not-both refl (f .step .from))
+  first-out (K r i o) y z f g = absurd (not-both refl (f .step .from))
+  first-out (activeIn a) y z f g = absurd (not-both refl (f .step .from))
+  first-out (passiveIn p) y z f g = absurd (not-both refl (f .step .from))
 
   early-ring : Ring (Both (Feeds pl) late false) → WalkRing pl
   early-ring r =
-      ring-strides Early (Trails pl) unitOf AtUnit three-steps first-unit (ring-amid (Both (Feeds pl) late false) r)
+      ring-strides (Early pl) (Trails pl) (linkOf pl) (AtOut pl) three-steps first-out
+      (ring-amid (Both (Feeds pl) late false) r)
 
 -- ---- the steps among K
 across-crossing : (pl : Plan) (a p : ℕ) (j : Joint) (r i o : ℕ) → across pl back a p j ≡ some (K r i o)
@@ -336,8 +405,8 @@ crossing (K r i o) = cross r i o
 crossing (activeOut x) = cross 0 0 0
 crossing (passiveOut x) = cross 0 0 0
 crossing (U r i) = cross 0 0 0
-crossing (Q r) = cross 0 0 0
-crossing (F r o) = cross 0 0 0
+crossing (Q r i) = cross 0 0 0
+crossing (F h r o) = cross 0 0 0
 crossing (activeIn x) = cross 0 0 0
 crossing (passiveIn x) = cross 0 0 0
 
@@ -362,21 +431,58 @@ module _ (pl : Plan) where
             turns = s .1;
           }
 
-  -- what is late and feeds is a K
-  late-feeds : (x y : Queue) → late x ≡ true → Feeds pl x y → (r i o : ℕ) × (x ≡ K r i o)
+  -- what is late and feeds is an F of answers or a K
+  late-from : (x y : Queue) → late x ≡ true → Feeds pl x y
+      → ((r o : ℕ) × (x ≡ F back r o)) ⊎ ((r i o : ℕ) × (x ≡ K r i o))
   unfolding next
-  late-feeds (K r i o) y l f = (r, i, o, refl)
-  late-feeds (activeIn x) y l f = absurd (some-not-none (f .goes))
-  late-feeds (passiveIn x) y l f = absurd (some-not-none (f .goes))
-  late-feeds (activeOut x) y l f = absurd (false-true l)
-  late-feeds (passiveOut x) y l f = absurd (false-true l)
-  late-feeds (U r i) y l f = absurd (false-true l)
-  late-feeds (Q r) y l f = absurd (false-true l)
-  late-feeds (F r o) y l f = absurd (false-true l)
+  late-from (K r i o) y l f = inr (r, i, o, refl)
+  late-from (F back r o) y l f = inl (r, o, refl)
+  late-from (F ahead r o) y l f = absurd (false-true l)
+  late-from (activeIn x) y l f = absurd (some-not-none (f .goes))
+  late-from (passiveIn x) y l f = absurd (some-not-none (f .goes))
+  late-from (activeOut x) y l f = absurd (false-true l)
+  late-from (passiveOut x) y l f = absurd (false-true l)
+  late-from (U r i) y l f = absurd (false-true l)
+  late-from (Q r i) y l f = absurd (false-true l)
+
+  -- beyond a side there is no F
+  across-no-f : (h g : Heading) (a p : ℕ) (j : Joint) (r o : ℕ) → across pl h a p j ≡ some (F g r o) → ⊥
+  across-no-f h g a p Nothing r o q = some-not-none q
+  across-no-f ahead g a p (Router n t) r o q =
+      let s : U n t ≡ F g r o = some-same q in let z : _≡_ {A = ℕ} 0 1 = cc in omega arith
+  across-no-f back g a p (Router n t) r o q =
+      let s : K n t (routeTo pl (active a) n) ≡ F g r o = some-same q in let z : _≡_ {A = ℕ} 0 1 = cc in omega arith
+  across-no-f h g a p (Active n) r o q =
+      let s : activeIn n ≡ F g r o = some-same q in let z : _≡_ {A = ℕ} 0 1 = cc in omega arith
+  across-no-f h g a p (Passive n) r o q =
+      let s : passiveIn n ≡ F g r o = some-same q in let z : _≡_ {A = ℕ} 0 1 = cc in omega arith
+
+  -- so nothing late feeds an F, and what is late between two late ones is a K
+  late-no-f : (x : Queue) (r o : ℕ) → late x ≡ true → Feeds pl x (F back r o) → ⊥
+  unfolding next
+  late-no-f x r o l f = by (late-from x (F back r o) l f)
+    where
+      goes : (k : Queue) → x ≡ k → next pl (headingOf (f .kind)) (f .active) (f .passive) k ≡ some (F back r o)
+      goes k e = ap (next pl (headingOf (f .kind)) (f .active) (f .passive)) (sym e) ∙ f .goes
+
+      by : ((n u : ℕ) × (x ≡ F back n u)) ⊎ ((n t u : ℕ) × (x ≡ K n t u)) → ⊥
+      by (inl (n, u, e)) =
+          across-no-f (headingOf (f .kind)) back (f .active) (f .passive) (pl .joint n u) r o (goes (F back n u) e)
+      by (inr (n, t, u, e)) =
+          across-no-f (headingOf (f .kind)) back (f .active) (f .passive) (pl .joint n u) r o (goes (K n t u) e)
+
+  late-crossing : (w x y : Queue) → late w ≡ true → Feeds pl w x → late x ≡ true → Feeds pl x y
+      → (r i o : ℕ) × (x ≡ K r i o)
+  late-crossing w x y lw f lx g = by (late-from x y lx g)
+    where
+      by : ((r o : ℕ) × (x ≡ F back r o)) ⊎ ((r i o : ℕ) × (x ≡ K r i o)) → (r i o : ℕ) × (x ≡ K r i o)
+      by (inl (r, o, e)) = absurd (late-no-f w r o lw (subst (λ (k : Queue). Feeds pl w k) e f))
+      by (inr k) = k
 
   late-crosses : (x y : Queue) → Amid (Both (Feeds pl) late true) x y → Crosses pl (crossing x) (crossing y)
   late-crosses x y m =
-      by (late-feeds x y (m .step .from) (m .step .step)) (late-feeds y (m .after) (m .out .from) (m .out .step))
+      by (late-crossing (m .before) x y (m .into .from) (m .into .step) (m .step .from) (m .step .step))
+      (late-crossing x y (m .after) (m .step .from) (m .step .step) (m .out .from) (m .out .step))
     where
       by : (r i o : ℕ) × (x ≡ K r i o) → (n t u : ℕ) × (y ≡ K n t u) → Crosses pl (crossing x) (crossing y)
       by (r, i, o, ex) (n, t, u, ey) =
@@ -395,8 +501,8 @@ module _ {pl : Plan} (wired : Wired pl) where
     where
       by : Ring (Both (Feeds pl) late true) ⊎ Ring (Both (Feeds pl) late false) → WalkRing pl ⊎ AnswerRing pl
       by (inl k) = inr (crossing-ring wired (late-ring pl k))
-      by (inr u) = inl (early-ring pl u)
+      by (inr u) = inl (early-ring wired u)
 
   pub feeds-of-rings : WalkRing pl ⊎ AnswerRing pl → FeedRing pl
-  feeds-of-rings (inl r) = walk-ring pl r
+  feeds-of-rings (inl r) = walk-ring wired r
   feeds-of-rings (inr r) = answer-ring pl r

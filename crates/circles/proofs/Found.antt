@@ -1,5 +1,5 @@
 -- The cells of the tables are the edges of the tests, so the search finds a ring exactly if there is one.
-use mathlib.Core.Path.{_≡_, sym, ap, _∙_}
+use mathlib.Core.Path.{_≡_, sym, ap, subst, _∙_}
 use mathlib.Core.Logic.{_≢_}
 use mathlib.Core.Bool.{Bool, true, false, and-eq-true-iff}
 use mathlib.Core.List.{List, []}
@@ -33,7 +33,7 @@ use Rattle.onward.specs.Words.{nextsOf, linksOf}
 use Rattle.links.proofs.Laws.{mask-small, not-empty}
 use Rattle.links.proofs.Members.{member, in-lives, leaves-at, leave-in, in-leave, cell-group, cell-has}
 use Rattle.links.proofs.Members.{mask-in, in-mask, cross-in, cross-is}
-use Rattle.onward.proofs.Onward.{goneBy, next-in, in-next, in-links}
+use Rattle.onward.proofs.Onward.{goneBy, in-next, links-in, in-links}
 use Rattle.circles.specs.Circles.{Answers, Crossing, Hands, AnswerRing}
 use Rattle.circles.specs.RingTest.{walkMeets, walkLeaves, isRouter, trailEdge, answered, answerLeaves}
 use Rattle.circles.specs.RingTest.{answerComes, answersPass, handEdge, hasRing}
@@ -73,78 +73,128 @@ module _ {pl : Plan} {h : Head} {by : List (List ℕ)} {joints homes arrive serv
 
   -- ---- walks
   module _ (t : List ℕ) (spread : Spread by joints (R pl) (startsOf homes serve (A pl)) t) where
-    leaves-walk : (x o : ℕ) → x < R pl → o < 4 → goneBy by joints t x o ≢ 0 → walkLeaves pl x o ≡ true
-    unfolding walkLeaves
-    leaves-walk x o l k n = found (member (goneBy by joints t x o) n)
-      where
-        found : (d : ℕ) × (has (goneBy by joints t x o) d ≡ true) → walkLeaves pl x o ≡ true
-        found (d, u) =
-            let b = both-in (getD (getD by x []) o 0) (getD t x 0) d u in
-            let w = all-walker fits told t spread x d l (b .1) in
-            let r = of-leaves fits told x o d k (b .0) .1 in
-            any-of (P pl) (λ p. also (eqb (routeTo pl (passive p) x) o) (walkMeets pl p x)) (w .p) (w .has-passive)
-            (also-of (eq-eqb (routeTo pl (passive (w .p)) x) o (rw (w .column-is) at r))
-            (by-walk (told .wired) (w .p) x
-            (record { a = w .a; has = w .has-active; serves = w .serves; side = w .side; met = w .met })))
+    abbrev gone : List ℕ
+    gone = leavesOf by t (below 32) (4 * R pl)
 
-    walk-leaves : (x o : ℕ) → o < 4 → walkLeaves pl x o ≡ true → goneBy by joints t x o ≢ 0
+    leaves-walk : (k d : ℕ) → k < 4 * R pl → has (getD gone k 0) d ≡ true
+        → (p : ℕ) × (p < P pl) × (d ≡ A pl + p) × (walkLeaves pl p (k / 4) (k % 4) ≡ true)
     unfolding walkLeaves
-    walk-leaves x o k u = found (any-true (P pl) (λ p. also (eqb (routeTo pl (passive p) x) o) (walkMeets pl p x)) u)
-      where
-        found : Found (P pl) (λ p. also (eqb (routeTo pl (passive p) x) o) (walkMeets pl p x))
-            → goneBy by joints t x o ≢ 0
-        found (p, hp, v) =
-            let b = also-true v in
-            let w = walk-by (told .wired) p x (b .1) in
-            let r : pl .route x (A pl + p) ≡ o = eqb-true (routeTo pl (passive p) x) o (b .0) in
-            not-empty (goneBy by joints t x o) (A pl + p)
-            (in-both (getD (getD by x []) o 0) (getD t x 0) (A pl + p)
-            (leaves-of fits told x o (A pl + p) k (omega arith) r)
-            (walker-all fits told t spread (w .a) p (w .has) hp (w .serves) (record { router = x; side = w .side })
-            (w .met)))
+    leaves-walk k d l u =
+        let b =
+        leave-in by t (below 32) k d (rw (leaves-at by t (below 32) (4 * R pl) k l (omega (arith, room))) at u) in
+        let w = all-walker fits told t spread (k / 4) d (omega arith) (b .1) in
+        let r = of-leaves fits told (k / 4) (k % 4) d (omega arith) (b .0) .1 in (
+          w .p,
+          w .has-passive,
+          w .column-is,
+          also-of (eq-eqb (routeTo pl (passive (w .p)) (k / 4)) (k % 4) (rw (w .column-is) at r))
+              (by-walk (told .wired) (w .p) (k / 4)
+              (record { a = w .a; has = w .has-active; serves = w .serves; side = w .side; met = w .met })),
+        )
+
+    walk-leaves : (k p : ℕ) → k < 4 * R pl → p < P pl → walkLeaves pl p (k / 4) (k % 4) ≡ true
+        → has (getD gone k 0) (A pl + p) ≡ true
+    unfolding walkLeaves
+    walk-leaves k p l hp u =
+        let b = also-true u in
+        let w = walk-by (told .wired) p (k / 4) (b .1) in
+        let r : pl .route (k / 4) (A pl + p) ≡ k % 4 = eqb-true (routeTo pl (passive p) (k / 4)) (k % 4) (b .0) in
+        rw (leaves-at by t (below 32) (4 * R pl) k l (omega (arith, room)))
+        (in-leave by t (below 32) k (A pl + p) (leaves-of fits told (k / 4) (k % 4) (A pl + p) (omega arith)
+        (omega arith) r)
+        (walker-all fits told t spread (w .a) p (w .has) hp (w .serves) (record { router = k / 4; side = w .side })
+        (w .met))
+        (has-below 32 (A pl + p) ∙ lt-ltb (A pl + p) 32 (omega (arith, room))))
 
     abbrev trailed : List ℕ
-    trailed = nextsOf by joints t (R pl)
+    trailed = linksOf gone joints (4 * R pl)
 
-    trail-edges : (x y : ℕ) → x < R pl → y < R pl → leadsTo trailed x y ≡ trailEdge pl x y
+    trail-edges : (x y : ℕ) → x < 4 * R pl → y < 4 * R pl → leadsTo trailed x y ≡ trailEdge pl x y
     unfolding trailEdge
     trail-edges x y lx ly = same-test (leadsTo trailed x y) (trailEdge pl x y) there back
       where
+        pass : ℕ → Bool
+        pass p = also (walkLeaves pl p (x / 4) (x % 4)) (walkLeaves pl p (y / 4) (y % 4))
+
         there : leadsTo trailed x y ≡ true
-            → anyBelow 4 (λ o. also (isRouter y (pl .joint x o)) (walkLeaves pl x o)) ≡ true
+            → also (isRouter (y / 4) (pl .joint (x / 4) (x % 4))) (anyBelow (P pl) pass) ≡ true
         there e =
-            let s = next-in by joints t (R pl) x y lx (room .0) e in
-            let o : ℕ = s .side in
-            let ex : (4 * x + s .side) / 4 ≡ x = omega (arith, s .four) in
-            let eo : (4 * x + s .side) % 4 ≡ s .side = omega (arith, s .four) in
-            let j : pl .joint x (s .side) ≡ Router (beyondOf joints (4 * x + s .side))
-            (partnerOf joints (4 * x + s .side) % 4) =
-            rw (ex, eo) at (partner-joint fits told (4 * x + s .side) (omega (arith, s .four)) (s .joined)) in
-            any-of 4 (λ o. also (isRouter y (pl .joint x o)) (walkLeaves pl x o)) (s .side) (s .four)
-            (also-of {a = isRouter y (pl .joint x (s .side))}
-            (rw j (eq-eqb (beyondOf joints (4 * x + s .side)) y (sym (s .beyond))))
-            (leaves-walk x (s .side) lx (s .four) (s .some)))
+            let s = links-in gone joints (4 * R pl) x y lx (omega (arith, room)) e in
+            let j = partner-joint fits told x lx (s .joined) in
+            let m = member (both (getD gone x 0) (getD gone y 0)) (s .some) in
+            let f = both-in (getD gone x 0) (getD gone y 0) (m .0) (m .1) in
+            let c = leaves-walk x (m .0) lx (f .0) in
+            let d = leaves-walk y (m .0) ly (f .1) in
+            let same : d .0 ≡ c .0 = omega (arith, c .2, d .2) in
+            also-of {a = isRouter (y / 4) (pl .joint (x / 4) (x % 4))}
+            (rw j (eq-eqb (beyondOf joints x) (y / 4) (sym (s .beyond))))
+            (any-of (P pl) pass (c .0) (c .1) (also-of (c .3) (rw same at (d .3))))
 
-        found : Found 4 (λ o. also (isRouter y (pl .joint x o)) (walkLeaves pl x o)) → leadsTo trailed x y ≡ true
-        found (o, l, u) =
-            let b = also-true {a = isRouter y (pl .joint x o)} u in
-            let j = router-is y (pl .joint x o) (b .0) in
-            let p = joint-partner fits told x o y (j .0) (j .1) in
-            let n = near (told .wired) (j .1) in
-            in-next by joints t (R pl) x y lx (room .0) (record {
-              side = o;
-              four = l;
-              some = walk-leaves x o l (b .1);
-              joined = omega (arith, n, room);
-              beyond = omega (arith, n);
-            })
-
-        back : anyBelow 4 (λ o. also (isRouter y (pl .joint x o)) (walkLeaves pl x o)) ≡ true
+        back : also (isRouter (y / 4) (pl .joint (x / 4) (x % 4))) (anyBelow (P pl) pass) ≡ true
             → leadsTo trailed x y ≡ true
-        back e = found (any-true 4 (λ o. also (isRouter y (pl .joint x o)) (walkLeaves pl x o)) e)
+        back e =
+            let b = also-true {a = isRouter (y / 4) (pl .joint (x / 4) (x % 4))} e in
+            found (router-is (y / 4) (pl .joint (x / 4) (x % 4)) (b .0)) (any-true (P pl) pass (b .1))
+          where
+            found : (u : ℕ) × (pl .joint (x / 4) (x % 4) ≡ Router (y / 4) u) → Found (P pl) pass
+                → leadsTo trailed x y ≡ true
+            found (u, j) (p, hp, v) =
+                let b = also-true {a = walkLeaves pl p (x / 4) (x % 4)} v in
+                let n = near (told .wired) j in
+                let ex : 4 * (x / 4) + x % 4 ≡ x = omega arith in
+                let q : partnerOf joints x ≡ 4 * (y / 4) + u =
+                rw ex at (joint-partner fits told (x / 4) (x % 4) (y / 4) u j) in
+                let bq : beyondOf joints x ≡ y / 4 = omega (arith, n) in
+                let ey : 4 * (y / 4) + y % 4 ≡ y = omega arith in
+                let first = walk-leaves x p lx hp (b .0) in
+                let second = walk-leaves y p ly hp (b .1) in
+                let m = not-empty (both (getD gone x 0) (getD gone y 0)) (A pl + p)
+                (in-both (getD gone x 0) (getD gone y 0) (A pl + p) first second) in
+                let z = in-links gone joints (4 * R pl) x (y % 4) lx (omega (arith, room)) (omega arith)
+                (not-empty (getD gone x 0) (A pl + p) first) (omega (arith, n, room)) (rw (bq, ey) m) in
+                rw (bq, ey) at z
 
-    pub walks-found : {r : Bool} → r ≡ ringTest (R pl) (leadsTo trailed) → r ≡ ringTest (R pl) (trailEdge pl)
-    walks-found e = e ∙ ring-alike (R pl) (leadsTo trailed) (trailEdge pl) trail-edges
+    pub walks-found : {r : Bool} → r ≡ ringTest (4 * R pl) (leadsTo trailed) → r ≡ ringTest (4 * R pl) (trailEdge pl)
+    walks-found e = e ∙ ring-alike (4 * R pl) (leadsTo trailed) (trailEdge pl) trail-edges
+
+    -- ---- by routers: where they have no ring the links have none
+    abbrev byRouter : ℕ → ℕ → Bool
+    byRouter = leadsTo (nextsOf by joints t (R pl))
+
+    trail-near : (x y : ℕ) → Leads (4 * R pl) (leadsTo trailed) x y → Leads (R pl) byRouter (x / 4) (y / 4)
+    trail-near x y g =
+        let lx = g .from in
+        let ly = g .to in
+        let s = links-in gone joints (4 * R pl) x y lx (omega (arith, room)) (g .step) in
+        let m = member (both (getD gone x 0) (getD gone y 0)) (s .some) in
+        let f = both-in (getD gone x 0) (getD gone y 0) (m .0) (m .1) in
+        let b = leave-in by t (below 32) x (m .0)
+        (subst (λ (v : ℕ). has v (m .0) ≡ true)
+        (leaves-at by t (below 32) (4 * R pl) x lx (omega (arith, room))) (f .0)) in
+        let e : 4 * (x / 4) + x % 4 ≡ x = omega arith in
+        record {
+          from = omega arith;
+          to = omega arith;
+          step = in-next by joints t (R pl) (x / 4) (y / 4) (omega arith) (room .0)
+              (record {
+                side = x % 4;
+                four = omega arith;
+                some = not-empty (goneBy by joints t (x / 4) (x % 4)) (m .0)
+                    (in-both (getD (getD by (x / 4) []) (x % 4) 0) (getD t (x / 4) 0) (m .0) (b .0) (b .1));
+                joined = rw e (s .joined);
+                beyond = rw e (s .beyond);
+              });
+        }
+
+    pub walks-clear : {r : Bool} → r ≡ ringTest (R pl) byRouter → r ≡ false → false ≡ ringTest (4 * R pl) (trailEdge pl)
+    walks-clear e f =
+        walks-found (sym (refuted (ringTest (4 * R pl) (leadsTo trailed)) (λ u. not-both (round u) (sym e ∙ f))))
+      where
+        round : ringTest (4 * R pl) (leadsTo trailed) ≡ true → ringTest (R pl) byRouter ≡ true
+        round u =
+            test-of-ring (R pl) byRouter
+            (ring-map (Leads (4 * R pl) (leadsTo trailed)) (Leads (R pl) byRouter) (λ x. x / 4) trail-near
+            (ring-of-test (4 * R pl) (leadsTo trailed) u))
 
   -- ---- answers
   module _ (t : List ℕ) (answers : Rattle.links.specs.Starts.Answers by joints homes serve (R pl) (A pl) t) where
@@ -364,11 +414,15 @@ module _ {pl : Plan} {h : Head} {by : List (List ℕ)} {joints homes arrive serv
   actives : h .actives ≡ A pl
   actives = ap (λ (x : Head). x .actives) (sym (told .same))
 
-  pub walks-ring : {t words : List ℕ} {r : Bool}
-      → Spread by joints (h .routers) (startsOf homes serve (h .actives)) t
-      → words ≡ nextsOf by joints t (h .routers)
-      → r ≡ ringTest (h .routers) (leadsTo words) → r ≡ ringTest (R pl) (trailEdge pl)
-  walks-ring {t} s ew e = walks-found t (rw (routers, actives) at s) (rw (ew, routers) at e)
+  module _ {t : List ℕ} (s : Spread by joints (h .routers) (startsOf homes serve (h .actives)) t) where
+    pub routers-clear : {r : Bool} → r ≡ ringTest (h .routers) (leadsTo (nextsOf by joints t (h .routers)))
+        → r ≡ false → false ≡ ringTest (4 * R pl) (trailEdge pl)
+    routers-clear e f = walks-clear t (rw (routers, actives) at s) (rw routers at e) f
+
+    pub walks-ring : {r : Bool}
+        → r ≡ ringTest (4 * h .routers) (leadsTo (linksOf (leavesOf by t (below 32) (4 * h .routers)) joints
+        (4 * h .routers))) → r ≡ ringTest (4 * R pl) (trailEdge pl)
+    walks-ring e = walks-found t (rw (routers, actives) at s) (rw routers at e)
 
   pub answers-ring : {t l cells : List ℕ} {limit : ℕ} {r : Bool}
       → Rattle.links.specs.Starts.Answers by joints homes serve (h .routers) (h .actives) t
@@ -387,16 +441,16 @@ module _ {pl : Plan} {h : Head} {by : List (List ℕ)} {joints homes arrive serv
   one-ringless e = one-router (told .wired) (sym routers ∙ e)
 
 -- ---- the three together
-pub ring-by-walks : (pl : Plan) → true ≡ ringTest (R pl) (trailEdge pl) → true ≡ hasRing pl
+pub ring-by-walks : (pl : Plan) → true ≡ ringTest (4 * R pl) (trailEdge pl) → true ≡ hasRing pl
 unfolding hasRing
 ring-by-walks pl e = rw (← e)
 
-pub ring-by-links : (pl : Plan) → false ≡ ringTest (R pl) (trailEdge pl)
+pub ring-by-links : (pl : Plan) → false ≡ ringTest (4 * R pl) (trailEdge pl)
     → ringTest (16 * R pl) (handEdge pl) ≡ false → false ≡ hasRing pl
 unfolding hasRing
 ring-by-links pl e f = rw (← e, f)
 
-pub ring-by-answers : (pl : Plan) {r : Bool} → false ≡ ringTest (R pl) (trailEdge pl)
+pub ring-by-answers : (pl : Plan) {r : Bool} → false ≡ ringTest (4 * R pl) (trailEdge pl)
     → r ≡ ringTest (16 * R pl) (handEdge pl) → r ≡ hasRing pl
 unfolding hasRing
 ring-by-answers pl e f = rw (← e) f

@@ -1,7 +1,7 @@
 -- The tests find exactly the rings.
 use mathlib.Core.Path.{_≡_, refl, sym, ap, _∙_}
 use mathlib.Core.Logic.{_⊎_, inl, inr}
-use mathlib.Core.Bool.{true, false, false≢true, _||_}
+use mathlib.Core.Bool.{Bool, true, false, false≢true, _||_}
 use Prim.Native.Nat.{ℕ, _+_, _*_, _/_, _%_, _<_}
 use native.Mathlib.Omega.{arith}
 use lib.Dec.{eqb}
@@ -99,17 +99,28 @@ module _ {pl : Plan} (wired : Wired pl) where
       (meets-way (passive p) (home pl (active (w .a))) (home-inside (active (w .a)) wired (w .has) .0)
       (w .serves .ahead) _ (w .met)))
 
-  edge-trails : (x y : ℕ) → trailEdge pl x y ≡ true → Trails pl x y
+  -- ---- links by their numbers
+  abbrev linkAt : ℕ → Port
+  linkAt x = record { router = x / 4; side = x % 4 }
+
+  edge-trails : (x y : ℕ) → trailEdge pl x y ≡ true → Trails pl (linkAt x) (linkAt y)
   unfolding trailEdge walkLeaves
-  edge-trails x y e = by (any-true 4 (λ o. also (isRouter y (pl .joint x o)) (walkLeaves pl x o)) e)
+  edge-trails x y e =
+      let b = also-true {a = isRouter (y / 4) (pl .joint (x / 4) (x % 4))} e in
+      made (router-is (y / 4) (pl .joint (x / 4) (x % 4)) (b .0)) (any-true (P pl) pass (b .1))
     where
-      made : (o : ℕ) → isRouter y (pl .joint x o) ≡ true
-          → Found (P pl) (λ p. also (eqb (routeTo pl (passive p) x) o) (walkMeets pl p x)) → Trails pl x y
-      made o b (p, l, u) =
-          let c = also-true u in
-          let w = walk-by p x (c .1) in
-          let q : routeTo pl (passive p) x ≡ o = eqb-true (routeTo pl (passive p) x) o (c .0) in
-          let j = router-is y (pl .joint x o) b in
+      pass : ℕ → Bool
+      pass p = also (also (eqb (routeTo pl (passive p) (x / 4)) (x % 4)) (walkMeets pl p (x / 4)))
+          (also (eqb (routeTo pl (passive p) (y / 4)) (y % 4)) (walkMeets pl p (y / 4)))
+
+      made : (t : ℕ) × (pl .joint (x / 4) (x % 4) ≡ Router (y / 4) t) → Found (P pl) pass
+          → Trails pl (linkAt x) (linkAt y)
+      made (t, j) (p, l, u) =
+          let b = also-true {a = also (eqb (routeTo pl (passive p) (x / 4)) (x % 4)) (walkMeets pl p (x / 4))} u in
+          let c = also-true (b .0) in
+          let d = also-true (b .1) in
+          let w = walk-by p (x / 4) (c .1) in
+          let q : routeTo pl (passive p) (x / 4) ≡ x % 4 = eqb-true (routeTo pl (passive p) (x / 4)) (x % 4) (c .0) in
           record {
             a = w .a;
             p = p;
@@ -118,45 +129,68 @@ module _ {pl : Plan} (wired : Wired pl) where
             serves = w .serves;
             from = w .side;
             met = w .met;
-            into = j .0;
-            next = router-onward pl (passive p) (record { router = x; side = w .side }) y (j .0)
-                (ap (pl .joint x) q ∙ j .1);
+            leaves = sym q;
+            into = t;
+            next = router-onward pl (passive p) (record { router = x / 4; side = w .side }) (y / 4) t
+                (ap (pl .joint (x / 4)) q ∙ j);
+            turns = sym (eqb-true (routeTo pl (passive p) (y / 4)) (y % 4) (d .0));
           }
 
-      by : Found 4 (λ o. also (isRouter y (pl .joint x o)) (walkLeaves pl x o)) → Trails pl x y
-      by (o, l, u) =
-          let b = also-true {a = isRouter y (pl .joint x o)} u in
-          made o (b .0) (any-true (P pl) (λ p. also (eqb (routeTo pl (passive p) x) o) (walkMeets pl p x)) (b .1))
+  abbrev linkNumber : Port → ℕ
+  linkNumber x = 4 * x .router + x .side
 
-  trails-edge : (x y : ℕ) → Trails pl x y → Leads (R pl) (trailEdge pl) x y
+  trails-edge : (x y : Port) → Trails pl x y → Leads (4 * R pl) (trailEdge pl) (linkNumber x) (linkNumber y)
   unfolding trailEdge walkLeaves
-  trails-edge x y f = record {
-    from = meets-inside wired (passive (f .p)) (home pl (active (f .a))) (f .serves .ahead)
-        (home-inside (active (f .a)) wired (f .has-active)) _ (f .met) .0;
-    to = near wired joined .0;
-    step = any-of 4 (λ o. also (isRouter y (pl .joint x o)) (walkLeaves pl x o)) out
-        (exit-inside wired (passive (f .p)) (home pl (active (f .a))) (f .serves .ahead) _ (f .met))
-        (also-of {a = isRouter y (pl .joint x out)} (rw joined (eq-eqb y y refl))
-        (any-of (P pl) (λ p. also (eqb (routeTo pl (passive p) x) out) (walkMeets pl p x)) (f .p) (f .has-passive)
-        (also-of (eq-eqb (routeTo pl (passive (f .p)) x) out refl)
-        (by-walk (f .p) x
-        (record { a = f .a; has = f .has-active; serves = f .serves; side = f .from; met = f .met })))));
-  }
+  trails-edge x y f =
+      let ex : (4 * x .router + x .side) / 4 ≡ x .router = omega (arith, here) in
+      let eo : (4 * x .router + x .side) % 4 ≡ x .side = omega (arith, here) in
+      let ey : (4 * y .router + y .side) / 4 ≡ y .router = omega (arith, there) in
+      let eu : (4 * y .router + y .side) % 4 ≡ y .side = omega (arith, there) in
+      record {
+        from = omega (arith, here);
+        to = omega (arith, there);
+        step = rw (ex, eo, ey, eu)
+            (also-of {a = isRouter (y .router) (pl .joint (x .router) (x .side))}
+            (rw joined (eq-eqb (y .router) (y .router) refl))
+            (any-of (P pl) (λ p. also (walkLeaves pl p (x .router) (x .side)) (walkLeaves pl p (y .router) (y .side)))
+            (f .p) (f .has-passive)
+            (also-of (also-of (eq-eqb (routeTo pl (passive (f .p)) (x .router)) (x .side) (sym (f .leaves)))
+            (by-walk (f .p) (x .router)
+            (record { a = f .a; has = f .has-active; serves = f .serves; side = f .from; met = f .met })))
+            (also-of (eq-eqb (routeTo pl (passive (f .p)) (y .router)) (y .side) (sym (f .turns)))
+            (by-walk (f .p) (y .router)
+            (record { a = f .a; has = f .has-active; serves = f .serves; side = f .into; met = met }))))));
+      }
     where
-      out : ℕ
-      out = routeTo pl (passive (f .p)) x
+      met : Meets pl (passive (f .p)) (home pl (active (f .a))) (record { router = y .router; side = f .into })
+      met = meets-next pl (passive (f .p)) (home pl (active (f .a))) _ _ (f .met) (f .next)
 
-      joined : pl .joint x (routeTo pl (passive (f .p)) x) ≡ Router y (f .into)
-      joined = onward-on pl (passive (f .p)) _ _ (f .next)
+      inside : (z : Port) → Meets pl (passive (f .p)) (home pl (active (f .a))) z
+          → (z .router < R pl) × (routeTo pl (passive (f .p)) (z .router) < 4)
+      inside z m = (
+        meets-inside wired (passive (f .p)) (home pl (active (f .a))) (f .serves .ahead)
+            (home-inside (active (f .a)) wired (f .has-active)) z m .0,
+        exit-inside wired (passive (f .p)) (home pl (active (f .a))) (f .serves .ahead) z m,
+      )
 
-  pub walk-test : ringTest (R pl) (trailEdge pl) ≡ true → WalkRing pl
+      here : (x .router < R pl) × (x .side < 4)
+      here = let k = inside (record { router = x .router; side = f .from }) (f .met) in (k .0, rw (f .leaves) (k .1))
+
+      there : (y .router < R pl) × (y .side < 4)
+      there = let k = inside (record { router = y .router; side = f .into }) met in (k .0, rw (f .turns) (k .1))
+
+      joined : pl .joint (x .router) (x .side) ≡ Router (y .router) (f .into)
+      joined = ap (pl .joint (x .router)) (f .leaves) ∙ onward-on pl (passive (f .p)) _ _ (f .next)
+
+  pub walk-test : ringTest (4 * R pl) (trailEdge pl) ≡ true → WalkRing pl
   walk-test t =
-      ring-map (Leads (R pl) (trailEdge pl)) (Trails pl) (λ x. x) (λ x y l. edge-trails x y (l .step))
-      (ring-of-test (R pl) (trailEdge pl) t)
+      ring-map (Leads (4 * R pl) (trailEdge pl)) (Trails pl) linkAt (λ x y l. edge-trails x y (l .step))
+      (ring-of-test (4 * R pl) (trailEdge pl) t)
 
-  pub test-walk : WalkRing pl → ringTest (R pl) (trailEdge pl) ≡ true
+  pub test-walk : WalkRing pl → ringTest (4 * R pl) (trailEdge pl) ≡ true
   test-walk r =
-      test-of-ring (R pl) (trailEdge pl) (ring-map (Trails pl) (Leads (R pl) (trailEdge pl)) (λ x. x) trails-edge r)
+      test-of-ring (4 * R pl) (trailEdge pl)
+      (ring-map (Trails pl) (Leads (4 * R pl) (trailEdge pl)) linkNumber trails-edge r)
 
 -- ---- answers
 module _ {pl : Plan} (wired : Wired pl) where
@@ -387,9 +421,9 @@ module _ {pl : Plan} (wired : Wired pl) where
   -- ---- so
   pub ring-test : hasRing pl ≡ true → FeedRing pl
   unfolding hasRing
-  ring-test t = by (or-cases (ringTest (R pl) (trailEdge pl)) (ringTest (16 * R pl) (handEdge pl)) t)
+  ring-test t = by (or-cases (ringTest (4 * R pl) (trailEdge pl)) (ringTest (16 * R pl) (handEdge pl)) t)
     where
-      by : (ringTest (R pl) (trailEdge pl) ≡ true) ⊎ (ringTest (16 * R pl) (handEdge pl) ≡ true) → FeedRing pl
+      by : (ringTest (4 * R pl) (trailEdge pl) ≡ true) ⊎ (ringTest (16 * R pl) (handEdge pl) ≡ true) → FeedRing pl
       by (inl e) = feeds-of-rings wired (inl (walk-test wired e))
       by (inr e) = feeds-of-rings wired (inr (answer-test e))
 
@@ -398,9 +432,9 @@ module _ {pl : Plan} (wired : Wired pl) where
   test-ring r = by (rings-of-feeds wired r)
     where
       by : WalkRing pl ⊎ AnswerRing pl
-          → (ringTest (R pl) (trailEdge pl) || ringTest (16 * R pl) (handEdge pl)) ≡ true
+          → (ringTest (4 * R pl) (trailEdge pl) || ringTest (16 * R pl) (handEdge pl)) ≡ true
       by (inl s) = rw (test-walk wired s) refl
-      by (inr s) = rw (test-answer s) (or-right (ringTest (R pl) (trailEdge pl)))
+      by (inr s) = rw (test-answer s) (or-right (ringTest (4 * R pl) (trailEdge pl)))
 
   -- ---- one router alone has none
   no-step : R pl ≡ 1 → (e : Interface) (x z : Port) → onward pl e x ≡ on z → ⊥

@@ -1,5 +1,5 @@
--- What a ring of feeding queues is, by routers and their crossings: routers that the walks of served pairs go by, each
--- for the next one, or crossings that answers go by one after the other.
+-- What a ring of feeding queues is, by links and crossings: links that the walks of served pairs go by, each for the
+-- next one, or crossings that answers go by one after the other.
 use mathlib.Core.Path.{_≡_}
 use Prim.Native.Nat.{ℕ, _<_}
 use Rattle.basis.specs.Walk.{on}
@@ -11,18 +11,21 @@ use Rattle.paths.specs.Served.{Served}
 use Rattle.feeding.specs.Feeds.{Meets}
 
 -- ---- set-ups and tear-downs
--- the walk of a served pair goes on from the router x to the router y; this is where links, a router with the side by
--- which the walk comes in, would take the place of routers
-pub record Trails (pl : Plan) (x y : ℕ) : Type 0 where
+-- a link is a router with the side by which a walk leaves it. The walk of a served pair leaves by the link x and then,
+-- from the next router, by the link y
+pub record Trails (pl : Plan) (x y : Port) : Type 0 where
   pub a : ℕ
   pub p : ℕ
   pub has-active : a < A pl
   pub has-passive : p < P pl
   pub serves : Served pl a p
   pub from : ℕ
-  pub met : Meets pl (passive p) (home pl (active a)) (record { router = x; side = from })
+  pub met : Meets pl (passive p) (home pl (active a)) (record { router = x .router; side = from })
+  pub leaves : x .side ≡ routeTo pl (passive p) (x .router)
   pub into : ℕ
-  pub next : onward pl (passive p) (record { router = x; side = from }) ≡ on (record { router = y; side = into })
+  pub next : onward pl (passive p) (record { router = x .router; side = from })
+      ≡ on (record { router = y .router; side = into })
+  pub turns : y .side ≡ routeTo pl (passive p) (y .router)
 
 abbrev pub WalkRing : Plan → Type 0
 WalkRing pl = Ring (Trails pl)

@@ -1,4 +1,4 @@
--- Refusal 6 as a test: the two rings, of routers that walks go by and of crossings, by their numbers.
+-- Refusal 6 as a test: the two rings, of links that walks go by and of crossings, by their numbers.
 use mathlib.Core.Bool.{Bool, false, _||_}
 use Prim.Native.Nat.{ℕ, _*_, _/_, _%_}
 use lib.Dec.{eqb}
@@ -23,9 +23,9 @@ wayMeets pl e from r = anyBelow (R pl) (λ k. standsOn r (walked pl e k from))
 unfoldable pub walkMeets : Plan → ℕ → ℕ → Bool
 walkMeets pl p r = anyBelow (A pl) (λ a. also (served pl a p) (wayMeets pl (passive p) (home pl (active a)) r))
 
--- the walk of a served pair leaves the router r by side o
-unfoldable pub walkLeaves : Plan → ℕ → ℕ → Bool
-walkLeaves pl r o = anyBelow (P pl) (λ p. also (eqb (routeTo pl (passive p) r) o) (walkMeets pl p r))
+-- the walk of a served pair to passive p leaves the router r by side o
+unfoldable pub walkLeaves : Plan → ℕ → ℕ → ℕ → Bool
+walkLeaves pl p r o = also (eqb (routeTo pl (passive p) r) o) (walkMeets pl p r)
 
 -- the joint leads to the router r
 abbrev pub isRouter : ℕ → Joint → Bool
@@ -34,9 +34,12 @@ isRouter r (Router n t) = eqb n r
 isRouter r (Active n) = false
 isRouter r (Passive n) = false
 
--- a walk leaves the router x by some side for the router y
+-- links by number, side o of r is 4r + o: the walk of a served pair leaves by the link x, which leads to the router of
+-- the link y, and by the link y
 unfoldable pub trailEdge : Plan → ℕ → ℕ → Bool
-trailEdge pl x y = anyBelow 4 (λ o. also (isRouter y (pl .joint x o)) (walkLeaves pl x o))
+trailEdge pl x y =
+    also (isRouter (y / 4) (pl .joint (x / 4) (x % 4)))
+    (anyBelow (P pl) (λ p. also (walkLeaves pl p (x / 4) (x % 4)) (walkLeaves pl p (y / 4) (y % 4))))
 
 -- ---- answers
 -- from where a walk stands the way back to active a meets the router r
@@ -77,4 +80,4 @@ handEdge pl x y =
 
 -- ---- some queues feed each other in a ring
 unfoldable pub hasRing : Plan → Bool
-hasRing pl = ringTest (R pl) (trailEdge pl) || ringTest (16 * R pl) (handEdge pl)
+hasRing pl = ringTest (4 * R pl) (trailEdge pl) || ringTest (16 * R pl) (handEdge pl)

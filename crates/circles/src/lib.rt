@@ -1,5 +1,5 @@
-// Refusal 6 by routers and answers: a ring of feeding queues is a ring of routers that the walks of served pairs go
-// by, or one of crossings that answers go by. Sets of destinations are words: active d, or passive d - A.
+// Refusal 6 by links and answers: a ring of feeding queues is a ring of links that the walks of served pairs go by, or
+// one of crossings that answers go by. Sets of destinations are words: active d, or passive d - A.
 use plan::Head;
 ghost use mathlib.Core.Path.{_≡_};
 ghost use mathlib.Core.Bool.{false};
@@ -9,6 +9,10 @@ ghost use lib.ListN.{length};
 ghost use Rattle.basis.specs.Ring.{ringTest};
 ghost use Rattle.plan.specs.Plan.{Plan, R};
 ghost use Rattle.plan.specs.Head.{Counts};
+ghost use Rattle.sets.specs.Sets.{below};
+ghost use Rattle.peel.specs.Words.{leadsTo};
+ghost use Rattle.links.specs.Cells.{leavesOf};
+ghost use Rattle.onward.specs.Words.{nextsOf, linksOf};
 ghost use Rattle.circles.specs.RingTest.{trailEdge, handEdge, hasRing};
 ghost use Rattle.circles.specs.Told.{Told};
 
@@ -18,7 +22,31 @@ const FEW: usize = 4;
 // The most routers.
 const MOST: usize = 16;
 
-// Whether the walks of served pairs go round.
+// Whether what routers have might go round, by the routers that it goes on to: a quick look.
+fn routers_ring(by: &[[u32; 4]; 16], joints: &[u8; 64], used: &[u32; 32], n: usize) -> bool
+    requires { ⌜ n ≤ 16 ⌝ }
+    ensures { λ r. ⌜ r ≡ ringTest n (leadsTo (nextsOf (now (by .entry)) (now (joints .entry)) (now
+        (used .entry)) n)) ⌝ }
+{
+    let mut to = [0u64; 16];
+    let some = onward::nexts(by, joints, used, n, &mut to);
+    peel::words::has_ring(&to, n, some)
+}
+
+// Whether it goes round, by the sides that it leaves by.
+fn trails_ring(by: &[[u32; 4]; 16], joints: &[u8; 64], used: &[u32; 32], n: usize) -> bool
+    requires { ⌜ n ≤ 16 ⌝ }
+    ensures { λ r. ⌜ r ≡ ringTest (4 * n) (leadsTo (linksOf
+        (leavesOf (now (by .entry)) (now (used .entry)) (below 32) (4 * n)) (now (joints .entry)) (4 * n))) ⌝ }
+{
+    let mut gone = [0u32; 64];
+    links::leaves(by, used, sets::below(32), n, &mut gone);
+    let mut to = [0u64; 64];
+    let some = onward::links(&gone, joints, 4 * n, &mut to);
+    peel::words::has_ring(&to, 4 * n, some)
+}
+
+// Whether walks of served pairs go round.
 fn walks_ring(
     by: &[[u32; 4]; 16],
     joints: &[u8; 64],
@@ -29,14 +57,15 @@ fn walks_ring(
     requires { ⌜ Counts h ⌝ }
     ensures { λ r. ⌜ ((pl : Plan) (arrive : List ℕ)
         → Told pl h (now (by .entry)) (now (joints .entry)) (now (homes .entry)) arrive (now (served .entry))
-        → r ≡ ringTest (R pl) (trailEdge pl)) ⌝ }
+        → r ≡ ringTest (4 * R pl) (trailEdge pl)) ⌝ }
 {
     let n = h.routers;
     let mut used = [0u32; 32];
     links::starts::carried(by, joints, homes, served, n, h.actives, &mut used);
-    let mut to = [0u64; 16];
-    let some = onward::nexts(by, joints, &used, n, &mut to);
-    peel::words::has_ring(&to, n, some)
+    if !routers_ring(by, joints, &used, n) {
+        return false;
+    }
+    trails_ring(by, joints, &used, n)
 }
 
 // Whether answers might go round, if every router sent some to each served active that it reaches: a quick look.

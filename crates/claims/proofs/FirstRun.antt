@@ -104,7 +104,7 @@ t-accepted : (h : Head) × (loadOf planT ≡ Accepted h)
 unfolding loads
 t-accepted = loaded (loadOf planT) t-loads
 
-t-size : size (planOf planT) ≡ 1362
+t-size : size (planOf planT) ≡ 1635
 unfolding plannedT
 t-size = t-parts .5
 

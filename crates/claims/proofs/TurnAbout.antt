@@ -47,7 +47,7 @@ module _ (p : List ℕ) (h : Head) (loads : loadOf p ≡ Accepted h) where
         let rest = list-on cs (callOn p c b .bytes) later in
         omega arith
 
--- A head that stays a candidate sees at most three others go before it.
+-- A head that stays a candidate sees at most four others go before it.
 pub turn-about-on-bytes : TurnAboutOnBytes
 turn-about-on-bytes p b h loads o d j cs stays =
     let all = list-on p h loads o d j cs b stays in

@@ -31,6 +31,6 @@ firstAnswers =
 
 abbrev pub FirstRun : Type 0
 FirstRun =
-    (buffer : List ℕ) → length buffer ≡ 1362
+    (buffer : List ℕ) → length buffer ≡ 1635
     → (startOn planT buffer .answer ≡ Done)
     × (answersIn planT (launchInRound0 ++ allEntries) (startOn planT buffer .bytes) ≡ firstAnswers)

@@ -1,6 +1,7 @@
--- 'A head that stays a candidate sees at most three others go before it on that output' (document 02 (b)), of the calls
--- on bytes: plan bytes that Load accepts, any state bytes at all, and any list of calls, each on the bytes as the last
--- one left them. Bytes that are no state's are refused 7, and nothing is counted.
+-- 'A head that stays a candidate sees at most three others go before it on that output' (document 02 (b)); of a side
+-- with its five senders 'at most four others go first there' (document 02 (i)). Of the calls on bytes: plan bytes that
+-- Load accepts, any state bytes at all, and any list of calls, each on the bytes as the last one left them. Bytes that
+-- are no state's are refused 7, and nothing is counted.
 use mathlib.Core.Path.{_≡_}
 use mathlib.Core.List.{List, [], _∷_}
 use Prim.Native.Nat.{ℕ, _+_, _≤_}
@@ -11,6 +12,7 @@ use Rattle.load.specs.declared.Loaded.the-variants.{Accepted}
 use Rattle.load.specs.Load.{loadOf}
 use Rattle.machine.specs.Calls.{Call}
 use Rattle.machine.specs.Valid.{Drives}
+use Rattle.machine.specs.Outputs.{lastInOrder}
 use Rattle.machine.specs.TurnAbout.{othersIn, StaysIn}
 use Rattle.claims.specs.Calls.{callOn}
 use Rattle.claims.specs.Demand3.{stateOf}
@@ -33,4 +35,4 @@ StaysOn p o j (c ∷ cs) b =
 abbrev pub TurnAboutOnBytes : Type 0
 TurnAboutOnBytes =
     (p b : List ℕ) (h : Head) → loadOf p ≡ Accepted h → (o : Output) → Drives (planOf p) o → (j : ℕ) (cs : List Call)
-    → StaysOn p o j cs b → othersOn p o j cs b ≤ 3
+    → StaysOn p o j cs b → othersOn p o j cs b ≤ lastInOrder o

@@ -16,9 +16,9 @@ use Rattle.layout.specs.Offsets.{queueRow, entryRow}
 use Rattle.layout.specs.Decode.{capacity-most}
 
 module _ (pl : Plan) where
-  pub unit-row : (r : ℕ) → queueRow pl (Q r) ≡ 2 + 39 * (A pl + P pl + 21 * r + 4)
+  pub unit-row : (r i : ℕ) → queueRow pl (Q r i) ≡ 2 + 39 * (A pl + P pl + 28 * r + 4 + i)
   unfolding queueRow number
-  unit-row r = refl
+  unit-row r i = refl
 
   pub entry-on : (r o t : ℕ) → entryRow pl r o t ≡ entryRow pl r o 0 + 2 * t
   unfolding entryRow

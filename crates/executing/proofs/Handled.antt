@@ -42,19 +42,20 @@ use Rattle.picking.proofs.Bytes.{flag-zero}
 use Rattle.executing.proofs.Bytes.{entry-on}
 
 -- ---- the head
-module _ {pl : Plan} (wired : Wired pl) (range : InRange (pl .head)) (r : ℕ) (hr : r < R pl) (x : Packet) (s : State)
-    (g : Heads pl r x s) where
-  pub here : Belongs pl (inQueue (Q r)) x
-  here = rw (g .fresh) at (head-belongs (kept-of pl s (g .turn .core)) (Q r) x (g .rest) hr (g .line))
+module _ {pl : Plan} (wired : Wired pl) (range : InRange (pl .head)) (r i : ℕ) (hr : (r < R pl) × (i < 4)) (x : Packet)
+    (s : State)
+    (g : Heads pl r i x s) where
+  pub here : Belongs pl (inQueue (Q r i)) x
+  here = rw (g .fresh) at (head-belongs (kept-of pl s (g .turn .core)) (Q r i) x (g .rest) hr (g .line))
 
   -- the walk leaves by one of the four sides
   pub exit-side : exitAt pl r x < 4
-  exit-side = side-out wired range x (inQueue (Q r)) here r refl
+  exit-side = side-out wired range x (inQueue (Q r i)) here r i refl
 
   -- a SETUP stands on its walk with as many routers behind it as its hub says
-  pub setup-stands : x .kind ≡ Setup → (i : ℕ) × Stands pl (x .active) (x .passive) (x .hub .0) r i
+  pub setup-stands : x .kind ≡ Setup → Stands pl (x .active) (x .passive) (x .hub .0) r i
   setup-stands q =
-      unit-setup wired (x .active) (x .passive) (here .ranges .active) (here .ranges .passive) (here .serves) r
+      unit-setup wired (x .active) (x .passive) (here .ranges .active) (here .ranges .passive) (here .serves) r i
       (x .hub .0) (rw q at (here .fits))
 
   pub setup-hub : x .kind ≡ Setup → x .hub .0 < 16
@@ -63,70 +64,67 @@ module _ {pl : Plan} (wired : Wired pl) (range : InRange (pl .head)) (r : ℕ) (
       let a = here .ranges .active in
       let p = here .ranges .passive in
       let b = stands-below wired (x .active) (x .passive) a p (here .serves) (x .hub .0)
-      (record { router = r; side = f .0 }) (f .1) in
+      (record { router = r; side = i }) f in
       let c = span-short wired (x .active) (x .passive) a p (here .serves) in
       let m = range .routers .1 in
       omega arith
 
-  pub setup-came : x .kind ≡ Setup → (v : ℕ)
-      → ((n i : ℕ) → i < 4 → Stands pl (x .active) (x .passive) (x .hub .0) n i → v ≡ i)
-      → v ≡ cameIn pl (x .active) (x .passive) r
-  setup-came q v promise =
-      let f = setup-stands q in
-      let a = here .ranges .active in
-      let p = here .ranges .passive in
-      promise r (f .0)
-      (stands-inside wired (x .active) (x .passive) a p (here .serves) (x .hub .0) r (f .0) (f .1) .1) (f .1)
-      ∙ sym (came-in wired (x .active) (x .passive) a p (here .serves) (x .hub .0) r (f .0) (f .1))
+  -- and its walk came in by its queue's side
+  pub setup-came : x .kind ≡ Setup → i ≡ cameIn pl (x .active) (x .passive) r
+  setup-came q =
+      sym
+      (came-in wired (x .active) (x .passive) (here .ranges .active) (here .ranges .passive) (here .serves)
+      (x .hub .0) r
+      i (setup-stands q))
 
   pub tdown-hub : x .kind ≡ Tdown → 1 ≤ x .hub .0
-  tdown-hub q = let f : Fits pl Tdown (x .active) (x .passive) (x .hub .0) (inQueue (Q r)) = rw q at (here .fits) in f
+  tdown-hub q = let f : Fits pl Tdown (x .active) (x .passive) (x .hub .0) (inQueue (Q r i)) = rw q at (here .fits) in f
       .2
 
   -- no answer waits to be handled
   pub no-ack : x .kind ≡ Ack → ⊥
   no-ack q =
-      unit-no-answer wired (x .active) (x .passive) (here .ranges .active) (here .ranges .passive) (here .serves) r
+      unit-no-answer wired (x .active) (x .passive) (here .ranges .active) (here .ranges .passive) (here .serves) r i
       (x .hub .0) .0 (rw q at (here .fits))
 
   pub no-nack : x .kind ≡ Nack → ⊥
   no-nack q =
-      unit-no-answer wired (x .active) (x .passive) (here .ranges .active) (here .ranges .passive) (here .serves) r
+      unit-no-answer wired (x .active) (x .passive) (here .ranges .active) (here .ranges .passive) (here .serves) r i
       (x .hub .0) .1 (rw q at (here .fits))
 
 -- ---- the queue lent, handled and put back
-module _ (pl : Plan) (r : ℕ) (hr : r < R pl) (x : Packet) (may slots : ℕ) (s : State) (rest b : List ℕ)
-    (e : b ≡ encode pl s rest) (down : s .flow .flag (Q r) ≡ false) (xs : List Packet)
-    (line : s .lines .queue (Q r) ≡ x ∷ xs) where
+module _ (pl : Plan) (r i : ℕ) (hr : (r < R pl) × (i < 4)) (x : Packet) (may slots : ℕ) (s : State) (rest b : List ℕ)
+    (e : b ≡ encode pl s rest) (down : s .flow .flag (Q r i) ≡ false) (xs : List Packet)
+    (line : s .lines .queue (Q r i) ≡ x ∷ xs) where
   abbrev row : ℕ
-  row = queueRow pl (Q r)
+  row = queueRow pl (Q r i)
 
   abbrev lent : Queue
   lent = queueOf row x b
 
   flag-down : getD b (row + 1) 0 ≡ 0
-  flag-down = flag-zero (getD b (row + 1) 0) (flag-at pl s rest b e (Q r) hr ∙ down)
+  flag-down = flag-zero (getD b (row + 1) 0) (flag-at pl s rest b e (Q r i) hr ∙ down)
 
   -- the head stays, handled, as y
   pub settle-stays : (y : Packet) → handledOf lent may slots ≡ stays lent y
-      → settled row x may slots b ≡ encode pl (handledAs r y xs s) rest
+      → settled row x may slots b ≡ encode pl (handledAs r i y xs s) rest
   unfolding settled putBack
   settle-stays y k =
       ap (λ (q : Queue). putBack row q b) k
       ∙ rw flag-down
       (ap (λ (c : List ℕ). set (sets c (row + 4) (packetBytes y)) (row + 2) 1) e
-      ∙ ap (λ (c : List ℕ). set c (row + 2) 1) (put-head pl s rest (Q r) hr x xs line y)
-      ∙ put-handled pl (withQueue (Q r) (y ∷ xs) s) rest (Q r) hr true)
+      ∙ ap (λ (c : List ℕ). set c (row + 2) 1) (put-head pl s rest (Q r i) hr x xs line y)
+      ∙ put-handled pl (withQueue (Q r i) (y ∷ xs) s) rest (Q r i) hr true)
 
   -- the head ended
-  pub settle-ends : length (s .lines .queue (Q r)) ≤ 7 → handledOf lent may slots ≡ ends lent
-      → settled row x may slots b ≡ encode pl (withFlag (Q r) true (withQueue (Q r) xs s)) rest
+  pub settle-ends : length (s .lines .queue (Q r i)) ≤ 7 → handledOf lent may slots ≡ ends lent
+      → settled row x may slots b ≡ encode pl (withFlag (Q r i) true (withQueue (Q r i) xs s)) rest
   unfolding settled putBack
   settle-ends few k =
       ap (λ (q : Queue). putBack row q b) k
       ∙ ap (λ (c : List ℕ). set (popAt row c) (row + 1) 1) e
-      ∙ ap (λ (c : List ℕ). set c (row + 1) 1) (pop-queue pl s rest (Q r) hr x xs line few)
-      ∙ put-flag pl (withQueue (Q r) xs s) rest (Q r) hr true
+      ∙ ap (λ (c : List ℕ). set c (row + 1) 1) (pop-queue pl s rest (Q r i) hr x xs line few)
+      ∙ put-flag pl (withQueue (Q r i) xs s) rest (Q r i) hr true
 
 -- ---- what the handling makes of the head, by its kind
 module _ (q : Queue) (slots : ℕ) where

@@ -1,7 +1,7 @@
 -- The whole phase.
 use mathlib.Core.Path.{_≡_, ap, _∙_}
 use mathlib.Core.List.{List}
-use Prim.Native.Nat.{ℕ, _<_}
+use Prim.Native.Nat.{ℕ, _<_, _*_}
 use native.Mathlib.Omega.{arith}
 use lib.ListN.{length, set}
 use Rattle.basis.specs.Fold.{upTo}
@@ -10,7 +10,7 @@ use Rattle.plan.specs.declared.Head.{Head}
 use Rattle.plan.specs.Plan.{Plan}
 use Rattle.plan.specs.Tables.{tablePlan}
 use Rattle.machine.specs.State.{State}
-use Rattle.machine.specs.Execute.{unit, undo, doExecute}
+use Rattle.machine.specs.Execute.{unitAt, undo, doExecute}
 use Rattle.theory.specs.Invariant.{Core}
 use Rattle.layout.specs.Offsets.{size}
 use Rattle.layout.specs.Encode.{encode}
@@ -32,23 +32,23 @@ module _ {h : Head} {routes : List (List ℕ)} {joints homes : List ℕ} (w : Wi
   pub heads-hold : {b : List ℕ} → Holds pl (In pl Execute) b → Holds pl (Turn pl 0) b
   heads-hold k = holds-less pl (λ s i. turn-first pl s i) k
 
-  after-heads : (s : State) → In pl Execute s → Picks pl 0 (upTo (unit pl) (h .routers) s)
+  after-heads : (s : State) → In pl Execute s → Picks pl 0 (upTo (unitAt pl) (4 * h .routers) s)
   unfolding tablePlan
   after-heads s i =
-      picks-first pl (h .routers) (upTo (unit pl) (h .routers) s)
-      (turns (w .wired) (range-of w) (h .routers) s (omega arith) (turn-first pl s i))
+      picks-first pl (4 * h .routers) (upTo (unitAt pl) (4 * h .routers) s)
+      (turns (w .wired) (range-of w) (4 * h .routers) s (omega arith) (turn-first pl s i))
 
   pub picks-hold : {b c : List ℕ} → Holds pl (In pl Execute) b
-      → Steps pl (Turn pl 0) (upTo (unit pl) (h .routers)) b c → Holds pl (Picks pl 0) c
+      → Steps pl (Turn pl 0) (upTo (unitAt pl) (4 * h .routers)) b c → Holds pl (Picks pl 0) c
   picks-hold k x = holds-then pl k (steps-less pl (λ s i. turn-first pl s i) x) after-heads
 
   pub undo-hold : {b c d : List ℕ} → Holds pl (In pl Execute) b
-      → Steps pl (Turn pl 0) (upTo (unit pl) (h .routers)) b c
+      → Steps pl (Turn pl 0) (upTo (unitAt pl) (4 * h .routers)) b c
       → Steps pl (Picks pl 0) (upTo (chooses pl) (outputCount h)) c d → Holds pl (Core pl) d
   undo-hold k x y = holds-then pl (picks-hold k x) y (after-picks w)
 
   pub last-hold : {b c d e : List ℕ} → Holds pl (In pl Execute) b
-      → Steps pl (Turn pl 0) (upTo (unit pl) (h .routers)) b c
+      → Steps pl (Turn pl 0) (upTo (unitAt pl) (4 * h .routers)) b c
       → Steps pl (Picks pl 0) (upTo (chooses pl) (outputCount h)) c d
       → Steps pl (Core pl) (upTo (undo pl) (h .actives)) d e → Holds pl (Core pl) e
   unfolding tablePlan
@@ -60,7 +60,7 @@ module _ {h : Head} {routes : List (List ℕ)} {joints homes : List ℕ} (w : Wi
   unfolding size
   phase-room {b = b} k = let n = ap length (k .same) ∙ length-bytes pl (k .state) (k .rest) in omega arith
 
-  pub execute-all : {b c d e : List ℕ} → Steps pl (Turn pl 0) (upTo (unit pl) (h .routers)) b c
+  pub execute-all : {b c d e : List ℕ} → Steps pl (Turn pl 0) (upTo (unitAt pl) (4 * h .routers)) b c
       → Steps pl (Picks pl 0) (upTo (chooses pl) (outputCount h)) c d
       → Steps pl (Core pl) (upTo (undo pl) (h .actives)) d e
       → Steps pl (In pl Execute) (doExecute pl) b (set e 0 2)
@@ -68,7 +68,7 @@ module _ {h : Head} {routes : List (List ℕ)} {joints homes : List ℕ} (w : Wi
   execute-all {e = e} x y z =
       record {
         done = λ s rest i k.
-            let t : State = upTo (unit pl) (h .routers) s in
+            let t : State = upTo (unitAt pl) (4 * h .routers) s in
             let u : State = upTo (chooses pl) (outputCount h) t in
             let v : State = upTo (undo pl) (h .actives) u in
             let p = x .done s rest (turn-first pl s i) k in

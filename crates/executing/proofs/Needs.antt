@@ -1,7 +1,7 @@
 -- What the code of a unit's turn needs of its bytes: numbers in range, rows inside, a head that can be handled.
 use mathlib.Core.Path.{_≡_, refl, sym, ap, _∙_}
 use mathlib.Core.List.{List, []}
-use Prim.Native.Nat.{ℕ, _+_, _*_, _-_, _≤_, _<_}
+use Prim.Native.Nat.{ℕ, _+_, _*_, _-_, _≤_, _<_, _/_, _%_}
 use native.Mathlib.Numerals.{add-one}
 use native.Mathlib.Omega.{arith}
 use lib.ListN.{length, getD, set}
@@ -15,7 +15,7 @@ use Rattle.plan.specs.Tables.{tablePlan}
 use Rattle.feeding.specs.Queue.{Q}
 use Rattle.basis.specs.Fold.{upTo}
 use Rattle.machine.specs.State.{withEntry}
-use Rattle.machine.specs.Execute.{unit}
+use Rattle.machine.specs.Execute.{unitAt}
 use Rattle.machine.specs.Valid.{PacketOk}
 use Rattle.theory.proofs.Cases.{exitAt}
 use Rattle.layout.specs.Offsets.{queueRow, entryRow}
@@ -43,17 +43,16 @@ module _ {h : Head} {routes : List (List ℕ)} {joints homes : List ℕ} (w : Wi
   base-asks l = let m = w .range .routers .1 in (counts-of w, omega arith)
 
   -- Q's row lies inside
-  pub unit-room : {r at : ℕ} {b : List ℕ} → r < h .routers → at ≡ queueRow pl (Q r) → Holds pl (Turn pl r) b
+  pub unit-room : {r i at : ℕ} {b : List ℕ} → r < h .routers → i < 4 → at ≡ queueRow pl (Q r i)
+      → Holds pl (Turn pl (4 * r + i)) b
       → at + 39 ≤ length b
-  unit-room {r} {at} {b} l ea k = rw ea (queue-room pl (k .state) (k .rest) b (k .same) (Q r) (is-router w l))
+  unit-room {r} {i} {at} {b} l four ea k =
+      rw ea (queue-room pl (k .state) (k .rest) b (k .same) (Q r i) (is-router w l, four))
 
-  module _ {r : ℕ} {x : Packet} {b : List ℕ} (l : r < h .routers) (k : Holds pl (Heads pl r x) b) where
+  module _ {r i : ℕ} {x : Packet} {b : List ℕ} (l : r < h .routers) (four : i < 4)
+      (k : Holds pl (Heads pl r i x) b) where
     numbers : PacketOk pl x
-    numbers = here (w .wired) (range-of w) r (is-router w l) x (k .state) (k .fit) .ranges
-
-    pub has-active : x .active < h .actives
-    unfolding tablePlan
-    has-active = numbers .active
+    numbers = here (w .wired) (range-of w) r i (is-router w l, four) x (k .state) (k .fit) .ranges
 
     pub has-passive : x .passive < h .passives
     unfolding tablePlan
@@ -75,7 +74,7 @@ module _ {h : Head} {routes : List (List ℕ)} {joints homes : List ℕ} (w : Wi
       side-is = eo ∙ exit-is h routes joints r x
 
       side-small : o < 4
-      side-small = rw side-is (exit-side (w .wired) (range-of w) r (is-router w l) x (k .state) (k .fit))
+      side-small = rw side-is (exit-side (w .wired) (range-of w) r i (is-router w l, four) x (k .state) (k .fit))
 
       pub entry-asks : {t : ℕ} → t ≡ x .slot .0 → Counts h × (r ≤ 16) × (o ≤ 4) × (t ≤ 32)
       entry-asks et =
@@ -139,20 +138,20 @@ module _ {h : Head} {routes : List (List ℕ)} {joints homes : List ℕ} (w : Wi
           (ap (λ (c : List ℕ). set c (entryRow pl r o t) (entryCode y)) (k .same)
           ∙ put-entry pl (k .state) (k .rest) r o t y (is-router w l) side-small (omega arith))
 
-      settles-by : {row at t : ℕ} (y : Entry) → row ≡ queueRow pl (Q r) → at ≡ entryRow pl r o t → t ≡ x .slot .0
+      settles-by : {row at t : ℕ} (y : Entry) → row ≡ queueRow pl (Q r i) → at ≡ entryRow pl r o t → t ≡ x .slot .0
           → Settles row x (h .slots) (set b at (entryCode y))
       settles-by {row} {at} {t} y er ea et =
-          settles-as (w .wired) (range-of w) r (is-router w l) x row (h .slots) (k .state)
+          settles-as (w .wired) (range-of w) r i (is-router w l, four) x row (h .slots) (k .state)
           (withEntry r o t y (k .state)) (k .rest) (set b at (entryCode y)) er (slots-are h routes joints) (k .fit)
           refl (changed y ea et)
 
       -- a freed entry
-      pub settles-freed : {row at t : ℕ} → row ≡ queueRow pl (Q r) → at ≡ tableFrom h + 2 * (128 * r + 32 * o + t)
+      pub settles-freed : {row at t : ℕ} → row ≡ queueRow pl (Q r i) → at ≡ tableFrom h + 2 * (128 * r + 32 * o + t)
           → t ≡ x .slot .0 → Settles row x (h .slots) (set b at 0)
       settles-freed {t = t} er ea et = settles-by Free er (entry-is h routes joints r o t ea) et
 
       -- a booked one
-      pub settles-booked : {row at t : ℕ} (v : ℕ) → row ≡ queueRow pl (Q r)
+      pub settles-booked : {row at t : ℕ} (v : ℕ) → row ≡ queueRow pl (Q r i)
           → at ≡ tableFrom h + 2 * (128 * r + 32 * o + 0) → t ≡ x .slot .0
           → Settles row x (h .slots) (set b (at + 2 * t) (v + 1))
       settles-booked {at = at} {t = t} v er ea et =
@@ -160,22 +159,28 @@ module _ {h : Head} {routes : List (List ℕ)} {joints homes : List ℕ} (w : Wi
           (ap (λ (n : ℕ). n + 2 * t) (entry-is h routes joints r o 0 ea) ∙ sym (entry-on pl r o t)) et)
 
     -- no entry changed
-    pub settles-now : {row : ℕ} → row ≡ queueRow pl (Q r) → Settles row x (h .slots) b
+    pub settles-now : {row : ℕ} → row ≡ queueRow pl (Q r i) → Settles row x (h .slots) b
     settles-now {row} er =
-        settles-as (w .wired) (range-of w) r (is-router w l) x row (h .slots) (k .state) (k .state) (k .rest) b er
+        settles-as (w .wired) (range-of w) r i (is-router w l, four) x row (h .slots) (k .state) (k .state)
+        (k .rest) b er
         (slots-are h routes joints) (k .fit) refl (k .same)
 
   -- ---- the loop over the units
-  has-routers : {r : ℕ} → r ≤ h .routers → r ≤ R pl
+  has-routers : {r : ℕ} → r ≤ 4 * h .routers → r ≤ 4 * R pl
   unfolding tablePlan
   has-routers l = l
 
-  pub units-hold : {r : ℕ} {b c : List ℕ} → r < h .routers → Holds pl (Turn pl 0) b
-      → Steps pl (Turn pl 0) (upTo (unit pl) r) b c → Holds pl (Turn pl r) c
-  units-hold {r} l k x =
-      holds-then pl k x (λ s t. turns (w .wired) (range-of w) r s (has-routers (omega arith)) t)
+  -- the n-th turn is that of side n % 4 of router n / 4
+  turn-is : (n : ℕ) → 4 * (n / 4) + n % 4 ≡ n
+  turn-is n = omega arith
 
-  pub units-more : {r : ℕ} {b c d : List ℕ} → r < h .routers → Steps pl (Turn pl 0) (upTo (unit pl) r) b c
-      → Steps pl (Turn pl r) (unit pl r) c d → Steps pl (Turn pl 0) (upTo (unit pl) (r + 1)) b d
+  pub units-hold : {r : ℕ} {b c : List ℕ} → r < 4 * h .routers → Holds pl (Turn pl 0) b
+      → Steps pl (Turn pl 0) (upTo (unitAt pl) r) b c → Holds pl (Turn pl (4 * (r / 4) + r % 4)) c
+  units-hold {r} l k x =
+      rw (turn-is r) (holds-then pl k x (λ s t. turns (w .wired) (range-of w) r s (has-routers (omega arith)) t))
+
+  pub units-more : {r : ℕ} {b c d : List ℕ} → r < 4 * h .routers → Steps pl (Turn pl 0) (upTo (unitAt pl) r) b c
+      → Steps pl (Turn pl (4 * (r / 4) + r % 4)) (unitAt pl r) c d → Steps pl (Turn pl 0) (upTo (unitAt pl) (r + 1)) b d
   units-more {r} l x y =
-      steps-more pl (unit pl) r x (λ s t. turns (w .wired) (range-of w) r s (has-routers (omega arith)) t) y
+      steps-more pl (unitAt pl) r x (λ s t. turns (w .wired) (range-of w) r s (has-routers (omega arith)) t)
+      (rw (turn-is r) at y)

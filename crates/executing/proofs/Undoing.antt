@@ -62,7 +62,7 @@ module _ {h : Head} {routes : List (List ℕ)} {joints homes : List ℕ} (w : Wi
   unfolding tablePlan
   is-active = ha
 
-  pub in-row : {n at : ℕ} → n ≡ destinations h + 21 * h .routers → at ≡ 2 + 39 * (n + a)
+  pub in-row : {n at : ℕ} → n ≡ destinations h + 28 * h .routers → at ≡ 2 + 39 * (n + a)
       → at ≡ queueRow pl (activeIn a)
   unfolding tablePlan queueRow number
   in-row en ea = ea ∙ ap (λ (k : ℕ). 2 + 39 * (k + a)) en

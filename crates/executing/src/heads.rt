@@ -1,21 +1,19 @@
-// EXECUTE 1: each unit handles its head once, if it is not handled yet.
+// EXECUTE 1: each unit handles the head of each of its queues once, if it is not handled yet, side 0 first.
 use packets::Kind;
 use packets::Packet;
-use paths::Step;
 use plan::Head;
 use units::Queue;
 ghost use mathlib.Core.Path.{_≡_};
 ghost use mathlib.Core.List.{[]};
-ghost use Prim.Native.Nat.{ℕ, _+_, _*_, _≤_, _<_};
+ghost use Prim.Native.Nat.{_+_, _*_, _≤_, _<_};
 ghost use lib.ListN.{getD, length};
 ghost use Rattle.packets.specs.declared.Kind.the-variants.{Setup, Tdown};
 ghost use Rattle.plan.specs.Head.{Counts};
 ghost use Rattle.plan.specs.Plan.{noSide};
 ghost use Rattle.plan.specs.Tables.{tablePlan};
 ghost use Rattle.feeding.specs.Queue.{Q};
-ghost use Rattle.feeding.specs.Feeds.{Stands};
 ghost use Rattle.basis.specs.Fold.{upTo};
-ghost use Rattle.machine.specs.Execute.{mayBook, unit};
+ghost use Rattle.machine.specs.Execute.{mayBook, unit, unitAt};
 ghost use Rattle.layout.specs.Offsets.{queueRow};
 ghost use Rattle.layout.specs.Decode.{lengthAt};
 ghost use Rattle.acts.specs.Acts.{Holds, Steps};
@@ -32,7 +30,7 @@ const LENGTH_BYTE: usize = 3;
 
 const FIRST_PLACE: usize = 4;
 
-// Q is the fifth of a router's queues.
+// Q[0] is the fifth of a router's queues.
 const Q_PLACE: usize = 4;
 
 // A byte as an index.
@@ -102,25 +100,6 @@ fn may_book(s: &[u8], at: usize, t: usize, slots: usize) -> bool
     false
 }
 
-// The side by which the walk of a packet's pair came in to the router where the packet is: its hub is that router's
-// index.
-fn came_in(h: Head, routes: &[[u8; 32]; 16], joints: &[u8; 64], homes: &[u8; 32], x: Packet) -> u8
-    requires { ⌜ Wiring h (now routes) (now joints) (now homes) × (x .active < h .actives)
-        × (x .passive < h .passives) ⌝ }
-    ensures { λ v. ⌜ (v < 4) × ((n i : ℕ) → i < 4
-        → Stands (tablePlan h (now (routes .entry)) (now (joints .entry))) (x .active) (x .passive) (x .hub .0) n i
-        → v ≡ i) ⌝ }
-{
-    let from = index(homes[index(x.active)]);
-    let d = h.actives + index(x.passive);
-    let w = paths::stands(routes, joints, h, d, from, index(x.hub.0));
-    match w {
-        Step::On(port) => (port % 4) as u8,
-        Step::End => 0,
-        Step::Lost => 0,
-    }
-}
-
 // The side by which the walk of a packet's pair leaves router r.
 fn side_of(h: Head, routes: &[[u8; 32]; 16], r: usize, x: Packet) -> usize
     requires { ⌜ Counts h × (r < 16) × (x .passive < 16) ⌝ }
@@ -129,30 +108,31 @@ fn side_of(h: Head, routes: &[[u8; 32]; 16], r: usize, x: Packet) -> usize
     moves::side_out(routes, r, h.actives + index(x.passive))
 }
 
-// A SETUP: its entry is booked, if it may be, with the side by which the walk came in.
+// A SETUP: its entry is booked, if it may be, with the side by which the walk came in, which is its queue's.
 fn set_up(
     h: Head,
     routes: &[[u8; 32]; 16],
     joints: &[u8; 64],
     homes: &[u8; 32],
     r: usize,
+    i: usize,
     at: usize,
     x: Packet,
     s: &mut [u8],
 )
-    requires { ⌜ Wiring h (now routes) (now joints) (now homes) × (r < h .routers) × (x .kind ≡ Setup)
-        × (at ≡ queueRow (tablePlan h (now routes) (now joints)) (Q r))
-        × Holds (tablePlan h (now routes) (now joints)) (Heads (tablePlan h (now routes) (now joints)) r x) (now s) ⌝ }
+    requires { ⌜ Wiring h (now routes) (now joints) (now homes) × (r < h .routers) × (i < 4) × (x .kind ≡ Setup)
+        × (at ≡ queueRow (tablePlan h (now routes) (now joints)) (Q r i))
+        × Holds (tablePlan h (now routes) (now joints)) (Heads (tablePlan h (now routes) (now joints)) r i x)
+        (now s) ⌝ }
     ensures { λ _. ⌜ Steps (tablePlan h (now (routes .entry)) (now (joints .entry)))
-        (Heads (tablePlan h (now (routes .entry)) (now (joints .entry))) r x)
-        (unit (tablePlan h (now (routes .entry)) (now (joints .entry))) r) (now (s .entry)) (now (s .exit)) ⌝ }
+        (Heads (tablePlan h (now (routes .entry)) (now (joints .entry))) r i x)
+        (unit (tablePlan h (now (routes .entry)) (now (joints .entry))) r i) (now (s .entry)) (now (s .exit)) ⌝ }
 {
     let o = side_of(h, routes, r, x);
     let near = acts::entry_row(h, r, o, 0);
     let t = index(x.slot.0);
     if may_book(s, near, t, index(h.slots)) {
-        let i = came_in(h, routes, joints, homes, x);
-        s[near + 2 * t] = i + 1;
+        s[near + 2 * t] = (i + 1) as u8;
         settle(s, at, x, 1, h.slots);
     } else {
         settle(s, at, x, 0, h.slots);
@@ -166,16 +146,18 @@ fn tear_down(
     joints: &[u8; 64],
     homes: &[u8; 32],
     r: usize,
+    i: usize,
     at: usize,
     x: Packet,
     s: &mut [u8],
 )
-    requires { ⌜ Wiring h (now routes) (now joints) (now homes) × (r < h .routers) × (x .kind ≡ Tdown)
-        × (at ≡ queueRow (tablePlan h (now routes) (now joints)) (Q r))
-        × Holds (tablePlan h (now routes) (now joints)) (Heads (tablePlan h (now routes) (now joints)) r x) (now s) ⌝ }
+    requires { ⌜ Wiring h (now routes) (now joints) (now homes) × (r < h .routers) × (i < 4) × (x .kind ≡ Tdown)
+        × (at ≡ queueRow (tablePlan h (now routes) (now joints)) (Q r i))
+        × Holds (tablePlan h (now routes) (now joints)) (Heads (tablePlan h (now routes) (now joints)) r i x)
+        (now s) ⌝ }
     ensures { λ _. ⌜ Steps (tablePlan h (now (routes .entry)) (now (joints .entry)))
-        (Heads (tablePlan h (now (routes .entry)) (now (joints .entry))) r x)
-        (unit (tablePlan h (now (routes .entry)) (now (joints .entry))) r) (now (s .entry)) (now (s .exit)) ⌝ }
+        (Heads (tablePlan h (now (routes .entry)) (now (joints .entry))) r i x)
+        (unit (tablePlan h (now (routes .entry)) (now (joints .entry))) r i) (now (s .entry)) (now (s .exit)) ⌝ }
 {
     let o = side_of(h, routes, r, x);
     let near = acts::entry_row(h, r, o, index(x.slot.0));
@@ -183,22 +165,24 @@ fn tear_down(
     settle(s, at, x, 0, h.slots);
 }
 
-// Router r's unit handles its head, if it has one that is not handled.
+// Router r's unit handles the head of Q[i], if it has one that is not handled.
 fn unit_at(
     h: Head,
     routes: &[[u8; 32]; 16],
     joints: &[u8; 64],
     homes: &[u8; 32],
     r: usize,
+    i: usize,
     s: &mut [u8],
 )
-    requires { ⌜ Wiring h (now routes) (now joints) (now homes) × (r < h .routers)
-        × Holds (tablePlan h (now routes) (now joints)) (Turn (tablePlan h (now routes) (now joints)) r) (now s) ⌝ }
+    requires { ⌜ Wiring h (now routes) (now joints) (now homes) × (r < h .routers) × (i < 4)
+        × Holds (tablePlan h (now routes) (now joints)) (Turn (tablePlan h (now routes) (now joints)) (4 * r + i))
+        (now s) ⌝ }
     ensures { λ _. ⌜ Steps (tablePlan h (now (routes .entry)) (now (joints .entry)))
-        (Turn (tablePlan h (now (routes .entry)) (now (joints .entry))) r)
-        (unit (tablePlan h (now (routes .entry)) (now (joints .entry))) r) (now (s .entry)) (now (s .exit)) ⌝ }
+        (Turn (tablePlan h (now (routes .entry)) (now (joints .entry))) (4 * r + i))
+        (unit (tablePlan h (now (routes .entry)) (now (joints .entry))) r i) (now (s .entry)) (now (s .exit)) ⌝ }
 {
-    let at = acts::queue_row(moves::base_of(h, r) + Q_PLACE);
+    let at = acts::queue_row(moves::base_of(h, r) + Q_PLACE + i);
     if s[at + LENGTH_BYTE] == 0 {
         return;
     }
@@ -208,23 +192,24 @@ fn unit_at(
     let x = rows::packet_at(s, at + FIRST_PLACE);
     let k = x.kind;
     match k {
-        Kind::Setup => set_up(h, routes, joints, homes, r, at, x, s),
-        Kind::Tdown => tear_down(h, routes, joints, homes, r, at, x, s),
+        Kind::Setup => set_up(h, routes, joints, homes, r, i, at, x, s),
+        Kind::Tdown => tear_down(h, routes, joints, homes, r, i, at, x, s),
         Kind::Ack => {}
         Kind::Nack => {}
     }
 }
 
-// Every unit in turn.
+// Every unit in turn, and of each its queues, side 0 first.
 pub fn heads(h: Head, routes: &[[u8; 32]; 16], joints: &[u8; 64], homes: &[u8; 32], s: &mut [u8])
     requires { ⌜ Wiring h (now routes) (now joints) (now homes)
         × Holds (tablePlan h (now routes) (now joints)) (Turn (tablePlan h (now routes) (now joints)) 0) (now s) ⌝ }
     ensures { λ _. ⌜ Steps (tablePlan h (now (routes .entry)) (now (joints .entry)))
         (Turn (tablePlan h (now (routes .entry)) (now (joints .entry))) 0)
-        (upTo (unit (tablePlan h (now (routes .entry)) (now (joints .entry)))) (h .routers))
+        (upTo (unitAt (tablePlan h (now (routes .entry)) (now (joints .entry)))) (4 * h .routers))
         (now (s .entry)) (now (s .exit)) ⌝ }
 {
-    for r in 0..h.routers {
-        unit_at(h, routes, joints, homes, r, s);
+    let n = 4 * h.routers;
+    for m in 0..n {
+        unit_at(h, routes, joints, homes, m / 4, m % 4, s);
     }
 }

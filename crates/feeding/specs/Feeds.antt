@@ -16,14 +16,12 @@ use Rattle.plan.specs.declared.Joint.the-variants.{Nothing, Router, Active, Pas
 use Rattle.plan.specs.Plan.{Plan, Port, Interface, active, passive, A, P, routeTo}
 use Rattle.plan.specs.Rules.{home}
 use Rattle.paths.specs.Walk.{onward, walked, walkSize}
+use Rattle.paths.specs.declared.Index.{Index}
+use Rattle.paths.specs.Steps.{indexOn, enteredBy}
 use Rattle.paths.specs.Served.{Served}
+pub use Rattle.feeding.specs.Queue.{Heading, ahead, back}
 use Rattle.feeding.specs.Queue.{Queue, activeOut, activeIn, passiveIn, passiveOut, U, Q, F, K}
 use Rattle.feeding.specs.Role.{Role, sending, receiving, handling, passing, role}
-
--- 'SETUP and TDOWN go to the passive, ACK and NACK to the active'
-pub data Heading : Type 0 where
-  ahead : Heading
-  back : Heading
 
 abbrev pub headingOf : Kind → Heading
 headingOf Setup = ahead
@@ -56,21 +54,29 @@ pub data Output : Type 0 where
   toUnit : ℕ → Output
   fromUnit : ℕ → Output
 
--- the queue that a packet of the pair (a, p) joins as it leaves by an output
+-- the side by which the walk of a pair comes in to router r; a packet at a unit is on its walk
+abbrev pub cameBy : Plan → ℕ → ℕ → Index → ℕ
+cameBy pl a p x = enteredBy pl (passive p) (home pl (active a)) x
+
+unfoldable pub cameIn : Plan → ℕ → ℕ → ℕ → ℕ
+cameIn pl a p r = cameBy pl a p (indexOn pl (passive p) (home pl (active a)) r)
+
+-- the queue that a packet of the pair (a, p) joins as it leaves by an output; on the way to the unit that of the side
+-- by which the pair's walk came in
 abbrev pub beyond : Plan → Heading → ℕ → ℕ → Output → Option Queue
 beyond pl h a p (ofActive x) = some (enters pl h a p (home pl (active x)))
 beyond pl h a p (ofPassive x) = some (enters pl h a p (home pl (passive x)))
 beyond pl h a p (ofSide r o) = across pl h a p (pl .joint r o)
-beyond pl h a p (toUnit r) = some (Q r)
-beyond pl h a p (fromUnit r) = some (F r (routeTo pl (destination h a p) r))
+beyond pl h a p (toUnit r) = some (Q r (cameIn pl a p r))
+beyond pl h a p (fromUnit r) = some (F h r (routeTo pl (destination h a p) r))
 
 -- the output that a queue's packets leave by; from an in-queue they go nowhere
 abbrev pub outputOf : Queue → Option Output
 outputOf (activeOut x) = some (ofActive x)
 outputOf (passiveOut x) = some (ofPassive x)
 outputOf (U r i) = some (toUnit r)
-outputOf (Q r) = some (fromUnit r)
-outputOf (F r o) = some (ofSide r o)
+outputOf (Q r i) = some (fromUnit r)
+outputOf (F h r o) = some (ofSide r o)
 outputOf (K r i o) = some (ofSide r o)
 outputOf (activeIn x) = none
 outputOf (passiveIn x) = none
@@ -84,10 +90,10 @@ unfoldable pub next : Plan → Heading → ℕ → ℕ → Queue → Option Queu
 next pl h a p q = leaving pl h a p (outputOf q)
 
 -- ---- where a packet of the pair may be, and with which hub
--- a place: in a queue, or for Q's handled head at the unit of a router
+-- a place: in a queue, or for the handled head of Q[i] at the unit of a router
 pub data Place : Type 0 where
   inQueue : Queue → Place
-  handledAt : ℕ → Place
+  handledAt : ℕ → ℕ → Place
 
 -- the walk to e from a port meets the router y .router, coming in by y .side
 pub record Meets (pl : Plan) (e : Interface) (from y : Port) : Type 0 where
@@ -106,9 +112,11 @@ span pl a p = walkSize pl (passive p) (home pl (active a))
 unfoldable pub Ahead : Plan → ℕ → ℕ → Place → ℕ → Type 0
 Ahead pl a p (inQueue (activeOut x)) n = (x ≡ a) × (n ≡ 0)
 Ahead pl a p (inQueue (U r i)) n = Stands pl a p n r i
-Ahead pl a p (inQueue (Q r)) n = (i : ℕ) × Stands pl a p n r i
-Ahead pl a p (handledAt r) n = (i m : ℕ) × Stands pl a p m r i × (n ≡ suc m)
-Ahead pl a p (inQueue (F r o)) n = (i m : ℕ) × Stands pl a p m r i × (n ≡ suc m) × (o ≡ routeTo pl (passive p) r)
+Ahead pl a p (inQueue (Q r i)) n = Stands pl a p n r i
+Ahead pl a p (handledAt r i) n = (m : ℕ) × Stands pl a p m r i × (n ≡ suc m)
+Ahead pl a p (inQueue (F ahead r o)) n =
+    (i m : ℕ) × Stands pl a p m r i × (n ≡ suc m) × (o ≡ routeTo pl (passive p) r)
+Ahead pl a p (inQueue (F back r o)) n = ⊥
 Ahead pl a p (inQueue (passiveIn x)) n = (x ≡ p) × (n ≡ span pl a p)
 Ahead pl a p (inQueue (activeIn x)) n = ⊥
 Ahead pl a p (inQueue (passiveOut x)) n = ⊥
@@ -125,11 +133,12 @@ Returns pl a p n y =
 -- an answer that set out from the passive, n the walk's length, or as a NACK from the unit of the n-th router
 unfoldable pub Back : Plan → ℕ → ℕ → Place → ℕ → Type 0
 Back pl a p (inQueue (passiveOut x)) n = (x ≡ p) × (n ≡ span pl a p)
-Back pl a p (handledAt r) n = (i : ℕ) × Stands pl a p n r i
-Back pl a p (inQueue (F r o)) n = (i : ℕ) × Stands pl a p n r i × (o ≡ routeTo pl (active a) r)
+Back pl a p (handledAt r i) n = Stands pl a p n r i
+Back pl a p (inQueue (F ahead r o)) n = ⊥
+Back pl a p (inQueue (F back r o)) n = (i : ℕ) × Stands pl a p n r i × (o ≡ routeTo pl (active a) r)
 Back pl a p (inQueue (K r i o)) n = Returns pl a p n (record { router = r; side = i }) × (o ≡ routeTo pl (active a) r)
 Back pl a p (inQueue (activeIn x)) n = (x ≡ a) × (n ≤ span pl a p)
-Back pl a p (inQueue (Q r)) n = ⊥
+Back pl a p (inQueue (Q r i)) n = ⊥
 Back pl a p (inQueue (U r i)) n = ⊥
 Back pl a p (inQueue (activeOut x)) n = ⊥
 Back pl a p (inQueue (passiveIn x)) n = ⊥
@@ -147,7 +156,7 @@ Fits pl Nack a p hub x = Back pl a p x hub
 abbrev pub headPlaceAs : Role → Bool → Queue → Place
 headPlaceAs sending done q = inQueue q
 headPlaceAs receiving done q = inQueue q
-headPlaceAs (handling r) done q = pick done (handledAt r) (inQueue q)
+headPlaceAs (handling r i) done q = pick done (handledAt r i) (inQueue q)
 headPlaceAs passing done q = inQueue q
 
 abbrev pub headPlace : Bool → Queue → Place

@@ -1,3 +1,4 @@
 pub mod Queue
 pub mod Role
 pub mod Feeds
+pub mod Rings

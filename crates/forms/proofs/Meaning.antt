@@ -14,7 +14,8 @@ use Rattle.basis.specs.Bounded.{allBelow, anyBelow, Found, all-at, all-of, all-
 use Rattle.basis.specs.Bounded.{or-right}
 use Rattle.packets.specs.declared.Packet.{Packet}
 use Rattle.plan.specs.Plan.{Plan, R, A, S}
-use Rattle.feeding.specs.Queue.{Queue, activeOut, activeIn, passiveIn, passiveOut, U, Q, F, K, Exists, number, queueAt}
+use Rattle.feeding.specs.Queue.{ahead, back, Queue, activeOut, activeIn, passiveIn, passiveOut, U, Q, F, K, Exists}
+use Rattle.feeding.specs.Queue.{number, queueAt}
 use Rattle.feeding.specs.Queue.{queues}
 use Rattle.feeding.specs.Feeds.{Output}
 use Rattle.machine.specs.Capacity.{capacity}
@@ -52,8 +53,9 @@ module _ (pl : Plan) (b : List ℕ) (quiet : QuietBytes (pl .head) b) where
   quiet-row (activeOut a) h = at-row _ (quiet .active-outs a h) (omega arith)
   quiet-row (passiveOut p) h = at-row _ (quiet .passive-outs p h) (omega arith)
   quiet-row (U r i) (h, k) = at-row _ (quiet .routers r h .entering i k) (omega arith)
-  quiet-row (Q r) h = at-row _ (quiet .routers r h .unit) (omega arith)
-  quiet-row (F r o) (h, k) = at-row _ (quiet .routers r h .sides o k .from-unit) (omega arith)
+  quiet-row (Q r i) (h, k) = at-row _ (quiet .routers r h .unit i k) (omega arith)
+  quiet-row (F ahead r o) (h, k) = at-row _ (quiet .routers r h .sides o k .from-unit 0 (omega arith)) (omega arith)
+  quiet-row (F back r o) (h, k) = at-row _ (quiet .routers r h .sides o k .from-unit 1 (omega arith)) (omega arith)
   quiet-row (K r i o) (h, k, l, n) = by (test (ltb i o))
     where
       by : (ltb i o ≡ true) ⊎ (ltb i o ≡ false) → IdleRow b (queueRow pl (K r i o)) (pl .head .k .0)

@@ -167,15 +167,15 @@ module _ (b : List ℕ) (i : ℕ) where
 
 module _ (h : Head) (b : List ℕ) (i : ℕ) where
   abbrev pub Sides : ℕ → Type 0
-  Sides n = (o : ℕ) → o < n → IdleSide h b (i + 156 * o)
+  Sides n = (o : ℕ) → o < n → IdleSide h b (i + 195 * o)
 
   pub sides-none : Sides 0
   sides-none o l = absurd (omega arith)
 
-  pub sides-more : (k : ℕ) → Sides k → IdleSide h b (i + 156 * k) → Sides (k + 1)
+  pub sides-more : (k : ℕ) → Sides k → IdleSide h b (i + 195 * k) → Sides (k + 1)
   sides-more k f r o l = by (lt-or-ge o k)
     where
-      by : (o < k) ⊎ (k ≤ o) → IdleSide h b (i + 156 * o)
+      by : (o < k) ⊎ (k ≤ o) → IdleSide h b (i + 195 * o)
       by (inl a) = f o a
       by (inr a) = let q : o ≡ k = omega arith in rw q r
 
@@ -183,15 +183,15 @@ module _ (h : Head) (b : List ℕ) (i : ℕ) where
   sides-done k n f q o l = f o (omega arith)
 
   abbrev pub Routers : ℕ → Type 0
-  Routers n = (r : ℕ) → r < n → IdleRouter h b (i + 819 * r)
+  Routers n = (r : ℕ) → r < n → IdleRouter h b (i + 1092 * r)
 
   pub routers-none : Routers 0
   routers-none r l = absurd (omega arith)
 
-  pub routers-more : (k : ℕ) → Routers k → IdleRouter h b (i + 819 * k) → Routers (k + 1)
+  pub routers-more : (k : ℕ) → Routers k → IdleRouter h b (i + 1092 * k) → Routers (k + 1)
   routers-more k f x r l = by (lt-or-ge r k)
     where
-      by : (r < k) ⊎ (k ≤ r) → IdleRouter h b (i + 819 * r)
+      by : (r < k) ⊎ (k ≤ r) → IdleRouter h b (i + 1092 * r)
       by (inl a) = f r a
       by (inr a) = let q : r ≡ k = omega arith in rw q x
 
@@ -201,8 +201,8 @@ module _ (h : Head) (b : List ℕ) (i : ℕ) where
 -- ---- all of them
 pub quiet-of : (h : Head) (b : List ℕ) → zeros (outputsFrom h) (7 * outputCount h) b ≡ true
     → IdleRows b 2 (h .actives) (h .aout .0) × IdleRows b (2 + 39 * h .actives) (h .passives) (h .pout .0)
-    × IdleRows b (2 + 39 * (destinations h + 21 * h .routers)) (h .actives) (h .ain .0)
-    × IdleRows b (2 + 39 * (destinations h + 21 * h .routers) + 39 * h .actives) (h .passives) (h .pin .0)
+    × IdleRows b (2 + 39 * (destinations h + 28 * h .routers)) (h .actives) (h .ain .0)
+    × IdleRows b (2 + 39 * (destinations h + 28 * h .routers) + 39 * h .actives) (h .passives) (h .pin .0)
     → Routers h b (2 + 39 * destinations h) (h .routers) → QuietBytes h b
 quiet-of h b z (ao, po, ai, pi) r =
     record {
@@ -210,11 +210,11 @@ quiet-of h b z (ao, po, ai, pi) r =
       active-outs = ao;
       passive-outs = po;
       routers =
-          λ k l. let q : 2 + 39 * (destinations h + 21 * k) ≡ 2 + 39 * destinations h + 819 * k = omega arith in
+          λ k l. let q : 2 + 39 * (destinations h + 28 * k) ≡ 2 + 39 * destinations h + 1092 * k = omega arith in
           rw q (r k l);
       active-ins = ai;
       passive-ins =
-          λ k l. let q : 2 + 39 * (destinations h + 21 * h .routers + h .actives) + 39 * k
-          ≡ 2 + 39 * (destinations h + 21 * h .routers) + 39 * h .actives + 39 * k = omega arith in
+          λ k l. let q : 2 + 39 * (destinations h + 28 * h .routers + h .actives) + 39 * k
+          ≡ 2 + 39 * (destinations h + 28 * h .routers) + 39 * h .actives + 39 * k = omega arith in
           rw q (pi k l);
     }

@@ -26,24 +26,24 @@ pub record IdleRow (b : List ℕ) (i cap : ℕ) : Type 0 where
 abbrev pub IdleRows : List ℕ → ℕ → ℕ → ℕ → Type 0
 IdleRows b i n cap = (k : ℕ) → k < n → IdleRow b (i + 39 * k) cap
 
--- the queues of a router whose rows begin at i: U, Q, and for each side F and three K
+-- the queues of a router whose rows begin at i: four U, four Q, and for each side two F and three K
 pub record IdleSide (h : Head) (b : List ℕ) (i : ℕ) : Type 0 where
-  pub from-unit : IdleRow b i (h .f .0)
-  pub crossing : IdleRows b (i + 39) 3 (h .k .0)
+  pub from-unit : IdleRows b i 2 (h .f .0)
+  pub crossing : IdleRows b (i + 78) 3 (h .k .0)
 
 pub record IdleRouter (h : Head) (b : List ℕ) (i : ℕ) : Type 0 where
   pub entering : IdleRows b i 4 (h .u .0)
-  pub unit : IdleRow b (i + 156) (h .q .0)
-  pub sides : (o : ℕ) → o < 4 → IdleSide h b (i + 195 + 156 * o)
+  pub unit : IdleRows b (i + 156) 4 (h .q .0)
+  pub sides : (o : ℕ) → o < 4 → IdleSide h b (i + 312 + 195 * o)
 
 -- nothing on the way anywhere: every output's row is zero, every queue's row idle
 pub record QuietBytes (h : Head) (b : List ℕ) : Type 0 where
   pub outputs : zeros (outputsFrom h) (7 * outputCount h) b ≡ true
   pub active-outs : IdleRows b 2 (h .actives) (h .aout .0)
   pub passive-outs : IdleRows b (2 + 39 * h .actives) (h .passives) (h .pout .0)
-  pub routers : (r : ℕ) → r < h .routers → IdleRouter h b (2 + 39 * (destinations h + 21 * r))
-  pub active-ins : IdleRows b (2 + 39 * (destinations h + 21 * h .routers)) (h .actives) (h .ain .0)
-  pub passive-ins : IdleRows b (2 + 39 * (destinations h + 21 * h .routers + h .actives)) (h .passives) (h .pin .0)
+  pub routers : (r : ℕ) → r < h .routers → IdleRouter h b (2 + 39 * (destinations h + 28 * r))
+  pub active-ins : IdleRows b (2 + 39 * (destinations h + 28 * h .routers)) (h .actives) (h .ain .0)
+  pub passive-ins : IdleRows b (2 + 39 * (destinations h + 28 * h .routers + h .actives)) (h .passives) (h .pin .0)
 
 -- a side's 32 entries from i on, of which the first `slots` are used: each in range, its second byte zero, both bytes
 -- zero past the slots; and one that is free

@@ -106,24 +106,24 @@ fn rows_idle(s: &[u8], i: usize, n: usize, cap: u8) -> bool
     true
 }
 
-// Whether F and the three K of a side are idle.
+// Whether the two F and the three K of a side are idle.
 fn side_idle(s: &[u8], h: Head, i: usize) -> bool
-    requires { ⌜ (i + 156 ≤ length (now s)) × InRange h ⌝ }
+    requires { ⌜ (i + 195 ≤ length (now s)) × InRange h ⌝ }
     ensures { λ r. ⌜ (r ≡ true → IdleSide h (now (s .entry)) i) ⌝ }
 {
-    if !idle(s, i, h.f.0) {
+    if !rows_idle(s, i, 2, h.f.0) {
         return false;
     }
-    rows_idle(s, i + 39, 3, h.k.0)
+    rows_idle(s, i + 78, 3, h.k.0)
 }
 
 // Whether the four sides of a router are idle.
 fn sides_idle(s: &[u8], h: Head, i: usize) -> bool
-    requires { ⌜ (i + 624 ≤ length (now s)) × InRange h ⌝ }
-    ensures { λ r. ⌜ (r ≡ true → ((o : _) → o < 4 → IdleSide h (now (s .entry)) (i + 156 * o))) ⌝ }
+    requires { ⌜ (i + 780 ≤ length (now s)) × InRange h ⌝ }
+    ensures { λ r. ⌜ (r ≡ true → ((o : _) → o < 4 → IdleSide h (now (s .entry)) (i + 195 * o))) ⌝ }
 {
     for o in 0..4 {
-        if !side_idle(s, h, i + 156 * o) {
+        if !side_idle(s, h, i + 195 * o) {
             return false;
         }
     }
@@ -132,26 +132,26 @@ fn sides_idle(s: &[u8], h: Head, i: usize) -> bool
 
 // Whether a router's queues are idle.
 fn router_idle(s: &[u8], h: Head, i: usize) -> bool
-    requires { ⌜ (i + 819 ≤ length (now s)) × InRange h ⌝ }
+    requires { ⌜ (i + 1092 ≤ length (now s)) × InRange h ⌝ }
     ensures { λ r. ⌜ (r ≡ true → IdleRouter h (now (s .entry)) i) ⌝ }
 {
     if !rows_idle(s, i, 4, h.u.0) {
         return false;
     }
-    if !idle(s, i + 156, h.q.0) {
+    if !rows_idle(s, i + 156, 4, h.q.0) {
         return false;
     }
-    sides_idle(s, h, i + 195)
+    sides_idle(s, h, i + 312)
 }
 
 // Whether all routers' queues are idle.
 fn routers_idle(s: &[u8], h: Head, i: usize) -> bool
-    requires { ⌜ (i + 819 * h .routers ≤ length (now s)) × InRange h ⌝ }
-    ensures { λ r. ⌜ (r ≡ true → ((k : _) → k < h .routers → IdleRouter h (now (s .entry)) (i + 819 * k))) ⌝ }
+    requires { ⌜ (i + 1092 * h .routers ≤ length (now s)) × InRange h ⌝ }
+    ensures { λ r. ⌜ (r ≡ true → ((k : _) → k < h .routers → IdleRouter h (now (s .entry)) (i + 1092 * k))) ⌝ }
 {
     let n = h.routers;
     for k in 0..n {
-        if !router_idle(s, h, i + 819 * k) {
+        if !router_idle(s, h, i + 1092 * k) {
             return false;
         }
     }
@@ -187,12 +187,12 @@ pub fn quiet(s: &[u8], h: Head) -> bool
     let n = h.actives + h.passives;
     if !zeros(
         s,
-        2 + 39 * (2 * n + 21 * h.routers),
+        2 + 39 * (2 * n + 28 * h.routers),
         7 * (n + 6 * h.routers),
     ) {
         return false;
     }
-    if !interfaces_idle(s, h, 2, 2 + 39 * (n + 21 * h.routers)) {
+    if !interfaces_idle(s, h, 2, 2 + 39 * (n + 28 * h.routers)) {
         return false;
     }
     routers_idle(s, h, 2 + 39 * n)

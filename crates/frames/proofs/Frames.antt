@@ -145,79 +145,85 @@ module _ (h : Head) (routes : List (List ℕ)) (joints : List ℕ) where
   unfolding tablePlan
   joined-joint r i l = rw (lt-ltb i 4 l) (joined-by (getD joints (4 * r + i) 0))
 
-  sender-fed : (r o j : ℕ) → j < 4
-      → pick (eqb j 0) true (joinedBy (getD joints (4 * r + crossSide (j - 1) o) 0)) ≡ fed net (senderAt r o j)
+  sender-fed : (r o j : ℕ) → j < 5
+      → pick (ltb j 2) true (joinedBy (getD joints (4 * r + crossSide (j - 2) o) 0)) ≡ fed net (senderAt r o j)
   sender-fed r o zero l = refl
-  sender-fed r o (suc j) l =
-      let e : suc j - 1 ≡ j = omega arith in
-      rw (ne-eqb (suc j) 0 (λ z. omega arith), e) (joined-joint r (crossSide j o) (side (lt-or-ge j o)))
+  sender-fed r o (suc zero) l = refl
+  sender-fed r o (suc (suc j)) l =
+      let e : suc (suc j) - 2 ≡ j = omega arith in
+      rw (le-ltb (suc (suc j)) 2 (omega arith), e) (joined-joint r (crossSide j o) (side (lt-or-ge j o)))
     where
       side : (j < o) ⊎ (o ≤ j) → crossSide j o < 4
       side (inl x) = rw (lt-ltb j o x) (omega arith)
       side (inr x) = rw (le-ltb j o x) (omega arith)
 
-  router-fed : (r k : ℕ) → k < 21 → fedInRouter joints r k ≡ fed net (inRouter r k)
+  router-fed : (r k : ℕ) → k < 28 → fedInRouter joints r k ≡ fed net (inRouter r k)
   unfolding fedInRouter
-  router-fed r k l = by (test (ltb k 4)) (test (eqb k 4))
+  router-fed r k l = by (test (ltb k 4)) (test (ltb k 8))
     where
-      by : (ltb k 4 ≡ true) ⊎ (ltb k 4 ≡ false) → (eqb k 4 ≡ true) ⊎ (eqb k 4 ≡ false)
+      by : (ltb k 4 ≡ true) ⊎ (ltb k 4 ≡ false) → (ltb k 8 ≡ true) ⊎ (ltb k 8 ≡ false)
           → fedInRouter joints r k ≡ fed net (inRouter r k)
       by (inl x) y = rw x (joined-joint r k (ltb-true k 4 x))
       by (inr x) (inl y) = rw (x, y)
-      by (inr x) (inr y) = rw (x, y) (sender-fed r ((k - 5) / 4) ((k - 5) % 4) (omega arith))
+      by (inr x) (inr y) = rw (x, y) (sender-fed r ((k - 8) / 5) ((k - 8) % 5) (omega arith))
 
-  router-unit : (r k : ℕ) → k < 21 → eqb k 4 ≡ isUnit (inRouter r k)
-  router-unit r k l = by (test (ltb k 4)) (test (eqb k 4))
+  router-unit : (r k : ℕ) → k < 28 → eqb (k / 4) 1 ≡ isUnit (inRouter r k)
+  router-unit r k l = by (test (ltb k 4)) (test (ltb k 8))
     where
       sender : (o j : ℕ) → isUnit (senderAt r o j) ≡ false
       sender o zero = refl
-      sender o (suc j) = refl
+      sender o (suc zero) = refl
+      sender o (suc (suc j)) = refl
 
-      by : (ltb k 4 ≡ true) ⊎ (ltb k 4 ≡ false) → (eqb k 4 ≡ true) ⊎ (eqb k 4 ≡ false)
-          → eqb k 4 ≡ isUnit (inRouter r k)
-      by (inl x) y = let t = ltb-true k 4 x in rw (x, ne-eqb k 4 (λ z. omega arith))
-      by (inr x) (inl y) = rw (x, y)
-      by (inr x) (inr y) = rw (x, y) (sym (sender ((k - 5) / 4) ((k - 5) % 4)))
+      by : (ltb k 4 ≡ true) ⊎ (ltb k 4 ≡ false) → (ltb k 8 ≡ true) ⊎ (ltb k 8 ≡ false)
+          → eqb (k / 4) 1 ≡ isUnit (inRouter r k)
+      by (inl x) y = let t = ltb-true k 4 x in rw (x, ne-eqb (k / 4) 1 (λ z. omega arith))
+      by (inr x) (inl y) =
+          let s = ltb-false k 4 x in let t = ltb-true k 8 y in
+          let e : k / 4 ≡ 1 = omega arith in rw (x, y, eq-eqb (k / 4) 1 e)
+      by (inr x) (inr y) =
+          let t = ltb-false k 8 y in
+          rw (x, y, ne-eqb (k / 4) 1 (λ z. omega arith)) (sym (sender ((k - 8) / 5) ((k - 8) % 5)))
 
   module _ (n : ℕ) where
     pub fed-law : fedOf h joints n ≡ fed net (queueAt net n)
     unfolding fedOf queueAt tablePlan
-    fed-law = by (lt-or-ge n (h .actives)) (lt-or-ge n (destinations h)) (lt-or-ge n (destinations h + 21 * h .routers))
-        (test (ltb n (destinations h + 21 * h .routers + h .actives)))
+    fed-law = by (lt-or-ge n (h .actives)) (lt-or-ge n (destinations h)) (lt-or-ge n (destinations h + 28 * h .routers))
+        (test (ltb n (destinations h + 28 * h .routers + h .actives)))
       where
         by : (n < h .actives) ⊎ (h .actives ≤ n) → (n < destinations h) ⊎ (destinations h ≤ n)
-            → (n < destinations h + 21 * h .routers) ⊎ (destinations h + 21 * h .routers ≤ n)
-            → (ltb n (destinations h + 21 * h .routers + h .actives) ≡ true)
-            ⊎ (ltb n (destinations h + 21 * h .routers + h .actives) ≡ false) → fedOf h joints n ≡ fed net
+            → (n < destinations h + 28 * h .routers) ⊎ (destinations h + 28 * h .routers ≤ n)
+            → (ltb n (destinations h + 28 * h .routers + h .actives) ≡ true)
+            ⊎ (ltb n (destinations h + 28 * h .routers + h .actives) ≡ false) → fedOf h joints n ≡ fed net
             (queueAt net n)
         by (inl a) d b x =
             let l : n < destinations h = omega arith in rw (lt-ltb n (h .actives) a, lt-ltb n (destinations h) l)
         by (inr a) (inl d) b x = rw (le-ltb n (h .actives) a, lt-ltb n (destinations h) d)
         by (inr a) (inr d) (inl b) x =
-            rw (le-ltb n (h .actives) a, le-ltb n (destinations h) d, lt-ltb n (destinations h + 21 * h .routers) b)
+            rw (le-ltb n (h .actives) a, le-ltb n (destinations h) d, lt-ltb n (destinations h + 28 * h .routers) b)
             (router-fed (routerIn h n) (placeIn h n) (omega arith))
         by (inr a) (inr d) (inr b) (inl x) =
-            rw (le-ltb n (h .actives) a, le-ltb n (destinations h) d, le-ltb n (destinations h + 21 * h .routers) b, x)
+            rw (le-ltb n (h .actives) a, le-ltb n (destinations h) d, le-ltb n (destinations h + 28 * h .routers) b, x)
         by (inr a) (inr d) (inr b) (inr x) =
-            rw (le-ltb n (h .actives) a, le-ltb n (destinations h) d, le-ltb n (destinations h + 21 * h .routers) b, x)
+            rw (le-ltb n (h .actives) a, le-ltb n (destinations h) d, le-ltb n (destinations h + 28 * h .routers) b, x)
 
     pub unit-law : unitOf h n ≡ isUnit (queueAt net n)
     unfolding unitOf queueAt tablePlan
     unit-law = by (lt-or-ge n (h .actives)) (lt-or-ge n (destinations h))
-        (lt-or-ge n (destinations h + 21 * h .routers))
-        (test (ltb n (destinations h + 21 * h .routers + h .actives)))
+        (lt-or-ge n (destinations h + 28 * h .routers))
+        (test (ltb n (destinations h + 28 * h .routers + h .actives)))
       where
         by : (n < h .actives) ⊎ (h .actives ≤ n) → (n < destinations h) ⊎ (destinations h ≤ n)
-            → (n < destinations h + 21 * h .routers) ⊎ (destinations h + 21 * h .routers ≤ n)
-            → (ltb n (destinations h + 21 * h .routers + h .actives) ≡ true)
-            ⊎ (ltb n (destinations h + 21 * h .routers + h .actives) ≡ false) → unitOf h n ≡ isUnit (queueAt net n)
+            → (n < destinations h + 28 * h .routers) ⊎ (destinations h + 28 * h .routers ≤ n)
+            → (ltb n (destinations h + 28 * h .routers + h .actives) ≡ true)
+            ⊎ (ltb n (destinations h + 28 * h .routers + h .actives) ≡ false) → unitOf h n ≡ isUnit (queueAt net n)
         by (inl a) d b x =
             let l : n < destinations h = omega arith in rw (lt-ltb n (h .actives) a, lt-ltb n (destinations h) l)
         by (inr a) (inl d) b x = rw (le-ltb n (h .actives) a, lt-ltb n (destinations h) d)
         by (inr a) (inr d) (inl b) x =
-            rw (le-ltb n (h .actives) a, le-ltb n (destinations h) d, lt-ltb n (destinations h + 21 * h .routers) b)
+            rw (le-ltb n (h .actives) a, le-ltb n (destinations h) d, lt-ltb n (destinations h + 28 * h .routers) b)
             (router-unit (routerIn h n) (placeIn h n) (omega arith))
         by (inr a) (inr d) (inr b) (inl x) =
-            rw (le-ltb n (h .actives) a, le-ltb n (destinations h) d, le-ltb n (destinations h + 21 * h .routers) b, x)
+            rw (le-ltb n (h .actives) a, le-ltb n (destinations h) d, le-ltb n (destinations h + 28 * h .routers) b, x)
         by (inr a) (inr d) (inr b) (inr x) =
-            rw (le-ltb n (h .actives) a, le-ltb n (destinations h) d, le-ltb n (destinations h + 21 * h .routers) b, x)
+            rw (le-ltb n (h .actives) a, le-ltb n (destinations h) d, le-ltb n (destinations h + 28 * h .routers) b, x)

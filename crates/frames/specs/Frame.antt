@@ -28,10 +28,10 @@ frameOf cap fed unit executes c f m n w =
 
 -- queue n is a router's: its place among the router's queues
 abbrev pub placeIn : Head → ℕ → ℕ
-placeIn h n = (n - destinations h) % 21
+placeIn h n = (n - destinations h) % 28
 
 abbrev pub routerIn : Head → ℕ → ℕ
-routerIn h n = (n - destinations h) / 21
+routerIn h n = (n - destinations h) / 28
 
 -- a joint's byte leads somewhere: kind 1, 2 or 3
 unfoldable pub joinedBy : ℕ → Bool
@@ -48,18 +48,18 @@ crossSide k o = pick (ltb k o) k (suc k)
 unfoldable pub fedInRouter : List ℕ → ℕ → ℕ → Bool
 fedInRouter joints r k =
     pick (ltb k 4) (joinedAt joints (4 * r + k))
-    (pick (eqb k 4) true
-    (pick (eqb ((k - 5) % 4) 0) true (joinedAt joints (4 * r + crossSide ((k - 5) % 4 - 1) ((k - 5) / 4)))))
+    (pick (ltb k 8) true
+    (pick (ltb ((k - 8) % 5) 2) true (joinedAt joints (4 * r + crossSide ((k - 8) % 5 - 2) ((k - 8) / 5)))))
 
 unfoldable pub fedOf : Head → List ℕ → ℕ → Bool
 fedOf h joints n =
     pick (ltb n (destinations h)) false
-    (pick (ltb n (destinations h + 21 * h .routers)) (fedInRouter joints (routerIn h n) (placeIn h n)) true)
+    (pick (ltb n (destinations h + 28 * h .routers)) (fedInRouter joints (routerIn h n) (placeIn h n)) true)
 
 unfoldable pub unitOf : Head → ℕ → Bool
 unitOf h n =
     pick (ltb n (destinations h)) false
-    (pick (ltb n (destinations h + 21 * h .routers)) (eqb (placeIn h n) 4) false)
+    (pick (ltb n (destinations h + 28 * h .routers)) (eqb (placeIn h n / 4) 1) false)
 
 -- only the head of a queue can have been handled
 abbrev pub ofHead : Bool → ℕ → Bool

@@ -137,20 +137,20 @@ fn cross_side(k: usize, o: usize) -> usize
 
 // Whether a wire feeds the k-th queue of router r.
 fn fed_in_router(joints: &[u8; 64], r: usize, k: usize) -> bool
-    requires { ⌜ (r < 16) × (k < 21) ⌝ }
+    requires { ⌜ (r < 16) × (k < 28) ⌝ }
     ensures { λ v. ⌜ v ≡ fedInRouter (now (joints .entry)) r k ⌝ }
 {
     if k < 4 {
         return joined(joints, 4 * r + k);
     }
-    if k == 4 {
+    if k < 8 {
         return true;
     }
-    let j = (k - 5) % 4;
-    if j == 0 {
+    let j = (k - 8) % 5;
+    if j < 2 {
         return true;
     }
-    joined(joints, 4 * r + cross_side(j - 1, (k - 5) / 4))
+    joined(joints, 4 * r + cross_side(j - 2, (k - 8) / 5))
 }
 
 // Whether a wire feeds queue n.
@@ -162,8 +162,8 @@ pub fn fed_at(h: Head, joints: &[u8; 64], n: usize) -> bool
     if n < d {
         return false;
     }
-    if n < d + 21 * h.routers {
-        return fed_in_router(joints, (n - d) / 21, (n - d) % 21);
+    if n < d + 28 * h.routers {
+        return fed_in_router(joints, (n - d) / 28, (n - d) % 28);
     }
     true
 }
@@ -177,8 +177,8 @@ pub fn unit_at(h: Head, n: usize) -> bool
     if n < d {
         return false;
     }
-    if n < d + 21 * h.routers {
-        return (n - d) % 21 == 4;
+    if n < d + 28 * h.routers {
+        return (n - d) % 28 / 4 == 1;
     }
     false
 }

@@ -98,11 +98,11 @@ replicate-long (suc n) = ap suc (replicate-long n)
 
 pub none-coming : (n : ℕ) → getD noneComing n 0 ≡ 0
 unfolding noneComing
-none-coming n = replicate-at 400 n
+none-coming n = replicate-at 512 n
 
-pub coming-long : length noneComing ≡ 400
+pub coming-long : length noneComing ≡ 512
 unfolding noneComing
-coming-long = replicate-long 400
+coming-long = replicate-long 512
 
 pub none-spent : (a : ℕ) → getD noneSpent a 0 ≡ 0
 unfolding noneSpent

@@ -24,7 +24,7 @@ unfoldable pub noTracks : List (List ℕ)
 noTracks = replicate 17 (replicate 32 0)
 
 unfoldable pub noneComing : List ℕ
-noneComing = replicate 400 0
+noneComing = replicate 512 0
 
 unfoldable pub noneSpent : List ℕ
 noneSpent = replicate 16 0

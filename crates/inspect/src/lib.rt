@@ -33,10 +33,10 @@ fn no_tracks() -> [[u32; 32]; 17]
 }
 
 // No packet is on the way to any queue yet.
-fn none_coming() -> [u8; 400]
+fn none_coming() -> [u8; 512]
     ensures { λ t. ⌜ t ≡ noneComing ⌝ }
 {
-    [0u8; 400]
+    [0u8; 512]
 }
 
 // No active has spent anything yet.

@@ -17,8 +17,9 @@ module _ (pl : Plan) (a p : ℕ) where
   unfolding Ahead Visits
   ahead-visits (activeOut x) n f = f .0
   ahead-visits (U r i) n f = record { steps = n; here = f }
-  ahead-visits (Q r) n (i, m, f, e) = (i, record { steps = m; here = f })
-  ahead-visits (F r o) n (i, m, f, e, q) = ((i, record { steps = m; here = f }), q)
+  ahead-visits (Q r i) n (m, f, e) = record { steps = m; here = f }
+  ahead-visits (F back r o) n f = f
+  ahead-visits (F ahead r o) n (i, m, f, e, q) = ((i, record { steps = m; here = f }), q)
   ahead-visits (passiveIn x) n f = f .0
   ahead-visits (activeIn x) n f = f
   ahead-visits (passiveOut x) n f = f
@@ -31,8 +32,9 @@ module _ (pl : Plan) (a p : ℕ) where
   back-visits : (x : Queue) (n : ℕ) → Back pl a p (leavesFrom x) n → Visits pl back a p x
   unfolding Back Visits
   back-visits (passiveOut x) n f = f .0
-  back-visits (Q r) n (i, f) = (i, record { steps = n; here = f })
-  back-visits (F r o) n (i, f, q) = ((i, record { steps = n; here = f }), q)
+  back-visits (Q r i) n f = record { steps = n; here = f }
+  back-visits (F ahead r o) n f = f
+  back-visits (F back r o) n (i, f, q) = ((i, record { steps = n; here = f }), q)
   back-visits (K r i o) n (f, q) = (comes n (record { router = r; side = i }) f, q)
   back-visits (activeIn x) n f = f .0
   back-visits (activeOut x) n f = f
@@ -59,17 +61,24 @@ module _ (pl : Plan) (a p : ℕ) where
   unfolding Visits Ahead Back
   visits-fit ahead (activeOut x) v = record { kind = Setup; hub = 0; heads = refl; fits = (v, refl) }
   visits-fit ahead (U r i) v = record { kind = Setup; hub = v .steps; heads = refl; fits = v .here }
-  visits-fit ahead (Q r) (i, v) =
-      record { kind = Setup; hub = suc (v .steps); heads = refl; fits = (i, v .steps, v .here, refl) }
-  visits-fit ahead (F r o) ((i, v), q) =
+  visits-fit ahead (Q r i) v =
+      record { kind = Setup; hub = suc (v .steps); heads = refl; fits = (v .steps, v .here, refl) }
+  visits-fit ahead (F back r o) v = absurd v
+  visits-fit ahead (F ahead r o) ((i, v), q) =
       record { kind = Setup; hub = suc (v .steps); heads = refl; fits = (i, v .steps, v .here, refl, q) }
   visits-fit ahead (passiveIn x) v = record { kind = Setup; hub = span pl a p; heads = refl; fits = (v, refl) }
   visits-fit ahead (activeIn x) v = absurd v
   visits-fit ahead (passiveOut x) v = absurd v
   visits-fit ahead (K r i o) v = absurd v
   visits-fit back (passiveOut x) v = record { kind = Nack; hub = span pl a p; heads = refl; fits = (v, refl) }
-  visits-fit back (Q r) (i, v) = record { kind = Nack; hub = v .steps; heads = refl; fits = (i, v .here) }
-  visits-fit back (F r o) ((i, v), q) = record { kind = Nack; hub = v .steps; heads = refl; fits = (i, v .here, q) }
+  visits-fit back (Q r i) v = record { kind = Nack; hub = v .steps; heads = refl; fits = v .here }
+  visits-fit back (F ahead r o) v = absurd v
+  visits-fit back (F back r o) ((i, v), q) = record {
+    kind = Nack;
+    hub = v .steps;
+    heads = refl;
+    fits = (i, v .here, q);
+  }
   visits-fit back (K r i o) (v, q) =
       let c = returns (record { router = r; side = i }) v in
       record { kind = Nack; hub = c .0; heads = refl; fits = (c .1, q) }

@@ -19,6 +19,7 @@ use Rattle.journeys.specs.Visits.{Comes, Visits}
 use Rattle.wiring.specs.Wired.{Wired}
 use Rattle.wiring.proofs.Wires.{near, home-inside}
 use Rattle.journeys.proofs.Walks.{onward-on, onward-end, alike}
+use Rattle.journeys.proofs.CameIn.{came-in}
 use Rattle.journeys.proofs.Sides.{joined-back, turns, turns-later, home-turns}
 
 pub some-not-none : {X : Type 0} {x : X} → none ≡ some x → ⊥
@@ -207,8 +208,9 @@ module _ {pl : Plan} (wired : Wired pl) where
     unfolding Visits
     may-exist ahead (activeOut x) m = rw m ha
     may-exist ahead (U r i) m = walk-inside (record { router = r; side = i }) m
-    may-exist ahead (Q r) (i, m) = walk-inside (record { router = r; side = i }) m .0
-    may-exist ahead (F r o) ((i, m), q) = (
+    may-exist ahead (Q r i) m = walk-inside (record { router = r; side = i }) m
+    may-exist ahead (F back r o) m = absurd m
+    may-exist ahead (F ahead r o) ((i, m), q) = (
       walk-inside (record { router = r; side = i }) m .0,
       rw q (exit-inside (passive p) (home pl (active a)) (s .ahead) (record { router = r; side = i }) m),
     )
@@ -217,8 +219,9 @@ module _ {pl : Plan} (wired : Wired pl) where
     may-exist ahead (passiveOut x) m = absurd m
     may-exist ahead (K r i o) m = absurd m
     may-exist back (passiveOut x) m = rw m hp
-    may-exist back (Q r) (i, m) = walk-inside (record { router = r; side = i }) m .0
-    may-exist back (F r o) ((i, m), q) =
+    may-exist back (Q r i) m = walk-inside (record { router = r; side = i }) m
+    may-exist back (F ahead r o) m = absurd m
+    may-exist back (F back r o) ((i, m), q) =
         (walk-inside (record { router = r; side = i }) m .0, rw q (nack-exit (record { router = r; side = i }) m))
     may-exist back (K r i o) (m, q) = rw q (returns-cross (record { router = r; side = i }) m)
     may-exist back (activeIn x) m = rw m ha
@@ -239,9 +242,10 @@ module _ {pl : Plan} (wired : Wired pl) where
     pub may-next : (h : Heading) (x y : Queue) → Visits pl h a p x → next pl h a p x ≡ some y → Visits pl h a p y
     unfolding Visits next
     may-next ahead (activeOut x) y m q = rw (← some-same q) (rw m (meets-here pl (passive p) (home pl (active a))))
-    may-next ahead (U r i) y m q = rw (← some-same q) (i, m)
-    may-next ahead (Q r) y m q = rw (← some-same q) (m, refl)
-    may-next ahead (F r o) y ((i, m), e) q = by (goes-from pl (passive p) (home pl (active a)) (s .ahead) x m)
+    may-next ahead (U r i) y m q = rw (← some-same q, came-in wired a p ha s (m .steps) r i (m .here)) m
+    may-next ahead (Q r i) y m q = rw (← some-same q) ((i, m), refl)
+    may-next ahead (F back r o) y m q = absurd m
+    may-next ahead (F ahead r o) y ((i, m), e) q = by (goes-from pl (passive p) (home pl (active a)) (s .ahead) x m)
       where
         x : Port
         x = record { router = r; side = i }
@@ -256,8 +260,9 @@ module _ {pl : Plan} (wired : Wired pl) where
     may-next ahead (K r i o) y m q = absurd m
     may-next back (passiveOut x) y m q =
         rw (← some-same q) (rw m (inl (meets-here pl (active a) (home pl (passive p))), refl))
-    may-next back (Q r) y m q = rw (← some-same q) (m, refl)
-    may-next back (F r o) y ((i, m), e) q =
+    may-next back (Q r i) y m q = rw (← some-same q) ((i, m), refl)
+    may-next back (F ahead r o) y m q = absurd m
+    may-next back (F back r o) y ((i, m), e) q =
         by (goes-from pl (active a) x (nack-walk x m) x (meets-here pl (active a) x))
       where
         x : Port

@@ -24,15 +24,17 @@ Comes pl a p y =
 unfoldable pub Visits : Plan → Heading → ℕ → ℕ → Queue → Type 0
 Visits pl ahead a p (activeOut x) = x ≡ a
 Visits pl ahead a p (U r i) = Meets pl (passive p) (home pl (active a)) (record { router = r; side = i })
-Visits pl ahead a p (Q r) = OnWalk pl a p r
-Visits pl ahead a p (F r o) = OnWalk pl a p r × (o ≡ routeTo pl (passive p) r)
+Visits pl ahead a p (Q r i) = Meets pl (passive p) (home pl (active a)) (record { router = r; side = i })
+Visits pl ahead a p (F back r o) = ⊥
+Visits pl ahead a p (F ahead r o) = OnWalk pl a p r × (o ≡ routeTo pl (passive p) r)
 Visits pl ahead a p (passiveIn x) = x ≡ p
 Visits pl ahead a p (activeIn x) = ⊥
 Visits pl ahead a p (passiveOut x) = ⊥
 Visits pl ahead a p (K r i o) = ⊥
 Visits pl back a p (passiveOut x) = x ≡ p
-Visits pl back a p (Q r) = OnWalk pl a p r
-Visits pl back a p (F r o) = OnWalk pl a p r × (o ≡ routeTo pl (active a) r)
+Visits pl back a p (Q r i) = Meets pl (passive p) (home pl (active a)) (record { router = r; side = i })
+Visits pl back a p (F ahead r o) = ⊥
+Visits pl back a p (F back r o) = OnWalk pl a p r × (o ≡ routeTo pl (active a) r)
 Visits pl back a p (K r i o) = Comes pl a p (record { router = r; side = i }) × (o ≡ routeTo pl (active a) r)
 Visits pl back a p (activeIn x) = x ≡ a
 Visits pl back a p (activeOut x) = ⊥

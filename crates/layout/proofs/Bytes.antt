@@ -64,7 +64,7 @@ word-small w = (omega arith, (omega arith, (omega arith, (omega arith, record {}
 no-packet-small : Bytes noPacket
 no-packet-small = (omega arith, (omega arith, (omega arith, (omega arith, (omega arith, record {})))))
 
-senders-few : (o : Output) → length (senders o) ≤ 4
+senders-few : (o : Output) → length (senders o) ≤ 5
 senders-few (ofActive a) = omega arith
 senders-few (ofPassive p) = omega arith
 senders-few (ofSide r o) = omega arith

@@ -119,8 +119,8 @@ capacity-most h (activeIn a) range = range .ain .1
 capacity-most h (passiveIn p) range = range .pin .1
 capacity-most h (passiveOut p) range = range .pout .1
 capacity-most h (U r i) range = range .u .1
-capacity-most h (Q r) range = range .q .1
-capacity-most h (F r o) range = range .f .1
+capacity-most h (Q r i) range = range .q .1
+capacity-most h (F g r o) range = range .f .1
 capacity-most h (K r i o) range = range .k .1
 
 -- a valid state's queues are within their capacities

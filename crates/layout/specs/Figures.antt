@@ -9,7 +9,8 @@ use Rattle.sets.specs.Sets.{has, those}
 use Rattle.fields.specs.Bits.{bitAt, fieldOf}
 use Rattle.plan.specs.Head.{capacityAt, headOf}
 use Rattle.plan.specs.Plan.{Plan, jointIn, planOf}
-use Rattle.feeding.specs.Queue.{Queue, activeOut, activeIn, passiveIn, passiveOut, U, Q, F, K, number, queues, queueAt}
+use Rattle.feeding.specs.Queue.{ahead, back, Queue, activeOut, activeIn, passiveIn, passiveOut, U, Q, F, K, number}
+use Rattle.feeding.specs.Queue.{queues, queueAt}
 use Rattle.feeding.specs.Feeds.{Output, ofActive, ofPassive, ofSide, toUnit, fromUnit}
 use Rattle.machine.specs.Outputs.{outputAt, outputNumber}
 use Rattle.machine.specs.State.{blank, start}
@@ -28,8 +29,8 @@ unfolding bitAt fieldOf capacityAt headOf jointIn planOf
 wiredT = planOf bytesT
 
 -- ---- where the parts begin, and the size
-pub t-parts : (outputsAt wiredT ≡ 977) × (allowancesAt wiredT ≡ 1033) × (tableAt wiredT ≡ 1034)
-    × (connectionsAt wiredT ≡ 1290) × (turnsAt wiredT ≡ 1354) × (size wiredT ≡ 1362)
+pub t-parts : (outputsAt wiredT ≡ 1250) × (allowancesAt wiredT ≡ 1306) × (tableAt wiredT ≡ 1307)
+    × (connectionsAt wiredT ≡ 1563) × (turnsAt wiredT ≡ 1627) × (size wiredT ≡ 1635)
 unfolding wiredT queues size
 t-parts = (refl, refl, refl, refl, refl, refl)
 
@@ -46,36 +47,40 @@ abbrev pub turnsOf : List Output → List ℕ
 turnsOf [] = []
 turnsOf (o ∷ os) = turnRow wiredT o ∷ turnsOf os
 
-pub t-interfaces : queuesOf (activeOut 0 ∷ passiveOut 0 ∷ activeIn 0 ∷ passiveIn 0 ∷ []) ≡ 2 ∷ 41 ∷ 899 ∷ 938 ∷ []
+pub t-interfaces : queuesOf (activeOut 0 ∷ passiveOut 0 ∷ activeIn 0 ∷ passiveIn 0 ∷ []) ≡ 2 ∷ 41 ∷ 1172 ∷ 1211 ∷ []
 unfolding wiredT queueRow number
 t-interfaces = refl
 
-pub t-unit : queuesOf (U 0 0 ∷ U 0 1 ∷ U 0 2 ∷ U 0 3 ∷ Q 0 ∷ []) ≡ 80 ∷ 119 ∷ 158 ∷ 197 ∷ 236 ∷ []
+pub t-unit : queuesOf (U 0 0 ∷ U 0 1 ∷ U 0 2 ∷ U 0 3 ∷ Q 0 0 ∷ Q 0 1 ∷ Q 0 2 ∷ Q 0 3 ∷ [])
+    ≡ 80 ∷ 119 ∷ 158 ∷ 197 ∷ 236 ∷ 275 ∷ 314 ∷ 353 ∷ []
 unfolding wiredT queueRow number
 t-unit = refl
 
-pub t-sides : queuesOf (F 0 0 ∷ K 0 1 0 ∷ K 0 2 0 ∷ K 0 3 0 ∷ F 0 1 ∷ K 0 0 1 ∷ K 0 2 1 ∷ K 0 3 1 ∷ F 0 2 ∷ K 0 0 2
-    ∷ K 0 1 2 ∷ K 0 3 2 ∷ F 0 3 ∷ K 0 0 3 ∷ K 0 1 3 ∷ K 0 2 3 ∷ [])
-    ≡ 275 ∷ 314 ∷ 353 ∷ 392 ∷ 431 ∷ 470 ∷ 509 ∷ 548 ∷ 587 ∷ 626 ∷ 665 ∷ 704 ∷ 743 ∷ 782 ∷ 821 ∷ 860 ∷ []
+pub t-sides : queuesOf (F ahead 0 0 ∷ F back 0 0 ∷ K 0 1 0 ∷ K 0 2 0 ∷ K 0 3 0 ∷ F ahead 0 1 ∷ F back 0 1 ∷ K 0 0 1 ∷ K
+    0 2 1 ∷ K 0 3 1
+    ∷ F ahead 0 2 ∷ F back 0 2 ∷ K 0 0 2 ∷ K 0 1 2 ∷ K 0 3 2 ∷ F ahead 0 3 ∷ F back 0 3 ∷ K 0 0 3 ∷ K 0 1 3 ∷ K 0 2 3 ∷
+    [])
+    ≡ 392 ∷ 431 ∷ 470 ∷ 509 ∷ 548 ∷ 587 ∷ 626 ∷ 665 ∷ 704 ∷ 743 ∷ 782 ∷ 821 ∷ 860 ∷ 899 ∷ 938 ∷ 977 ∷ 1016 ∷ 1055 ∷ 1094
+    ∷ 1133 ∷ []
 unfolding wiredT queueRow number
 t-sides = refl
 
 pub t-outputs : outputsOf (ofActive 0 ∷ ofPassive 0 ∷ ofSide 0 0 ∷ ofSide 0 1 ∷ ofSide 0 2 ∷ ofSide 0 3 ∷ toUnit 0
-    ∷ fromUnit 0 ∷ []) ≡ 977 ∷ 984 ∷ 991 ∷ 998 ∷ 1005 ∷ 1012 ∷ 1019 ∷ 1026 ∷ []
+    ∷ fromUnit 0 ∷ []) ≡ 1250 ∷ 1257 ∷ 1264 ∷ 1271 ∷ 1278 ∷ 1285 ∷ 1292 ∷ 1299 ∷ []
 unfolding wiredT queues outputRow outputNumber
 t-outputs = refl
 
-pub t-entries : (allowanceRow wiredT 0 ≡ 1033) × (entryRow wiredT 0 0 0 ≡ 1034) × (entryRow wiredT 0 1 0 ≡ 1098)
-    × (entryRow wiredT 0 2 0 ≡ 1162) × (entryRow wiredT 0 3 1 ≡ 1228)
+pub t-entries : (allowanceRow wiredT 0 ≡ 1306) × (entryRow wiredT 0 0 0 ≡ 1307) × (entryRow wiredT 0 1 0 ≡ 1371)
+    × (entryRow wiredT 0 2 0 ≡ 1435) × (entryRow wiredT 0 3 1 ≡ 1501)
 unfolding wiredT queues allowanceRow entryRow
 t-entries = (refl, refl, refl, refl, refl)
 
-pub t-connections : startsRow wiredT 0 0 ≡ 1290
+pub t-connections : startsRow wiredT 0 0 ≡ 1563
 unfolding wiredT queues startsRow
 t-connections = refl
 
 pub t-turns : turnsOf (ofActive 0 ∷ ofPassive 0 ∷ ofSide 0 0 ∷ ofSide 0 1 ∷ ofSide 0 2 ∷ ofSide 0 3 ∷ toUnit 0
-    ∷ fromUnit 0 ∷ []) ≡ 1354 ∷ 1355 ∷ 1356 ∷ 1357 ∷ 1358 ∷ 1359 ∷ 1360 ∷ 1361 ∷ []
+    ∷ fromUnit 0 ∷ []) ≡ 1627 ∷ 1628 ∷ 1629 ∷ 1630 ∷ 1631 ∷ 1632 ∷ 1633 ∷ 1634 ∷ []
 unfolding wiredT queues turnRow outputNumber
 t-turns = refl
 
@@ -104,12 +109,13 @@ sumOf (x ∷ b) = x + sumOf b
 -- each of the router's four sides and on the way to its unit
 pub t-filled : filled 0 startT
     ≡ 2 ∷ 41 ∷ 80 ∷ 119 ∷ 158 ∷ 197 ∷ 236 ∷ 275 ∷ 314 ∷ 353 ∷ 392 ∷ 431 ∷ 470 ∷ 509 ∷ 548 ∷ 587 ∷ 626 ∷ 665 ∷ 704 ∷ 743
-    ∷ 782 ∷ 821 ∷ 860 ∷ 899 ∷ 938 ∷ 1033 ∷ 1356 ∷ 1357 ∷ 1358 ∷ 1359 ∷ 1360 ∷ []
+    ∷ 782 ∷ 821 ∷ 860 ∷ 899 ∷ 938 ∷ 977 ∷ 1016 ∷ 1055 ∷ 1094 ∷ 1133 ∷ 1172 ∷ 1211 ∷ 1306 ∷ 1629 ∷ 1630 ∷ 1631 ∷ 1632
+    ∷ 1633 ∷ 1634 ∷ []
 unfolding startT
 t-filled = refl
 
--- 26 ones and five threes
-pub t-sum : sumOf startT ≡ 41
+-- 33 ones, four fours and two threes
+pub t-sum : sumOf startT ≡ 55
 unfolding startT
 t-sum = refl
 
@@ -119,17 +125,17 @@ unfolding startT isStateT
 t-start = refl
 
 -- one byte too few
-pub t-short : isStateT (take 1361 startT) ≡ false
+pub t-short : isStateT (take 1634 startT) ≡ false
 unfolding startT isStateT
 t-short = refl
 
 -- a packet's byte past the length, the length 8, a flag 2, the table's second byte, an entry from S on
 pub t-others : (isStateT (set startT 8 1) ≡ false) × (isStateT (set startT 5 8) ≡ false) × (isStateT (set startT 3 2)
-    ≡ false) × (isStateT (set startT 1035 1) ≡ false) × (isStateT (set startT 1038 1) ≡ false)
+    ≡ false) × (isStateT (set startT 1308 1) ≡ false) × (isStateT (set startT 1311 1) ≡ false)
 unfolding startT isStateT
 t-others = (refl, refl, refl, refl, refl)
 
 -- a mark for a start slot from S on, and one for a passive that the plan does not have
-pub t-marks : (isStateT (set startT 1290 4) ≡ false) × (isStateT (set startT 1294 1) ≡ false)
+pub t-marks : (isStateT (set startT 1563 4) ≡ false) × (isStateT (set startT 1567 1) ≡ false)
 unfolding startT isStateT
 t-marks = (refl, refl)

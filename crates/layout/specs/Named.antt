@@ -18,8 +18,8 @@ existsTest pl (activeIn a) = ltb a (A pl)
 existsTest pl (passiveIn p) = ltb p (P pl)
 existsTest pl (passiveOut p) = ltb p (P pl)
 existsTest pl (U r i) = also (ltb r (R pl)) (ltb i 4)
-existsTest pl (Q r) = ltb r (R pl)
-existsTest pl (F r o) = also (ltb r (R pl)) (ltb o 4)
+existsTest pl (Q r i) = also (ltb r (R pl)) (ltb i 4)
+existsTest pl (F h r o) = also (ltb r (R pl)) (ltb o 4)
 existsTest pl (K r i o) = also (ltb r (R pl)) (also (ltb i 4) (also (ltb o 4) (not (eqb i o))))
 
 not-eqb : (i o : ℕ) → not (eqb i o) ≡ true → i ≢ o
@@ -36,8 +36,8 @@ test-exists pl (activeIn a) e = ltb-true a (A pl) e
 test-exists pl (passiveIn p) e = ltb-true p (P pl) e
 test-exists pl (passiveOut p) e = ltb-true p (P pl) e
 test-exists pl (U r i) e = let p = also-true e in (ltb-true r (R pl) (p .0), ltb-true i 4 (p .1))
-test-exists pl (Q r) e = ltb-true r (R pl) e
-test-exists pl (F r o) e = let p = also-true e in (ltb-true r (R pl) (p .0), ltb-true o 4 (p .1))
+test-exists pl (Q r i) e = let p = also-true e in (ltb-true r (R pl) (p .0), ltb-true i 4 (p .1))
+test-exists pl (F h r o) e = let p = also-true e in (ltb-true r (R pl) (p .0), ltb-true o 4 (p .1))
 test-exists pl (K r i o) e =
     let p = also-true e in let q = also-true (p .1) in let s = also-true (q .1) in
     (ltb-true r (R pl) (p .0), ltb-true i 4 (q .0), ltb-true o 4 (s .0), not-eqb i o (s .1))
@@ -49,8 +49,8 @@ exists-test pl (activeIn a) h = lt-ltb a (A pl) h
 exists-test pl (passiveIn p) h = lt-ltb p (P pl) h
 exists-test pl (passiveOut p) h = lt-ltb p (P pl) h
 exists-test pl (U r i) (h, l) = also-of (lt-ltb r (R pl) h) (lt-ltb i 4 l)
-exists-test pl (Q r) h = lt-ltb r (R pl) h
-exists-test pl (F r o) (h, l) = also-of (lt-ltb r (R pl) h) (lt-ltb o 4 l)
+exists-test pl (Q r i) (h, l) = also-of (lt-ltb r (R pl) h) (lt-ltb i 4 l)
+exists-test pl (F g r o) (h, l) = also-of (lt-ltb r (R pl) h) (lt-ltb o 4 l)
 exists-test pl (K r i o) (h, hi, ho, ne) =
     also-of (lt-ltb r (R pl) h) (also-of (lt-ltb i 4 hi) (also-of (lt-ltb o 4 ho) (rw (ne-eqb i o ne))))
 

@@ -150,8 +150,8 @@ pub size-is : (pl : Plan) → size pl ≡ 2 + 39 * queues pl + 8 * outputs pl + 
 unfolding size
 size-is pl = omega arith
 
--- the state of a plan whose counts are in range is at most 21,762 bytes
-pub size-most : (pl : Plan) → InRange (pl .head) → size pl ≤ 21762
+-- the state of a plan whose counts are in range is at most 26,130 bytes
+pub size-most : (pl : Plan) → InRange (pl .head) → size pl ≤ 26130
 unfolding size queues
 size-most pl range =
     let r = range .routers .1 in let a = range .actives .1 in let p = range .passives .1 in

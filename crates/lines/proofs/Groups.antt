@@ -33,49 +33,50 @@ same-at zero v k l = absurd (omega arith)
 same-at (suc n) v zero l = refl
 same-at (suc n) v (suc k) l = same-at n v k (omega arith)
 
-pub same-cap : (v k : ℕ) → k < 21 → getD (sameCaps v) k 0 ≡ v
+pub same-cap : (v k : ℕ) → k < 28 → getD (sameCaps v) k 0 ≡ v
 unfolding sameCaps
-same-cap v k l = same-at 21 v k l
+same-cap v k l = same-at 28 v k l
 
 module _ (h : Head) (routes : List (List ℕ)) (joints : List ℕ) where
   abbrev net : Plan
   net = tablePlan h routes joints
 
-  sender-cap : (r o j : ℕ) → pick (eqb j 0) (h .f .0) (h .k .0) ≡ capacity h (senderAt r o j)
+  sender-cap : (r o j : ℕ) → pick (ltb j 2) (h .f .0) (h .k .0) ≡ capacity h (senderAt r o j)
   sender-cap r o zero = refl
-  sender-cap r o (suc j) = rw (ne-eqb (suc j) 0 (λ z. omega arith))
+  sender-cap r o (suc zero) = refl
+  sender-cap r o (suc (suc j)) = rw (le-ltb (suc (suc j)) 2 (omega arith))
 
   router-cap : (r k : ℕ) → capIn h k ≡ capacity h (inRouter r k)
   unfolding capIn
-  router-cap r k = by (test (ltb k 4)) (test (eqb k 4))
+  router-cap r k = by (test (ltb k 4)) (test (ltb k 8))
     where
-      by : (ltb k 4 ≡ true) ⊎ (ltb k 4 ≡ false) → (eqb k 4 ≡ true) ⊎ (eqb k 4 ≡ false)
+      by : (ltb k 4 ≡ true) ⊎ (ltb k 4 ≡ false) → (ltb k 8 ≡ true) ⊎ (ltb k 8 ≡ false)
           → capIn h k ≡ capacity h (inRouter r k)
       by (inl x) y = rw x
       by (inr x) (inl y) = rw (x, y)
-      by (inr x) (inr y) = rw (x, y) (sender-cap r ((k - 5) / 4) ((k - 5) % 4))
+      by (inr x) (inr y) = rw (x, y) (sender-cap r ((k - 8) / 5) ((k - 8) % 5))
 
-  router-queue : (r k : ℕ) → r < h .routers → k < 21 → queueAt net (destinations h + 21 * r + k) ≡ inRouter r k
+  router-queue : (r k : ℕ) → r < h .routers → k < 28 → queueAt net (destinations h + 28 * r + k) ≡ inRouter r k
   unfolding queueAt tablePlan
   router-queue r k hr hk =
-      let a : h .actives ≤ destinations h + 21 * r + k = omega arith in
-      let d : destinations h ≤ destinations h + 21 * r + k = omega arith in
-      let b : destinations h + 21 * r + k < destinations h + 21 * h .routers = omega arith in
-      let x : (destinations h + 21 * r + k - destinations h) / 21 ≡ r = omega arith in
-      let y : (destinations h + 21 * r + k - destinations h) % 21 ≡ k = omega arith in
+      let a : h .actives ≤ destinations h + 28 * r + k = omega arith in
+      let d : destinations h ≤ destinations h + 28 * r + k = omega arith in
+      let b : destinations h + 28 * r + k < destinations h + 28 * h .routers = omega arith in
+      let x : (destinations h + 28 * r + k - destinations h) / 28 ≡ r = omega arith in
+      let y : (destinations h + 28 * r + k - destinations h) % 28 ≡ k = omega arith in
       rw (
-        le-ltb (destinations h + 21 * r + k) (h .actives) a,
-        le-ltb (destinations h + 21 * r + k) (destinations h) d,
-        lt-ltb (destinations h + 21 * r + k) (destinations h + 21 * h .routers) b,
+        le-ltb (destinations h + 28 * r + k) (h .actives) a,
+        le-ltb (destinations h + 28 * r + k) (destinations h) d,
+        lt-ltb (destinations h + 28 * r + k) (destinations h + 28 * h .routers) b,
         x,
         y,
       )
 
-  pub router-caps : (r k : ℕ) → r < h .routers → k < 21
-      → getD (routerCaps h) k 0 ≡ capacity h (queueAt net (destinations h + 21 * r + k))
+  pub router-caps : (r k : ℕ) → r < h .routers → k < 28
+      → getD (routerCaps h) k 0 ≡ capacity h (queueAt net (destinations h + 28 * r + k))
   unfolding routerCaps
   router-caps r k hr hk =
-      fill-at (capIn h) 21 (replicate 21 0) k 0 hk (omega arith) ∙ router-cap r k
+      fill-at (capIn h) 28 (replicate 28 0) k 0 hk (omega arith) ∙ router-cap r k
       ∙ ap (capacity h) (sym (router-queue r k hr hk))
 
   pub active-out-cap : (k : ℕ) → k < h .actives → h .aout .0 ≡ capacity h (queueAt net (0 + k))
@@ -91,28 +92,28 @@ module _ (h : Head) (routes : List (List ℕ)) (joints : List ℕ) where
       ap (capacity h) (sym (queue-at net (passiveOut k) l)) ∙ ap (λ (n : ℕ). capacity h (queueAt net n)) e
 
   pub active-in-cap : (k : ℕ) → k < h .actives
-      → h .ain .0 ≡ capacity h (queueAt net (destinations h + 21 * h .routers + k))
+      → h .ain .0 ≡ capacity h (queueAt net (destinations h + 28 * h .routers + k))
   unfolding tablePlan number
   active-in-cap k l = ap (capacity h) (sym (queue-at net (activeIn k) l))
 
   pub passive-in-cap : (k : ℕ) → k < h .passives
-      → h .pin .0 ≡ capacity h (queueAt net (destinations h + 21 * h .routers + h .actives + k))
+      → h .pin .0 ≡ capacity h (queueAt net (destinations h + 28 * h .routers + h .actives + k))
   unfolding tablePlan number
   passive-in-cap k l = ap (capacity h) (sym (queue-at net (passiveIn k) l))
 
   -- ---- all rows are all queues
-  count-is : queues net ≡ destinations h + 21 * h .routers + destinations h
+  count-is : queues net ≡ destinations h + 28 * h .routers + destinations h
   unfolding tablePlan queues
   count-is = omega arith
 
   pub lines-done : (b : List ℕ) {r : Bool} {t u : List ℕ}
-      → RowsChecked net b 0 (destinations h + 21 * h .routers + destinations h) r t u → LinesChecked net b r t u
+      → RowsChecked net b 0 (destinations h + 28 * h .routers + destinations h) r t u → LinesChecked net b r t u
   unfolding queuesPart
   lines-done b x =
       record {
         test =
             x .test
-            ∙ all-same (destinations h + 21 * h .routers + destinations h)
+            ∙ all-same (destinations h + 28 * h .routers + destinations h)
             (λ k. queueRowTest net b (queueAt net (0 + k)))
             (λ k. queueRowTest net b (queueAt net k))
             (λ k l. ap (λ (n : ℕ). queueRowTest net b (queueAt net n)) (zero-add k))
@@ -120,32 +121,32 @@ module _ (h : Head) (routes : List (List ℕ)) (joints : List ℕ) where
         count = λ e.
             tallied-like
             (λ a l.
-            sum-like (destinations h + 21 * h .routers + destinations h) (λ k. spentIn net b a (0 + k))
+            sum-like (destinations h + 28 * h .routers + destinations h) (λ k. spentIn net b a (0 + k))
             (λ k. spentIn net b a k) (λ k i. ap (λ (n : ℕ). spentIn net b a n) (zero-add k))
             ∙ ap (λ (m : ℕ). sum m (λ k. spentIn net b a k)) (sym count-is))
             (x .count e);
       }
 
--- ---- routers, 21 rows each
+-- ---- routers, 28 rows each
 module _ (pl : Plan) (b : List ℕ) (d : ℕ) where
-  pub routers-start : (t : List ℕ) → RowsChecked pl b d (21 * 0) true t t
+  pub routers-start : (t : List ℕ) → RowsChecked pl b d (28 * 0) true t t
   routers-start t = rows-none pl b d t
 
-  next : (r : ℕ) → 21 * r + 21 ≡ 21 * (r + 1)
+  next : (r : ℕ) → 28 * r + 28 ≡ 28 * (r + 1)
   next r = omega arith
 
-  pub routers-more : (r : ℕ) {t u v : List ℕ} → RowsChecked pl b d (21 * r) true t u
-      → RowsChecked pl b (d + 21 * r) 21 true u v → RowsChecked pl b d (21 * (r + 1)) true t v
-  routers-more r x y = rw (← next r) (rows-join pl b d (21 * r) 21 x y)
+  pub routers-more : (r : ℕ) {t u v : List ℕ} → RowsChecked pl b d (28 * r) true t u
+      → RowsChecked pl b (d + 28 * r) 28 true u v → RowsChecked pl b d (28 * (r + 1)) true t v
+  routers-more r x y = rw (← next r) (rows-join pl b d (28 * r) 28 x y)
 
-  pub routers-fail : (n r : ℕ) {t u v : List ℕ} → r < n → RowsChecked pl b d (21 * r) true t u
-      → RowsChecked pl b (d + 21 * r) 21 false u v → RowsChecked pl b d (21 * n) false t v
+  pub routers-fail : (n r : ℕ) {t u v : List ℕ} → r < n → RowsChecked pl b d (28 * r) true t u
+      → RowsChecked pl b (d + 28 * r) 28 false u v → RowsChecked pl b d (28 * n) false t v
   routers-fail n r l x y =
-      let e : 21 * r + 21 + 21 * (n - (r + 1)) ≡ 21 * n = omega arith in
-      rw (← e) (rows-lost pl b d (21 * r + 21) (21 * (n - (r + 1))) (rows-join pl b d (21 * r) 21 x y))
+      let e : 28 * r + 28 + 28 * (n - (r + 1)) ≡ 28 * n = omega arith in
+      rw (← e) (rows-lost pl b d (28 * r + 28) (28 * (n - (r + 1))) (rows-join pl b d (28 * r) 28 x y))
 
-  pub routers-done : {r n : ℕ} {t u : List ℕ} → RowsChecked pl b d (21 * r) true t u → r ≡ n
-      → RowsChecked pl b d (21 * n) true t u
+  pub routers-done : {r n : ℕ} {t u : List ℕ} → RowsChecked pl b d (28 * r) true t u → r ≡ n
+      → RowsChecked pl b d (28 * n) true t u
   routers-done x e = rw (← e) x
 
   -- the three groups: interfaces' out-queues, routers, interfaces' in-queues
@@ -169,7 +170,7 @@ module _ (h : Head) (routes : List (List ℕ)) (joints : List ℕ) (b : List ℕ
   d = destinations h
 
   abbrev w : ℕ
-  w = 21 * h .routers
+  w = 28 * h .routers
 
   at-first : 0 + d ≡ d
   at-first = omega arith

@@ -127,8 +127,8 @@ head-plain (activeIn a) = refl
 head-plain (passiveIn p) = refl
 head-plain (passiveOut p) = refl
 head-plain (U r i) = refl
-head-plain (Q r) = refl
-head-plain (F r o) = refl
+head-plain (Q r i) = refl
+head-plain (F h r o) = refl
 head-plain (K r i o) = refl
 
 module _ (pl : Plan) (q : Queue) (done : Bool) (b : List ℕ) where

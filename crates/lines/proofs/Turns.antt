@@ -67,7 +67,7 @@ pub asking : {h : Head} {routes : List (List ℕ)} {joints homes : List ℕ} {le
     → Ready h routes joints homes lengths by up → (x : Packet)
     → also (packetTest (tablePlan h routes joints) x) (served (tablePlan h routes joints) (x .active) (x .passive))
     ≡ true
-    → Asked h (h .actives) (h .actives + h .passives) (21 * h .routers) routes joints homes lengths by up (x .active)
+    → Asked h (h .actives) (h .actives + h .passives) (28 * h .routers) routes joints homes lengths by up (x .active)
     (x .passive)
 asking {h} {routes} {joints} r x e =
     let ok = numbers-ok (tablePlan h routes joints) x _ e in
@@ -368,8 +368,8 @@ plan-head : (h : Head) (routes : List (List ℕ)) (joints : List ℕ) → tableP
 unfolding tablePlan
 plan-head h routes joints = refl
 
--- a plan has at most 400 queues
-pub queues-few : {h : Head} → InRange h → queueCount h ≤ 400
+-- a plan has at most 512 queues
+pub queues-few : {h : Head} → InRange h → queueCount h ≤ 512
 queues-few range =
     let r = range .routers .1 in
     let a = range .actives .1 in

@@ -76,14 +76,14 @@ pub record Skipped (b coming caps : List ℕ) (from k m j : ℕ) : Type 0 where
 -- the capacities of a router's queues: U, Q, and for each side F and three K
 unfoldable pub capIn : Head → ℕ → ℕ
 capIn h k =
-    pick (ltb k 4) (h .u .0) (pick (eqb k 4) (h .q .0) (pick (eqb ((k - 5) % 4) 0) (h .f .0) (h .k .0)))
+    pick (ltb k 4) (h .u .0) (pick (ltb k 8) (h .q .0) (pick (ltb ((k - 8) % 5) 2) (h .f .0) (h .k .0)))
 
 unfoldable pub routerCaps : Head → List ℕ
-routerCaps h = upTo (fill (capIn h)) 21 (replicate 21 0)
+routerCaps h = upTo (fill (capIn h)) 28 (replicate 28 0)
 
 -- one capacity for all of a group
 unfoldable pub sameCaps : ℕ → List ℕ
-sameCaps v = replicate 21 v
+sameCaps v = replicate 28 v
 
 -- all queues
 pub record LinesChecked (pl : Plan) (b : List ℕ) (r : Bool) (t u : List ℕ) : Type 0 where

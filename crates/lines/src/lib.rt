@@ -105,7 +105,7 @@ fn place_ok(
     if !places::fits(
         h.actives,
         h.actives + h.passives,
-        21 * h.routers,
+        28 * h.routers,
         routes,
         joints,
         homes,
@@ -244,7 +244,7 @@ fn row_busy(
 
 // Whether the row of queue n is idle and nothing is on the way to it.
 fn rests(s: &[u8], n: usize, cap: u8, w: u8) -> bool
-    requires { ⌜ (n < 400) × (41 + 39 * n ≤ length (now s)) ⌝ }
+    requires { ⌜ (n < 512) × (41 + 39 * n ≤ length (now s)) ⌝ }
     ensures { λ r. ⌜ (r ≡ true → Rests (now (s .entry)) n cap w) ⌝ }
 {
     if w != 0 {
@@ -254,8 +254,8 @@ fn rests(s: &[u8], n: usize, cap: u8, w: u8) -> bool
 }
 
 // The first row from k on that does not rest, or m.
-fn skip(s: &[u8], coming: &[u8; 400], caps: &[u8; 21], from: usize, k: usize, m: usize) -> usize
-    requires { ⌜ (k ≤ m) × (m ≤ 21) × (from + m ≤ 400) × (2 + 39 * (from + m) ≤ length (now s)) ⌝ }
+fn skip(s: &[u8], coming: &[u8; 512], caps: &[u8; 28], from: usize, k: usize, m: usize) -> usize
+    requires { ⌜ (k ≤ m) × (m ≤ 28) × (from + m ≤ 512) × (2 + 39 * (from + m) ≤ length (now s)) ⌝ }
     ensures { λ j. ⌜ Skipped (now (s .entry)) (now (coming .entry)) (now (caps .entry)) from k m j ⌝ }
 {
     for j in k..m {
@@ -277,15 +277,15 @@ fn rows_ok(
     by: &[[u32; 4]; 16],
     up: &[[u32; 32]; 17],
     s: &[u8],
-    coming: &[u8; 400],
+    coming: &[u8; 512],
     from: usize,
     m: usize,
-    caps: &[u8; 21],
+    caps: &[u8; 28],
     spent: &mut [u8; 16],
 ) -> bool
     requires { ⌜ Ready h (now routes) (now joints) (now homes) (now lengths) (now by) (now up)
         × (from + m ≤ queueCount h)
-        × (m ≤ 21) × (stateSize h ≤ length (now s))
+        × (m ≤ 28) × (stateSize h ≤ length (now s))
         × ((k : ℕ) → k < m → getD (now caps) k 0 ≡ capacity h
         (queueAt (tablePlan h (now routes) (now joints)) (from + k)))
         × Coming (tablePlan h (now routes) (now joints)) (now s) (now coming) ⌝ }
@@ -326,31 +326,31 @@ fn cap_in(h: Head, k: usize) -> u8
     if k < 4 {
         return h.u.0;
     }
-    if k == 4 {
+    if k < 8 {
         return h.q.0;
     }
-    if (k - 5) % 4 == 0 {
+    if (k - 8) % 5 < 2 {
         return h.f.0;
     }
     h.k.0
 }
 
 // The capacities of a router's queues.
-fn router_caps(h: Head) -> [u8; 21]
+fn router_caps(h: Head) -> [u8; 28]
     ensures { λ t. ⌜ t ≡ routerCaps h ⌝ }
 {
-    let mut t = [0u8; 21];
-    for k in 0..21 {
+    let mut t = [0u8; 28];
+    for k in 0..28 {
         t[k] = cap_in(h, k);
     }
     t
 }
 
 // One capacity for all queues of a group.
-fn same_caps(v: u8) -> [u8; 21]
+fn same_caps(v: u8) -> [u8; 28]
     ensures { λ t. ⌜ t ≡ sameCaps v ⌝ }
 {
-    [v; 21]
+    [v; 28]
 }
 
 // The rows of all routers.
@@ -363,13 +363,13 @@ fn routers_ok(
     by: &[[u32; 4]; 16],
     up: &[[u32; 32]; 17],
     s: &[u8],
-    coming: &[u8; 400],
+    coming: &[u8; 512],
     spent: &mut [u8; 16],
 ) -> bool
     requires { ⌜ Ready h (now routes) (now joints) (now homes) (now lengths) (now by) (now up)
         × (stateSize h ≤ length (now s)) × Coming (tablePlan h (now routes) (now joints)) (now s) (now coming) ⌝ }
     ensures { λ r. ⌜ RowsChecked (tablePlan h (now (routes .entry)) (now (joints .entry))) (now (s .entry))
-        (destinations h) (21 * h .routers) r (now (spent .entry)) (now (spent .exit)) ⌝ }
+        (destinations h) (28 * h .routers) r (now (spent .entry)) (now (spent .exit)) ⌝ }
 {
     let n = h.routers;
     let d = h.actives + h.passives;
@@ -385,8 +385,8 @@ fn routers_ok(
             up,
             s,
             coming,
-            d + 21 * r,
-            21,
+            d + 28 * r,
+            28,
             &caps,
             spent,
         ) {
@@ -406,7 +406,7 @@ fn interfaces_ok(
     by: &[[u32; 4]; 16],
     up: &[[u32; 32]; 17],
     s: &[u8],
-    coming: &[u8; 400],
+    coming: &[u8; 512],
     from: usize,
     cap: u8,
     more: u8,
@@ -468,7 +468,7 @@ pub fn lines_ok(
     by: &[[u32; 4]; 16],
     up: &[[u32; 32]; 17],
     s: &[u8],
-    coming: &[u8; 400],
+    coming: &[u8; 512],
     spent: &mut [u8; 16],
 ) -> bool
     requires { ⌜ Ready h (now routes) (now joints) (now homes) (now lengths) (now by) (now up)
@@ -496,7 +496,7 @@ pub fn lines_ok(
     if !routers_ok(h, routes, joints, homes, lengths, by, up, s, coming, spent) {
         return false;
     }
-    let from = h.actives + h.passives + 21 * h.routers;
+    let from = h.actives + h.passives + 28 * h.routers;
     interfaces_ok(
         h,
         routes,

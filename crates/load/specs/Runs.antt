@@ -1,4 +1,5 @@
--- Document 01's starred runs of Load: 'T loads. 5 bytes: 1. T with a byte more: 3. Last byte 21: 3. First byte 00: 2.'
+-- Document 01's starred runs of Load: 'T loads. 5 bytes: 1. T with a byte more: 3. Last byte 21: 3. First byte 00: 2.';
+-- and the runs of request (i)
 use mathlib.Core.Path.{_≡_, refl}
 use mathlib.Core.List.{List, [], _∷_}
 use Prim.Native.Nat.{ℕ}
@@ -16,6 +17,7 @@ use Rattle.circles.specs.RingTest.{wayMeets, walkMeets, walkLeaves, trailEdge, 
 use Rattle.circles.specs.RingTest.{handEdge, hasRing}
 use Rattle.load.specs.Load.{lengthOk, jointsOk, loadOf, loadNumber}
 use Rattle.plan.specs.Samples.{planT, twoRouters, widerT, narrowThere, narrowBack, allSides, longWayBack, fourRouters}
+use Rattle.plan.specs.Samples.{narrowUnit, twoToOne, crossing, widerCrossing, lineOfThree, drivesAround, clockwise}
 
 -- Load's number, computed from the bytes
 unfoldable pub loads : List ℕ → ℕ
@@ -73,3 +75,35 @@ fill-bit = refl
 pub no-router : loads (0 ∷ 66 ∷ 17 ∷ 36 ∷ 146 ∷ 76 ∷ 6 ∷ 0 ∷ 0 ∷ 0 ∷ 32 ∷ []) ≡ 2
 unfolding loads
 no-router = refl
+
+-- those of the runs of request (i)
+pub narrow-unit-loads : loads narrowUnit ≡ 0
+unfolding loads
+narrow-unit-loads = refl
+
+pub two-to-one-loads : loads twoToOne ≡ 0
+unfolding loads
+two-to-one-loads = refl
+
+pub wider-crossing-loads : loads widerCrossing ≡ 0
+unfolding loads
+wider-crossing-loads = refl
+
+pub line-of-three-loads : loads lineOfThree ≡ 0
+unfolding loads
+line-of-three-loads = refl
+
+pub drives-around-loads : loads drivesAround ≡ 0
+unfolding loads
+drives-around-loads = refl
+
+-- 'Two routers, each with an active and a passive, set-ups crossing both ways: 6' was document 01's last run. Document
+-- 02 (i) changes it: 'the crossing two-router plan loads'
+pub crossing-loads : loads crossing ≡ 0
+unfolding loads
+crossing-loads = refl
+
+-- three routers in a ring, all set-ups clockwise: 6, for 'Refusal 6 keeps its condition over these queues'
+pub clockwise-ring : loads clockwise ≡ 6
+unfolding loads
+clockwise-ring = refl

@@ -65,8 +65,8 @@ pub booked-same : {i j : ℕ} → Booked i ≡ Booked j → i ≡ j
 booked-same e = cc
 
 -- ---- units
-pub unit-same : {r n : ℕ} → Q r ≡ Q n → r ≡ n
-unit-same e = cc
+pub unit-same : {r i n j : ℕ} → Q r i ≡ Q n j → (r ≡ n) × (i ≡ j)
+unit-same e = (cc, cc)
 
 -- ---- calls
 pub turn-same : {x y : Phase} → turn x ≡ turn y → x ≡ y

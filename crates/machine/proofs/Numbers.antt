@@ -7,9 +7,9 @@ use mathlib.Core.List.{List, [], _∷_}
 use mathlib.Core.Option.{some}
 use Prim.Native.Nat.{ℕ, zero, suc, _+_, _-_, _/_, _%_, _≤_, _<_}
 use native.Mathlib.Omega.{arith}
-use lib.Dec.{eqb, ltb}
+use lib.Dec.{ltb}
 use lib.ListN.{length}
-use borrow.Author.Tests.{ltb-true, ltb-false, lt-ltb, le-ltb, eqb-true, eqb-false}
+use borrow.Author.Tests.{ltb-true, ltb-false, lt-ltb, le-ltb}
 use Rattle.basis.specs.Choice.{pick}
 use Rattle.basis.specs.Bounded.{lt-or-ge}
 use Rattle.plan.specs.Plan.{Plan, R, A}
@@ -36,10 +36,11 @@ module _ (pl : Plan) where
   abbrev IsQueue : ℕ → Queue → Type 0
   IsQueue n q = Exists pl q × (number pl q ≡ n)
 
-  sender-named : (r o j n : ℕ) → r < R pl → o < 4 → j < 4 → n ≡ sender pl r o j → IsQueue n (senderAt r o j)
+  sender-named : (r o j n : ℕ) → r < R pl → o < 4 → j < 5 → n ≡ sender pl r o j → IsQueue n (senderAt r o j)
   unfolding number
   sender-named r o zero n hr ho hj e = ((hr, ho), sym e)
-  sender-named r o (suc k) n hr ho hj e = by (lt-or-ge k o)
+  sender-named r o (suc zero) n hr ho hj e = ((hr, ho), sym e)
+  sender-named r o (suc (suc k)) n hr ho hj e = by (lt-or-ge k o)
     where
       by : (k < o) ⊎ (o ≤ k) → IsQueue n (K r (pick (ltb k o) k (suc k)) o)
       by (inl l) = rw (lt-ltb k o l, lt-ltb k o l) ((hr, omega arith, ho, λ z. omega arith), sym e)
@@ -47,14 +48,14 @@ module _ (pl : Plan) where
           let h : o ≤ suc k = omega arith in
           rw (le-ltb k o g, le-ltb (suc k) o h) ((hr, omega arith, ho, λ z. omega arith), sym e)
 
-  router-named : (r k n : ℕ) → r < R pl → k < 21 → n ≡ routerBase pl r + k → IsQueue n (inRouter r k)
+  router-named : (r k n : ℕ) → r < R pl → k < 28 → n ≡ routerBase pl r + k → IsQueue n (inRouter r k)
   unfolding number
   router-named r k n hr hk e =
       picked (IsQueue n) (ltb k 4) _ _ (λ t. ((hr, ltb-true k 4 t), sym e))
       (λ t. let g = ltb-false k 4 t in
-      picked (IsQueue n) (eqb k 4) _ _ (λ u. let z = eqb-true k 4 u in (hr, omega arith))
-      (λ u. let z = eqb-false k 4 u in
-      sender-named r ((k - 5) / 4) ((k - 5) % 4) n hr (omega arith) (omega arith) (omega arith)))
+      picked (IsQueue n) (ltb k 8) _ _ (λ u. let z = ltb-true k 8 u in ((hr, omega arith), omega arith))
+      (λ u. let z = ltb-false k 8 u in
+      sender-named r ((k - 8) / 5) ((k - 8) % 5) n hr (omega arith) (omega arith) (omega arith)))
 
   queue-named : (n : ℕ) → n < queues pl → IsQueue n (queueAt pl n)
   unfolding queueAt queues number
@@ -65,7 +66,7 @@ module _ (pl : Plan) where
       (λ u. let b = ltb-false n (outs pl) u in
       picked (IsQueue n) (ltb n (inBase pl)) _ _
       (λ v. let c = ltb-true n (inBase pl) v in
-      router-named ((n - outs pl) / 21) ((n - outs pl) % 21) n (omega arith) (omega arith) (omega arith))
+      router-named ((n - outs pl) / 28) ((n - outs pl) % 28) n (omega arith) (omega arith) (omega arith))
       (λ v. let c = ltb-false n (inBase pl) v in
       picked (IsQueue n) (ltb n (inBase pl + A pl)) _ _ (λ w. let d = ltb-true n (inBase pl + A pl) w in
       (omega arith, omega arith))
@@ -79,7 +80,7 @@ module _ (pl : Plan) where
   pub at-number : (n : ℕ) → n < queues pl → number pl (queueAt pl n) ≡ n
   at-number n h = queue-named n h .1
 
-  side-exists : (r o k : ℕ) → r < R pl → o < 4 → k < 4 → Exists pl (senderAt r o k)
+  side-exists : (r o k : ℕ) → r < R pl → o < 4 → k < 5 → Exists pl (senderAt r o k)
   side-exists r o k h ho hk = sender-named r o k (sender pl r o k) h ho hk refl .0
 
   -- the sender of a rank at an output of the plan is a queue of the plan
@@ -95,11 +96,16 @@ module _ (pl : Plan) where
       subst (Exists pl) (some-same e) (side-exists r o 2 h l (omega arith))
   sender-exists (ofSide r o) (suc (suc (suc zero))) q (h, l) e =
       subst (Exists pl) (some-same e) (side-exists r o 3 h l (omega arith))
-  sender-exists (ofSide r o) (suc (suc (suc (suc k)))) q d e = absurd (some-not-none e)
+  sender-exists (ofSide r o) (suc (suc (suc (suc zero)))) q (h, l) e =
+      subst (Exists pl) (some-same e) (side-exists r o 4 h l (omega arith))
+  sender-exists (ofSide r o) (suc (suc (suc (suc (suc k))))) q d e = absurd (some-not-none e)
   sender-exists (toUnit r) zero q d e = subst (Exists pl) (some-same e) (d, omega arith)
   sender-exists (toUnit r) (suc zero) q d e = subst (Exists pl) (some-same e) (d, omega arith)
   sender-exists (toUnit r) (suc (suc zero)) q d e = subst (Exists pl) (some-same e) (d, omega arith)
   sender-exists (toUnit r) (suc (suc (suc zero))) q d e = subst (Exists pl) (some-same e) (d, omega arith)
   sender-exists (toUnit r) (suc (suc (suc (suc k)))) q d e = absurd (some-not-none e)
-  sender-exists (fromUnit r) zero q d e = subst (Exists pl) (some-same e) d
-  sender-exists (fromUnit r) (suc k) q d e = absurd (some-not-none e)
+  sender-exists (fromUnit r) zero q d e = subst (Exists pl) (some-same e) (d, omega arith)
+  sender-exists (fromUnit r) (suc zero) q d e = subst (Exists pl) (some-same e) (d, omega arith)
+  sender-exists (fromUnit r) (suc (suc zero)) q d e = subst (Exists pl) (some-same e) (d, omega arith)
+  sender-exists (fromUnit r) (suc (suc (suc zero))) q d e = subst (Exists pl) (some-same e) (d, omega arith)
+  sender-exists (fromUnit r) (suc (suc (suc (suc k)))) q d e = absurd (some-not-none e)

@@ -3,7 +3,7 @@
 use mathlib.Core.Bool.{Bool, true, false, not, _&&_}
 use mathlib.Core.List.{List, [], _∷_}
 use mathlib.Core.Option.{Option, none, some}
-use Prim.Native.Nat.{ℕ, zero, suc, _+_}
+use Prim.Native.Nat.{ℕ, zero, suc, _+_, _*_, _/_, _%_}
 use lib.Dec.{eqb, ltb}
 use lib.ListN.{length, drop}
 use Rattle.basis.specs.Choice.{pick, also}
@@ -16,29 +16,20 @@ use Rattle.packets.specs.declared.Phase.the-variants.{Write}
 use Rattle.packets.specs.declared.Entry.{Entry}
 use Rattle.packets.specs.declared.Entry.the-variants.{Free, Booked}
 use Rattle.packets.specs.Counters.{slotNext, startSlot, hubUp, hubDown}
-use Rattle.plan.specs.Plan.{Plan, active, passive, R, A, S, noSide, routeTo}
-use Rattle.plan.specs.Rules.{home}
-use Rattle.paths.specs.declared.Index.{Index}
-use Rattle.paths.specs.declared.Index.the-variants.{At, Off}
-use Rattle.paths.specs.Walk.{walked}
-use Rattle.paths.specs.Steps.{indexOn, sideAt}
+use Rattle.plan.specs.Plan.{Plan, passive, R, A, S, routeTo}
 use Rattle.feeding.specs.Queue.{Queue, activeOut, activeIn, Q}
 use Rattle.feeding.specs.Role.{Role, sending, receiving, handling, passing, role}
+pub use Rattle.feeding.specs.Feeds.{cameBy}
+unfoldable pub use Rattle.feeding.specs.Feeds.{cameIn}
 use Rattle.feeding.specs.Feeds.{Output, ofActive, ofPassive, ofSide, toUnit, fromUnit}
 use Rattle.machine.specs.Capacity.{capacity}
 use Rattle.machine.specs.Outputs.{nextBy, senders, outputs, outputAt}
 use Rattle.machine.specs.State.{State, Choice, nobody, sender, withPhase, withQueue, withFlag, withHandled}
 use Rattle.machine.specs.State.{withChoice, withEntry, join, isFree}
 
--- ---- (1) 'Each unit handles Q's head once, if not yet handled, and no second head in that round'
--- the side by which the walk of a pair comes in to router r; a packet at a unit is on its walk
-abbrev pub cameBy : Plan → ℕ → ℕ → Index → ℕ
-cameBy pl a p (At k) = sideAt (walked pl (passive p) k (home pl (active a)))
-cameBy pl a p Off = noSide
-
-unfoldable pub cameIn : Plan → ℕ → ℕ → ℕ → ℕ
-cameIn pl a p r = cameBy pl a p (indexOn pl (passive p) (home pl (active a)) r)
-
+-- ---- (1) 'Each unit handles Q's head once, if not yet handled, and no second head in that round'; by document 02 (i)
+-- 'A
+-- unit handles each queue's unhandled head once in a round, side 0 first'
 -- 'the packet becomes a NACK, slot and hub kept'
 abbrev pub declined : Packet → Packet
 declined x = record { kind = Nack; active = x .active; passive = x .passive; slot = x .slot; hub = x .hub }
@@ -73,39 +64,44 @@ otherFree slots entries t = anyBelow slots (λ u. not (eqb u t) && isFree (entri
 unfoldable pub mayBook : ℕ → (ℕ → Entry) → ℕ → Bool
 mayBook slots entries t = isFree (entries t) && otherFree slots entries t
 
--- the head of Q has been handled and is now x
-abbrev pub handledAs : ℕ → Packet → List Packet → State → State
-handledAs r x rest s = withHandled (Q r) true (withQueue (Q r) (x ∷ rest) s)
+-- the head of Q[i] has been handled and is now x
+abbrev pub handledAs : ℕ → ℕ → Packet → List Packet → State → State
+handledAs r i x rest s = withHandled (Q r i) true (withQueue (Q r i) (x ∷ rest) s)
 
 -- 'SETUP: o is the walk's side. If entry (o, slot) is booked, or is the only free entry of o, the packet becomes a
 -- NACK .. Else the entry is booked with the side the walk came in by'
-unfoldable pub setUp : Plan → ℕ → ℕ → Packet → List Packet → Bool → State → State
-setUp pl r o x rest true s =
-    handledAs r (booked (S pl) x) rest (withEntry r o (x .slot .0) (Booked (cameIn pl (x .active) (x .passive) r)) s)
-setUp pl r o x rest false s = handledAs r (declined x) rest s
+unfoldable pub setUp : Plan → ℕ → ℕ → ℕ → Packet → List Packet → Bool → State → State
+setUp pl r i o x rest true s =
+    handledAs r i (booked (S pl) x) rest (withEntry r o (x .slot .0) (Booked (cameIn pl (x .active) (x .passive) r)) s)
+setUp pl r i o x rest false s = handledAs r i (declined x) rest s
 
 -- 'TDOWN: the entry is freed; with hub 1 the packet ends and Q's flag rises, else hub falls ..'
-unfoldable pub tearOne : Plan → ℕ → Packet → List Packet → Bool → State → State
-tearOne pl r x rest true s = withFlag (Q r) true (withQueue (Q r) rest s)
-tearOne pl r x rest false s = handledAs r (freed (S pl) x) rest s
+unfoldable pub tearOne : Plan → ℕ → ℕ → Packet → List Packet → Bool → State → State
+tearOne pl r i x rest true s = withFlag (Q r i) true (withQueue (Q r i) rest s)
+tearOne pl r i x rest false s = handledAs r i (freed (S pl) x) rest s
 
-unfoldable pub tearDown : Plan → ℕ → ℕ → Packet → List Packet → State → State
-tearDown pl r o x rest s = tearOne pl r x rest (eqb (x .hub .0) 1) (withEntry r o (x .slot .0) Free s)
+unfoldable pub tearDown : Plan → ℕ → ℕ → ℕ → Packet → List Packet → State → State
+tearDown pl r i o x rest s = tearOne pl r i x rest (eqb (x .hub .0) 1) (withEntry r o (x .slot .0) Free s)
 
 -- a unit's head by its kind; an answer at a unit has been handled
-unfoldable pub handle : Plan → ℕ → ℕ → Kind → Packet → List Packet → State → State
-handle pl r o Setup x rest s = setUp pl r o x rest (mayBook (S pl) (s .table r o) (x .slot .0)) s
-handle pl r o Tdown x rest s = tearDown pl r o x rest s
-handle pl r o Ack x rest s = s
-handle pl r o Nack x rest s = s
+unfoldable pub handle : Plan → ℕ → ℕ → ℕ → Kind → Packet → List Packet → State → State
+handle pl r i o Setup x rest s = setUp pl r i o x rest (mayBook (S pl) (s .table r o) (x .slot .0)) s
+handle pl r i o Tdown x rest s = tearDown pl r i o x rest s
+handle pl r i o Ack x rest s = s
+handle pl r i o Nack x rest s = s
 
-unfoldable pub atUnit : Plan → ℕ → List Packet → Bool → State → State
-atUnit pl r [] done s = s
-atUnit pl r (x ∷ rest) true s = s
-atUnit pl r (x ∷ rest) false s = handle pl r (routeTo pl (passive (x .passive)) r) (x .kind) x rest s
+unfoldable pub atUnit : Plan → ℕ → ℕ → List Packet → Bool → State → State
+atUnit pl r i [] done s = s
+atUnit pl r i (x ∷ rest) true s = s
+atUnit pl r i (x ∷ rest) false s = handle pl r i (routeTo pl (passive (x .passive)) r) (x .kind) x rest s
 
-unfoldable pub unit : Plan → ℕ → State → State
-unit pl r s = atUnit pl r (s .lines .queue (Q r)) (s .lines .handled (Q r)) s
+-- router r's unit handles the head of Q[i]
+unfoldable pub unit : Plan → ℕ → ℕ → State → State
+unit pl r i s = atUnit pl r i (s .lines .queue (Q r i)) (s .lines .handled (Q r i)) s
+
+-- by number, router by router, side 0 first
+abbrev pub unitAt : Plan → ℕ → State → State
+unitAt pl n = unit pl (n / 4) (n % 4)
 
 -- ---- (2) 'Each output picks a sender'
 -- 'its next queue has credit'
@@ -117,7 +113,7 @@ hasCredit s (some q) = ltb 0 (s .flow .credit q .0)
 abbrev pub mayLeaveAs : Role → Bool → Bool
 mayLeaveAs sending done = true
 mayLeaveAs receiving done = true
-mayLeaveAs (handling r) done = done
+mayLeaveAs (handling r i) done = done
 mayLeaveAs passing done = true
 
 abbrev pub mayLeave : State → Queue → Bool
@@ -206,4 +202,4 @@ undo pl a s = atActive pl a (s .lines .queue (activeIn a)) s
 unfoldable pub doExecute : Plan → State → State
 doExecute pl s =
     withPhase Write
-    (upTo (undo pl) (A pl) (upTo (λ n. choose pl (outputAt pl n)) (outputs pl) (upTo (unit pl) (R pl) s)))
+    (upTo (undo pl) (A pl) (upTo (λ n. choose pl (outputAt pl n)) (outputs pl) (upTo (unitAt pl) (4 * R pl) s)))

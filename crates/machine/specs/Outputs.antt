@@ -15,14 +15,15 @@ use Rattle.feeding.specs.Feeds.{Output, ofActive, ofPassive, ofSide, toUnit, fr
 abbrev pub nextBy : Plan → Output → Packet → Option Queue
 nextBy pl o x = beyond pl (headingOf (x .kind)) (x .active) (x .passive) o
 
--- an output's senders in order: F[o], then K[0,o] to K[3,o] without K[o,o], for a side; U[0] to U[3] to the unit; Q to
--- F; an interface's out-queue
+-- an output's senders in order: 'A side's order is now set-up F, answer F, then K' (document 02 (i)), K[0,o] to K[3,o]
+-- without K[o,o]; U[0] to U[3] to the unit; Q[0] to Q[3] to F; an interface's out-queue
 abbrev pub senders : Output → List Queue
 senders (ofActive a) = activeOut a ∷ []
 senders (ofPassive p) = passiveOut p ∷ []
-senders (ofSide r o) = senderAt r o 0 ∷ senderAt r o 1 ∷ senderAt r o 2 ∷ senderAt r o 3 ∷ []
+senders (ofSide r o) =
+    senderAt r o 0 ∷ senderAt r o 1 ∷ senderAt r o 2 ∷ senderAt r o 3 ∷ senderAt r o 4 ∷ []
 senders (toUnit r) = U r 0 ∷ U r 1 ∷ U r 2 ∷ U r 3 ∷ []
-senders (fromUnit r) = Q r ∷ []
+senders (fromUnit r) = Q r 0 ∷ Q r 1 ∷ Q r 2 ∷ Q r 3 ∷ []
 
 -- the rank of 'the last in order'; an output with one sender has no other rank, and nothing to remember
 abbrev pub lastInOrder : Output → ℕ

@@ -45,7 +45,7 @@ pub record Quiet (pl : Plan) (s : State) : Type 0 where
 abbrev pub isInQueueAs : Role → Bool
 isInQueueAs sending = false
 isInQueueAs receiving = true
-isInQueueAs (handling r) = false
+isInQueueAs (handling r i) = false
 isInQueueAs passing = false
 
 abbrev pub isInQueue : Queue → Bool

@@ -15,3 +15,5 @@ pub mod Entries
 pub mod Refusals
 pub mod Closed
 pub mod Looking
+pub mod Crossing
+pub mod BothEnds

@@ -6,7 +6,8 @@ use Prim.Native.Nat.{ℕ, zero, suc}
 use lib.Dec.{eqb}
 use borrow.Author.Tests.{eqb-true, eq-eqb}
 use Rattle.basis.specs.Choice.{pick, also, also-true, also-of, refuted}
-use Rattle.feeding.specs.Queue.{Queue, activeOut, activeIn, passiveIn, passiveOut, U, Q, F, K}
+use Rattle.feeding.specs.Queue.{Heading, ahead, back, Queue, activeOut, activeIn, passiveIn, passiveOut, U, Q, F, K}
+use Rattle.feeding.specs.Queue.{rankOf}
 use Rattle.feeding.specs.Feeds.{Output, ofActive, ofPassive, ofSide, toUnit, fromUnit}
 
 -- m with a at the place k
@@ -20,19 +21,19 @@ kindOf (activeIn x) = 1
 kindOf (passiveIn x) = 2
 kindOf (passiveOut x) = 3
 kindOf (U r i) = 4
-kindOf (Q r) = 5
-kindOf (F r o) = 6
+kindOf (Q r i) = 5
+kindOf (F h r o) = 6
 kindOf (K r i o) = 7
 
--- an interface's or a router's number, a side, and K's other side
+-- an interface's or a router's number, a side, and K's other side or whose F it is
 abbrev first : Queue → ℕ
 first (activeOut x) = x
 first (activeIn x) = x
 first (passiveIn x) = x
 first (passiveOut x) = x
 first (U r i) = r
-first (Q r) = r
-first (F r o) = r
+first (Q r i) = r
+first (F h r o) = r
 first (K r i o) = r
 
 abbrev second : Queue → ℕ
@@ -41,8 +42,8 @@ second (activeIn x) = 0
 second (passiveIn x) = 0
 second (passiveOut x) = 0
 second (U r i) = i
-second (Q r) = 0
-second (F r o) = o
+second (Q r i) = i
+second (F h r o) = o
 second (K r i o) = i
 
 abbrev third : Queue → ℕ
@@ -51,14 +52,18 @@ third (activeIn x) = 0
 third (passiveIn x) = 0
 third (passiveOut x) = 0
 third (U r i) = 0
-third (Q r) = 0
-third (F r o) = 0
+third (Q r i) = 0
+third (F h r o) = rankOf h
 third (K r i o) = o
 
 abbrev pub sameQueue : Queue → Queue → Bool
 sameQueue x y =
     also (eqb (kindOf x) (kindOf y))
     (also (eqb (first x) (first y)) (also (eqb (second x) (second y)) (eqb (third x) (third y))))
+
+headingFrom : ℕ → Heading
+headingFrom zero = ahead
+headingFrom (suc n) = back
 
 -- the queue of a kind and its numbers
 queueOf : ℕ → ℕ → ℕ → ℕ → Queue
@@ -67,19 +72,20 @@ queueOf (suc zero) a b c = activeIn a
 queueOf (suc (suc zero)) a b c = passiveIn a
 queueOf (suc (suc (suc zero))) a b c = passiveOut a
 queueOf (suc (suc (suc (suc zero)))) a b c = U a b
-queueOf (suc (suc (suc (suc (suc zero))))) a b c = Q a
-queueOf (suc (suc (suc (suc (suc (suc zero)))))) a b c = F a b
+queueOf (suc (suc (suc (suc (suc zero))))) a b c = Q a b
+queueOf (suc (suc (suc (suc (suc (suc zero)))))) a b c = F (headingFrom c) a b
 queueOf (suc (suc (suc (suc (suc (suc (suc n))))))) a b c = K a b c
 
 queue-of : (x : Queue) → queueOf (kindOf x) (first x) (second x) (third x) ≡ x
-unfolding queueOf
+unfolding queueOf headingFrom
 queue-of (activeOut x) = refl
 queue-of (activeIn x) = refl
 queue-of (passiveIn x) = refl
 queue-of (passiveOut x) = refl
 queue-of (U r i) = refl
-queue-of (Q r) = refl
-queue-of (F r o) = refl
+queue-of (Q r i) = refl
+queue-of (F ahead r o) = refl
+queue-of (F back r o) = refl
 queue-of (K r i o) = refl
 
 pub same-queue : (x y : Queue) → sameQueue x y ≡ true → x ≡ y

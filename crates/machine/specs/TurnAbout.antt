@@ -14,7 +14,7 @@ use Rattle.packets.specs.declared.Answer.{Answer}
 use Rattle.plan.specs.Plan.{Plan}
 use Rattle.feeding.specs.Queue.{Queue}
 use Rattle.feeding.specs.Feeds.{Output}
-use Rattle.machine.specs.Outputs.{senders}
+use Rattle.machine.specs.Outputs.{senders, lastInOrder}
 use Rattle.machine.specs.State.{State, Choice, nobody, sender}
 use Rattle.machine.specs.Execute.{candidate}
 use Rattle.machine.specs.Write.{ofRank}
@@ -65,8 +65,9 @@ StaysAlong pl o j [] s = record {}
 StaysAlong pl o j (c ∷ cs) s =
     StaysIn pl o j c (call pl c s .answer) (call pl c s .state) × StaysAlong pl o j cs (call pl c s .state)
 
--- ---- what is to be shown: from every valid state, of every list, of every output and each of its senders
+-- ---- what is to be shown: from every valid state, of every list, of every output and each of its senders. At a side
+-- 'at most four others go first there' (document 02 (i)), at the unit and from it three
 abbrev pub TurnAbout : Plan → Type 0
 TurnAbout pl =
     (s : State) → Good pl s → (o : Output) → Drives pl o → (j : ℕ) (cs : List Call) → StaysAlong pl o j cs s
-    → others pl o j cs s ≤ 3
+    → others pl o j cs s ≤ lastInOrder o

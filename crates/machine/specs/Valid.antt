@@ -126,8 +126,8 @@ fed pl (activeIn a) = true
 fed pl (passiveIn p) = true
 fed pl (passiveOut p) = false
 fed pl (U r i) = isJoined (pl .joint r i)
-fed pl (Q r) = true
-fed pl (F r o) = true
+fed pl (Q r i) = true
+fed pl (F h r o) = true
 fed pl (K r i o) = isJoined (pl .joint r i)
 
 -- ---- accepted connections: 'refusal 7 covers a mark for an unserved pair, one lacking any of its entries, or two that
@@ -171,7 +171,8 @@ pub record Valid (pl : Plan) (s : State) : Type 0 where
       → ofRank (senders o) k ≡ some q → s .flow .flag q ≡ false
   pub out-flags : (q : Queue) → Exists pl q → fed pl q ≡ false → s .flow .flag q ≡ false
   -- 'a handled mark on an empty Q'; no other queue has marks
-  pub marks : (q : Queue) → Exists pl q → s .lines .handled q ≡ true → (r : ℕ) × (q ≡ Q r) × (s .lines .queue q ≢ [])
+  pub marks : (q : Queue) → Exists pl q → s .lines .handled q ≡ true
+      → (r i : ℕ) × (q ≡ Q r i) × (s .lines .queue q ≢ [])
   -- 'a side with no free entry'
   pub free-entry : (r o : ℕ) → r < R pl → o < 4 → (t : ℕ) × (t < S pl) × (s .table r o t ≡ Free)
   -- 'credit + queued + wire + raised flag ≠ capacity of a queue fed by a wire'; where no wire feeds a queue its credit

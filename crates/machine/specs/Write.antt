@@ -28,7 +28,7 @@ ofRank (q ∷ qs) (suc k) = ofRank qs k
 abbrev pub raiseAs : Role → Queue → State → State
 raiseAs sending q s = s
 raiseAs receiving q s = withFlag q true s
-raiseAs (handling r) q s = withFlag q true (withHandled q false s)
+raiseAs (handling r i) q s = withFlag q true (withHandled q false s)
 raiseAs passing q s = withFlag q true s
 
 abbrev pub raise : Queue → State → State

@@ -1,5 +1,5 @@
 -- What the code computes is the number of the next queue.
-use mathlib.Core.Path.{_≡_, refl, sym, ap, _∙_}
+use mathlib.Core.Path.{_≡_, refl, sym, ap, ap₂, _∙_}
 use mathlib.Core.Logic.{_⊎_, inl, inr}
 use mathlib.Core.Bool.{Bool, true, false}
 use mathlib.Core.List.{List, []}
@@ -23,13 +23,13 @@ use Rattle.plan.specs.Rules.{portOf, portOr0, portsOf, home}
 use Rattle.plan.specs.Tables.{tablePlan, jointOfByte, interfaceAt}
 use Rattle.wiring.proofs.Joints.{router-some, interface-some}
 use Rattle.feeding.specs.Queue.{Queue, U, K, Q, F, activeIn, passiveIn, number, rank}
-use Rattle.feeding.specs.Feeds.{Heading, ahead, back, headingOf, destination, enters, across, beyond}
+use Rattle.feeding.specs.Feeds.{cameIn, Heading, ahead, back, headingOf, destination, enters, across, beyond}
 use Rattle.feeding.specs.Feeds.{Output, ofActive, ofPassive, ofSide, toUnit, fromUnit}
 use Rattle.machine.specs.Outputs.{nextBy, outputAt, routerOutput}
 use Rattle.layout.specs.Named.{existsTest}
 use Rattle.moves.specs.Wiring.{Wiring}
 use Rattle.moves.specs.Next.{noQueue, numberOr, goesBack, baseOf, inBaseOf, outputsOf, crossedOf, leavesOf}
-use Rattle.moves.specs.Next.{enteredOf, acrossOf, columnOf, routedOf, nextOf}
+use Rattle.moves.specs.Next.{enteredOf, acrossOf, columnOf, routedOf, nextOf, AtUnit}
 
 module _ (h : Head) (routes : List (List ℕ)) (joints : List ℕ) where
   abbrev pl : Plan
@@ -52,13 +52,21 @@ module _ (h : Head) (routes : List (List ℕ)) (joints : List ℕ) where
       by (inr t) u = rw (lt-ltb r (h .routers) hr, lt-ltb i 4 hi, t)
 
   -- F[o]
-  leaves-number : (r o : ℕ) → r < h .routers → leavesOf (baseOf h r) o ≡ numberOr pl (some (F r o))
+  leaves-number : (k : Kind) (r o : ℕ) → r < h .routers
+      → leavesOf (baseOf h r) (goesBack k) o ≡ numberOr pl (some (F (headingOf k) r o))
   unfolding tablePlan number leavesOf
-  leaves-number r o hr = by (test (ltb o 4))
+  leaves-number k r o hr = by k (test (ltb o 4))
     where
-      by : (ltb o 4 ≡ true) ⊎ (ltb o 4 ≡ false) → leavesOf (baseOf h r) o ≡ numberOr pl (some (F r o))
-      by (inl t) = rw (lt-ltb r (h .routers) hr, t) (omega arith)
-      by (inr t) = rw (lt-ltb r (h .routers) hr, t)
+      by : (k : Kind) → (ltb o 4 ≡ true) ⊎ (ltb o 4 ≡ false)
+          → leavesOf (baseOf h r) (goesBack k) o ≡ numberOr pl (some (F (headingOf k) r o))
+      by Setup (inl t) = rw (lt-ltb r (h .routers) hr, t) (omega arith)
+      by Tdown (inl t) = rw (lt-ltb r (h .routers) hr, t) (omega arith)
+      by Ack (inl t) = rw (lt-ltb r (h .routers) hr, t)
+      by Nack (inl t) = rw (lt-ltb r (h .routers) hr, t)
+      by Setup (inr t) = rw (lt-ltb r (h .routers) hr, t)
+      by Tdown (inr t) = rw (lt-ltb r (h .routers) hr, t)
+      by Ack (inr t) = rw (lt-ltb r (h .routers) hr, t)
+      by Nack (inr t) = rw (lt-ltb r (h .routers) hr, t)
 
   -- a packet that enters by a port
   entered-number : (k : Kind) (a p port : ℕ) → port < 4 * h .routers
@@ -145,46 +153,45 @@ module _ (h : Head) (routes : List (List ℕ)) (joints homes : List ℕ) (w : Wi
   column-side Ack a p r = refl
   column-side Nack a p r = refl
 
-  unit-number : (r : ℕ) → r < h .routers → baseOf h r + 4 ≡ numberOr net (some (Q r))
-  unfolding tablePlan number
-  unit-number r hr = rw (lt-ltb r (h .routers) hr)
-
-  -- by an output of a router
-  routed-number : (k : Kind) (a p r o : ℕ) → r < h .routers → o < 6
-      → routedOf h routes joints r o (goesBack k) a p ≡ numberOr net (beyond net (headingOf k) a p (routerOutput r o))
-  unfolding routedOf
-  routed-number k a p r o hr ho = by (test (ltb o 4)) (test (eqb o 4))
-    where
-      by : (ltb o 4 ≡ true) ⊎ (ltb o 4 ≡ false) → (eqb o 4 ≡ true) ⊎ (eqb o 4 ≡ false)
-          → routedOf h routes joints r o (goesBack k) a p ≡ numberOr net
-          (beyond net (headingOf k) a p (routerOutput r o))
-      by (inl x) y = rw x (across-number k a p r o (ltb-true o 4 x))
-      by (inr x) (inl y) = rw (x, y) (unit-number r hr)
-      by (inr x) (inr y) = rw (x, y)
-          (ap (leavesOf (baseOf h r)) (column-side k a p r)
-          ∙ leaves-number h routes joints r (routeTo net (destination (headingOf k) a p) r) hr)
-
-  -- by any output
   home-is : (e : Interface) (d : ℕ) → d < destinations h → interfaceAt h d ≡ e → portOf (getD homes d 0) ≡ home net e
   unfolding home
   home-is e d l q = ap portOf (w .ports d l ∙ ap (λ (x : Interface). portOr0 (portsOf net x)) q)
 
-  pub next-number : (m : ℕ) (x : Packet) → m < outputsOf h
-      → nextOf h routes joints homes m (goesBack (x .kind)) (x .active) (x .passive)
+  -- by an output of a router
+  routed-number : (x : Packet) (r o q : ℕ) → r < h .routers → o < 6
+      → (o ≡ 4 → q ≡ numberOr net (some (Q r (cameIn net (x .active) (x .passive) r))))
+      → routedOf h routes joints r o q (goesBack (x .kind)) (x .active) (x .passive)
+      ≡ numberOr net (nextBy net (routerOutput r o) x)
+  unfolding routedOf
+  routed-number x r o q hr ho at = by (test (ltb o 4)) (test (eqb o 4))
+    where
+      by : (ltb o 4 ≡ true) ⊎ (ltb o 4 ≡ false) → (eqb o 4 ≡ true) ⊎ (eqb o 4 ≡ false)
+          → routedOf h routes joints r o q (goesBack (x .kind)) (x .active) (x .passive)
+          ≡ numberOr net (nextBy net (routerOutput r o) x)
+      by (inl f) g = rw f (across-number (x .kind) (x .active) (x .passive) r o (ltb-true o 4 f))
+      by (inr f) (inl g) = rw (f, g) (at (eqb-true o 4 g))
+      by (inr f) (inr g) = rw (f, g)
+          (ap (leavesOf (baseOf h r) (goesBack (x .kind))) (column-side (x .kind) (x .active) (x .passive) r)
+          ∙ leaves-number h routes joints (x .kind) r
+          (routeTo net (destination (headingOf (x .kind)) (x .active) (x .passive)) r) hr)
+
+  -- by any output
+  pub next-number : (m q : ℕ) (x : Packet) → m < outputsOf h → AtUnit net (outputAt net m) x q
+      → nextOf h routes joints homes m q (goesBack (x .kind)) (x .active) (x .passive)
       ≡ numberOr net (nextBy net (outputAt net m) x)
   unfolding nextOf outputAt tablePlan
-  next-number m x l = by (lt-or-ge m (h .actives)) (lt-or-ge m (destinations h))
+  next-number m q x l at = by (lt-or-ge m (h .actives)) (lt-or-ge m (destinations h))
     where
       into : (e : Interface) → m < destinations h → interfaceAt h m ≡ e
           → enteredOf h routes (getD homes m 0) (goesBack (x .kind)) (x .active)
           ≡ numberOr net (some (enters net (headingOf (x .kind)) (x .active) (x .passive) (home net e)))
-      into e d q =
+      into e d f =
           entered-number h routes joints (x .kind) (x .active) (x .passive) (getD homes m 0) (port-small m d)
           ∙ ap (λ (y : Port). numberOr net (some (enters net (headingOf (x .kind)) (x .active) (x .passive) y)))
-          (home-is e m d q)
+          (home-is e m d f)
 
       by : (m < h .actives) ⊎ (h .actives ≤ m) → (m < destinations h) ⊎ (destinations h ≤ m)
-          → nextOf h routes joints homes m (goesBack (x .kind)) (x .active) (x .passive)
+          → nextOf h routes joints homes m q (goesBack (x .kind)) (x .active) (x .passive)
           ≡ numberOr net (nextBy net (outputAt net m) x)
       by (inl a) d =
           let k : m < destinations h = omega arith in
@@ -194,5 +201,6 @@ module _ (h : Head) (routes : List (List ℕ)) (joints homes : List ℕ) (w : Wi
           (into (passive (m - h .actives)) d (rw (le-ltb m (h .actives) a)))
       by (inr a) (inr d) =
           rw (le-ltb m (destinations h) d, le-ltb m (h .actives) a)
-          (routed-number (x .kind) (x .active) (x .passive) ((m - destinations h) / 6) ((m - destinations h) % 6)
-          (omega arith) (omega arith))
+          (routed-number x ((m - destinations h) / 6) ((m - destinations h) % 6) q (omega arith) (omega arith)
+          (λ e. at ((m - destinations h) / 6)
+          (rw (le-ltb m (destinations h) d, le-ltb m (h .actives) a, e))))

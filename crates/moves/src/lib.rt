@@ -15,7 +15,7 @@ ghost use Rattle.machine.specs.Outputs.{nextBy, outputAt};
 ghost use Rattle.moves.specs.Wiring.{Wiring};
 ghost use Rattle.moves.specs.Next.{numberOr, goesBack, baseOf, outputsOf, crossedOf, leavesOf, enteredOf};
 ghost use Rattle.moves.specs.Next.{acrossOf, columnOf};
-ghost use Rattle.moves.specs.Next.{routedOf, nextOf};
+ghost use Rattle.moves.specs.Next.{routedOf, nextOf, AtUnit};
 
 // No queue.
 pub const NO_QUEUE: usize = 65535;
@@ -42,9 +42,9 @@ pub fn goes_back(k: Kind) -> bool
 // The first of a router's queues.
 pub fn base_of(h: Head, r: usize) -> usize
     requires { ⌜ Counts h × (r ≤ 256) ⌝ }
-    ensures { λ v. ⌜ (v ≡ baseOf h r) × (v < 6000) ⌝ }
+    ensures { λ v. ⌜ (v ≡ baseOf h r) × (v < 8000) ⌝ }
 {
-    h.actives + h.passives + 21 * r
+    h.actives + h.passives + 28 * r
 }
 
 // The side that a router's row gives for a column.
@@ -65,7 +65,7 @@ pub fn side_out(routes: &[[u8; 32]; 16], r: usize, d: usize) -> usize
 
 // K[i,o] of a router whose queues begin at base.
 fn crossed(base: usize, i: usize, o: usize) -> usize
-    requires { ⌜ (base < 6000) × (i < 4) ⌝ }
+    requires { ⌜ (base < 8000) × (i < 4) ⌝ }
     ensures { λ v. ⌜ v ≡ crossedOf base i o ⌝ }
 {
     if o < 4 {
@@ -73,19 +73,25 @@ fn crossed(base: usize, i: usize, o: usize) -> usize
             return NO_QUEUE;
         }
         if i < o {
-            return base + 5 + 4 * o + (i + 1);
+            return base + 8 + 5 * o + (i + 2);
         }
-        return base + 5 + 4 * o + i;
+        return base + 8 + 5 * o + (i + 1);
     }
     NO_QUEUE
 }
 
-// F[o] of a router whose queues begin at base.
-fn leaves(base: usize, o: usize) -> usize
-    requires { ⌜ base < 6000 ⌝ }
-    ensures { λ v. ⌜ v ≡ leavesOf base o ⌝ }
+// F[o] of a router whose queues begin at base: of answers, or of set-ups and tear-downs.
+fn leaves(base: usize, back: bool, o: usize) -> usize
+    requires { ⌜ base < 8000 ⌝ }
+    ensures { λ v. ⌜ v ≡ leavesOf base back o ⌝ }
 {
-    if o < 4 { base + 5 + 4 * o } else { NO_QUEUE }
+    if o < 4 {
+        if back {
+            return base + 8 + 5 * o + 1;
+        }
+        return base + 8 + 5 * o;
+    }
+    NO_QUEUE
 }
 
 // The queue of a packet that enters by a port.
@@ -126,65 +132,70 @@ pub fn column_of(h: Head, back: bool, a: usize, p: usize) -> usize
     if back { a } else { h.actives + p }
 }
 
-// The queue of a packet that leaves by the k-th output of router r.
+// The queue of a packet that leaves by the k-th output of router r; by that to the unit it is queue q.
 fn routed(
     h: Head,
     routes: &[[u8; 32]; 16],
     joints: &[u8; 64],
     r: usize,
     k: usize,
+    q: usize,
     back: bool,
     a: usize,
     p: usize,
 ) -> usize
     requires { ⌜ Counts h × (r < 16) × (k < 6) × (a < 16) × (p < 16) ⌝ }
-    ensures { λ v. ⌜ v ≡ routedOf h (now (routes .entry)) (now (joints .entry)) r k back a p ⌝ }
+    ensures { λ v. ⌜ v ≡ routedOf h (now (routes .entry)) (now (joints .entry)) r k q back a p ⌝ }
 {
     if k < 4 {
         return across(h, routes, joints[4 * r + k], back, a);
     }
-    let base = base_of(h, r);
     if k == 4 {
-        return base + 4;
+        return q;
     }
+    let base = base_of(h, r);
     let d = column_of(h, back, a, p);
     let o = side_out(routes, r, d);
-    leaves(base, o)
+    leaves(base, back, o)
 }
 
-// The queue of a packet that leaves by output m.
+// The queue of a packet that leaves by output m; by one to a unit it is queue q.
 fn next_of(
     h: Head,
     routes: &[[u8; 32]; 16],
     joints: &[u8; 64],
     homes: &[u8; 32],
     m: usize,
+    q: usize,
     back: bool,
     a: usize,
     p: usize,
 ) -> usize
     requires { ⌜ Counts h × (m < outputsOf h) × (a < 16) × (p < 16)
         × ((d : ℕ) → d < destinations h → getD (now homes) d 0 < 64) ⌝ }
-    ensures { λ v. ⌜ v ≡ nextOf h (now (routes .entry)) (now (joints .entry)) (now (homes .entry)) m back a p ⌝ }
+    ensures { λ v. ⌜ v ≡ nextOf h (now (routes .entry)) (now (joints .entry)) (now (homes .entry)) m q back a p ⌝ }
 {
     let n = h.actives + h.passives;
     if m < n {
         return entered(h, routes, index(homes[m]), back, a);
     }
-    routed(h, routes, joints, (m - n) / 6, (m - n) % 6, back, a, p)
+    routed(h, routes, joints, (m - n) / 6, (m - n) % 6, q, back, a, p)
 }
 
-// The number of the queue that a packet joins as it leaves by output m.
+// The number of the queue that a packet joins as it leaves by output m. Where that leads to a unit, the caller knows
+// the queue there, q: who sends from U[i] sends to Q[i], and who has only the wire looks it up.
 pub fn next(
     h: Head,
     routes: &[[u8; 32]; 16],
     joints: &[u8; 64],
     homes: &[u8; 32],
     m: usize,
+    q: usize,
     x: Packet,
 ) -> usize
     requires { ⌜ Wiring h (now routes) (now joints) (now homes) × (m < outputsOf h)
-        × (x .active < h .actives) × (x .passive < h .passives) ⌝ }
+        × (x .active < h .actives) × (x .passive < h .passives)
+        × AtUnit (tablePlan h (now routes) (now joints)) (outputAt (tablePlan h (now routes) (now joints)) m) x q ⌝ }
     ensures { λ v. ⌜ v ≡ numberOr (tablePlan h (now (routes .entry)) (now (joints .entry)))
         (nextBy (tablePlan h (now (routes .entry)) (now (joints .entry)))
         (outputAt (tablePlan h (now (routes .entry)) (now (joints .entry))) m) x) ⌝ }
@@ -197,6 +208,7 @@ pub fn next(
         joints,
         homes,
         m,
+        q,
         back,
         index(x.active),
         index(x.passive),

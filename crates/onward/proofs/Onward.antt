@@ -8,10 +8,10 @@ use native.Mathlib.Omega.{arith}
 use lib.Dec.{eqb, ltb}
 use lib.ListN.{getD, length, replicate}
 use borrow.Author.Tests.{lt-ltb, le-ltb, ltb-true, eqb-true, eqb-false, eq-eqb, ne-eqb}
-use Rattle.basis.specs.Choice.{test}
+use Rattle.basis.specs.Choice.{test, not-both}
 use Rattle.basis.specs.Fold.{upTo, fill, up-none, up-more, up-same, fill-at, length-fill}
 use Rattle.sets.specs.Sets.{has, single, both, either}
-use Rattle.sets.specs.Laws.{has-single}
+use Rattle.sets.specs.Laws.{has-single, none-has}
 use Rattle.peel.specs.Words.{someOf, firstOf}
 use Rattle.spread.specs.Carried.{partnerOf, beyondOf}
 use Rattle.spread.proofs.Laws.{in-left, in-right, either-in}
@@ -171,6 +171,50 @@ module _ (l joints : List ℕ) where
       )
       (in-four (ontoOf l (getD l k 0) (beyondOf joints k)) (4 * beyondOf joints k + j) j f
       (in-onto l (getD l k 0) (beyondOf joints k) j b))
+
+  -- and to no other
+  pub record Linked (k y : ℕ) : Type 0 where
+    pub joined : partnerOf joints k < 64
+    pub beyond : y / 4 ≡ beyondOf joints k
+    pub some : both (getD l k 0) (getD l y 0) ≢ 0
+
+  onto-in : (m q j y : ℕ) → j < 4 → has (ontoOf l m q j) y ≡ true
+      → (y ≡ 4 * q + j) × (both m (getD l (4 * q + j) 0) ≢ 0)
+  unfolding ontoOf
+  onto-in m q j y h u = by (eq-or (both m (getD l (4 * q + j) 0)))
+    where
+      eq-or : (x : ℕ) → (x ≡ 0) ⊎ (x ≢ 0)
+      eq-or zero = inl refl
+      eq-or (suc x) = inr (λ e. omega arith)
+
+      by : (both m (getD l (4 * q + j) 0) ≡ 0) ⊎ (both m (getD l (4 * q + j) 0) ≢ 0)
+          → (y ≡ 4 * q + j) × (both m (getD l (4 * q + j) 0) ≢ 0)
+      by (inl e) = absurd (not-both (rw (eq-eqb (both m (getD l (4 * q + j) 0)) 0 e) at u) (none-has y))
+      by (inr n) =
+          let v : has (single (4 * q + j)) y ≡ true = rw (ne-eqb (both m (getD l (4 * q + j) 0)) 0 n) at u in
+          (eqb-true y (4 * q + j) (sym (has-single (4 * q + j) y) ∙ v), n)
+
+  pub links-in : (n k y : ℕ) → k < n → n ≤ 64 → has (getD (linksOf l joints n) k 0) y ≡ true → Linked k y
+  unfolding linksOf linkOf
+  links-in n k y h m u = at (rw (fill-at {A = ℕ} (linkOf l joints) n (replicate 64 0) k 0 h m) at u)
+    where
+      four : partnerOf joints k < 64 → has (fourOf (ontoOf l (getD l k 0) (beyondOf joints k))) y ≡ true → Linked k y
+      four p v = made (four-in (ontoOf l (getD l k 0) (beyondOf joints k)) y v)
+        where
+          made : (j : ℕ) × (j < 4) × (has (ontoOf l (getD l k 0) (beyondOf joints k) j) y ≡ true) → Linked k y
+          made (j, f, w) =
+              let b = onto-in (getD l k 0) (beyondOf joints k) j y f w in
+              let e = b .0 in
+              record { joined = p; beyond = omega arith; some = rw e (b .1) }
+
+      at : has (linkOf l joints k) y ≡ true → Linked k y
+      at v = by (test (eqb (getD l k 0) 0)) (test (ltb (partnerOf joints k) 64))
+        where
+          by : (eqb (getD l k 0) 0 ≡ true) ⊎ (eqb (getD l k 0) 0 ≡ false)
+              → (ltb (partnerOf joints k) 64 ≡ true) ⊎ (ltb (partnerOf joints k) 64 ≡ false) → Linked k y
+          by (inl e) g = absurd (not-both (rw e at v) (none-has y))
+          by (inr e) (inl g) = four (ltb-true (partnerOf joints k) 64 g) (rw (e, g) at v)
+          by (inr e) (inr g) = absurd (not-both (rw (e, g) at v) (none-has y))
 
   pub links-long : (n : ℕ) {c : List ℕ} → c ≡ linksOf l joints n → length c ≡ 64
   unfolding linksOf

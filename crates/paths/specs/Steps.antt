@@ -59,3 +59,8 @@ abbrev pub sideAt : Spot Port → ℕ
 sideAt (on x) = x .side
 sideAt end = noSide
 sideAt lost = noSide
+
+-- the side by which the walk to e comes in to the router of an index on it, or noSide off it
+abbrev pub enteredBy : Plan → Interface → Port → Index → ℕ
+enteredBy pl e from (At k) = sideAt (walked pl e k from)
+enteredBy pl e from Off = noSide

@@ -1,5 +1,5 @@
 -- What the code of the picks needs of its bytes.
-use mathlib.Core.Path.{_≡_, refl, sym, ap, _∙_}
+use mathlib.Core.Path.{_≡_, refl, sym, ap, subst, _∙_}
 use mathlib.Core.Logic.{_⊎_, inl, inr}
 use mathlib.Core.Bool.{Bool, true, false}
 use mathlib.Core.List.{List}
@@ -10,17 +10,19 @@ use lib.Dec.{eqb}
 use lib.ListN.{length, getD}
 use borrow.Author.Tests.{eqb-true, eq-eqb, ne-eqb, lt-ltb, le-ltb}
 use Rattle.basis.specs.Bounded.{lt-or-ge}
+use Rattle.basis.specs.Bounded.{below-suc}
 use Rattle.packets.specs.declared.Packet.{Packet}
 use Rattle.plan.specs.declared.Head.{Head}
 use Rattle.plan.specs.Head.{Counts, destinations}
 use Rattle.plan.specs.Plan.{Plan}
 use Rattle.plan.specs.Tables.{tablePlan}
 use Rattle.feeding.specs.Queue.{number, queues, queueAt}
-use Rattle.feeding.specs.Feeds.{outputOf, ofSide, toUnit, fromUnit}
+use Rattle.feeding.specs.Feeds.{outputOf, ofSide, toUnit, fromUnit, leavesFrom}
 use Rattle.journeys.proofs.Numbers.{number-below}
 use Rattle.machine.specs.State.{State, isFree}
 use Rattle.machine.specs.Outputs.{outputs, outputAt, outputNumber, nextBy}
 use Rattle.machine.specs.Execute.{isOpen}
+use Rattle.machine.specs.Valid.{Belongs}
 use Rattle.machine.proofs.Numbers.{exists-at}
 use Rattle.machine.proofs.OutNumbers.{drives-at, output-at}
 use Rattle.theory.specs.Invariant.{Core}
@@ -32,7 +34,8 @@ use Rattle.layout.proofs.Readings.{slot-at, entry-at, last-sender-at}
 use Rattle.acts.specs.Acts.{Holds, Steps}
 use Rattle.acts.specs.Counts.{queueCount, outputCount, outputsFrom, outputs-at, tableFrom, turnsFrom, turns-at}
 use Rattle.moves.specs.Wiring.{Wiring}
-use Rattle.moves.specs.Next.{numberOr}
+use Rattle.moves.specs.Next.{numberOr, AtUnit}
+use Rattle.moves.proofs.Onward.{onward-at}
 use Rattle.picking.specs.Moments.{Tells, Picks, Open, Leaves, chooses}
 use Rattle.picking.specs.Senders.{Sends}
 use Rattle.picking.proofs.Steps.{steps-by, holds-by}
@@ -60,9 +63,18 @@ idle-four at b e f g t (suc (suc (suc zero))) l =
     ap (λ (i : ℕ). getD b i 0) q ∙ eqb-true (getD b (at + 120) 0) 0 t
 idle-four at b e f g t (suc (suc (suc (suc k)))) l = absurd (omega arith)
 
+-- and a fifth
+pub idle-five : (at : ℕ) (b : List ℕ) → getD b (at + 159) 0 ≡ 0
+    → ((k : ℕ) → k < 4 → lengthAt (at + 39 * k) b ≡ 0) → (k : ℕ) → k < 5 → lengthAt (at + 39 * k) b ≡ 0
+idle-five at b e f k l = by (below-suc {i = k} {n = 4} l)
+  where
+    by : (k < 4) ⊎ (k ≡ 4) → lengthAt (at + 39 * k) b ≡ 0
+    by (inl h) = f k h
+    by (inr h) = let q : at + 39 * k + 3 ≡ at + 159 = omega arith in ap (λ (i : ℕ). getD b i 0) q ∙ e
+
 -- the rows of queues one behind the other
-pub idle-rows : {at : ℕ} (b : List ℕ) (n : ℕ) → at ≡ 2 + 39 * n → ((k : ℕ) → k < 4 → lengthAt (at + 39 * k) b ≡ 0)
-    → (k : ℕ) → k < 4 → lengthAt (2 + 39 * (n + k)) b ≡ 0
+pub idle-rows : {at c : ℕ} (b : List ℕ) (n : ℕ) → at ≡ 2 + 39 * n
+    → ((k : ℕ) → k < c → lengthAt (at + 39 * k) b ≡ 0) → (k : ℕ) → k < c → lengthAt (2 + 39 * (n + k)) b ≡ 0
 idle-rows {at} b n ea z k l =
     let q : 2 + 39 * (n + k) + 3 ≡ at + 39 * k + 3 = omega arith in ap (λ (i : ℕ). getD b i 0) q ∙ z k l
 
@@ -86,7 +98,7 @@ module _ {h : Head} {routes : List (List ℕ)} {joints homes : List ℕ} (w : Wi
   unfolding tablePlan
   output-is l = omega arith
 
-  few : queueCount h ≤ 400
+  few : queueCount h ≤ 512
   few =
       let r = w .range .routers .1 in
       let a = w .range .actives .1 in
@@ -106,12 +118,13 @@ module _ {h : Head} {routes : List (List ℕ)} {joints homes : List ℕ} (w : Wi
     goes : Going (w .wired) (range-of w) m n b (k .state)
     goes = going (w .wired) (range-of w) m n (k .state) (k .rest) b (is-queue hn) eo (k .fit) (k .same)
 
-    pub next-asks : (x .active < h .actives) × (x .passive < h .passives)
+    pub next-asks : (x .active < h .actives) × (x .passive < h .passives) × AtUnit pl (outputAt pl m) x (n + 4)
     unfolding tablePlan
     next-asks =
         let g = goes in
         let e : x ≡ g .head = ex ∙ g .read in
-        (rw e (g .ranges .active), rw e (g .ranges .passive))
+        let f = subst (Belongs pl (leavesFrom (queueAt pl n))) (sym e) (g .belongs) in
+        (f .ranges .active, f .ranges .passive, onward-at (w .wired) (outputAt pl m) n (is-queue hn) eo f)
 
     module _ {v : ℕ} (ev : v ≡ numberOr pl (nextBy pl (outputAt pl m) x)) where
       onto : v ≡ number pl (goes .onto)
@@ -132,7 +145,7 @@ module _ {h : Head} {routes : List (List ℕ)} {joints homes : List ℕ} (w : Wi
 
   -- ---- senders
   pub sends-asks : {m n c k : ℕ} {unit : Bool} → Sends pl m n c unit → k < c
-      → (m < outputCount h) × (n + k < queueCount h) × (n + k < 400)
+      → (m < outputCount h) × (n + k < queueCount h) × (n + k < 512)
   sends-asks ss l =
       let q = few in
       let z = queue-is (less ss l) in
@@ -205,16 +218,16 @@ module _ {h : Head} {routes : List (List ℕ)} {joints homes : List ℕ} (w : Wi
     abbrev first : ℕ
     first = destinations h + 6 * r
 
-    pub side-sends : {o n m : ℕ} → o < 4 → n ≡ destinations h + 21 * r → m ≡ first
-        → Sends pl (m + o) (n + 5 + 4 * o) 4 false
+    pub side-sends : {o n m : ℕ} → o < 4 → n ≡ destinations h + 28 * r → m ≡ first
+        → Sends pl (m + o) (n + 8 + 5 * o) 5 false
     unfolding tablePlan
     side-sends {o} ho en em = rw (en, em) (sends-side pl r o (is-router w hr) ho)
 
-    pub up-sends : {n m : ℕ} → n ≡ destinations h + 21 * r → m ≡ first → Sends pl (m + 4) n 4 false
+    pub up-sends : {n m : ℕ} → n ≡ destinations h + 28 * r → m ≡ first → Sends pl (m + 4) n 4 false
     unfolding tablePlan
     up-sends en em = rw (en, em) (sends-up pl r (is-router w hr))
 
-    pub down-sends : {n m : ℕ} → n ≡ destinations h + 21 * r → m ≡ first → Sends pl (m + 5) (n + 4) 1 true
+    pub down-sends : {n m : ℕ} → n ≡ destinations h + 28 * r → m ≡ first → Sends pl (m + 5) (n + 4) 4 true
     unfolding tablePlan
     down-sends en em = rw (en, em) (sends-down pl r (is-router w hr))
 
@@ -222,7 +235,7 @@ module _ {h : Head} {routes : List (List ℕ)} {joints homes : List ℕ} (w : Wi
     base-asks = let m = w .range .routers .1 in (counts-of w, omega arith)
 
     -- the rows of four of its queues
-    four-room : {I : State → Type 0} (n : ℕ) {at : ℕ} {b : List ℕ} → n + 4 ≤ destinations h + 21 * h .routers
+    four-room : {I : State → Type 0} (n : ℕ) {at : ℕ} {b : List ℕ} → n + 4 ≤ destinations h + 28 * h .routers
         → at ≡ 2 + 39 * n → Holds pl I b → (at + 156 ≤ length b) × (at < 65536)
     four-room {I} n {at} {b} l ea k =
         let q : n + 3 < queueCount h = omega arith in
@@ -230,18 +243,22 @@ module _ {h : Head} {routes : List (List ℕ)} {joints homes : List ℕ} (w : Wi
         let f = few in
         (omega arith, omega arith)
 
-    pub up-room : {I : State → Type 0} {n at : ℕ} {b : List ℕ} → n ≡ destinations h + 21 * r → at ≡ 2 + 39 * n
+    pub up-room : {I : State → Type 0} {n at : ℕ} {b : List ℕ} → n ≡ destinations h + 28 * r → at ≡ 2 + 39 * n
         → Holds pl I b → (at + 156 ≤ length b) × (at < 65536)
     up-room {n = n} en ea k = four-room n (omega arith) ea k
 
-    pub side-rows : {I : State → Type 0} {o n at : ℕ} {b : List ℕ} → o < 4 → n ≡ destinations h + 21 * r
-        → at ≡ 2 + 39 * (n + 5 + 4 * o) → Holds pl I b → (at + 156 ≤ length b) × (at < 65536)
-    side-rows {o = o} {n = n} ho en ea k = four-room (n + 5 + 4 * o) (omega arith) ea k
+    pub side-rows : {I : State → Type 0} {o n at : ℕ} {b : List ℕ} → o < 4 → n ≡ destinations h + 28 * r
+        → at ≡ 2 + 39 * (n + 8 + 5 * o) → Holds pl I b → (at + 195 ≤ length b) × (at < 65536)
+    side-rows {o = o} {n = n} {at = at} ho en ea k =
+        let q : n + 8 + 5 * o + 4 < queueCount h = omega arith in
+        let e = row-room {n = n + 8 + 5 * o + 4} q refl k in
+        let f = few in
+        (omega arith, omega arith)
 
     -- Q's row
-    pub q-room : {I : State → Type 0} {n at : ℕ} {b : List ℕ} → n ≡ destinations h + 21 * r → at ≡ 2 + 39 * (n + 4)
-        → Holds pl I b → at + 39 ≤ length b
-    q-room {n = n} en ea k = let l : n + 4 < queueCount h = omega arith in row-room l ea k
+    pub q-room : {I : State → Type 0} {n at : ℕ} {b : List ℕ} → n ≡ destinations h + 28 * r → at ≡ 2 + 39 * (n + 4)
+        → Holds pl I b → (at + 156 ≤ length b) × (at < 65536)
+    q-room {n = n} en ea k = four-room (n + 4) (omega arith) ea k
 
     side-is : (o : ℕ) → o < 4 → outputAt pl (first + o) ≡ ofSide r o
     unfolding tablePlan outputNumber

@@ -28,7 +28,7 @@ use Rattle.machine.specs.State.{State, Choice, nobody, sender, withChoice, with
 use Rattle.machine.specs.Outputs.{outputs, outputAt, nextBy, senders}
 use Rattle.machine.specs.Execute.{headReady, candidate, isOpen, firstOf, nextOf, picked, choose}
 use Rattle.machine.specs.Progress.{isInQueue}
-use Rattle.machine.specs.Valid.{Belongs, PacketOk}
+use Rattle.machine.specs.Valid.{Belongs}
 use Rattle.machine.specs.Write.{ofRank}
 use Rattle.machine.proofs.Numbers.{exists-at}
 use Rattle.machine.proofs.OutNumbers.{drives-at}
@@ -76,12 +76,12 @@ leaves-in (activeIn x) o e = absurd (some-not-none e)
 leaves-in (passiveIn x) o e = absurd (some-not-none e)
 leaves-in (passiveOut x) o e = refl
 leaves-in (U r i) o e = refl
-leaves-in (Q r) o e = refl
-leaves-in (F r i) o e = refl
+leaves-in (Q r i) o e = refl
+leaves-in (F h r i) o e = refl
 leaves-in (K r i j) o e = refl
 
-unit-not : {b : Bool} (q : Queue) → isUnit q ≡ b → b ≡ false → (r : ℕ) → q ≡ Q r → ⊥
-unit-not q e f r z = not-both (ap isUnit z) (e ∙ f)
+unit-not : {b : Bool} (q : Queue) → isUnit q ≡ b → b ≡ false → (r i : ℕ) → q ≡ Q r i → ⊥
+unit-not q e f r i z = not-both (ap isUnit z) (e ∙ f)
 
 above-zero : (n : ℕ) → not (eqb n 0) ≡ ltb 0 n
 above-zero zero = refl
@@ -95,7 +95,7 @@ module _ {pl : Plan} (wired : Wired pl) (range : InRange (pl .head)) where
     pub rest : List Packet
     pub line : s .lines .queue (queueAt pl n) ≡ head ∷ rest
     pub read : packetAt (2 + 39 * n + 4) b ≡ head
-    pub ranges : PacketOk pl head
+    pub belongs : Belongs pl (leavesFrom (queueAt pl n)) head
     pub onto : Queue
     pub goes : nextBy pl (outputAt pl m) head ≡ some onto
     pub there : Exists pl onto
@@ -127,7 +127,7 @@ module _ {pl : Plan} (wired : Wired pl) (range : InRange (pl .head)) where
                 rest = xs;
                 line = k;
                 read = rw (← row-at pl n hn) (head-at pl s rest b e (queueAt pl n) (exists-at pl n hn) x xs k);
-                ranges = belongs .ranges;
+                belongs = belongs;
                 onto = y;
                 goes = g′;
                 there = belongs-exists wired y x (next-belongs wired range x (leavesFrom (queueAt pl n)) belongs
@@ -178,12 +178,12 @@ module _ {pl : Plan} (wired : Wired pl) (range : InRange (pl .head)) where
             (no-packet pl s rest b e (queueAt pl n) (exists-at pl n hn) (rw (row-at pl n hn, ← ea) z)));
       }
 
-  unhandled-not : (s : State) (o : Output) (q : Queue) (r : ℕ) → q ≡ Q r → s .lines .handled q ≡ false
+  unhandled-not : (s : State) (o : Output) (q : Queue) (r i : ℕ) → q ≡ Q r i → s .lines .handled q ≡ false
       → candidate pl s o q ≡ false
   unfolding candidate
-  unhandled-not s o q r e f = rw e (by (s .lines .queue (Q r)))
+  unhandled-not s o q r i e f = rw e (by (s .lines .queue (Q r i)))
     where
-      by : (l : List Packet) → headReady pl s o (s .lines .handled (Q r)) l ≡ false
+      by : (l : List Packet) → headReady pl s o (s .lines .handled (Q r i)) l ≡ false
       by [] = refl
       by (x ∷ l) = rw (ap (s .lines .handled) (sym e) ∙ f)
 
@@ -193,18 +193,18 @@ module _ {pl : Plan} (wired : Wired pl) (range : InRange (pl .head)) where
       record {
         told = λ s rest c e.
             let k = unit-of (queueAt pl n) u in
-            sym (unhandled-not s (outputAt pl m) (queueAt pl n) (k .0) (k .1)
+            sym (unhandled-not s (outputAt pl m) (queueAt pl n) (k .0) (k .1) (k .2)
             (unmarked pl s rest b e (queueAt pl n) (exists-at pl n hn) (rw (row-at pl n hn, ← ea) z)));
       }
     where
-      unit-of : (q : Queue) → isUnit q ≡ true → (r : ℕ) × (q ≡ Q r)
+      unit-of : (q : Queue) → isUnit q ≡ true → (r i : ℕ) × (q ≡ Q r i)
       unit-of (activeOut x) e = absurd (not-both e refl)
       unit-of (activeIn x) e = absurd (not-both e refl)
       unit-of (passiveIn x) e = absurd (not-both e refl)
       unit-of (passiveOut x) e = absurd (not-both e refl)
       unit-of (U r i) e = absurd (not-both e refl)
-      unit-of (Q r) e = (r, refl)
-      unit-of (F r i) e = absurd (not-both e refl)
+      unit-of (Q r i) e = (r, i, refl)
+      unit-of (F h r i) e = absurd (not-both e refl)
       unit-of (K r i j) e = absurd (not-both e refl)
 
   -- it has a head that may leave: a queue at no unit, or a handled head
@@ -214,7 +214,7 @@ module _ {pl : Plan} (wired : Wired pl) (range : InRange (pl .head)) where
       record {
         core = c;
         some = some-packet pl s rest b e (queueAt pl n) (exists-at pl n hn) (rw (row-at pl n hn, ← ea) f);
-        may = may-leave s (queueAt pl n) (λ r z. absurd (unit-not (queueAt pl n) u refl r z));
+        may = may-leave s (queueAt pl n) (λ r i z. absurd (unit-not (queueAt pl n) u refl r i z));
       }
 
   pub leaves-handled : (n : ℕ) {at : ℕ} {b : List ℕ} → n < queues pl → at ≡ 2 + 39 * n → (lengthAt at b ≡ 0 → ⊥)
@@ -224,7 +224,7 @@ module _ {pl : Plan} (wired : Wired pl) (range : InRange (pl .head)) where
         core = c;
         some = some-packet pl s rest b e (queueAt pl n) (exists-at pl n hn) (rw (row-at pl n hn, ← ea) f);
         may = may-leave s (queueAt pl n)
-            (λ r z. marked pl s rest b e (queueAt pl n) (exists-at pl n hn) (rw (row-at pl n hn, ← ea) g));
+            (λ r i z. marked pl s rest b e (queueAt pl n) (exists-at pl n hn) (rw (row-at pl n hn, ← ea) g));
       }
 
   -- ---- the loop over an output's senders

@@ -105,27 +105,29 @@ next-nobody pl f k n c h = rw (drop-named pl n c (suc k), behind, first-nobody p
 -- ---- the senders of each output
 module _ (pl : Plan) where
   abbrev base : ℕ → ℕ
-  base r = A pl + P pl + 21 * r
+  base r = A pl + P pl + 28 * r
 
-  sender-number : (r o k : ℕ) → o < 4 → number pl (senderAt r o k) ≡ base r + 5 + 4 * o + k
+  sender-number : (r o k : ℕ) → o < 4 → number pl (senderAt r o k) ≡ base r + 8 + 5 * o + k
   unfolding number
   sender-number r o zero ho = refl
-  sender-number r o (suc j) ho = by (lt-or-ge j o)
+  sender-number r o (suc zero) ho = refl
+  sender-number r o (suc (suc j)) ho = by (lt-or-ge j o)
     where
-      by : (j < o) ⊎ (o ≤ j) → number pl (K r (pick (ltb j o) j (suc j)) o) ≡ base r + 5 + 4 * o + suc j
+      by : (j < o) ⊎ (o ≤ j) → number pl (K r (pick (ltb j o) j (suc j)) o) ≡ base r + 8 + 5 * o + suc (suc j)
       by (inl l) = rw (lt-ltb j o l, lt-ltb j o l)
       by (inr g) = let h : o ≤ suc j = omega arith in rw (le-ltb j o g, le-ltb (suc j) o h)
 
-  sender-here : (r o k : ℕ) → r < R pl → o < 4 → k < 4 → Exists pl (senderAt r o k)
+  sender-here : (r o k : ℕ) → r < R pl → o < 4 → k < 5 → Exists pl (senderAt r o k)
   sender-here r o zero hr ho hk = (hr, ho)
-  sender-here r o (suc j) hr ho hk = by (lt-or-ge j o)
+  sender-here r o (suc zero) hr ho hk = (hr, ho)
+  sender-here r o (suc (suc j)) hr ho hk = by (lt-or-ge j o)
     where
       by : (j < o) ⊎ (o ≤ j) → Exists pl (K r (pick (ltb j o) j (suc j)) o)
       by (inl l) = rw (lt-ltb j o l) (hr, omega arith, ho, λ z. omega arith)
       by (inr g) = rw (le-ltb j o g) (hr, omega arith, ho, λ z. omega arith)
 
   -- the sender of rank k at a side, and U[k], by their numbers
-  sender-at : (r o k n : ℕ) → r < R pl → o < 4 → k < 4 → n ≡ base r + 5 + 4 * o + k → queueAt pl n ≡ senderAt r o k
+  sender-at : (r o k n : ℕ) → r < R pl → o < 4 → k < 5 → n ≡ base r + 8 + 5 * o + k → queueAt pl n ≡ senderAt r o k
   sender-at r o k n hr ho hk e =
       ap (queueAt pl) (e ∙ sym (sender-number r o k ho)) ∙ queue-at pl (senderAt r o k) (sender-here r o k hr ho hk)
 
@@ -135,10 +137,11 @@ module _ (pl : Plan) where
 
   passing-at : (r o k : ℕ) → isUnit (senderAt r o k) ≡ false
   passing-at r o zero = refl
-  passing-at r o (suc k) = refl
+  passing-at r o (suc zero) = refl
+  passing-at r o (suc (suc k)) = refl
 
   pub sends-side : (r o : ℕ) → r < R pl → o < 4
-      → Sends pl (A pl + P pl + 6 * r + o) (base r + 5 + 4 * o) 4 false
+      → Sends pl (A pl + P pl + 6 * r + o) (base r + 8 + 5 * o) 5 false
   unfolding named outputNumber queues
   sends-side r o hr ho =
       record {
@@ -146,15 +149,16 @@ module _ (pl : Plan) where
         few = omega arith;
         are = rw (
           output-at pl (ofSide r o) (hr, ho),
-          four 0 (base r + 5 + 4 * o) (omega arith) (omega arith),
-          four 1 (suc (base r + 5 + 4 * o)) (omega arith) (omega arith),
-          four 2 (suc (suc (base r + 5 + 4 * o))) (omega arith) (omega arith),
-          four 3 (suc (suc (suc (base r + 5 + 4 * o)))) (omega arith) (omega arith),
+          four 0 (base r + 8 + 5 * o) (omega arith) (omega arith),
+          four 1 (suc (base r + 8 + 5 * o)) (omega arith) (omega arith),
+          four 2 (suc (suc (base r + 8 + 5 * o))) (omega arith) (omega arith),
+          four 3 (suc (suc (suc (base r + 8 + 5 * o)))) (omega arith) (omega arith),
+          four 4 (suc (suc (suc (suc (base r + 8 + 5 * o))))) (omega arith) (omega arith),
         );
-        units = λ k l. ap isUnit (four k (base r + 5 + 4 * o + k) l refl) ∙ passing-at r o k;
+        units = λ k l. ap isUnit (four k (base r + 8 + 5 * o + k) l refl) ∙ passing-at r o k;
       }
     where
-      four : (k n : ℕ) → k < 4 → n ≡ base r + 5 + 4 * o + k → queueAt pl n ≡ senderAt r o k
+      four : (k n : ℕ) → k < 5 → n ≡ base r + 8 + 5 * o + k → queueAt pl n ≡ senderAt r o k
       four k n l e = sender-at r o k n hr ho l e
 
   pub sends-up : (r : ℕ) → r < R pl → Sends pl (A pl + P pl + 6 * r + 4) (base r) 4 false
@@ -176,18 +180,24 @@ module _ (pl : Plan) where
       four : (k n : ℕ) → k < 4 → n ≡ base r + k → queueAt pl n ≡ U r k
       four k n l e = up-at r k n hr l e
 
-  pub sends-down : (r : ℕ) → r < R pl → Sends pl (A pl + P pl + 6 * r + 5) (base r + 4) 1 true
+  pub sends-down : (r : ℕ) → r < R pl → Sends pl (A pl + P pl + 6 * r + 5) (base r + 4) 4 true
   unfolding named outputNumber queues number
   sends-down r hr =
       record {
         drives = omega arith;
         few = omega arith;
-        are = rw (output-at pl (fromUnit r) hr, queue-at pl (Q r) hr);
-        units = λ k l. ap isUnit (one k l);
+        are = rw (
+          output-at pl (fromUnit r) hr,
+          four 0 (base r + 4) (omega arith) (omega arith),
+          four 1 (suc (base r + 4)) (omega arith) (omega arith),
+          four 2 (suc (suc (base r + 4))) (omega arith) (omega arith),
+          four 3 (suc (suc (suc (base r + 4)))) (omega arith) (omega arith),
+        );
+        units = λ k l. ap isUnit (four k (base r + 4 + k) l refl);
       }
     where
-      one : (k : ℕ) → k < 1 → queueAt pl (base r + 4 + k) ≡ Q r
-      one k l = let e : base r + 4 + k ≡ base r + 4 = omega arith in ap (queueAt pl) e ∙ queue-at pl (Q r) hr
+      four : (k n : ℕ) → k < 4 → n ≡ base r + 4 + k → queueAt pl n ≡ Q r k
+      four k n l e = ap (queueAt pl) e ∙ queue-at pl (Q r k) (hr, l)
 
   -- an interface's one sender has its output's number
   pub sends-interface : (m : ℕ) → m < A pl + P pl → Sends pl m m 1 false

@@ -38,7 +38,8 @@ fn index(x: u8) -> usize
     x as usize
 }
 
-// Whether the next queue of the head of queue n, which may leave by output m, has credit.
+// Whether the next queue of the head of queue n, which may leave by output m, has credit. To a unit the head of U[i]
+// goes to Q[i], which stands four queues behind.
 fn may_go(
     h: Head,
     routes: &[[u8; 32]; 16],
@@ -58,7 +59,7 @@ fn may_go(
 {
     let at = acts::queue_row(n);
     let x = rows::packet_at(s, at + FIRST_PLACE);
-    let y = moves::next(h, routes, joints, homes, m, x);
+    let y = moves::next(h, routes, joints, homes, m, n + 4, x);
     s[acts::queue_row(y)] != 0
 }
 
@@ -110,7 +111,7 @@ fn first(
     unit: bool,
     s: &[u8],
 ) -> u8
-    requires { ⌜ Wiring h (now routes) (now joints) (now homes) × (c ≤ 4) × (i ≤ 256)
+    requires { ⌜ Wiring h (now routes) (now joints) (now homes) × (c ≤ 5) × (i ≤ 256)
         × Sends (tablePlan h (now routes) (now joints)) m n c unit
         × Holds (tablePlan h (now routes) (now joints)) (Core (tablePlan h (now routes) (now joints))) (now s) ⌝ }
     ensures { λ v. ⌜ Tells (tablePlan h (now (routes .entry)) (now (joints .entry)))
@@ -137,7 +138,7 @@ fn turn(
     unit: bool,
     s: &[u8],
 ) -> u8
-    requires { ⌜ Wiring h (now routes) (now joints) (now homes) × (c ≤ 4)
+    requires { ⌜ Wiring h (now routes) (now joints) (now homes) × (c ≤ 5)
         × Sends (tablePlan h (now routes) (now joints)) m n c unit
         × Holds (tablePlan h (now routes) (now joints)) (Core (tablePlan h (now routes) (now joints))) (now s) ⌝ }
     ensures { λ v. ⌜ Tells (tablePlan h (now (routes .entry)) (now (joints .entry)))
@@ -164,7 +165,7 @@ fn pick(
     unit: bool,
     s: &mut [u8],
 )
-    requires { ⌜ Wiring h (now routes) (now joints) (now homes) × (c ≤ 4)
+    requires { ⌜ Wiring h (now routes) (now joints) (now homes) × (c ≤ 5)
         × Sends (tablePlan h (now routes) (now joints)) m n c unit
         × Holds (tablePlan h (now routes) (now joints)) (Open (tablePlan h (now routes) (now joints)) m) (now s) ⌝ }
     ensures { λ _. ⌜ Steps (tablePlan h (now (routes .entry)) (now (joints .entry)))
@@ -201,6 +202,17 @@ fn idle(s: &[u8], at: usize) -> bool
     s[at + 120] == 0
 }
 
+// Whether none of a side's five senders, whose rows begin at an offset, has a packet.
+fn side_idle(s: &[u8], at: usize) -> bool
+    requires { ⌜ (at + 195 ≤ length (now s)) × (at < 65536) ⌝ }
+    ensures { λ r. ⌜ (r ≡ true → (k : ℕ) → k < 5 → lengthAt (at + 39 * k) (now (s .entry)) ≡ 0) ⌝ }
+{
+    if s[at + 159] != 0 {
+        return false;
+    }
+    idle(s, at)
+}
+
 // Side o of router r picks, unless its entry for the current slot is booked.
 fn side(
     h: Head,
@@ -219,8 +231,8 @@ fn side(
         (chooses (tablePlan h (now (routes .entry)) (now (joints .entry))) (destinations h + 6 * r + o))
         (now (s .entry)) (now (s .exit)) ⌝ }
 {
-    let n = moves::base_of(h, r) + 5 + 4 * o;
-    if idle(s, acts::queue_row(n)) {
+    let n = moves::base_of(h, r) + 8 + 5 * o;
+    if side_idle(s, acts::queue_row(n)) {
         return;
     }
     let t = index(s[1]);
@@ -228,7 +240,7 @@ fn side(
         return;
     }
     let m = first_of(h, r) + o;
-    pick(h, routes, joints, homes, m, n, 4, false, s);
+    pick(h, routes, joints, homes, m, n, 5, false, s);
 }
 
 // The way from router r to its unit picks.
@@ -267,12 +279,11 @@ fn down(
         (now (s .entry)) (now (s .exit)) ⌝ }
 {
     let n = moves::base_of(h, r) + 4;
-    let at = acts::queue_row(n);
-    if s[at + LENGTH_BYTE] == 0 {
+    if idle(s, acts::queue_row(n)) {
         return;
     }
     let m = first_of(h, r) + 5;
-    pick(h, routes, joints, homes, m, n, 1, true, s);
+    pick(h, routes, joints, homes, m, n, 4, true, s);
 }
 
 // The output of an interface picks: its one sender has the output's number.

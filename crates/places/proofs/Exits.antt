@@ -1,5 +1,5 @@
 -- What each way out of a function tells of its test.
-use mathlib.Core.Path.{_≡_, sym, ap, _∙_}
+use mathlib.Core.Path.{refl, _≡_, sym, ap, _∙_}
 use mathlib.Core.Bool.{Bool, true, false}
 use mathlib.Core.List.{List, []}
 use Prim.Native.Nat.{ℕ, _+_, _*_, _-_, _/_, _%_, _≤_, _<_}
@@ -7,7 +7,7 @@ use native.Mathlib.Omega.{arith}
 use lib.Dec.{eqb, leb}
 use lib.ListN.{getD}
 use borrow.Author.Tests.{eq-eqb, ne-eqb, lt-ltb, le-ltb}
-use Rattle.basis.specs.Choice.{pick}
+use Rattle.basis.specs.Choice.{also, pick}
 use Rattle.basis.specs.Fold.{upTo, up-done}
 use Rattle.sets.specs.Sets.{has}
 use Rattle.packets.specs.declared.Kind.{Kind}
@@ -18,7 +18,7 @@ use Rattle.places.specs.declared.Standing.{Standing}
 use Rattle.places.specs.Look.{trackAt, trackOf, tripOf, standingOf, freesUpTo, coming, leaving, unitBy, nextBy}
 use Rattle.places.specs.Look.{comesBy, sideBy, columnOf, outBy, onwardOf, nthOf, nackBy, answerBy, crossBy}
 use Rattle.places.specs.Look.{activeOutAs, passiveOutAs, activeInAs, passiveInAs, sentBy, receivedBy, senderBy}
-use Rattle.places.specs.Look.{routerBy, fitsBy, Marked, Led}
+use Rattle.places.specs.Look.{routerBy, fitsBy, Marked, Led, answers}
 
 -- ---- a pair's walk
 pub trip-is : (actives : ℕ) (homes : List ℕ) (lengths : List (List ℕ)) (x : Packet) {a p k n : ℕ} → a ≡ x .active
@@ -138,14 +138,31 @@ module _ (joints : List ℕ) (by up : List (List ℕ)) (from d port : ℕ) where
   comes-later e f = rw (ne-eqb from port e) f
 
 -- ---- places at a router
-module _ (up : List (List ℕ)) (t : Trip) (r : ℕ) (k : Kind) (hub : ℕ) {v : Standing} (e : v ≡ standingOf up t r) where
-  pub unit-done : (done : Bool) → done ≡ true → {b : Bool} → b ≡ leaving v k hub → b ≡ unitBy up t r done k hub
+module _ (joints : List ℕ) (by up : List (List ℕ)) (t : Trip) (port : ℕ) (k : Kind) (hub : ℕ) {c : Bool}
+    (e : c ≡ comesBy joints by up (t .home) (t .column) port) where
+  pub unit-off : (done : Bool) → c ≡ false → false ≡ unitBy joints by up t port done k hub
   unfolding unitBy
-  unit-done done f g = rw (f, ← e) g
+  unit-off done f = rw (← e, f) (sym (also-false (pick done (leaving (standingOf up t (port / 4)) k hub)
+      (coming (standingOf up t (port / 4)) k hub))))
+    where
+      also-false : (b : Bool) → also b false ≡ false
+      also-false true = refl
+      also-false false = refl
 
-  pub unit-new : (done : Bool) → done ≡ false → {b : Bool} → b ≡ coming v k hub → b ≡ unitBy up t r done k hub
-  unfolding unitBy
-  unit-new done f g = rw (f, ← e) g
+  module _ (on : c ≡ true) {v : Standing} (s : v ≡ standingOf up t (port / 4)) where
+    also-on : (b : Bool) → also b true ≡ b
+    also-on true = refl
+    also-on false = refl
+
+    pub unit-done : (done : Bool) → done ≡ true → {b : Bool} → b ≡ leaving v k hub
+        → b ≡ unitBy joints by up t port done k hub
+    unfolding unitBy
+    unit-done done f g = rw (f, ← e, on, ← s) (g ∙ sym (also-on (leaving v k hub)))
+
+    pub unit-new : (done : Bool) → done ≡ false → {b : Bool} → b ≡ coming v k hub
+        → b ≡ unitBy joints by up t port done k hub
+    unfolding unitBy
+    unit-new done f g = rw (f, ← e, on, ← s) (g ∙ sym (also-on (coming v k hub)))
 
 module _ (joints : List ℕ) (by up : List (List ℕ)) (t : Trip) (port : ℕ) (k : Kind) (hub : ℕ) {v : Standing}
     (e : v ≡ standingOf up t (port / 4)) {c : Bool} (f : c ≡ coming v k hub) where
@@ -352,23 +369,43 @@ module _ (actives length n : ℕ) (x : Packet) {m : ℕ} where
 -- ---- queues by number
 module _ (routes : List (List ℕ)) (joints homes : List ℕ) (by up : List (List ℕ)) (t : Trip) (x : Packet) where
   module _ (r o j : ℕ) where
-    pub sender-unit : j ≡ 0 → {b : Bool} → b ≡ outBy routes up t r o (x .active) (x .kind) (x .hub .0)
+    -- F of set-ups and tear-downs
+    pub sender-unit : j ≡ 0 → {d : Bool} → d ≡ answers (x .kind) → d ≡ false → {b : Bool}
+        → b ≡ outBy routes up t r o (x .active) (x .kind) (x .hub .0)
         → b ≡ senderBy routes joints homes by up t x r o j
     unfolding senderBy
-    sender-unit e f = rw (eq-eqb j 0 e) f
+    sender-unit e c n f = rw (eq-eqb j 0 e, ← c, n) f
+
+    pub sender-not : j ≡ 0 → {d : Bool} → d ≡ answers (x .kind) → d ≡ true
+        → false ≡ senderBy routes joints homes by up t x r o j
+    unfolding senderBy
+    sender-not e c n = rw (eq-eqb j 0 e, ← c, n)
 
     module _ (e : j ≡ 0 → ⊥) where
-      pub sender-below : j - 1 < o → {b : Bool}
-          → b ≡ crossBy routes joints homes by up t (x .active) (4 * r + (j - 1)) o (x .kind) (x .hub .0)
+      -- F of answers
+      pub sender-answer : j ≡ 1 → {d : Bool} → d ≡ answers (x .kind) → d ≡ true → {b : Bool}
+          → b ≡ outBy routes up t r o (x .active) (x .kind) (x .hub .0)
           → b ≡ senderBy routes joints homes by up t x r o j
       unfolding senderBy
-      sender-below l f = rw (ne-eqb j 0 e, lt-ltb (j - 1) o l) f
+      sender-answer g c n f = rw (ne-eqb j 0 e, eq-eqb j 1 g, ← c, n) f
 
-      pub sender-above : o ≤ j - 1 → {b : Bool}
-          → b ≡ crossBy routes joints homes by up t (x .active) (4 * r + j) o (x .kind) (x .hub .0)
-          → b ≡ senderBy routes joints homes by up t x r o j
+      pub sender-never : j ≡ 1 → {d : Bool} → d ≡ answers (x .kind) → d ≡ false
+          → false ≡ senderBy routes joints homes by up t x r o j
       unfolding senderBy
-      sender-above l f = rw (ne-eqb j 0 e, le-ltb (j - 1) o l) f
+      sender-never g c n = rw (ne-eqb j 0 e, eq-eqb j 1 g, ← c, n)
+
+      module _ (g : j ≡ 1 → ⊥) where
+        pub sender-below : j - 2 < o → {b : Bool}
+            → b ≡ crossBy routes joints homes by up t (x .active) (4 * r + (j - 2)) o (x .kind) (x .hub .0)
+            → b ≡ senderBy routes joints homes by up t x r o j
+        unfolding senderBy
+        sender-below l f = rw (ne-eqb j 0 e, ne-eqb j 1 g, lt-ltb (j - 2) o l) f
+
+        pub sender-above : o ≤ j - 2 → {b : Bool}
+            → b ≡ crossBy routes joints homes by up t (x .active) (4 * r + (j - 1)) o (x .kind) (x .hub .0)
+            → b ≡ senderBy routes joints homes by up t x r o j
+        unfolding senderBy
+        sender-above l f = rw (ne-eqb j 0 e, ne-eqb j 1 g, le-ltb (j - 2) o l) f
 
   module _ (r k : ℕ) (done : Bool) where
     pub router-side : k < 4 → {b : Bool} → b ≡ sideBy joints by up t (4 * r + k) (x .kind) (x .hub .0)
@@ -376,16 +413,17 @@ module _ (routes : List (List ℕ)) (joints homes : List ℕ) (by up : List (Lis
     unfolding routerBy
     router-side l f = rw (lt-ltb k 4 l) f
 
-    pub router-unit : 4 ≤ k → k ≡ 4 → {b : Bool} → b ≡ unitBy up t r done (x .kind) (x .hub .0)
+    pub router-unit : 4 ≤ k → k < 8 → {b : Bool}
+        → b ≡ unitBy joints by up t (4 * r + (k - 4)) done (x .kind) (x .hub .0)
         → b ≡ routerBy routes joints homes by up t x r k done
     unfolding routerBy
-    router-unit l e f = rw (le-ltb k 4 l, eq-eqb k 4 e) f
+    router-unit l e f = rw (le-ltb k 4 l, lt-ltb k 8 e) f
 
-    pub router-sender : 4 ≤ k → (k ≡ 4 → ⊥) → {b : Bool}
-        → b ≡ senderBy routes joints homes by up t x r ((k - 5) / 4) ((k - 5) % 4)
+    pub router-sender : 4 ≤ k → 8 ≤ k → {b : Bool}
+        → b ≡ senderBy routes joints homes by up t x r ((k - 8) / 5) ((k - 8) % 5)
         → b ≡ routerBy routes joints homes by up t x r k done
     unfolding routerBy
-    router-sender l e f = rw (le-ltb k 4 l, ne-eqb k 4 e) f
+    router-sender l e f = rw (le-ltb k 4 l, le-ltb k 8 e) f
 
   module _ (actives outs inner n : ℕ) (done : Bool) where
     pub fits-out : n < outs → {b : Bool} → b ≡ sentBy actives (t .length) n x
@@ -395,7 +433,7 @@ module _ (routes : List (List ℕ)) (joints homes : List ℕ) (by up : List (Lis
 
     module _ (l : outs ≤ n) where
       pub fits-router : n - outs < inner → {b : Bool}
-          → b ≡ routerBy routes joints homes by up t x ((n - outs) / 21) ((n - outs) % 21) done
+          → b ≡ routerBy routes joints homes by up t x ((n - outs) / 28) ((n - outs) % 28) done
           → b ≡ fitsBy routes joints homes by up t x actives outs inner n done
       unfolding fitsBy
       fits-router m f = rw (le-ltb n outs l, lt-ltb (n - outs) inner m) f

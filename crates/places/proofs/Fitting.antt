@@ -13,7 +13,7 @@ use Rattle.packets.specs.declared.Kind.the-variants.{Setup, Tdown, Ack, Nack}
 use Rattle.plan.specs.Plan.{Plan, active, passive, A, P, routeTo}
 use Rattle.plan.specs.Rules.{home}
 use Rattle.paths.specs.Served.{Served}
-use Rattle.feeding.specs.Queue.{activeOut, activeIn, passiveIn, passiveOut, U, Q, F}
+use Rattle.feeding.specs.Queue.{Heading, ahead, back, activeOut, activeIn, passiveIn, passiveOut, U, Q, F}
 use Rattle.feeding.specs.Feeds.{headingOf, destination, inQueue, handledAt, Meets, Stands, span, Ahead, Back, Fits}
 use Rattle.feeding.specs.Feeds.{headPlace}
 use Rattle.wiring.specs.Wired.{Wired}
@@ -26,7 +26,7 @@ use Rattle.valid.proofs.Decides.{Decides, like, never, less, most, same, both}
 use Rattle.places.specs.declared.Trip.{Trip}
 use Rattle.places.specs.declared.Standing.{Standing}
 use Rattle.places.specs.Look.{standingOf, freesUpTo, comingAs, coming, leavingAs}
-use Rattle.places.specs.Look.{leaving, unitBy, sideBy}
+use Rattle.places.specs.Look.{leaving, unitBy, sideBy, comesBy}
 use Rattle.places.specs.Look.{columnOf, outBy, activeOutAs, passiveOutAs, activeInAs, passiveInAs}
 use Rattle.places.proofs.OnTrack.{passive-at, told, Trips, Here, stood, off, standing}
 use Rattle.places.proofs.ComesIn.{comes-decides}
@@ -47,60 +47,51 @@ module _ {pl : Plan} (wired : Wired pl) (a p : ℕ) (ha : a < A pl) (hp : p < P 
 
     -- not handled
     pub coming-decides : Here pl a p r v → (k : Kind) (hub : ℕ)
-        → Decides (coming v k hub) (Fits pl k a p hub (inQueue (Q r)))
+        → Decides (coming v k hub) ((i : ℕ) × Fits pl k a p hub (inQueue (Q r i)))
     unfolding coming Ahead Back
     coming-decides (off z none) k hub = told (rw (eq-eqb (v .ahead) 0 z)) (never (no k))
       where
-        no : (k : Kind) → Fits pl k a p hub (inQueue (Q r)) → ⊥
+        no : (k : Kind) → (i : ℕ) × Fits pl k a p hub (inQueue (Q r i)) → ⊥
         no Setup (i, f) = none hub i f
-        no Tdown (n, (i, f), h, l) = none n i f
-        no Ack (f, e) = f
-        no Nack f = f
+        no Tdown (i, (n, f, h, l)) = none n i f
+        no Ack (i, (f, e)) = f
+        no Nack (i, f) = f
     coming-decides (stood i f sum some) k hub =
         told (rw (ne-eqb (v .ahead) 0 (λ q. omega arith))) (as′ k)
       where
-        as′ : (k : Kind) → Decides (comingAs v hub k) (Fits pl k a p hub (inQueue (Q r)))
+        as′ : (k : Kind) → Decides (comingAs v hub k) ((i : ℕ) × Fits pl k a p hub (inQueue (Q r i)))
         as′ Setup = like (same hub (v .behind)) (λ q. (i, rw q f)) (λ g. once hub (v .behind) (g .0) i (g .1) f)
         as′ Tdown =
-            like (frees hub (v .ahead)) (λ q. (v .behind, (i, f), q .0, omega (arith, q .1)))
-            (λ g. let n = once (g .0) (v .behind) (g .1 .0) i (g .1 .1) f in (g .2, omega (arith, g .3)))
-        as′ Ack = never (λ g. g .0)
-        as′ Nack = never (λ g. g)
+            like (frees hub (v .ahead)) (λ q. (i, (v .behind, f, q .0, omega (arith, q .1))))
+            (λ g. let n = once (g .1 .0) (v .behind) (g .0) i (g .1 .1) f in (g .1 .2, omega (arith, g .1 .3)))
+        as′ Ack = never (λ g. g .1 .0)
+        as′ Nack = never (λ g. g .1)
 
     -- handled
     pub leaving-decides : Here pl a p r v → (k : Kind) (hub : ℕ)
-        → Decides (leaving v k hub) (Fits pl k a p hub (handledAt r))
+        → Decides (leaving v k hub) ((i : ℕ) × Fits pl k a p hub (handledAt r i))
     unfolding leaving Ahead Back
     leaving-decides (off z none) k hub = told (rw (eq-eqb (v .ahead) 0 z)) (never (no k))
       where
-        no : (k : Kind) → Fits pl k a p hub (handledAt r) → ⊥
-        no Setup (i, m, f, e) = none m i f
-        no Tdown (n, (i, m, f, e), h, l) = none m i f
-        no Ack ((i, f), e) = none hub i f
+        no : (k : Kind) → (i : ℕ) × Fits pl k a p hub (handledAt r i) → ⊥
+        no Setup (i, (m, f, e)) = none m i f
+        no Tdown (i, (n, (m, f, e), h, l)) = none m i f
+        no Ack (i, (f, e)) = none hub i f
         no Nack (i, f) = none hub i f
     leaving-decides (stood i f sum some) k hub =
         told (rw (ne-eqb (v .ahead) 0 (λ q. omega arith))) (as′ k)
       where
-        as′ : (k : Kind) → Decides (leavingAs v hub k) (Fits pl k a p hub (handledAt r))
+        as′ : (k : Kind) → Decides (leavingAs v hub k) ((i : ℕ) × Fits pl k a p hub (handledAt r i))
         as′ Setup =
-            like (same hub (v .behind + 1)) (λ q. (i, v .behind, f, omega (arith, q)))
-            (λ g. let n = once (g .1) (v .behind) (g .0) i (g .2) f in omega (arith, g .3))
+            like (same hub (v .behind + 1)) (λ q. (i, (v .behind, f, omega (arith, q))))
+            (λ g. let n = once (g .1 .0) (v .behind) (g .0) i (g .1 .1) f in omega (arith, g .1 .2))
         as′ Tdown =
-            like (frees hub (v .ahead - 1)) (λ q. (
-              suc (v .behind),
-              (i, v .behind, f, refl),
-              q .0,
-              omega (
-                arith,
-                q
-                    .1,
-              ),
-            ))
-            (λ g. let n = once (g .1 .1) (v .behind) (g .1 .0) i (g .1 .2) f in
-            (g .2, omega (arith, g .1 .3, g .3)))
-        as′ Ack = never (λ g. let l = stands-below wired a p ha hp s hub (record { router = r; side = g .0 .0 }) (g .0
-            .1) in
-            omega (arith, g .1))
+            like (frees hub (v .ahead - 1))
+            (λ q. (i, (suc (v .behind), (v .behind, f, refl), q .0, omega (arith, q .1))))
+            (λ g. let n = once (g .1 .1 .0) (v .behind) (g .0) i (g .1 .1 .1) f in
+            (g .1 .2, omega (arith, g .1 .1 .2, g .1 .3)))
+        as′ Ack = never (λ g. let l = stands-below wired a p ha hp s hub (record { router = r; side = g .0 }) (g .1 .0)
+            in omega (arith, g .1 .1))
         as′ Nack = like (same hub (v .behind)) (λ q. (i, rw q f)) (λ g. once hub (v .behind) (g .0) i (g .1) f)
 
   -- ---- interfaces' queues; n is the walk's length
@@ -162,53 +153,95 @@ module _ {pl : Plan} {by : List (List ℕ)} {joints homes : List ℕ} (chart : C
   here : Here pl a p r (standingOf up t r)
   here = standing (chart .wired) up tracks a p ha hp s t trip r l
 
-  pub unit-decides : (done : Bool) → Decides (unitBy up t r done k hub) (Fits pl k a p hub (headPlace done (Q r)))
-  unfolding unitBy
-  unit-decides true = leaving-decides (chart .wired) a p ha hp s r (standingOf up t r) here k hub
-  unit-decides false = coming-decides (chart .wired) a p ha hp s r (standingOf up t r) here k hub
-
-  -- U: in Q it would fit, and the walk comes in by the side
-  pub side-decides : (i : ℕ) → i < 4 → Decides (sideBy joints by up t (4 * r + i) k hub)
-      (Fits pl k a p hub (inQueue (U r i)))
-  unfolding sideBy Ahead Back
-  side-decides i four =
-      let back : (4 * r + i) / 4 ≡ r = omega arith in
+  -- the walk comes in by a side
+  pub comes-by : (i : ℕ) → i < 4 → Decides (comesBy joints by up (t .home) (t .column) (4 * r + i))
+      (Meets pl (passive p) (home pl (active a)) (record { router = r; side = i }))
+  comes-by i four =
       let column = trip .column in
-      like
-      (both (told (ap (λ (n : ℕ). coming (standingOf up t n) k hub) back)
-      (coming-decides (chart .wired) a p ha hp s r (standingOf up t r) here k hub))
-      (λ f. comes-decides chart up tracks (passive p) (t .column) (omega arith) (rw (trip .column) (passive-at pl p))
+      comes-decides chart up tracks (passive p) (t .column) (omega arith) (rw (trip .column) (passive-at pl p))
       (sym (trip .column)) (home pl (active a)) (home-inside (active a) (chart .wired) ha .0) (s .ahead)
-      (record { router = r; side = i }) four (t .home) (trip .from)))
-      (to k) (of k)
-    where
-      come : (n j : ℕ) → Stands pl a p n r j → Meets pl (passive p) (home pl (active a)) (record {
-        router = r;
-        side = i;
-      })
-          → Stands pl a p n r i
-      come n j f m = rw (once (chart .wired) a p ha hp s r (standingOf up t r) n (m .steps) j i f (m .here)) (m .here)
+      (record { router = r; side = i }) four (t .home) (trip .from)
 
-      to : (k : Kind) → Fits pl k a p hub (inQueue (Q r))
-          × Meets pl (passive p) (home pl (active a)) (record { router = r; side = i })
-          → Fits pl k a p hub (inQueue (U r i))
-      to Setup ((j, f), m) = come hub j f m
-      to Tdown ((n, (j, f), h, g), m) = (n, come n j f m, h, g)
-      to Ack ((f, e), m) = absurd f
-      to Nack (f, m) = absurd f
+  -- it stands there, so by that side
+  come : (i n j : ℕ) → Stands pl a p n r j
+      → Meets pl (passive p) (home pl (active a)) (record { router = r; side = i }) → Stands pl a p n r i
+  come i n j f m = rw (once (chart .wired) a p ha hp s r (standingOf up t r) n (m .steps) j i f (m .here)) (m .here)
 
-      of : (k : Kind) → Fits pl k a p hub (inQueue (U r i))
-          → Fits pl k a p hub (inQueue (Q r))
-          × Meets pl (passive p) (home pl (active a)) (record { router = r; side = i })
-      of Setup f = ((i, f), record { steps = hub; here = f })
-      of Tdown (n, f, h, g) = ((n, (i, f), h, g), record { steps = n; here = f })
-      of Ack (f, e) = absurd f
-      of Nack f = absurd f
+  module _ (i : ℕ) (four : i < 4) where
+    port-back : (4 * r + i) / 4 ≡ r
+    port-back = omega arith
+
+    here-comes : Decides (coming (standingOf up t ((4 * r + i) / 4)) k hub)
+        ((j : ℕ) × Fits pl k a p hub (inQueue (Q r j)))
+    here-comes = told (ap (λ (n : ℕ). coming (standingOf up t n) k hub) port-back)
+        (coming-decides (chart .wired) a p ha hp s r (standingOf up t r) here k hub)
+
+    here-leaves : Decides (leaving (standingOf up t ((4 * r + i) / 4)) k hub)
+        ((j : ℕ) × Fits pl k a p hub (handledAt r j))
+    here-leaves = told (ap (λ (n : ℕ). leaving (standingOf up t n) k hub) port-back)
+        (leaving-decides (chart .wired) a p ha hp s r (standingOf up t r) here k hub)
+
+    -- Q: at the unit, and the walk comes in by the side
+    pub unit-decides : (done : Bool) → Decides (unitBy joints by up t (4 * r + i) done k hub)
+        (Fits pl k a p hub (headPlace done (Q r i)))
+    unfolding unitBy Ahead Back
+    unit-decides true = like (both here-leaves (λ f. comes-by i four)) (to k) (of k)
+      where
+        to : (k : Kind) → ((j : ℕ) × Fits pl k a p hub (handledAt r j))
+            × Meets pl (passive p) (home pl (active a)) (record { router = r; side = i })
+            → Fits pl k a p hub (handledAt r i)
+        to Setup ((j, (n, f, e)), m) = (n, come i n j f m, e)
+        to Tdown ((j, (n, (v, f, e), h, g)), m) = (n, (v, come i v j f m, e), h, g)
+        to Ack ((j, (f, e)), m) = (come i hub j f m, e)
+        to Nack ((j, f), m) = come i hub j f m
+
+        of : (k : Kind) → Fits pl k a p hub (handledAt r i) → ((j : ℕ) × Fits pl k a p hub (handledAt r j))
+            × Meets pl (passive p) (home pl (active a)) (record { router = r; side = i })
+        of Setup (n, f, e) = ((i, (n, f, e)), record { steps = n; here = f })
+        of Tdown (n, (v, f, e), h, g) = ((i, (n, (v, f, e), h, g)), record { steps = v; here = f })
+        of Ack (f, e) = ((i, (f, e)), record { steps = hub; here = f })
+        of Nack f = ((i, f), record { steps = hub; here = f })
+    unit-decides false = like (both here-comes (λ f. comes-by i four)) (to k) (of k)
+      where
+        to : (k : Kind) → ((j : ℕ) × Fits pl k a p hub (inQueue (Q r j)))
+            × Meets pl (passive p) (home pl (active a)) (record { router = r; side = i })
+            → Fits pl k a p hub (inQueue (Q r i))
+        to Setup ((j, f), m) = come i hub j f m
+        to Tdown ((j, (n, f, h, g)), m) = (n, come i n j f m, h, g)
+        to Ack ((j, (f, e)), m) = absurd f
+        to Nack ((j, f), m) = absurd f
+
+        of : (k : Kind) → Fits pl k a p hub (inQueue (Q r i)) → ((j : ℕ) × Fits pl k a p hub (inQueue (Q r j)))
+            × Meets pl (passive p) (home pl (active a)) (record { router = r; side = i })
+        of Setup f = ((i, f), record { steps = hub; here = f })
+        of Tdown (n, f, h, g) = ((i, (n, f, h, g)), record { steps = n; here = f })
+        of Ack (f, e) = absurd f
+        of Nack f = absurd f
+
+    -- U: as in Q, not handled
+    pub side-decides : Decides (sideBy joints by up t (4 * r + i) k hub) (Fits pl k a p hub (inQueue (U r i)))
+    unfolding sideBy Ahead Back
+    side-decides = like (both here-comes (λ f. comes-by i four)) (to k) (of k)
+      where
+        to : (k : Kind) → ((j : ℕ) × Fits pl k a p hub (inQueue (Q r j)))
+            × Meets pl (passive p) (home pl (active a)) (record { router = r; side = i })
+            → Fits pl k a p hub (inQueue (U r i))
+        to Setup ((j, f), m) = come i hub j f m
+        to Tdown ((j, (n, f, h, g)), m) = (n, come i n j f m, h, g)
+        to Ack ((j, (f, e)), m) = absurd f
+        to Nack ((j, f), m) = absurd f
+
+        of : (k : Kind) → Fits pl k a p hub (inQueue (U r i)) → ((j : ℕ) × Fits pl k a p hub (inQueue (Q r j)))
+            × Meets pl (passive p) (home pl (active a)) (record { router = r; side = i })
+        of Setup f = ((i, f), record { steps = hub; here = f })
+        of Tdown (n, f, h, g) = ((i, (n, f, h, g)), record { steps = n; here = f })
+        of Ack (f, e) = absurd f
+        of Nack f = absurd f
 
   -- F: handled it would fit, and its destination's side is the queue's
   pub out-decides : (routes : List (List ℕ)) (o : ℕ)
       → ((d : ℕ) → d < 32 → pl .route r d ≡ getD (getD routes r []) d 0)
-      → Decides (outBy routes up t r o a k hub) (Fits pl k a p hub (inQueue (F r o)))
+      → Decides (outBy routes up t r o a k hub) (Fits pl k a p hub (inQueue (F (headingOf k) r o)))
   unfolding outBy Ahead Back
   out-decides routes o routed =
       like
@@ -225,16 +258,32 @@ module _ {pl : Plan} {by : List (List ℕ)} {joints homes : List ℕ} (chart : C
       given Ack = sym (routed a (omega arith))
       given Nack = sym (routed a (omega arith))
 
-      to : (k : Kind) → (routeTo pl (destination (headingOf k) a p) r ≡ o) × Fits pl k a p hub (handledAt r)
-          → Fits pl k a p hub (inQueue (F r o))
-      to Setup (q, (i, m, f, e)) = (i, m, f, e, sym q)
-      to Tdown (q, (n, (i, m, f, e), h, g)) = (n, (i, m, f, e, sym q), h, g)
-      to Ack (q, ((i, f), e)) = ((i, f, sym q), e)
+      to : (k : Kind) → (routeTo pl (destination (headingOf k) a p) r ≡ o) × ((i : ℕ) × Fits pl k a p hub
+          (handledAt r i))
+          → Fits pl k a p hub (inQueue (F (headingOf k) r o))
+      to Setup (q, (i, (m, f, e))) = (i, m, f, e, sym q)
+      to Tdown (q, (i, (n, (m, f, e), h, g))) = (n, (i, m, f, e, sym q), h, g)
+      to Ack (q, (i, (f, e))) = ((i, f, sym q), e)
       to Nack (q, (i, f)) = (i, f, sym q)
 
-      of : (k : Kind) → Fits pl k a p hub (inQueue (F r o))
-          → (routeTo pl (destination (headingOf k) a p) r ≡ o) × Fits pl k a p hub (handledAt r)
-      of Setup (i, m, f, e, q) = (sym q, (i, m, f, e))
-      of Tdown (n, (i, m, f, e, q), h, g) = (sym q, (n, (i, m, f, e), h, g))
-      of Ack ((i, f, q), e) = (sym q, ((i, f), e))
+      of : (k : Kind) → Fits pl k a p hub (inQueue (F (headingOf k) r o))
+          → (routeTo pl (destination (headingOf k) a p) r ≡ o) × ((i : ℕ) × Fits pl k a p hub (handledAt r i))
+      of Setup (i, m, f, e, q) = (sym q, (i, (m, f, e)))
+      of Tdown (n, (i, m, f, e, q), h, g) = (sym q, (i, (n, (m, f, e), h, g)))
+      of Ack ((i, f, q), e) = (sym q, (i, (f, e)))
       of Nack (i, f, q) = (sym q, (i, f))
+
+  -- and in the other F it does not
+  pub other-decides : (o : ℕ) (g : Heading) → (g ≡ headingOf k → ⊥) → Fits pl k a p hub (inQueue (F g r o)) → ⊥
+  unfolding Ahead Back
+  other-decides o g ne = by′ k g ne
+    where
+      by′ : (k : Kind) (g : Heading) → (g ≡ headingOf k → ⊥) → Fits pl k a p hub (inQueue (F g r o)) → ⊥
+      by′ Setup ahead ne f = ne refl
+      by′ Setup back ne f = f
+      by′ Tdown ahead ne f = ne refl
+      by′ Tdown back ne f = f .1
+      by′ Ack back ne f = ne refl
+      by′ Ack ahead ne f = f .0
+      by′ Nack back ne f = ne refl
+      by′ Nack ahead ne f = f

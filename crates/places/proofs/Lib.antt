@@ -4,3 +4,4 @@ pub mod Fitting
 pub mod Crossing
 pub mod Law
 pub mod Exits
+pub mod SideIn

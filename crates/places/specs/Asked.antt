@@ -16,7 +16,7 @@ pub record Asked (h : Head) (actives outs inner : ℕ) (routes : List (List ℕ)
   pub lent : Lent h routes joints homes lengths by
   pub tracks : Tracks (tablePlan h routes joints) up
   -- how many actives, out-queues and routers' queues the plan has
-  pub counts : (actives ≡ h .actives) × (outs ≡ h .actives + h .passives) × (inner ≡ 21 * h .routers)
+  pub counts : (actives ≡ h .actives) × (outs ≡ h .actives + h .passives) × (inner ≡ 28 * h .routers)
   -- the pair, which is served
   pub active : a < A (tablePlan h routes joints)
   pub passive : p < P (tablePlan h routes joints)

@@ -1,5 +1,6 @@
 -- May a packet stand in a queue? As the code looks it up: for each kind of place a test over the tables.
 use mathlib.Core.Path.{_≡_}
+use mathlib.Core.Logic.{_⊎_}
 use mathlib.Core.Bool.{Bool, true, false, _||_}
 use mathlib.Core.List.{List, []}
 use Prim.Native.Nat.{ℕ, _+_, _*_, _-_, _/_, _%_, _≤_, _<_}
@@ -11,6 +12,7 @@ use Rattle.sets.specs.Sets.{has}
 use Rattle.packets.specs.declared.Kind.{Kind}
 use Rattle.packets.specs.declared.Kind.the-variants.{Setup, Tdown, Ack, Nack}
 use Rattle.packets.specs.declared.Packet.{Packet}
+use Rattle.plan.specs.Plan.{noSide}
 use Rattle.places.specs.declared.Trip.{Trip}
 use Rattle.places.specs.declared.Standing.{Standing}
 
@@ -70,9 +72,6 @@ leavingAs v hub Nack = eqb hub (v .behind)
 unfoldable pub leaving : Standing → Kind → ℕ → Bool
 leaving v k hub = pick (eqb (v .ahead) 0) false (leavingAs v hub k)
 
-unfoldable pub unitBy : List (List ℕ) → Trip → ℕ → Bool → Kind → ℕ → Bool
-unitBy up t r done k hub = pick done (leaving (standingOf up t r) k hub) (coming (standingOf up t r) k hub)
-
 -- ---- by which side a walk comes in
 -- the joint of a port leads to a router of a track, and there back for column d
 unfoldable pub nextBy : List ℕ → List (List ℕ) → ℕ → ℕ → ℕ → Bool
@@ -85,12 +84,31 @@ nextBy joints by track d port =
 unfoldable pub comesBy : List ℕ → List (List ℕ) → List (List ℕ) → ℕ → ℕ → ℕ → Bool
 comesBy joints by up from d port = eqb from port || nextBy joints by (trackAt up (from / 4) d) d port
 
+-- a walk from a port comes in to router r by a side, or by none: 7
+abbrev pub SideIn : List ℕ → List (List ℕ) → List (List ℕ) → ℕ → ℕ → ℕ → ℕ → Type 0
+SideIn joints by up from d r i =
+    ((i < 4) × (comesBy joints by up from d (4 * r + i) ≡ true))
+    ⊎ ((i ≡ noSide) × ((k : ℕ) → k < 4 → comesBy joints by up from d (4 * r + k) ≡ false))
+
 -- U: from a side to the unit
 unfoldable pub sideBy : List ℕ → List (List ℕ) → List (List ℕ) → Trip → ℕ → Kind → ℕ → Bool
 sideBy joints by up t port k hub =
     also (coming (standingOf up t (port / 4)) k hub) (comesBy joints by up (t .home) (t .column) port)
 
+-- Q: at the unit, from a side; handled or not
+unfoldable pub unitBy : List ℕ → List (List ℕ) → List (List ℕ) → Trip → ℕ → Bool → Kind → ℕ → Bool
+unitBy joints by up t port done k hub =
+    also (pick done (leaving (standingOf up t (port / 4)) k hub) (coming (standingOf up t (port / 4)) k hub))
+    (comesBy joints by up (t .home) (t .column) port)
+
 -- F: from the unit to a side
+-- an answer
+abbrev pub answers : Kind → Bool
+answers Setup = false
+answers Tdown = false
+answers Ack = true
+answers Nack = true
+
 abbrev pub columnOf : Trip → ℕ → Kind → ℕ
 columnOf t a Setup = t .column
 columnOf t a Tdown = t .column
@@ -180,19 +198,21 @@ module _ (routes : List (List ℕ)) (joints homes : List ℕ) (by up : List (Lis
   -- the sender of rank j at side o of router r
   unfoldable pub senderBy : ℕ → ℕ → ℕ → Bool
   senderBy r o j =
-      pick (eqb j 0) (outBy routes up t r o (x .active) (x .kind) (x .hub .0))
-      (crossBy routes joints homes by up t (x .active) (4 * r + pick (ltb (j - 1) o) (j - 1) j) o (x .kind) (x .hub
-      .0))
+      pick (eqb j 0) (pick (answers (x .kind)) false (outBy routes up t r o (x .active) (x .kind) (x .hub .0)))
+      (pick (eqb j 1) (pick (answers (x .kind)) (outBy routes up t r o (x .active) (x .kind) (x .hub .0)) false)
+      (crossBy routes joints homes by up t (x .active) (4 * r + pick (ltb (j - 2) o) (j - 2) (j - 1)) o (x .kind) (x
+      .hub .0)))
 
   -- the k-th queue of router r
   unfoldable pub routerBy : ℕ → ℕ → Bool → Bool
   routerBy r k done =
       pick (ltb k 4) (sideBy joints by up t (4 * r + k) (x .kind) (x .hub .0))
-      (pick (eqb k 4) (unitBy up t r done (x .kind) (x .hub .0)) (senderBy r ((k - 5) / 4) ((k - 5) % 4)))
+      (pick (ltb k 8) (unitBy joints by up t (4 * r + (k - 4)) done (x .kind) (x .hub .0))
+      (senderBy r ((k - 8) / 5) ((k - 8) % 5)))
 
   -- the n-th queue: out-queues, then inner ones of the routers, then in-queues
   unfoldable pub fitsBy : ℕ → ℕ → ℕ → ℕ → Bool → Bool
   fitsBy actives outs inner n done =
       pick (ltb n outs) (sentBy actives (t .length) n x)
-      (pick (ltb (n - outs) inner) (routerBy ((n - outs) / 21) ((n - outs) % 21) done)
+      (pick (ltb (n - outs) inner) (routerBy ((n - outs) / 28) ((n - outs) % 28) done)
       (receivedBy actives (t .length) (n - outs - inner) x))

@@ -7,19 +7,19 @@ use packets::Packet;
 use sets::has;
 ghost use mathlib.Core.Path.{_≡_};
 ghost use mathlib.Core.Bool.{true};
-ghost use mathlib.Core.List.{[]};
-ghost use Prim.Native.Nat.{_+_, _*_, _/_, _≤_, _<_};
+ghost use mathlib.Core.List.{List, []};
+ghost use Prim.Native.Nat.{ℕ, _+_, _*_, _/_, _≤_, _<_};
 ghost use lib.ListN.{getD};
 ghost use Rattle.sets.specs.Sets.{has};
 ghost use Rattle.plan.specs.declared.Head.{Head};
 ghost use Rattle.plan.specs.Tables.{tablePlan};
 ghost use Rattle.feeding.specs.Queue.{queueAt};
-ghost use Rattle.feeding.specs.Feeds.{headPlace};
+ghost use Rattle.feeding.specs.Feeds.{cameIn, headPlace};
 ghost use Rattle.valid.specs.Test.{fitsTest};
 ghost use Rattle.places.specs.Asked.{Asked};
 ghost use Rattle.places.specs.Look.{tripOf, standingOf, onwardOf, nthOf, freesUpTo, coming};
-ghost use Rattle.places.specs.Look.{leaving, unitBy, nextBy, comesBy, sideBy};
-ghost use Rattle.places.specs.Look.{columnOf, outBy, nackBy, answerBy, crossBy, Marked};
+ghost use Rattle.places.specs.Look.{leaving, unitBy, nextBy, comesBy, SideIn, sideBy};
+ghost use Rattle.places.specs.Look.{answers, columnOf, outBy, nackBy, answerBy, crossBy, Marked};
 ghost use Rattle.places.specs.Look.{Led, activeOutAs, passiveOutAs, activeInAs};
 ghost use Rattle.places.specs.Look.{passiveInAs, sentBy, receivedBy, senderBy, routerBy, fitsBy};
 
@@ -166,12 +166,66 @@ fn comes_by(
     next_by(joints, by, up[from / 4][d], d, port)
 }
 
-// At a unit: handled or not.
-fn at_unit(up: &[[u32; 32]; 17], t: Trip, r: usize, done: bool, x: Packet) -> bool
-    requires { ⌜ Marked (now up) t × (r < 16) ⌝ }
-    ensures { λ b. ⌜ b ≡ unitBy (now (up .entry)) t r done (x .kind) (x .hub .0) ⌝ }
+// The side by which the walk to a column's interface from a port comes in to router r, or 7 where it does not meet r.
+fn side_in(
+    joints: &[u8; 64],
+    by: &[[u32; 4]; 16],
+    up: &[[u32; 32]; 17],
+    from: usize,
+    d: usize,
+    r: usize,
+) -> usize
+    requires { ⌜ (from < 64) × (d < 32) × (r < 16) ⌝ }
+    ensures { λ i. ⌜ SideIn (now (joints .entry)) (now (by .entry)) (now (up .entry)) from d r i ⌝ }
 {
-    let v = spot(up, t, r);
+    for i in 0..4 {
+        if comes_by(joints, by, up, from, d, 4 * r + i) {
+            return i;
+        }
+    }
+    7
+}
+
+// The side by which the walk of a served pair comes in to router r, or 7 where it does not meet r: looked up among the
+// routers that each walk meets.
+pub fn came_in(
+    actives: usize,
+    joints: &[u8; 64],
+    homes: &[u8; 32],
+    by: &[[u32; 4]; 16],
+    up: &[[u32; 32]; 17],
+    x: Packet,
+    r: usize,
+) -> usize
+    requires { ⌜ (actives ≤ 16) × (x .active < 16) × (x .passive < 16) × (getD (now homes) (x .active) 0 < 64)
+        × (r < 16) ⌝ }
+    ensures { λ i. ⌜ ((h : Head) (outs inner : ℕ) (routes lengths : List (List ℕ))
+        → Asked h actives outs inner routes (now (joints .entry)) (now (homes .entry)) lengths (now (by .entry))
+        (now (up .entry)) (x .active) (x .passive)
+        → i ≡ cameIn (tablePlan h routes (now (joints .entry))) (x .active) (x .passive) r) ⌝ }
+{
+    let from = wide(homes[wide(x.active)]);
+    side_in(joints, by, up, from, actives + wide(x.passive), r)
+}
+
+// At a unit, from a side: handled or not.
+fn at_unit(
+    joints: &[u8; 64],
+    by: &[[u32; 4]; 16],
+    up: &[[u32; 32]; 17],
+    t: Trip,
+    port: usize,
+    done: bool,
+    x: Packet,
+) -> bool
+    requires { ⌜ Marked (now up) t × (port < 64) ⌝ }
+    ensures { λ b. ⌜ b ≡ unitBy (now (joints .entry)) (now (by .entry)) (now (up .entry)) t port done (x .kind)
+        (x .hub .0) ⌝ }
+{
+    if !comes_by(joints, by, up, t.home, t.column, port) {
+        return false;
+    }
+    let v = spot(up, t, port / 4);
     if done {
         return leaves(v, x);
     }
@@ -359,6 +413,18 @@ fn at_cross(
     answer_by(routes, joints, homes, by, up, t, port, x)
 }
 
+// Whether a packet of a kind is an answer.
+fn answers(k: Kind) -> bool
+    ensures { λ r. ⌜ r ≡ answers k ⌝ }
+{
+    match k {
+        Kind::Setup => false,
+        Kind::Tdown => false,
+        Kind::Ack => true,
+        Kind::Nack => true,
+    }
+}
+
 // A sender of a router's side: its unit, or another side, by rank.
 fn at_sender(
     routes: &[[u8; 32]; 16],
@@ -373,17 +439,27 @@ fn at_sender(
     x: Packet,
 ) -> bool
     requires { ⌜ Marked (now up) t × Led (now routes) (now joints) t × (getD (now homes) (t .column) 0 < 64)
-        × (r < 16) × (j < 4) × (x .active < 16) ⌝ }
+        × (r < 16) × (j < 5) × (x .active < 16) ⌝ }
     ensures { λ b. ⌜ b ≡ senderBy (now (routes .entry)) (now (joints .entry)) (now (homes .entry))
         (now (by .entry)) (now (up .entry)) t x r o j ⌝ }
 {
+    let k = x.kind;
     if j == 0 {
+        if answers(k) {
+            return false;
+        }
         return at_out(routes, up, t, r, o, x);
     }
-    if j - 1 < o {
-        return at_cross(routes, joints, homes, by, up, t, 4 * r + (j - 1), o, x);
+    if j == 1 {
+        if answers(k) {
+            return at_out(routes, up, t, r, o, x);
+        }
+        return false;
     }
-    at_cross(routes, joints, homes, by, up, t, 4 * r + j, o, x)
+    if j - 2 < o {
+        return at_cross(routes, joints, homes, by, up, t, 4 * r + (j - 2), o, x);
+    }
+    at_cross(routes, joints, homes, by, up, t, 4 * r + (j - 1), o, x)
 }
 
 // A queue of a router, by its place among the router's.
@@ -400,15 +476,15 @@ fn at_router(
     x: Packet,
 ) -> bool
     requires { ⌜ Marked (now up) t × Led (now routes) (now joints) t × (getD (now homes) (t .column) 0 < 64)
-        × (r < 16) × (k < 21) × (x .active < 16) ⌝ }
+        × (r < 16) × (k < 28) × (x .active < 16) ⌝ }
     ensures { λ b. ⌜ b ≡ routerBy (now (routes .entry)) (now (joints .entry)) (now (homes .entry))
         (now (by .entry)) (now (up .entry)) t x r k done ⌝ }
 {
     if k < 4 {
         return at_side(joints, by, up, t, 4 * r + k, x);
     }
-    if k == 4 {
-        return at_unit(up, t, r, done, x);
+    if k < 8 {
+        return at_unit(joints, by, up, t, 4 * r + (k - 4), done, x);
     }
     at_sender(
         routes,
@@ -418,8 +494,8 @@ fn at_router(
         up,
         t,
         r,
-        (k - 5) / 4,
-        (k - 5) % 4,
+        (k - 8) / 5,
+        (k - 8) % 5,
         x,
     )
 }
@@ -527,7 +603,7 @@ fn looked(
     done: bool,
     x: Packet,
 ) -> bool
-    requires { ⌜ (inner ≤ 336) × Marked (now up) t × Led (now routes) (now joints) t
+    requires { ⌜ (inner ≤ 448) × Marked (now up) t × Led (now routes) (now joints) t
         × (getD (now homes) (t .column) 0 < 64) × (x .active < 16) ⌝ }
     ensures { λ b. ⌜ b ≡ fitsBy (now (routes .entry)) (now (joints .entry)) (now (homes .entry)) (now (by .entry))
         (now (up .entry)) t x actives outs inner n done ⌝ }
@@ -537,7 +613,7 @@ fn looked(
     }
     let m = n - outs;
     if m < inner {
-        return at_router(routes, joints, homes, by, up, t, m / 21, m % 21, done, x);
+        return at_router(routes, joints, homes, by, up, t, m / 28, m % 28, done, x);
     }
     received(actives, t.length, m - inner, x)
 }

@@ -1,6 +1,6 @@
 -- Deliveries: along READ every packet on a wire finds a place in its next queue, and what the code stores is what the
 -- rule makes of the state.
-use mathlib.Core.Path.{_≡_, refl, sym, ap, _∙_}
+use mathlib.Core.Path.{_≡_, refl, sym, ap, subst, _∙_}
 use mathlib.Core.Bool.{Bool, false, not}
 use mathlib.Core.List.{List}
 use mathlib.Core.Option.{Option, some}
@@ -16,58 +16,47 @@ use Rattle.packets.specs.declared.Packet.{Packet}
 use Rattle.packets.specs.declared.Wire.{Wire}
 use Rattle.packets.specs.declared.Wire.the-variants.{Empty, Full}
 use Rattle.plan.specs.declared.Head.{Head}
-use Rattle.plan.specs.Head.{InRange}
-use Rattle.plan.specs.Plan.{Plan}
-use Rattle.feeding.specs.Queue.{Queue, Exists, number}
-use Rattle.feeding.specs.Feeds.{Output}
+use Rattle.plan.specs.Head.{InRange, destinations}
+use Rattle.plan.specs.Plan.{Plan, R}
+use Rattle.feeding.specs.Queue.{Queue, Q, Exists, number}
+use Rattle.feeding.specs.Feeds.{Output, toUnit, cameIn}
 use Rattle.wiring.specs.Wired.{Wired}
 use Rattle.journeys.proofs.Numbers.{number-below}
-use Rattle.machine.specs.Store.{queue-same}
 use Rattle.machine.specs.Outputs.{nextBy, outputs, outputAt, outputNumber}
 use Rattle.machine.specs.State.{State, withWire, join}
 use Rattle.machine.specs.Read.{joinNext, arrive, deliver}
-use Rattle.machine.specs.Valid.{Drives, bit, brings, goesTo, onWires}
-use Rattle.machine.proofs.OutNumbers.{output-at, output-below, drives-at}
+use Rattle.machine.specs.Valid.{Drives}
+use Rattle.machine.proofs.OutNumbers.{drives-at, at-output}
 use Rattle.theory.specs.Invariant.{Core, account}
-use Rattle.theory.proofs.Ground.Sums.{sum-term}
 use Rattle.theory.proofs.Places.Lines.{belongs-exists}
 use Rattle.theory.proofs.Account.Paid.{next-fed}
 use Rattle.theory.proofs.Keeps.{deliver-core}
-use Rattle.layout.specs.Offsets.{places, queueRow, outputRow, wireByte, wirePacket}
+use Rattle.layout.specs.Offsets.{size, places, queueRow, outputRow, wireByte, wirePacket}
 use Rattle.layout.specs.Codes.{flagOf}
+use Rattle.layout.specs.Named.{exists-test}
 use Rattle.layout.specs.Places.{packetAt}
 use Rattle.layout.specs.Encode.{encode, wireBytes}
 use Rattle.layout.specs.Decode.{wireFrom, wireAt, lengthAt, capacity-most}
 use Rattle.layout.specs.Updates.{pushAt}
-use Rattle.layout.proofs.Readings.{wire-at, length-at}
+use Rattle.layout.proofs.Readings.{length-bytes, wire-at, length-at}
 use Rattle.layout.proofs.Updates.{put-wire, push-queue}
 use Rattle.acts.specs.Acts.{Holds, Steps}
-use Rattle.acts.specs.Counts.{outputCount, outputsFrom}
-use Rattle.moves.specs.Next.{numberOr}
+use Rattle.acts.specs.Counts.{queueCount, outputCount, outputsFrom}
+use Rattle.moves.specs.Next.{numberOr, baseOf, AtUnit}
+use Rattle.reading.specs.Awaiting.{Only}
 use Rattle.reading.specs.Reading.{delivery, Joins, Arriving}
 use Rattle.reading.proofs.Offsets.{range-counts, outputs-of, queues-of, output-row, queue-row, number-or}
 use Rattle.reading.proofs.Offsets.{queue-within, output-within}
+use Rattle.reading.proofs.Awaited.{on-wire, awaits, only-of}
 
 -- ---- at every moment of READ a delivery is possible
 module _ {pl : Plan} (wired : Wired pl) (range : InRange (pl .head)) where
-  -- the packet on the wire is counted among those bound for its queue
-  on-wire : (o : Output) (x : Packet) (q : Queue) (s : State) → Drives pl o → s .links .wire o ≡ Full x
-      → nextBy pl o x ≡ some q → 1 ≤ onWires pl q s
-  unfolding onWires
-  on-wire o x q s d e g =
-      let term = sum-term (outputs pl) (λ n. brings pl q (outputAt pl n) (s .links .wire (outputAt pl n)))
-      (outputNumber pl o) (output-below pl o d) in
-      let one : brings pl q (outputAt pl (outputNumber pl o)) (s .links .wire (outputAt pl (outputNumber pl o))) ≡ 1 =
-      ap (λ (u : Output). brings pl q u (s .links .wire u)) (output-at pl o d) ∙ ap (brings pl q o) e
-      ∙ ap (goesTo q) g ∙ ap bit (queue-same q) in
-      omega arith
-
   -- a queue with a packet on its way has a place for it
   room : (o : Output) (x : Packet) (q : Queue) (s : State) → Drives pl o → s .links .wire o ≡ Full x
       → nextBy pl o x ≡ some q → Exists pl q → Core pl s → length (s .lines .queue q) < places
   unfolding account
   room o x q s d e g h c =
-      let on = on-wire o x q s d e g in
+      let on = on-wire wired o x q s d e g in
       let sum = c .credits q h (next-fed wired o x q d g) in
       let most = capacity-most (pl .head) q range in
       omega arith
@@ -87,6 +76,7 @@ module _ {pl : Plan} (wired : Wired pl) (range : InRange (pl .head)) where
             next = g .next;
             has = h;
             room = room (outputAt pl m) x (g .queue) s d e (g .next) h c;
+            unit = λ r u. awaits wired r x s (subst (Drives pl) u d) (ap (s .links .wire) (sym u) ∙ e) c;
           }
 
   -- deliveries keep the core
@@ -102,6 +92,16 @@ delivered-is : (pl : Plan) (o : Output) (x : Packet) (q : Queue) (s : State) →
 unfolding deliver arrive
 delivered-is pl o x q s f g =
     ap (λ (w : Wire). arrive pl o w s) f ∙ ap (λ (y : Option Queue). joinNext y x (withWire o Empty s)) g
+
+-- all queues' rows lie inside
+pub rows-within : (pl : Plan) {h : Head} → pl .head ≡ h → {I : State → Type 0} {b : List ℕ} → Holds pl I b
+    → 2 + 39 * queueCount h ≤ length b
+unfolding size
+rows-within pl e {b = b} g =
+    let q = queues-of pl e in
+    let l = length-bytes pl (g .state) (g .rest) in
+    let k = ap length (g .same) in
+    omega arith
 
 module _ (pl : Plan) {h : Head} (e : pl .head ≡ h) (m i : ℕ) (below : m < outputCount h)
     (at : i ≡ outputsFrom h + 7 * m) where
@@ -149,6 +149,21 @@ module _ (pl : Plan) {h : Head} (e : pl .head ≡ h) (m i : ℕ) (below : m < ou
     -- its pair is the plan's
     pub pair-of : Holds pl (Arriving pl m) b → (x .active < h .actives) × (x .passive < h .passives)
     pair-of a = rw (← e) (joining a .active, joining a .passive)
+
+    -- which of a unit's queues it joins, told of the one that lacks a credit
+    pub unit-of : (a : Holds pl (Arriving pl m) b) {q : ℕ}
+        → ((r c : ℕ) → m ≡ destinations h + 6 * r + 4 → Only (baseOf h r + 4) c (h .q .0) b → q ≡ baseOf h r + 4 + c)
+        → AtUnit pl (outputAt pl m) x q
+    unfolding outputNumber number
+    unit-of a {q} f r u =
+        let d : r < R pl = subst (Drives pl) u (drives-at pl m l) in
+        let k : m ≡ outputNumber pl (toUnit r) = sym (at-output pl m l) ∙ ap (outputNumber pl) u in
+        let w = joining a .unit r u in
+        let n = only-of pl (a .state) (a .rest) b (a .same) r d w in
+        rw (exists-test pl (Q r (cameIn pl (x .active) (x .passive) r)) (d, w .below))
+        (f r (cameIn pl (x .active) (x .passive) r) (subst (λ (y : Head). m ≡ destinations y + 6 * r + 4) e k)
+        (subst (λ (y : Head). Only (baseOf y r + 4) (cameIn pl (x .active) (x .passive) r) (y .q .0) b) e n)
+        ∙ ap (λ (y : Head). baseOf y r + 4 + cameIn pl (x .active) (x .passive) r) (sym e))
 
     module _ (a : Holds pl (Arriving pl m) b) {n : ℕ} (next : n ≡ numberOr pl (nextBy pl (outputAt pl m) x)) where
       -- the number of the next queue

@@ -1,1 +1,2 @@
+pub mod Awaiting
 pub mod Reading

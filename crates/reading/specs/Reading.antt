@@ -12,7 +12,7 @@ use Rattle.packets.specs.declared.Wire.the-variants.{Full}
 use Rattle.plan.specs.Head.{InRange}
 use Rattle.plan.specs.Plan.{Plan, A, P}
 use Rattle.feeding.specs.Queue.{Queue, Exists, queues, queueAt}
-use Rattle.feeding.specs.Feeds.{Output}
+use Rattle.feeding.specs.Feeds.{Output, toUnit, cameIn}
 use Rattle.wiring.specs.Wired.{Wired}
 use Rattle.machine.specs.Outputs.{nextBy, outputAt}
 use Rattle.machine.specs.State.{State}
@@ -20,13 +20,15 @@ use Rattle.machine.specs.Read.{deliver, settle}
 use Rattle.theory.specs.Invariant.{Core}
 use Rattle.layout.specs.Offsets.{places}
 use Rattle.acts.specs.Acts.{Holds, Steps}
+use Rattle.reading.specs.Awaiting.{Awaits}
 
 -- ---- the wire of an output
 -- its packet joins its queue
 abbrev pub delivery : Plan → ℕ → State → State
 delivery pl m = deliver pl (outputAt pl m)
 
--- a packet on a wire: its pair is the plan's, and its next queue has a place for it
+-- a packet on a wire: its pair is the plan's, its next queue has a place for it, and at a unit that one alone lacks a
+-- credit
 pub record Joins (pl : Plan) (s : State) (o : Output) (x : Packet) : Type 0 where
   pub active : x .active < A pl
   pub passive : x .passive < P pl
@@ -34,6 +36,7 @@ pub record Joins (pl : Plan) (s : State) (o : Output) (x : Packet) : Type 0 wher
   pub next : nextBy pl o x ≡ some queue
   pub has : Exists pl queue
   pub room : length (s .lines .queue queue) < places
+  pub unit : (r : ℕ) → o ≡ toUnit r → Awaits pl s r (cameIn pl (x .active) (x .passive) r)
 
 -- what a delivery needs
 pub record Arriving (pl : Plan) (m : ℕ) (s : State) : Type 0 where

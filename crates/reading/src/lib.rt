@@ -4,6 +4,8 @@ use acts::output_row;
 use acts::queue_count;
 use acts::queue_row;
 use kinds::Credit;
+use moves::NO_QUEUE;
+use moves::base_of;
 use moves::next;
 use packets::Phase;
 use packets::Wire;
@@ -15,29 +17,83 @@ use rows::put_wire;
 use rows::wire_at;
 ghost use mathlib.Core.Path.{_≡_};
 ghost use mathlib.Core.Bool.{not};
-ghost use Prim.Native.Nat.{_+_, _*_, _≤_, _<_};
+ghost use Prim.Native.Nat.{ℕ, _+_, _*_, _≤_, _<_};
 ghost use lib.Dec.{eqb};
 ghost use lib.ListN.{getD, length};
 ghost use Rattle.basis.specs.Fold.{upTo};
 ghost use Rattle.packets.specs.declared.Phase.the-variants.{Read};
-ghost use Rattle.plan.specs.Head.{Counts};
+ghost use Rattle.plan.specs.Head.{Counts, destinations};
 ghost use Rattle.plan.specs.Tables.{tablePlan};
 ghost use Rattle.machine.specs.Read.{doRead};
 ghost use Rattle.theory.specs.Invariant.{Core};
 ghost use Rattle.acts.specs.Acts.{Holds, Steps, In};
 ghost use Rattle.acts.specs.Counts.{queueCount, outputCount};
 ghost use Rattle.moves.specs.Wiring.{Wiring};
+ghost use Rattle.moves.specs.Next.{baseOf};
+ghost use Rattle.reading.specs.Awaiting.{lacksAt, Only};
 ghost use Rattle.reading.specs.Reading.{delivery, Arriving, Flagged, Settles, Whole, SettlesTo};
 
-// The byte of the phase, and that of the flag in a queue's row, behind the credit's.
+// The byte of the phase, and those of flag and length in a queue's row, behind the credit's.
 const PHASE_BYTE: usize = 0;
 
 const FLAG_BYTE: usize = 1;
+
+const LENGTH_BYTE: usize = 3;
 
 // The bytes of an output's row, and which of them is the wire's first.
 const OUTPUT_BYTES: usize = 7;
 
 const WIRE_BYTE: usize = 0;
+
+// A byte as an index.
+fn index(x: u8) -> usize
+    ensures { λ v. ⌜ (v ≡ x) × (v < 256) ⌝ }
+{
+    x as usize
+}
+
+// Whether queue n lacks a credit: with its packets and a raised flag its credits are not its capacity.
+fn lacks(s: &[u8], n: usize, cap: u8) -> bool
+    requires { ⌜ (n ≤ 65535) × (41 + 39 * n ≤ length (now s)) ⌝ }
+    ensures { λ r. ⌜ r ≡ lacksAt n cap (now (s .entry)) ⌝ }
+{
+    let at = queue_row(n);
+    let held = index(s[at]) + index(s[at + LENGTH_BYTE]);
+    if s[at + FLAG_BYTE] == 0 {
+        return held != index(cap);
+    }
+    held + 1 != index(cap)
+}
+
+// Of the four queues from number n on, the one that lacks a credit.
+fn awaiting(s: &[u8], n: usize, cap: u8) -> usize
+    requires { ⌜ (n ≤ 65000) × (2 + 39 * (n + 4) ≤ length (now s)) ⌝ }
+    ensures { λ q. ⌜ ((c : ℕ) → Only n c cap (now (s .entry)) → q ≡ n + c) ⌝ }
+{
+    for i in 0..3 {
+        if lacks(s, n + i, cap) {
+            return n + i;
+        }
+    }
+    n + 3
+}
+
+// The queue at a unit that a packet on the wire of output m joins, if that leads to a unit. The wire does not say which
+// of the four it is, but a credit of that one was spent for the packet: it is the one that lacks a credit.
+fn at_unit(h: Head, s: &[u8], m: usize) -> usize
+    requires { ⌜ Counts h × (m < outputCount h) × (2 + 39 * queueCount h ≤ length (now s)) ⌝ }
+    ensures { λ q. ⌜ ((r c : ℕ) → m ≡ destinations h + 6 * r + 4 → Only (baseOf h r + 4) c (h .q .0) (now (s .entry))
+        → q ≡ baseOf h r + 4 + c) ⌝ }
+{
+    let d = h.actives + h.passives;
+    if m < d {
+        return NO_QUEUE;
+    }
+    if (m - d) % 6 != 4 {
+        return NO_QUEUE;
+    }
+    awaiting(s, base_of(h, (m - d) / 6) + 4, h.q.0)
+}
 
 // The wire of output m: a packet on it joins its next queue, and the wire empties.
 fn deliver(
@@ -60,7 +116,8 @@ fn deliver(
     let Wire::Full(x) = w else {
         return;
     };
-    let n = next(h, routes, joints, homes, m, x);
+    let q = at_unit(h, s, m);
+    let n = next(h, routes, joints, homes, m, q, x);
     put_wire(s, i, Wire::Empty);
     push(s, queue_row(n), x);
 }

@@ -1,4 +1,4 @@
-// Document 01's 'Runs to compare' and one of document 02, done by the calls on byte arrays: every call is written with
+// Document 01's 'Runs to compare' and two of document 02, done by the calls on byte arrays: every call is written with
 // its answer, and after each run whether the answers are those of the document.
 use kinds::Hub;
 use kinds::Refusal;
@@ -15,11 +15,12 @@ ghost use mathlib.Core.Path.{_≡_};
 ghost use lib.ListN.{length};
 
 mod closed;
+mod crossing;
 mod rounds;
 mod told;
 
-// The number of plan T's queue F[1].
-const T_SIDE_ONE: usize = 11;
+// The number of plan T's queue F[1] of set-ups.
+const T_SIDE_ONE: usize = 15;
 
 // The number of active 0's out-queue in the plan of two routers.
 const TWO_ACTIVE_OUT: usize = 0;
@@ -348,30 +349,44 @@ fn closed_again(plan: &[u8]) {
     );
 }
 
-// 'Two routers, each with an active and a passive, set-ups crossing both ways: 6.'
-fn crossing(plan: &[u8]) {
+// 'Two routers, each with an active and a passive, set-ups crossing both ways: 6' was document 01's last run. Document
+// 02 (i): 'the crossing two-router plan loads'; 'Refusal 6 keeps its condition': all set-ups clockwise round three
+// routers are a ring.
+fn crosses(plan: &[u8], clockwise: &[u8]) {
     say(b"\nTwo routers, each with an active and a passive, set-ups crossing both ways\n");
-    let ok = load(b"the plan", plan, Answer::Refused(Refusal::HasRing));
-    verdict(ok, b"6.");
+    let loaded = load(b"the plan", plan, Answer::Done);
+    let mut s = room();
+    let ran = crossing::both_ways(plan, &mut s);
+    let ring = load(
+        b"three routers, all set-ups clockwise,",
+        clockwise,
+        Answer::Refused(Refusal::HasRing),
+    );
+    verdict_of(
+        loaded & ran & ring,
+        b"02 (i)",
+        b"it loads, both set-ups are booked at both routers and accepted; a ring is refused 6.",
+    );
 }
 
-// All runs, in the documents' order, on plan T and two others.
-fn all(t: &[u8], two: &[u8], crossed: &[u8]) {
+// All runs, in the documents' order, on plan T and three others.
+fn all(t: &[u8], two: &[u8], crossed: &[u8], clockwise: &[u8]) {
     loads();
     launch_in_round_0(t);
     launch_in_round_1(t);
     last_free_entry(t);
     declined(two);
     allowance_spent(t);
-    crossing(crossed);
     closed_again(t);
+    crosses(crossed, clockwise);
 }
 
-// Runs all on plan T, the plan of two routers, and the one in which set-ups cross.
+// Runs all on plan T, the plan of two routers, the one in which set-ups cross, and the one in which they go round.
 fn main() {
     all(
         b"\x08\x42\x11\x24\x92\x4c\x06\x00\x00\x00\x20",
         b"\x10\x82\x21\x24\x92\x4c\x02\x20\x00\x02\x0e\x04\x20\x00\x24\x22",
-        b"\x10\x84\x11\x24\x92\x4a\x28\x04\x06\x00\x02\x04\x26\x22\x0c\x14\x58",
+        b"\x10\x84\x21\x24\x92\x4c\x06\x02\x30\x04\x26\x22\x10\x00\x45\x20\x88",
+        b"\x18\xc6\x21\x24\x92\x4c\x06\x02\x3a\x54\x26\x22\x5a\x14\x46\x42\x1a\x30\x6c\xa4\xc3\x45\x36\x12\x20",
     );
 }

@@ -189,11 +189,11 @@ repeated-as w n b {at} {from} {i} {t} e f g q =
 
 -- and the credits of their queues
 pub inner-as : (h : Head) (n : ℕ) (b : List ℕ) {i : ℕ} {t d : List ℕ} → t ≡ routerCredits h
-    → d ≡ upTo (λ r x. credits (destinations h + 21 * r) t 21 x) i b → i ≡ n → d ≡ innerCredits h n b
+    → d ≡ upTo (λ r x. credits (destinations h + 28 * r) t 28 x) i b → i ≡ n → d ≡ innerCredits h n b
 unfolding innerCredits
 inner-as h n b {i} {t} f g q =
-    g ∙ ap (λ (k : ℕ). upTo (λ r x. credits (destinations h + 21 * r) t 21 x) k b) q
-    ∙ ap (λ (u : List ℕ). upTo (λ r x. credits (destinations h + 21 * r) u 21 x) n b) f
+    g ∙ ap (λ (k : ℕ). upTo (λ r x. credits (destinations h + 28 * r) t 28 x) k b) q
+    ∙ ap (λ (u : List ℕ). upTo (λ r x. credits (destinations h + 28 * r) u 28 x) n b) f
 
 -- two groups of queues, one after the other
 pub two-groups : (m k n l : ℕ) (b : List ℕ) {t u v w c d : List ℕ} → t ≡ v → c ≡ credits m t k b → u ≡ w
@@ -206,8 +206,8 @@ pub all-groups : (h : Head) → Counts h → (b : List ℕ) {c d e : List ℕ}
     → c ≡ credits (h .actives) (sixteen (h .pout .0)) (h .passives)
     (credits 0 (sixteen (h .aout .0)) (h .actives) b)
     → d ≡ innerCredits h (h .routers) c
-    → e ≡ credits (destinations h + 21 * h .routers + h .actives) (sixteen (h .pin .0)) (h .passives)
-    (credits (destinations h + 21 * h .routers) (sixteen (h .ain .0)) (h .actives) d)
+    → e ≡ credits (destinations h + 28 * h .routers + h .actives) (sixteen (h .pin .0)) (h .passives)
+    (credits (destinations h + 28 * h .routers) (sixteen (h .ain .0)) (h .actives) d)
     → e ≡ credited h (queueCount h) b
 all-groups h few b {c} p r i =
     let fa = few .1 in
@@ -222,11 +222,11 @@ all-groups h few b {c} p r i =
     let known : c ≡ credited h (destinations h) b =
     two ∙ ap (λ (n : ℕ). credited h (n + h .passives) b) (zero-add (h .actives)) in
     let three = credited-inner h b (h .routers) (omega arith) known r in
-    let four = credited-more h b (destinations h + 21 * h .routers) (h .actives) (sixteen (h .ain .0))
+    let four = credited-more h b (destinations h + 28 * h .routers) (h .actives) (sixteen (h .ain .0))
     (λ i l. sixteen-at (h .ain .0) i (omega arith) ∙ sym (active-in-credit h i l)) three refl in
-    let five = credited-more h b (destinations h + 21 * h .routers + h .actives) (h .passives) (sixteen (h .pin .0))
+    let five = credited-more h b (destinations h + 28 * h .routers + h .actives) (h .passives) (sixteen (h .pin .0))
     (λ i l. sixteen-at (h .pin .0) i (omega arith) ∙ sym (passive-in-credit h i l)) four i in
-    let count : destinations h + 21 * h .routers + h .actives + h .passives ≡ queueCount h = omega arith in
+    let count : destinations h + 28 * h .routers + h .actives + h .passives ≡ queueCount h = omega arith in
     five ∙ ap (λ (n : ℕ). credited h n b) count
 
 -- what the interfaces' outputs remember, and the routers'

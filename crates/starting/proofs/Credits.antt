@@ -50,31 +50,32 @@ length-no-starts = length-replicate {A = ℕ} 64 0
 
 -- ---- capacities by number
 module _ (h : Head) where
-  sender-credit : (r o m : ℕ) → pick (eqb m 0) (h .f .0) (h .k .0) ≡ capacity h (senderAt r o m)
+  sender-credit : (r o m : ℕ) → pick (ltb m 2) (h .f .0) (h .k .0) ≡ capacity h (senderAt r o m)
   sender-credit r o zero = refl
-  sender-credit r o (suc m) = rw (ne-eqb (suc m) 0 (λ e. omega arith))
+  sender-credit r o (suc zero) = refl
+  sender-credit r o (suc (suc m)) = rw (le-ltb (suc (suc m)) 2 (omega arith))
 
   router-credit : (r k : ℕ) → routerCredit h k ≡ capacity h (inRouter r k)
   router-credit r k =
-      ap (λ (x : ℕ). pick (ltb k 4) (h .u .0) (pick (eqb k 4) (h .q .0) x))
-      (sender-credit r ((k - 5) / 4) ((k - 5) % 4))
+      ap (λ (x : ℕ). pick (ltb k 4) (h .u .0) (pick (ltb k 8) (h .q .0) x))
+      (sender-credit r ((k - 8) / 5) ((k - 8) % 5))
       ∙ ap (λ (x : ℕ). pick (ltb k 4) (h .u .0) x)
-      (pick-out (capacity h) (eqb k 4) (Q r) (senderAt r ((k - 5) / 4) ((k - 5) % 4)))
+      (pick-out (capacity h) (ltb k 8) (Q r (k - 4)) (senderAt r ((k - 8) / 5) ((k - 8) % 5)))
       ∙ pick-out (capacity h) (ltb k 4) (U r k)
-      (pick (eqb k 4) (Q r) (senderAt r ((k - 5) / 4) ((k - 5) % 4)))
+      (pick (ltb k 8) (Q r (k - 4)) (senderAt r ((k - 8) / 5) ((k - 8) % 5)))
 
 pub credit-of : (pl : Plan) (n : ℕ) → creditOf (pl .head) n ≡ capacity (pl .head) (queueAt pl n)
 unfolding creditOf queueAt
 credit-of pl n =
     let h : Head = pl .head in
     let last : Queue = pick (ltb n (inBase pl + A pl)) (activeIn (n - inBase pl)) (passiveIn (n - inBase pl - A pl)) in
-    let inner : Queue = inRouter ((n - outs pl) / 21) ((n - outs pl) % 21) in
+    let inner : Queue = inRouter ((n - outs pl) / 28) ((n - outs pl) % 28) in
     let third : Queue = pick (ltb n (inBase pl)) inner last in
     let second : Queue = pick (ltb n (outs pl)) (passiveOut (n - A pl)) third in
     let a : ℕ → ℕ = λ x. pick (ltb n (A pl)) (h .aout .0) x in
     let b : ℕ → ℕ = λ x. pick (ltb n (outs pl)) (h .pout .0) x in
     ap (λ (x : ℕ). a (b (pick (ltb n (inBase pl)) x (pick (ltb n (inBase pl + A pl)) (h .ain .0) (h .pin .0)))))
-    (router-credit h ((n - outs pl) / 21) ((n - outs pl) % 21))
+    (router-credit h ((n - outs pl) / 28) ((n - outs pl) % 28))
     ∙ ap (λ (x : ℕ). a (b (pick (ltb n (inBase pl)) (capacity h inner) x)))
     (pick-out (capacity h) (ltb n (inBase pl + A pl)) (activeIn (n - inBase pl)) (passiveIn (n - inBase pl - A pl)))
     ∙ ap (λ (x : ℕ). a (b x)) (pick-out (capacity h) (ltb n (inBase pl)) inner last)
@@ -92,51 +93,51 @@ module _ (h : Head) (i : ℕ) where
   passive-out-credit l =
       rw (le-ltb (h .actives + i) (h .actives) (omega arith), lt-ltb (h .actives + i) (destinations h) (omega arith))
 
-  pub router-part : (r : ℕ) → r < h .routers → i < 21 → creditOf h (destinations h + 21 * r + i) ≡ routerCredit h i
+  pub router-part : (r : ℕ) → r < h .routers → i < 28 → creditOf h (destinations h + 28 * r + i) ≡ routerCredit h i
   unfolding creditOf
   router-part r g l =
-      let n : ℕ = destinations h + 21 * r + i in
-      let e : (n - destinations h) % 21 ≡ i = omega arith in
+      let n : ℕ = destinations h + 28 * r + i in
+      let e : (n - destinations h) % 28 ≡ i = omega arith in
       rw (
         le-ltb n (h .actives) (omega arith),
         le-ltb n (destinations h) (omega arith),
-        lt-ltb n (destinations h + 21 * h .routers) (omega arith),
+        lt-ltb n (destinations h + 28 * h .routers) (omega arith),
         e,
       )
 
-  pub active-in-credit : i < h .actives → creditOf h (destinations h + 21 * h .routers + i) ≡ h .ain .0
+  pub active-in-credit : i < h .actives → creditOf h (destinations h + 28 * h .routers + i) ≡ h .ain .0
   unfolding creditOf
   active-in-credit l =
-      let n : ℕ = destinations h + 21 * h .routers + i in
+      let n : ℕ = destinations h + 28 * h .routers + i in
       rw (
         le-ltb n (h .actives) (omega arith),
         le-ltb n (destinations h) (omega arith),
-        le-ltb n (destinations h + 21 * h .routers) (omega arith),
-        lt-ltb n (destinations h + 21 * h .routers + h .actives) (omega arith),
+        le-ltb n (destinations h + 28 * h .routers) (omega arith),
+        lt-ltb n (destinations h + 28 * h .routers + h .actives) (omega arith),
       )
 
   pub passive-in-credit : i < h .passives
-      → creditOf h (destinations h + 21 * h .routers + h .actives + i) ≡ h .pin .0
+      → creditOf h (destinations h + 28 * h .routers + h .actives + i) ≡ h .pin .0
   unfolding creditOf
   passive-in-credit l =
-      let n : ℕ = destinations h + 21 * h .routers + h .actives + i in
+      let n : ℕ = destinations h + 28 * h .routers + h .actives + i in
       rw (
         le-ltb n (h .actives) (omega arith),
         le-ltb n (destinations h) (omega arith),
-        le-ltb n (destinations h + 21 * h .routers) (omega arith),
-        le-ltb n (destinations h + 21 * h .routers + h .actives) (omega arith),
+        le-ltb n (destinations h + 28 * h .routers) (omega arith),
+        le-ltb n (destinations h + 28 * h .routers + h .actives) (omega arith),
       )
 
 -- the array of a router's credits
-pub router-credits-at : (h : Head) (i : ℕ) → i < 21 → getD (routerCredits h) i 0 ≡ routerCredit h i
+pub router-credits-at : (h : Head) (i : ℕ) → i < 28 → getD (routerCredits h) i 0 ≡ routerCredit h i
 unfolding routerCredits
 router-credits-at h i l =
-    fill-at (routerCredit h) 21 (replicate 21 (h .k .0)) i 0 l (rw length-replicate (omega arith))
+    fill-at (routerCredit h) 28 (replicate 28 (h .k .0)) i 0 l (rw length-replicate (omega arith))
 
-pub length-router-credits : (h : Head) → length (routerCredits h) ≡ 21
+pub length-router-credits : (h : Head) → length (routerCredits h) ≡ 28
 unfolding routerCredits
 length-router-credits h =
-    length-fill (routerCredit h) 21 (replicate 21 (h .k .0)) ∙ length-replicate 21 (h .k .0)
+    length-fill (routerCredit h) 28 (replicate 28 (h .k .0)) ∙ length-replicate 28 (h .k .0)
 
 -- ---- stored
 module _ (h : Head) (b : List ℕ) where
@@ -160,14 +161,14 @@ module _ (h : Head) (b : List ℕ) where
 
   -- the queues of n routers, behind the out-queues
   pub credited-inner : (n : ℕ) → n ≤ h .routers → {c d : List ℕ} → c ≡ credited h (destinations h) b
-      → d ≡ innerCredits h n c → d ≡ credited h (destinations h + 21 * n) b
+      → d ≡ innerCredits h n c → d ≡ credited h (destinations h + 28 * n) b
   unfolding innerCredits
   credited-inner n few {c} e f =
-      f ∙ up-keeps-at (λ r x. x ≡ credited h (destinations h + 21 * r) b)
-      (λ r x. credits (destinations h + 21 * r) (routerCredits h) 21 x) n c
+      f ∙ up-keeps-at (λ r x. x ≡ credited h (destinations h + 28 * r) b)
+      (λ r x. credits (destinations h + 28 * r) (routerCredits h) 28 x) n c
       (λ r x l q.
-      let k : destinations h + 21 * r + 21 ≡ destinations h + 21 * suc r = omega arith in
-      credited-more (destinations h + 21 * r) 21 (routerCredits h)
+      let k : destinations h + 28 * r + 28 ≡ destinations h + 28 * suc r = omega arith in
+      credited-more (destinations h + 28 * r) 28 (routerCredits h)
       (λ i g. router-credits-at h i g ∙ sym (router-part h i r (omega arith) g)) q refl
       ∙ ap (λ (m : ℕ). credited h m b) k)
       (e ∙ ap (λ (m : ℕ). credited h m b) (sym (add-zero (destinations h))))

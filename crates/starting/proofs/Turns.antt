@@ -122,7 +122,7 @@ module _ (pl : Plan) where
   unfolding rows routerTurns outputNumber
   router-turn r l =
       let m : ℕ = A pl + P pl + 6 * r in
-      let side : (k : ℕ) → k < 4 → (n : ℕ) → n ≡ m + k → turnBytes (start pl) (outputAt pl n) ≡ 3 ∷ [] =
+      let side : (k : ℕ) → k < 4 → (n : ℕ) → n ≡ m + k → turnBytes (start pl) (outputAt pl n) ≡ 4 ∷ [] =
       λ k g n e. turn-of (ofSide r k) (l, g) n e in
       let a = side 0 (omega arith) m (omega arith) in
       let b = side 1 (omega arith) (suc m) (omega arith) in

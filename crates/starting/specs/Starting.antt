@@ -61,7 +61,7 @@ unfoldable pub interfaceTurns : List ℕ
 interfaceTurns = replicate 32 0
 
 unfoldable pub routerTurns : List ℕ
-routerTurns = 3 ∷ 3 ∷ 3 ∷ 3 ∷ 3 ∷ 0 ∷ []
+routerTurns = 4 ∷ 4 ∷ 4 ∷ 4 ∷ 3 ∷ 3 ∷ []
 
 -- of all outputs
 unfoldable pub turned : Head → List ℕ → List ℕ
@@ -76,22 +76,22 @@ sixteen v = replicate 16 v
 -- 'credit of each queue fed by a wire = its capacity': of a router's k-th queue
 abbrev pub routerCredit : Head → ℕ → ℕ
 routerCredit h k =
-    pick (ltb k 4) (h .u .0) (pick (eqb k 4) (h .q .0) (pick (eqb ((k - 5) % 4) 0) (h .f .0) (h .k .0)))
+    pick (ltb k 4) (h .u .0) (pick (ltb k 8) (h .q .0) (pick (ltb ((k - 8) % 5) 2) (h .f .0) (h .k .0)))
 
 -- of a router's queues; and stored for each of n routers
 unfoldable pub routerCredits : Head → List ℕ
-routerCredits h = upTo (fill (routerCredit h)) 21 (replicate 21 (h .k .0))
+routerCredits h = upTo (fill (routerCredit h)) 28 (replicate 28 (h .k .0))
 
 unfoldable pub innerCredits : Head → ℕ → List ℕ → List ℕ
-innerCredits h n b = upTo (λ r c. credits (destinations h + 21 * r) (routerCredits h) 21 c) n b
+innerCredits h n b = upTo (λ r c. credits (destinations h + 28 * r) (routerCredits h) 28 c) n b
 
 -- and of every queue by its number
 unfoldable pub creditOf : Head → ℕ → ℕ
 creditOf h n =
     pick (ltb n (h .actives)) (h .aout .0)
     (pick (ltb n (destinations h)) (h .pout .0)
-    (pick (ltb n (destinations h + 21 * h .routers)) (routerCredit h ((n - destinations h) % 21))
-    (pick (ltb n (destinations h + 21 * h .routers + h .actives)) (h .ain .0) (h .pin .0))))
+    (pick (ltb n (destinations h + 28 * h .routers)) (routerCredit h ((n - destinations h) % 28))
+    (pick (ltb n (destinations h + 28 * h .routers + h .actives)) (h .ain .0) (h .pin .0))))
 
 -- the credits of the queues below m are stored
 unfoldable pub credited : Head → ℕ → List ℕ → List ℕ

@@ -35,7 +35,7 @@ fn lay(s: &mut [u8], at: usize, t: &[u8], n: usize)
 
 // The first n bytes of an array, as credits of the queues from a number on.
 fn lay_credits(s: &mut [u8], from: usize, t: &[u8], n: usize)
-    requires { ⌜ (2 + 39 * (from + n) ≤ length (now s)) × (n ≤ length (now t)) × (from + n ≤ 400) ⌝ }
+    requires { ⌜ (2 + 39 * (from + n) ≤ length (now s)) × (n ≤ length (now t)) × (from + n ≤ 512) ⌝ }
     ensures { λ _. ⌜ now (s .exit) ≡ credits from (now (t .entry)) n (now (s .entry)) ⌝ }
 {
     for i in 0..n {
@@ -64,11 +64,11 @@ fn interface_turns() -> [u8; 32]
     [0; 32]
 }
 
-// Of a router's outputs: of four senders on each side and to the unit, of one on the way back.
+// Of a router's outputs: of five senders on each side, of four to the unit and on the way back.
 fn router_turns() -> [u8; 6]
     ensures { λ t. ⌜ t ≡ routerTurns ⌝ }
 {
-    [3, 3, 3, 3, 3, 0]
+    [4, 4, 4, 4, 3, 3]
 }
 
 // One value for each of 16 interfaces.
@@ -78,20 +78,27 @@ fn same(v: u8) -> [u8; 16]
     [v; 16]
 }
 
-// 'credit of each queue fed by a wire = its capacity': of a router's queues, U, Q, and on each side F and three K.
-fn router_credits(h: Head) -> [u8; 21]
+// 'credit of each queue fed by a wire = its capacity': of a router's queues, U, Q, and on each side two F and three K.
+fn router_credits(h: Head) -> [u8; 28]
     ensures { λ t. ⌜ t ≡ routerCredits h ⌝ }
 {
-    let mut t = [h.k.0; 21];
+    let mut t = [h.k.0; 28];
     t[0] = h.u.0;
     t[1] = h.u.0;
     t[2] = h.u.0;
     t[3] = h.u.0;
     t[4] = h.q.0;
-    t[5] = h.f.0;
+    t[5] = h.q.0;
+    t[6] = h.q.0;
+    t[7] = h.q.0;
+    t[8] = h.f.0;
     t[9] = h.f.0;
     t[13] = h.f.0;
-    t[17] = h.f.0;
+    t[14] = h.f.0;
+    t[18] = h.f.0;
+    t[19] = h.f.0;
+    t[23] = h.f.0;
+    t[24] = h.f.0;
     t
 }
 
@@ -188,10 +195,10 @@ fn out_credits(h: Head, s: &mut [u8])
 fn in_credits(h: Head, s: &mut [u8])
     requires { ⌜ Counts h × (stateSize h ≤ length (now s)) ⌝ }
     ensures { λ _. ⌜ now (s .exit)
-        ≡ credits (destinations h + 21 * h .routers + h .actives) (sixteen (h .pin .0)) (h .passives)
-        (credits (destinations h + 21 * h .routers) (sixteen (h .ain .0)) (h .actives) (now (s .entry))) ⌝ }
+        ≡ credits (destinations h + 28 * h .routers + h .actives) (sixteen (h .pin .0)) (h .passives)
+        (credits (destinations h + 28 * h .routers) (sixteen (h .ain .0)) (h .actives) (now (s .entry))) ⌝ }
 {
-    let n = h.actives + h.passives + 21 * h.routers;
+    let n = h.actives + h.passives + 28 * h.routers;
     let a = same(h.ain.0);
     lay_credits(s, n, &a, h.actives);
     let p = same(h.pin.0);
@@ -207,7 +214,7 @@ fn inner_credits(h: Head, s: &mut [u8])
     let from = h.actives + h.passives;
     let n = h.routers;
     for r in 0..n {
-        lay_credits(s, from + 21 * r, &t, 21);
+        lay_credits(s, from + 28 * r, &t, 28);
     }
 }
 

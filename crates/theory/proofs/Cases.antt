@@ -55,80 +55,83 @@ abbrev pub mayBookAt : Plan → ℕ → State → Packet → Bool
 mayBookAt pl r s x = mayBook (S pl) (s .table r (exitAt pl r x)) (x .slot .0)
 
 -- the states that a unit's turn leaves: a set-up has booked
-abbrev pub afterBooked : Plan → ℕ → Packet → List Packet → State → State
-afterBooked pl r x rest s = handledAs r (booked (S pl) x) rest
+abbrev pub afterBooked : Plan → ℕ → ℕ → Packet → List Packet → State → State
+afterBooked pl r i x rest s = handledAs r i (booked (S pl) x) rest
     (withEntry r (exitAt pl r x) (x .slot .0) (Booked (cameIn pl (x .active) (x .passive) r)) s)
 
 -- a tear-down has freed an entry and goes on
-abbrev pub afterFreed : Plan → ℕ → Packet → List Packet → State → State
-afterFreed pl r x rest s = handledAs r (freed (S pl) x) rest (withEntry r (exitAt pl r x) (x .slot .0) Free s)
+abbrev pub afterFreed : Plan → ℕ → ℕ → Packet → List Packet → State → State
+afterFreed pl r i x rest s = handledAs r i (freed (S pl) x) rest (withEntry r (exitAt pl r x) (x .slot .0) Free s)
 
 -- a tear-down has freed its last entry and ended
-abbrev pub afterEnded : Plan → ℕ → Packet → List Packet → State → State
-afterEnded pl r x rest s = withFlag (Q r) true (withQueue (Q r) rest (withEntry r (exitAt pl r x) (x .slot .0) Free s))
+abbrev pub afterEnded : Plan → ℕ → ℕ → Packet → List Packet → State → State
+afterEnded pl r i x rest s = withFlag (Q r i) true (withQueue (Q r i) rest (withEntry r (exitAt pl r x)
+    (x .slot .0) Free s))
 
-module _ (pl : Plan) (r : ℕ) (s : State) where
+module _ (pl : Plan) (r i : ℕ) (s : State) where
   -- A unit without a packet does nothing.
-  pub unit-empty : s .lines .queue (Q r) ≡ [] → unit pl r s ≡ s
+  pub unit-empty : s .lines .queue (Q r i) ≡ [] → unit pl r i s ≡ s
   unfolding unit atUnit
-  unit-empty e = ap (λ (l : List Packet). atUnit pl r l (s .lines .handled (Q r)) s) e
+  unit-empty e = ap (λ (l : List Packet). atUnit pl r i l (s .lines .handled (Q r i)) s) e
 
-  module _ (x : Packet) (rest : List Packet) (e : s .lines .queue (Q r) ≡ x ∷ rest) where
+  module _ (x : Packet) (rest : List Packet) (e : s .lines .queue (Q r i) ≡ x ∷ rest) where
     -- A handled head is left alone.
-    pub unit-handled : s .lines .handled (Q r) ≡ true → unit pl r s ≡ s
+    pub unit-handled : s .lines .handled (Q r i) ≡ true → unit pl r i s ≡ s
     unfolding unit atUnit
-    unit-handled t = ap₂ (λ (l : List Packet) (b : Bool). atUnit pl r l b s) e t
+    unit-handled t = ap₂ (λ (l : List Packet) (b : Bool). atUnit pl r i l b s) e t
 
-    by-kind : (k : Kind) → s .lines .handled (Q r) ≡ false → x .kind ≡ k
-        → unit pl r s ≡ handle pl r (exitAt pl r x) k x rest s
+    by-kind : (k : Kind) → s .lines .handled (Q r i) ≡ false → x .kind ≡ k
+        → unit pl r i s ≡ handle pl r i (exitAt pl r x) k x rest s
     unfolding unit atUnit
-    by-kind k f q = ap₂ (λ (l : List Packet) (b : Bool). atUnit pl r l b s) e f
-        ∙ ap (λ (c : Kind). handle pl r (exitAt pl r x) c x rest s) q
+    by-kind k f q = ap₂ (λ (l : List Packet) (b : Bool). atUnit pl r i l b s) e f
+        ∙ ap (λ (c : Kind). handle pl r i (exitAt pl r x) c x rest s) q
 
     -- A set-up whose entry may be booked books it.
-    pub unit-books : s .lines .handled (Q r) ≡ false → x .kind ≡ Setup → mayBookAt pl r s x ≡ true
-        → unit pl r s ≡ afterBooked pl r x rest s
+    pub unit-books : s .lines .handled (Q r i) ≡ false → x .kind ≡ Setup → mayBookAt pl r s x ≡ true
+        → unit pl r i s ≡ afterBooked pl r i x rest s
     unfolding handle setUp
-    unit-books f q t = by-kind Setup f q ∙ ap (λ (b : Bool). setUp pl r (exitAt pl r x) x rest b s) t
+    unit-books f q t = by-kind Setup f q ∙ ap (λ (b : Bool). setUp pl r i (exitAt pl r x) x rest b s) t
 
     -- Another set-up is declined.
-    pub unit-declines : s .lines .handled (Q r) ≡ false → x .kind ≡ Setup → mayBookAt pl r s x ≡ false
-        → unit pl r s ≡ handledAs r (declined x) rest s
+    pub unit-declines : s .lines .handled (Q r i) ≡ false → x .kind ≡ Setup → mayBookAt pl r s x ≡ false
+        → unit pl r i s ≡ handledAs r i (declined x) rest s
     unfolding handle setUp
-    unit-declines f q t = by-kind Setup f q ∙ ap (λ (b : Bool). setUp pl r (exitAt pl r x) x rest b s) t
+    unit-declines f q t = by-kind Setup f q ∙ ap (λ (b : Bool). setUp pl r i (exitAt pl r x) x rest b s) t
 
     -- A tear-down with hub 1 frees its entry and ends.
-    pub unit-ends : s .lines .handled (Q r) ≡ false → x .kind ≡ Tdown → eqb (x .hub .0) 1 ≡ true
-        → unit pl r s ≡ afterEnded pl r x rest s
+    pub unit-ends : s .lines .handled (Q r i) ≡ false → x .kind ≡ Tdown → eqb (x .hub .0) 1 ≡ true
+        → unit pl r i s ≡ afterEnded pl r i x rest s
     unfolding handle tearDown tearOne
     unit-ends f q t = by-kind Tdown f q
-        ∙ ap (λ (b : Bool). tearOne pl r x rest b (withEntry r (exitAt pl r x) (x .slot .0) Free s)) t
+        ∙ ap (λ (b : Bool). tearOne pl r i x rest b (withEntry r (exitAt pl r x) (x .slot .0) Free s)) t
 
     -- Another tear-down frees its entry.
-    pub unit-frees : s .lines .handled (Q r) ≡ false → x .kind ≡ Tdown → eqb (x .hub .0) 1 ≡ false
-        → unit pl r s ≡ afterFreed pl r x rest s
+    pub unit-frees : s .lines .handled (Q r i) ≡ false → x .kind ≡ Tdown → eqb (x .hub .0) 1 ≡ false
+        → unit pl r i s ≡ afterFreed pl r i x rest s
     unfolding handle tearDown tearOne
     unit-frees f q t = by-kind Tdown f q
-        ∙ ap (λ (b : Bool). tearOne pl r x rest b (withEntry r (exitAt pl r x) (x .slot .0) Free s)) t
+        ∙ ap (λ (b : Bool). tearOne pl r i x rest b (withEntry r (exitAt pl r x) (x .slot .0) Free s)) t
 
   -- a unit's turn: nothing, or one of four things done to its unhandled head
   pub data UnitDoes : Type 0 where
-    rests : unit pl r s ≡ s → UnitDoes
-    books : (x : Packet) (rest : List Packet) → s .lines .queue (Q r) ≡ x ∷ rest → s .lines .handled (Q r) ≡ false
+    rests : unit pl r i s ≡ s → UnitDoes
+    books : (x : Packet) (rest : List Packet) → s .lines .queue (Q r i) ≡ x ∷ rest → s .lines .handled (Q r i) ≡ false
         → x .kind ≡ Setup → mayBookAt pl r s x ≡ true → UnitDoes
-    declines : (x : Packet) (rest : List Packet) → s .lines .queue (Q r) ≡ x ∷ rest → s .lines .handled (Q r) ≡ false
+    declines : (x : Packet) (rest : List Packet) → s .lines .queue (Q r i) ≡ x ∷ rest → s .lines .handled (Q r i)
+        ≡ false
         → x .kind ≡ Setup → mayBookAt pl r s x ≡ false → UnitDoes
-    ends : (x : Packet) (rest : List Packet) → s .lines .queue (Q r) ≡ x ∷ rest → s .lines .handled (Q r) ≡ false
+    ends : (x : Packet) (rest : List Packet) → s .lines .queue (Q r i) ≡ x ∷ rest → s .lines .handled (Q r i) ≡ false
         → x .kind ≡ Tdown → eqb (x .hub .0) 1 ≡ true → UnitDoes
-    frees : (x : Packet) (rest : List Packet) → s .lines .queue (Q r) ≡ x ∷ rest → s .lines .handled (Q r) ≡ false
+    frees : (x : Packet) (rest : List Packet) → s .lines .queue (Q r i) ≡ x ∷ rest → s .lines .handled (Q r i) ≡ false
         → x .kind ≡ Tdown → eqb (x .hub .0) 1 ≡ false → UnitDoes
 
   -- Every turn of a unit is one of these.
   pub unit-does : UnitDoes
   unfolding handle
-  unit-does = by (s .lines .queue (Q r)) refl (test (s .lines .handled (Q r)))
+  unit-does = by (s .lines .queue (Q r i)) refl (test (s .lines .handled (Q r i)))
     where
-      of-kind : (x : Packet) (rest : List Packet) → s .lines .queue (Q r) ≡ x ∷ rest → s .lines .handled (Q r) ≡ false
+      of-kind : (x : Packet) (rest : List Packet) → s .lines .queue (Q r i) ≡ x ∷ rest → s .lines .handled (Q r i)
+          ≡ false
           → (k : Kind) → x .kind ≡ k → (b : Bool) → mayBookAt pl r s x ≡ b → (c : Bool) → eqb (x .hub .0) 1 ≡ c
           → UnitDoes
       of-kind x rest e f Setup q true t c u = books x rest e f q t
@@ -138,8 +141,8 @@ module _ (pl : Plan) (r : ℕ) (s : State) where
       of-kind x rest e f Ack q b t c u = rests (by-kind x rest e Ack f q)
       of-kind x rest e f Nack q b t c u = rests (by-kind x rest e Nack f q)
 
-      by : (l : List Packet) → s .lines .queue (Q r) ≡ l
-          → (s .lines .handled (Q r) ≡ true) ⊎ (s .lines .handled (Q r) ≡ false) → UnitDoes
+      by : (l : List Packet) → s .lines .queue (Q r i) ≡ l
+          → (s .lines .handled (Q r i) ≡ true) ⊎ (s .lines .handled (Q r i) ≡ false) → UnitDoes
       by [] e c = rests (unit-empty e)
       by (x ∷ rest) e (inl t) = rests (unit-handled x rest e t)
       by (x ∷ rest) e (inr f) = of-kind x rest e f (x .kind) refl (mayBookAt pl r s x) refl (eqb (x .hub .0) 1) refl

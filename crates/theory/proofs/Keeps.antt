@@ -103,9 +103,10 @@ module _ {pl : Plan} (wired : Wired pl) (range : InRange (pl .head)) where
   settle-core q s h c =
       core-by (settle-kept wired range q s h (kept-of pl s c)) (settle-paid q s h c) (settle-allowances c q)
 
-  pub unit-core : (r : ℕ) (s : State) → r < R pl → s .flow .flag (Q r) ≡ false → Core pl s → Core pl (unit pl r s)
-  unit-core r s h f c =
-      core-by (unit-kept wired range r s h (kept-of pl s c)) (unit-paid s c r f) (unit-allowances c r h)
+  pub unit-core : (r i : ℕ) (s : State) → (r < R pl) × (i < 4) → s .flow .flag (Q r i) ≡ false → Core pl s → Core pl
+      (unit pl r i s)
+  unit-core r i s h f c =
+      core-by (unit-kept wired range r i s h (kept-of pl s c)) (unit-paid s c r i f) (unit-allowances c r i h)
 
   pub choose-core : (o : Output) (s : State) → Core pl s → Core pl (choose pl o s)
   choose-core o s c =

@@ -107,13 +107,13 @@ module _ {pl : Plan} (wired : Wired pl) (range : InRange (pl .head)) where
           counted = λ c. phase-counted pl c s (k .counted c) x;
         }
 
-    unit-mid : (r : ℕ) (s : State) → r < R pl → s .flow .flag (Q r) ≡ false → M s → M (unit pl r s)
-    unit-mid r s h f k =
+    unit-mid : (r i : ℕ) (s : State) → (r < R pl) × (i < 4) → s .flow .flag (Q r i) ≡ false → M s → M (unit pl r i s)
+    unit-mid r i s h f k =
         record {
-          core = unit-core wired range r s h f (k .core);
-          owned = unit-owned wired s (k .core) (k .owned) r h;
-          remembers = remembers-same s (unit pl r s) (k .remembers) (unit-leaves (λ c l. c) pl s r);
-          counted = λ c. unit-counted pl c wired s (k .core) (k .counted c) r h;
+          core = unit-core wired range r i s h f (k .core);
+          owned = unit-owned wired s (k .core) (k .owned) r i h;
+          remembers = remembers-same s (unit pl r i s) (k .remembers) (unit-leaves (λ c l. c) pl s r i);
+          counted = λ c. unit-counted pl c wired s (k .core) (k .counted c) r i h;
         }
 
     choose-mid : (o : Output) (s : State) → Drives pl o → M s → M (choose pl o s)
@@ -355,8 +355,8 @@ module _ {pl : Plan} (wired : Wired pl) (range : InRange (pl .head)) where
   pub tdowns-own : TdownsOwn pl
   tdowns-own cs = (
     reached-owned cs,
-    λ r x rest h e f q. tdown-own wired (ruledAfter pl cs (start pl)) (reached cs .inv .core) (reached-owned cs) r h x
-        rest e f q,
+    λ r i x rest h l e f q. tdown-own wired (ruledAfter pl cs (start pl)) (reached cs .inv .core) (reached-owned cs) r i
+        (h, l) x rest e f q,
   )
 
   -- ---- what every call keeps: core, shape and ownership, with some connections accepted, some acceptances and some

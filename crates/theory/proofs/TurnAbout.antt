@@ -6,7 +6,7 @@ use mathlib.Core.Logic.{_⊎_, inl, inr, _≢_}
 use mathlib.Core.Bool.{Bool, true, false, false≢true}
 use mathlib.Core.List.{List, [], _∷_, _++_}
 use mathlib.Core.Option.{Option, none, some}
-use Prim.Native.Nat.{ℕ, zero, suc, _+_, _*_, _-_, _≤_, _<_}
+use Prim.Native.Nat.{ℕ, zero, suc, _+_, _*_, _-_, _≤_, _<_, _/_, _%_}
 use native.Mathlib.Omega.{arith}
 use lib.Dec.{ltb}
 use lib.ListN.{length}
@@ -22,10 +22,10 @@ use Rattle.feeding.specs.Feeds.{Output, ofActive, ofPassive, ofSide, toUnit, fr
 use Rattle.wiring.specs.Wired.{Wired}
 use Rattle.journeys.proofs.Places.{some-same, some-not-none}
 use Rattle.machine.specs.Store.{sameOutput, same-output, output-same}
-use Rattle.machine.specs.Outputs.{senders, outputs, outputAt, outputNumber}
+use Rattle.machine.specs.Outputs.{lastInOrder, senders, outputs, outputAt, outputNumber}
 use Rattle.machine.specs.State.{State, Choice, nobody, sender, withQueue, join}
 use Rattle.machine.specs.Read.{doRead}
-use Rattle.machine.specs.Execute.{unit, candidate, picked, choose, marked, tdownOf, undo, doExecute}
+use Rattle.machine.specs.Execute.{unitAt, unit, candidate, picked, choose, marked, tdownOf, undo, doExecute}
 use Rattle.machine.specs.Write.{ofRank, send, doWrite}
 use Rattle.machine.specs.Visits.{launched, removed, closed}
 use Rattle.machine.specs.Calls.{Visit, Call, Outcome, call}
@@ -69,14 +69,6 @@ between n k j = pick (ltb k j) (j - suc k) (n - suc k + j)
 unfoldable pub ahead : Output → ℕ → State → ℕ
 ahead o j s = pick (ltb j (length (senders o))) (between (length (senders o)) (turnOf o s) j) 0
 
--- an output has at most four senders
-senders-few : (o : Output) → length (senders o) ≤ 4
-senders-few (ofActive a) = omega arith
-senders-few (ofPassive p) = omega arith
-senders-few (ofSide r o) = omega arith
-senders-few (toUnit r) = omega arith
-senders-few (fromUnit r) = omega arith
-
 -- fewer than all
 between-few : (n k j : ℕ) → j < n → between n k j < n
 between-few n k j h = by (test (ltb k j))
@@ -85,15 +77,14 @@ between-few n k j h = by (test (ltb k j))
     by (inl t) = let l = ltb-true k j t in rw (t, pick) (omega arith)
     by (inr t) = let l = ltb-false k j t in rw (t, pick) (omega arith)
 
--- at most three stand before any
-pub ahead-few : (o : Output) (j : ℕ) (s : State) → ahead o j s ≤ 3
+-- all but one, at most, stand before any
+pub ahead-few : (o : Output) (j : ℕ) (s : State) → ahead o j s ≤ lastInOrder o
 unfolding ahead
 ahead-few o j s = by (test (ltb j (length (senders o))))
   where
-    by : (ltb j (length (senders o)) ≡ true) ⊎ (ltb j (length (senders o)) ≡ false) → ahead o j s ≤ 3
+    by : (ltb j (length (senders o)) ≡ true) ⊎ (ltb j (length (senders o)) ≡ false) → ahead o j s ≤ lastInOrder o
     by (inl t) =
         let b = between-few (length (senders o)) (turnOf o s) j (ltb-true j (length (senders o)) t) in
-        let n = senders-few o in
         rw (t, pick) (omega arith)
     by (inr t) = rw (t, pick) (omega arith)
 
@@ -193,7 +184,7 @@ module _ (pl : Plan) (o : Output) where
 module _ (pl : Plan) (s : State) where
   -- the state in which outputs pick: units have handled their heads
   abbrev atPick : State
-  atPick = upTo (unit pl) (R pl) s
+  atPick = upTo (unitAt pl) (4 * R pl) s
 
   -- and that in which actives tear down
   abbrev atUndo : State
@@ -201,8 +192,8 @@ module _ (pl : Plan) (s : State) where
 
   -- units leave what outputs remember
   pick-last : atPick .lastSender ≡ s .lastSender
-  pick-last = up-keeps (λ (t : State). t .lastSender ≡ s .lastSender) (unit pl) (R pl) s
-      (λ r t h e. unit-leaves (λ c l. l) pl t r ∙ e) refl
+  pick-last = up-keeps (λ (t : State). t .lastSender ≡ s .lastSender) (unitAt pl) (4 * R pl) s
+      (λ r t h e. unit-leaves (λ c l. l) pl t (r / 4) (r % 4) ∙ e) refl
 
   -- the choice that an output is left with is what it picked
   execute-picked : (o : Output) → Drives pl o → doExecute pl s .links .choice o ≡ picked pl atPick o
@@ -350,7 +341,7 @@ module _ {pl : Plan} (wired : Wired pl) (range : InRange (pl .head)) where
       let rest = list-nearer o d j cs (call pl c s .state) (call-inv wired range c s i) later in
       omega arith
 
-  -- A head that stays a candidate sees at most three others go before it.
+  -- A head that stays a candidate sees at most all other senders go before it: four at a side, three at a unit.
   pub turn-about : TurnAbout pl
   turn-about s g o d j cs stays =
       let all = list-nearer o d j cs s (inv-of pl s g) stays in

@@ -83,7 +83,7 @@ module _ (pl : Plan) where
   pub execute-last : (s : State) → FlagsDown pl s → doExecute pl s .lastSender ≡ s .lastSender
   execute-last s f =
       execute-keeps pl (λ (t : State). t .lastSender ≡ s .lastSender) s
-      (λ r t h d e. unit-leaves (λ c l. l) pl t r ∙ e) (λ o t d e. choose-leaves last-apart pl t o ∙ e)
+      (λ r i t h d e. unit-leaves (λ c l. l) pl t r i ∙ e) (λ o t d e. choose-leaves last-apart pl t o ∙ e)
       (λ a t h e. undo-leaves last-apart pl t a ∙ e) (λ t e. e) f refl
 
   -- ---- a sending: where nobody was picked nothing changes, and else the rank that was picked is remembered

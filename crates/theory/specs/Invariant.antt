@@ -44,7 +44,7 @@ abbrev pub OutFlags : Plan → State → Type 0
 OutFlags pl s = (q : Queue) → Exists pl q → fed pl q ≡ false → s .flow .flag q ≡ false
 
 abbrev pub Marks : Plan → State → Type 0
-Marks pl s = (q : Queue) → Exists pl q → s .lines .handled q ≡ true → (r : ℕ) × (q ≡ Q r) × (s .lines .queue q ≢ [])
+Marks pl s = (q : Queue) → Exists pl q → s .lines .handled q ≡ true → (r i : ℕ) × (q ≡ Q r i) × (s .lines .queue q ≢ [])
 
 abbrev pub FreeEntry : Plan → State → Type 0
 FreeEntry pl s = (r o : ℕ) → r < R pl → o < 4 → (t : ℕ) × (t < S pl) × (s .table r o t ≡ Free)

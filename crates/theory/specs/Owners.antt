@@ -72,9 +72,9 @@ indexNumber Off = 0
 unfoldable pub behind : Plan → ℕ → ℕ → Place → ℕ
 behind pl a p (inQueue (activeOut x)) = 0
 behind pl a p (inQueue (U r i)) = indexNumber (indexOf pl a p r)
-behind pl a p (inQueue (Q r)) = indexNumber (indexOf pl a p r)
-behind pl a p (handledAt r) = indexNumber (indexOf pl a p r) + 1
-behind pl a p (inQueue (F r o)) = indexNumber (indexOf pl a p r) + 1
+behind pl a p (inQueue (Q r i)) = indexNumber (indexOf pl a p r)
+behind pl a p (handledAt r i) = indexNumber (indexOf pl a p r) + 1
+behind pl a p (inQueue (F h r o)) = indexNumber (indexOf pl a p r) + 1
 behind pl a p (inQueue (passiveIn x)) = span pl a p
 behind pl a p (inQueue (activeIn x)) = 0
 behind pl a p (inQueue (passiveOut x)) = 0

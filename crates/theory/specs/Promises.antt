@@ -10,7 +10,7 @@ use Rattle.packets.specs.declared.Phase.the-variants.{Read}
 use Rattle.packets.specs.declared.Entry.the-variants.{Booked}
 use Rattle.packets.specs.declared.Answer.the-variants.{Done}
 use Rattle.plan.specs.Plan.{Plan, passive, R, S, routeTo}
-use Rattle.feeding.specs.Queue.{Queue, activeOut, activeIn, passiveIn, passiveOut, U, Q, F, K, Exists}
+use Rattle.feeding.specs.Queue.{ahead, back, Queue, activeOut, activeIn, passiveIn, passiveOut, U, Q, F, K, Exists}
 use Rattle.feeding.specs.Feeds.{inQueue}
 use Rattle.machine.specs.State.{State, start, hasConnection}
 use Rattle.machine.specs.Execute.{cameIn}
@@ -20,15 +20,16 @@ use Rattle.machine.specs.Connections.{Connection, connection, Makes}
 use Rattle.machine.specs.Ruled.{ruledAfter, acceptedAfter, rounds, Moves, Good}
 use Rattle.theory.specs.Owners.{Holder, holderOf, owns, Owned}
 
--- the queues of answers alone: K and the passives' out-queues
+-- the queues of answers alone: K, the passives' out-queues, and F of answers
 abbrev pub answering : Queue → Bool
 answering (activeOut x) = false
 answering (activeIn x) = false
 answering (passiveIn x) = false
 answering (passiveOut x) = true
 answering (U r i) = false
-answering (Q r) = false
-answering (F r o) = false
+answering (Q r i) = false
+answering (F ahead r o) = false
+answering (F back r o) = true
 answering (K r i o) = true
 
 -- Answers move whatever the passives do: from every valid state in READ with a packet in one of these, in S whole
@@ -39,7 +40,7 @@ AnswersMove pl =
     → answering q ≡ true → s .lines .queue q ≡ x ∷ rest → (cs : List Call) → S pl ≤ rounds pl cs s → Moves pl cs s
 
 -- the entry that a TDOWN at the unit of router r is to free
-pub record OwnEntry (pl : Plan) (acc : List Connection) (s : State) (k : Owned pl acc s) (r : ℕ) (x : Packet) : Type
+pub record OwnEntry (pl : Plan) (acc : List Connection) (s : State) (k : Owned pl acc s) (r i : ℕ) (x : Packet) : Type
     0 where
   -- it is held by the TDOWN's own pair
   pub holder : k .holders r (routeTo pl (passive (x .passive)) r) (x .slot .0)
@@ -49,17 +50,18 @@ pub record OwnEntry (pl : Plan) (acc : List Connection) (s : State) (k : Owned p
       ≡ Booked (cameIn pl (x .active) (x .passive) r)
   -- and it is the TDOWN's own
   pub own : owns pl r (routeTo pl (passive (x .passive)) r) (x .slot .0) (holderOf pl (x .active) (x .passive) r)
-      (inQueue (Q r)) x ≡ 1
+      (inQueue (Q r i)) x ≡ 1
 
 -- Every TDOWN frees an entry of its own connection: after every list from Start, each booked entry has one owner, and
 -- an unhandled TDOWN at a unit finds there an entry that its own pair holds and that it owns itself.
 abbrev pub TdownsOwn : Plan → Type 0
 TdownsOwn pl =
     (cs : List Call) → (k : Owned pl (acceptedAfter pl cs (start pl) []) (ruledAfter pl cs (start pl)))
-    × ((r : ℕ) (x : Packet) (rest : List Packet) → r < R pl → ruledAfter pl cs (start pl) .lines .queue (Q r) ≡ x
+    × ((r i : ℕ) (x : Packet) (rest : List Packet) → r < R pl → i < 4 → ruledAfter pl cs (start pl) .lines .queue
+    (Q r i) ≡ x
     ∷ rest
-    → ruledAfter pl cs (start pl) .lines .handled (Q r) ≡ false → x .kind ≡ Tdown
-    → OwnEntry pl (acceptedAfter pl cs (start pl) []) (ruledAfter pl cs (start pl)) k r x)
+    → ruledAfter pl cs (start pl) .lines .handled (Q r i) ≡ false → x .kind ≡ Tdown
+    → OwnEntry pl (acceptedAfter pl cs (start pl) []) (ruledAfter pl cs (start pl)) k r i x)
 
 -- what a Close of the connection (a, p, t) does that is accepted after the calls cs from Start
 pub record ClosesOwn (pl : Plan) (cs : List Call) (a p t : ℕ) : Type 0 where

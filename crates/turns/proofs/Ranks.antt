@@ -20,33 +20,33 @@ use Rattle.states.specs.Forms.{zeros}
 use Rattle.turns.specs.Turns.{sideRank, sideRanks, routerRanks, routersRanks, turnsFit}
 
 -- ---- the least rank, by a joint's byte: the joint's kind is in the two highest bits
-pub least-apart : (v : ℕ) → v < 64 → _≡_ {A = ℕ} 3 (pick (isJoined (jointOfByte v)) 0 3)
+pub least-apart : (v : ℕ) → v < 64 → _≡_ {A = ℕ} 4 (pick (isJoined (jointOfByte v)) 0 4)
 unfolding jointOfByte
 least-apart v l = let k : v / 64 ≡ 0 = omega arith in rw k
 
-pub least-joined : (v : ℕ) → 64 ≤ v → v < 256 → _≡_ {A = ℕ} 0 (pick (isJoined (jointOfByte v)) 0 3)
+pub least-joined : (v : ℕ) → 64 ≤ v → v < 256 → _≡_ {A = ℕ} 0 (pick (isJoined (jointOfByte v)) 0 4)
 unfolding jointOfByte
 least-joined v l m = by (lt-or-ge v 128) (lt-or-ge v 192)
   where
-    by : (v < 128) ⊎ (128 ≤ v) → (v < 192) ⊎ (192 ≤ v) → _≡_ {A = ℕ} 0 (pick (isJoined (jointOfByte v)) 0 3)
+    by : (v < 128) ⊎ (128 ≤ v) → (v < 192) ⊎ (192 ≤ v) → _≡_ {A = ℕ} 0 (pick (isJoined (jointOfByte v)) 0 4)
     by (inl a) b = let k : v / 64 ≡ 1 = omega arith in rw k
     by (inr a) (inl b) = let k : v / 64 ≡ 2 = omega arith in rw k
     by (inr a) (inr b) = let k : v / 64 ≡ 3 = omega arith in rw k
 
 -- ---- ranks by their least and their greatest
-rank-between : (w : Bool) (x : ℕ) → also (leb x 3) (leb (pick w 0 3) x) ≡ pick w (ltb x 4) (eqb x 3)
+rank-between : (w : Bool) (x : ℕ) → also (leb x 4) (leb (pick w 0 4) x) ≡ pick w (ltb x 5) (eqb x 4)
 rank-between true x =
-    same-test (also (leb x 3) (leb 0 x)) (ltb x 4)
-    (λ e. let l = leb-true x 3 (also-true {a = leb x 3} {b = leb 0 x} e .0) in lt-ltb x 4 (omega arith))
-    (λ e. let l = ltb-true x 4 e in also-of (le-leb x 3 (omega arith)) (le-leb 0 x (omega arith)))
+    same-test (also (leb x 4) (leb 0 x)) (ltb x 5)
+    (λ e. let l = leb-true x 4 (also-true {a = leb x 4} {b = leb 0 x} e .0) in lt-ltb x 5 (omega arith))
+    (λ e. let l = ltb-true x 5 e in also-of (le-leb x 4 (omega arith)) (le-leb 0 x (omega arith)))
 rank-between false x =
-    same-test (also (leb x 3) (leb 3 x)) (eqb x 3)
-    (λ e. let p = also-true {a = leb x 3} {b = leb 3 x} e in
-    let l = leb-true x 3 (p .0) in let m = leb-true 3 x (p .1) in eq-eqb x 3 (omega arith))
-    (λ e. let q = eqb-true x 3 e in also-of (le-leb x 3 (omega arith)) (le-leb 3 x (omega arith)))
+    same-test (also (leb x 4) (leb 4 x)) (eqb x 4)
+    (λ e. let p = also-true {a = leb x 4} {b = leb 4 x} e in
+    let l = leb-true x 4 (p .0) in let m = leb-true 4 x (p .1) in eq-eqb x 4 (omega arith))
+    (λ e. let q = eqb-true x 4 e in also-of (le-leb x 4 (omega arith)) (le-leb 4 x (omega arith)))
 
 -- a side's rank, as the code joins its two tests
-pub side-rank : (j x : ℕ) {l : ℕ} {a b t : Bool} → l ≡ pick (isJoined (jointOfByte j)) 0 3 → a ≡ leb x 3 → b ≡ leb l x
+pub side-rank : (j x : ℕ) {l : ℕ} {a b t : Bool} → l ≡ pick (isJoined (jointOfByte j)) 0 4 → a ≡ leb x 4 → b ≡ leb l x
     → t ≡ also a b → t ≡ sideRank j x
 unfolding sideRank
 side-rank j x e p q r =
@@ -78,9 +78,9 @@ module _ (i k : ℕ) (joints b : List ℕ) where
 
   -- a router: its sides, then its two other outputs
   pub router-ranked : {x y z t u : Bool} → x ≡ sideRanks i k 4 joints b → y ≡ leb (getD b (i + 4) 0) 3
-      → z ≡ eqb (getD b (i + 5) 0) 0 → t ≡ also y z → u ≡ also x t → u ≡ routerRanks i k joints b
+      → z ≡ leb (getD b (i + 5) 0) 3 → t ≡ also y z → u ≡ also x t → u ≡ routerRanks i k joints b
   unfolding routerRanks
-  router-ranked p q r m n = n ∙ rw (p, m, q, r, few-ranks (getD b (i + 4) 0))
+  router-ranked p q r m n = n ∙ rw (p, m, q, r, few-ranks (getD b (i + 4) 0), few-ranks (getD b (i + 5) 0))
 
 -- ---- routers, as long as they pass
 module _ (i : ℕ) (joints b : List ℕ) where

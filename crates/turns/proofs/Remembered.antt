@@ -78,17 +78,15 @@ module _ (h : Head) (routes : List (List ℕ)) (joints b : List ℕ) where
     unfolding outputNumber tablePlan
     at-unit = let e = row (toUnit r) in by-byte (toUnit r) (from + 6 * r + 4) l (omega arith)
 
-    at-back : asked (fromUnit r) ≡ eqb (getD b (from + 6 * r + 5) 0) 0
+    at-back : asked (fromUnit r) ≡ ltb (getD b (from + 6 * r + 5) 0) 4
     unfolding outputNumber tablePlan
-    at-back =
-        let e = row (fromUnit r) in
-        by-byte (fromUnit r) (from + 6 * r + 5) l (omega arith) ∙ one-rank (getD b (from + 6 * r + 5) 0)
+    at-back = let e = row (fromUnit r) in by-byte (fromUnit r) (from + 6 * r + 5) l (omega arith)
 
   -- ---- where the bytes fit every output passes
   -- the six bytes of a router
   router-parts : routersRanks from (h .routers) joints b ≡ true → (r : ℕ) → r < h .routers
       → (sideRanks (from + 6 * r) (4 * r) 4 joints b ≡ true)
-      × (ltb (getD b (from + 6 * r + 4) 0) 4 ≡ true) × (eqb (getD b (from + 6 * r + 5) 0) 0 ≡ true)
+      × (ltb (getD b (from + 6 * r + 4) 0) 4 ≡ true) × (ltb (getD b (from + 6 * r + 5) 0) 4 ≡ true)
   unfolding routersRanks routerRanks
   router-parts e r l =
       let p = also-true (all-at (h .routers) (λ n. routerRanks (from + 6 * n) (4 * n) joints b) e r l) in

@@ -13,9 +13,9 @@ use Rattle.machine.specs.Valid.{isJoined}
 use Rattle.acts.specs.Counts.{turnsFrom}
 use Rattle.states.specs.Forms.{zeros}
 
--- a side whose joint's byte is j may remember rank x: one of four, and the last of them where it is not joined
+-- a side whose joint's byte is j may remember rank x: one of five, and the last of them where it is not joined
 unfoldable pub sideRank : ℕ → ℕ → Bool
-sideRank j x = pick (isJoined (jointOfByte j)) (ltb x 4) (eqb x 3)
+sideRank j x = pick (isJoined (jointOfByte j)) (ltb x 5) (eqb x 4)
 
 -- n sides whose bytes begin at i, and their joints at k
 unfoldable pub sideRanks : ℕ → ℕ → ℕ → List ℕ → List ℕ → Bool
@@ -24,7 +24,7 @@ sideRanks i k n joints b = allBelow n (λ o. sideRank (getD joints (k + o) 0) (g
 -- a router: its four sides, the way to the unit, the way back
 unfoldable pub routerRanks : ℕ → ℕ → List ℕ → List ℕ → Bool
 routerRanks i k joints b =
-    also (sideRanks i k 4 joints b) (also (ltb (getD b (i + 4) 0) 4) (eqb (getD b (i + 5) 0) 0))
+    also (sideRanks i k 4 joints b) (also (ltb (getD b (i + 4) 0) 4) (ltb (getD b (i + 5) 0) 4))
 
 -- n routers
 unfoldable pub routersRanks : ℕ → ℕ → List ℕ → List ℕ → Bool

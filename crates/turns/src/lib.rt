@@ -11,18 +11,18 @@ ghost use Rattle.machine.specs.Valid.{isJoined};
 ghost use Rattle.acts.specs.Counts.{stateSize};
 ghost use Rattle.turns.specs.Turns.{sideRank, sideRanks, routerRanks, routersRanks, turnsFit};
 
-// The least rank that a side may remember, by its joint's byte: the last of four where it is not joined.
+// The least rank that a side may remember, by its joint's byte: the last of five where it is not joined.
 fn least(j: u8) -> u8
-    ensures { λ v. ⌜ v ≡ pick (isJoined (jointOfByte j)) 0 3 ⌝ }
+    ensures { λ v. ⌜ v ≡ pick (isJoined (jointOfByte j)) 0 4 ⌝ }
 {
-    if j < 64 { 3 } else { 0 }
+    if j < 64 { 4 } else { 0 }
 }
 
 // Not zero where a side may not remember rank x, by its joint's byte.
 fn unfit(x: u8, j: u8) -> u8
     ensures { λ v. ⌜ eqb v 0 ≡ sideRank j x ⌝ }
 {
-    forms::join(forms::over(x, 3), forms::over(least(j), x))
+    forms::join(forms::over(x, 4), forms::over(least(j), x))
 }
 
 // Not zero where one of a router's four sides may not remember its rank.
@@ -43,7 +43,7 @@ fn router_fits(s: &[u8], i: usize, joints: &[u8; 64], k: usize) -> bool
     ensures { λ r. ⌜ r ≡ routerRanks i k (now (joints .entry)) (now (s .entry)) ⌝ }
 {
     let sides = sides_unfit(s, i, joints, k);
-    let unit = forms::join(forms::over(s[i + 4], 3), s[i + 5]);
+    let unit = forms::join(forms::over(s[i + 4], 3), forms::over(s[i + 5], 3));
     forms::join(sides, unit) == 0
 }
 

@@ -10,14 +10,15 @@ use Rattle.plan.specs.Rules.{home}
 use Rattle.paths.specs.Walk.{onward, routerOf, Walk, walked}
 use Rattle.paths.specs.Served.{Served}
 use Rattle.paths.specs.Steps.{standsOn}
-use Rattle.feeding.specs.Queue.{activeOut, activeIn, passiveIn, passiveOut, U, Q, F, K}
+use Rattle.feeding.specs.Queue.{ahead, back, activeOut, activeIn, passiveIn, passiveOut, U, Q, F, K}
 use Rattle.feeding.specs.Feeds.{Place, inQueue, handledAt, Meets, Stands, span, Ahead, Returns, Back, Fits}
 use Rattle.wiring.specs.Wired.{Wired}
 use Rattle.wiring.proofs.Wires.{near, home-inside}
 use Rattle.journeys.proofs.Walks.{onward-on, walk-short}
 use Rattle.journeys.proofs.Places.{back-walk, next-walk}
 use Rattle.valid.proofs.Decides.{Decides, like, never, most, same, both, either, any-below}
-use Rattle.valid.specs.Test.{standsAt, reached, leftTest, meetsTest, aheadTest, onMeets, nackMeets, returnsTest}
+use Rattle.valid.specs.Test.{standsAt, reached, leftTest, leftAtTest, meetsTest, aheadTest, onMeets, nackMeets}
+use Rattle.valid.specs.Test.{returnsTest}
 use Rattle.valid.specs.Test.{backTest, fitsTest}
 
 -- ---- where a walk stands
@@ -55,18 +56,26 @@ module _ (pl : Plan) (a p : ℕ) where
   -- ---- on the way to the passive
   left : (r n : ℕ) → Decides (leftTest pl a p r n) ((i m : ℕ) × Stands pl a p m r i × (n ≡ suc m))
   left r zero = never (λ f. suc-not (f .3))
-  left r (suc m) = like (stands-on r (reached pl a p m)) (λ f. (f .0, m, f .1, refl)) (λ f. (f .0, back f))
+  left r (suc m) = like (stands-on r (reached pl a p m)) (λ f. (f .0, m, f .1, refl)) (λ f. (f .0, back′ f))
     where
-      back : (f : (i k : ℕ) × Stands pl a p k r i × (suc m ≡ suc k)) → Stands pl a p m r (f .0)
-      back (i, k, q, e) = let s : m ≡ k = omega arith in rw s q
+      back′ : (f : (i k : ℕ) × Stands pl a p k r i × (suc m ≡ suc k)) → Stands pl a p m r (f .0)
+      back′ (i, k, q, e) = let s : m ≡ k = omega arith in rw s q
+
+  left-at : (r i n : ℕ) → Decides (leftAtTest pl a p r i n) ((m : ℕ) × Stands pl a p m r i × (n ≡ suc m))
+  left-at r i zero = never (λ f. suc-not (f .2))
+  left-at r i (suc m) = like (stands-at r i (reached pl a p m)) (λ f. (m, f, refl)) back′
+    where
+      back′ : (f : (k : ℕ) × Stands pl a p k r i × (suc m ≡ suc k)) → Stands pl a p m r i
+      back′ (k, q, e) = let s : m ≡ k = omega arith in rw s q
 
   pub ahead-decides : (x : Place) (n : ℕ) → Decides (aheadTest pl a p x n) (Ahead pl a p x n)
   unfolding aheadTest Ahead
   ahead-decides (inQueue (activeOut x)) n = both (same x a) (λ e. same n 0)
   ahead-decides (inQueue (U r i)) n = stands-at r i (reached pl a p n)
-  ahead-decides (inQueue (Q r)) n = stands-on r (reached pl a p n)
-  ahead-decides (handledAt r) n = left r n
-  ahead-decides (inQueue (F r o)) n =
+  ahead-decides (inQueue (Q r i)) n = stands-at r i (reached pl a p n)
+  ahead-decides (handledAt r i) n = left-at r i n
+  ahead-decides (inQueue (F back r o)) n = never (λ f. f)
+  ahead-decides (inQueue (F ahead r o)) n =
       like (both (left r n) (λ f. same o (routeTo pl (passive p) r))) (λ f. (f .0 .0, f .0 .1, f .0 .2, f .0 .3, f .1))
       (λ f. ((f .0, f .1, f .2, f .3), f .4))
   ahead-decides (inQueue (passiveIn x)) n = both (same x p) (λ e. same n (span pl a p))
@@ -107,15 +116,16 @@ module _ {pl : Plan} (wired : Wired pl) (a p : ℕ) (ha : a < A pl) (hp : p < P 
   pub back-decides : (x : Place) (n : ℕ) → Decides (backTest pl a p x n) (Back pl a p x n)
   unfolding backTest Back
   back-decides (inQueue (passiveOut x)) n = both (same x p) (λ e. same n (span pl a p))
-  back-decides (handledAt r) n = stands-on r (reached pl a p n)
-  back-decides (inQueue (F r o)) n =
+  back-decides (handledAt r i) n = stands-at r i (reached pl a p n)
+  back-decides (inQueue (F ahead r o)) n = never (λ f. f)
+  back-decides (inQueue (F back r o)) n =
       like (both (stands-on r (reached pl a p n)) (λ f. same o (routeTo pl (active a) r)))
       (λ f. (f .0 .0, f .0 .1, f .1)) (λ f. ((f .0, f .1), f .2))
   back-decides (inQueue (K r i o)) n =
       like (both (same o (routeTo pl (active a) r)) (λ e. returns-decides n (record { router = r; side = i })))
       (λ f. (f .1, f .0)) (λ f. (f .1, f .0))
   back-decides (inQueue (activeIn x)) n = both (same x a) (λ e. most n (span pl a p))
-  back-decides (inQueue (Q r)) n = never (λ f. f)
+  back-decides (inQueue (Q r i)) n = never (λ f. f)
   back-decides (inQueue (U r i)) n = never (λ f. f)
   back-decides (inQueue (activeOut x)) n = never (λ f. f)
   back-decides (inQueue (passiveIn x)) n = never (λ f. f)

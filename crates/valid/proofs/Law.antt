@@ -111,9 +111,9 @@ module _ (pl : Plan) (s : State) where
       (λ q h. if-not (fed pl q) (not-so (s .flow .flag q)))
 
   marks-decide : Decides (marksTest pl s)
-      ((q : Queue) → Exists pl q → s .lines .handled q ≡ true → (r : ℕ) × (q ≡ Q r) × (s .lines .queue q ≢ []))
+      ((q : Queue) → Exists pl q → s .lines .handled q ≡ true → (r i : ℕ) × (q ≡ Q r i) × (s .lines .queue q ≢ []))
   unfolding marksTest
-  marks-decide = every-queue pl _ (λ q. s .lines .handled q ≡ true → (r : ℕ) × (q ≡ Q r) × (s .lines .queue q ≢ []))
+  marks-decide = every-queue pl _ (λ q. s .lines .handled q ≡ true → (r i : ℕ) × (q ≡ Q r i) × (s .lines .queue q ≢ []))
       (λ q h. mark-decides q (s .lines .handled q) (s .lines .queue q))
 
   free-entry-decides : Decides (freeEntryTest pl s)

@@ -104,22 +104,22 @@ module _ (pl : Plan) (s : State) (o : Output) where
       like (down-decides (ofRank (senders o) j)) (λ f k q e h. f q (rw (sender-same e) h)) (λ f q h. f j q refl h)
 
 -- ---- one mark
-is-unit : (q : Queue) → Decides (isUnit q) ((r : ℕ) × (q ≡ Q r))
+is-unit : (q : Queue) → Decides (isUnit q) ((r i : ℕ) × (q ≡ Q r i))
 is-unit q = by (unit-or q)
   where
-    by : ((r : ℕ) × (q ≡ Q r)) ⊎ (isUnit q ≡ false) → Decides (isUnit q) ((r : ℕ) × (q ≡ Q r))
-    by (inl (r, e)) = rw e (always (r, refl))
-    by (inr n) = rw n (never (λ f. not-both (ap isUnit (f .1)) n))
+    by : ((r i : ℕ) × (q ≡ Q r i)) ⊎ (isUnit q ≡ false) → Decides (isUnit q) ((r i : ℕ) × (q ≡ Q r i))
+    by (inl (r, i, e)) = rw e (always (r, i, refl))
+    by (inr n) = rw n (never (λ f. not-both (ap isUnit (f .2)) n))
 
 filled : (xs : List Packet) → Decides (not (isEmpty xs)) (xs ≢ [])
 filled [] = never (λ f. f refl)
 filled (x ∷ xs) = always (λ e. let z : _≡_ {A = ℕ} 0 1 = cc in omega arith)
 
 pub mark-decides : (q : Queue) (done : Bool) (xs : List Packet)
-    → Decides (not done || also (isUnit q) (not (isEmpty xs))) (done ≡ true → (r : ℕ) × (q ≡ Q r) × (xs ≢ []))
+    → Decides (not done || also (isUnit q) (not (isEmpty xs))) (done ≡ true → (r i : ℕ) × (q ≡ Q r i) × (xs ≢ []))
 mark-decides q done xs =
-    like (if-so done (both (is-unit q) (λ u. filled xs))) (λ f e. let g = f e in (g .0 .0, g .0 .1, g .1))
-    (λ f e. let g = f e in ((g .0, g .1), g .2))
+    like (if-so done (both (is-unit q) (λ u. filled xs))) (λ f e. let g = f e in (g .0 .0, g .0 .1, g .0 .2, g .1))
+    (λ f e. let g = f e in ((g .0, g .1, g .2), g .3))
 
 -- ---- one entry
 pub entry-decides : (e : Entry) → Decides (entryTest e) ((i : ℕ) → e ≡ Booked i → i < 4)

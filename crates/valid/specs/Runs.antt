@@ -23,7 +23,7 @@ use Rattle.plan.specs.Rules.{portsOf, home}
 use Rattle.paths.specs.Walk.{onward, arrives, walkSize}
 use Rattle.paths.specs.Served.{backsArrive, servedFrom}
 use Rattle.paths.specs.Steps.{indexIn, indexOn}
-use Rattle.feeding.specs.Queue.{Queue, activeOut, activeIn, U, Q, K, queues, queueAt}
+use Rattle.feeding.specs.Queue.{ahead, back, Queue, activeOut, activeIn, U, Q, F, K, queues, queueAt}
 use Rattle.feeding.specs.Feeds.{Output, ofActive, ofPassive, ofSide, toUnit, fromUnit}
 use Rattle.machine.specs.Outputs.{outputAt}
 use Rattle.machine.specs.State.{State, sender, blank, start, withPhase, withSlot, withQueue, withWire, withCredit}
@@ -105,8 +105,8 @@ underWay hub s =
 -- a NACK that the first router made, in Q; handled or not
 abbrev inUnit : Bool → State → State
 inUnit done s =
-    withHandled (Q 0) done
-    (withQueue (Q 0) (packet Nack 0 ∷ []) (withCredit (Q 0) (record { 0 = 0 }) (withAllowance 0 0 s)))
+    withHandled (Q 0 0) done
+    (withQueue (Q 0 0) (packet Nack 0 ∷ []) (withCredit (Q 0 0) (record { 0 = 0 }) (withAllowance 0 0 s)))
 
 -- how many of the changes of a plan's Start leave a state; of plan T's
 unfoldable pub countOn : Plan → List (State → State) → ℕ
@@ -136,7 +136,7 @@ pub t-spoilt : countValid (
     ∷ (λ s. withPhase Write (withChoice (ofActive 0) (sender 0) s))
     ∷ (λ s. withPhase Execute (withFlag (U 0 0) true (withCredit (U 0 0) (record { 0 = 0 }) s)))
     ∷ (λ s. withFlag (activeOut 0) true s)
-    ∷ (λ s. withHandled (Q 0) true s)
+    ∷ (λ s. withHandled (Q 0 0) true s)
     ∷ (λ s. withEntry 0 1 0 (Booked 0) (withEntry 0 1 1 (Booked 0) s))
     ∷ (λ s. withCredit (U 0 0) (record { 0 = 0 }) s)
     ∷ (λ s. withCredit (activeOut 0) (record { 0 = 0 }) s)
@@ -224,8 +224,8 @@ served o k s = withLastSender o k s
 -- any of its senders
 pub t-ranks : countValid (
     served (ofSide 0 0) 0
-    ∷ served (ofSide 0 1) 3
-    ∷ served (ofSide 0 2) 3
+    ∷ served (ofSide 0 1) 4
+    ∷ served (ofSide 0 2) 4
     ∷ served (toUnit 0) 0
     ∷ served (fromUnit 0) 0
     ∷ served (ofPassive 0) 0
@@ -236,17 +236,51 @@ t-ranks = refl
 
 -- none of its senders, or another than the last in order at a side that is not joined
 pub t-unranked : countValid (
-    served (ofSide 0 0) 4
-    ∷ served (ofSide 0 2) 2
-    ∷ served (ofSide 0 3) 4
+    served (ofSide 0 0) 5
+    ∷ served (ofSide 0 2) 3
+    ∷ served (ofSide 0 3) 5
     ∷ served (toUnit 0) 4
-    ∷ served (fromUnit 0) 1
+    ∷ served (fromUnit 0) 4
     ∷ served (ofActive 0) 1
     ∷ served (ofPassive 0) 1
     ∷ []
     ) ≡ 0
 unfolding countValid
 t-unranked = refl
+
+-- ---- Q by incoming side, F by what is in it (document 02 (i)): on T all walks come in by side 0
+-- a packet of kind k in queue q, with a hub
+abbrev waits : Queue → Kind → ℕ → State → State
+waits q k hub s =
+    withQueue q (packet k hub ∷ []) (withCredit q (record { 0 = 0 }) (withAllowance 0 0 s))
+
+-- a set-up on the wire to the unit, for a credit of Q[i]
+abbrev onTheWay : ℕ → State → State
+onTheWay i s =
+    withWire (toUnit 0) (Full (packet Setup 0)) (withCredit (Q 0 i) (record { 0 = 0 }) (withAllowance 0 0 s))
+
+-- where they belong; and the wire is not tied to the rank that the way to the unit remembers
+pub t-split : countValid (
+    waits (Q 0 0) Setup 0
+    ∷ waits (F ahead 0 1) Setup 1
+    ∷ waits (F back 0 0) Nack 0
+    ∷ onTheWay 0
+    ∷ (λ s. served (toUnit 0) 1 (onTheWay 0 s))
+    ∷ []
+    ) ≡ 5
+unfolding countValid
+t-split = refl
+
+-- another side's Q, a set-up in F of answers, an answer in F of set-ups, another Q's credit
+pub t-unsplit : countValid (
+    waits (Q 0 1) Setup 0
+    ∷ waits (F back 0 1) Setup 1
+    ∷ waits (F ahead 0 0) Nack 0
+    ∷ onTheWay 1
+    ∷ []
+    ) ≡ 0
+unfolding countValid
+t-unsplit = refl
 
 -- ---- document 02 (a): this part of 7 is not kept by each call alone, since nothing ties the packets to the table; it
 -- is kept along a list from Start

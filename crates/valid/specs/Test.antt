@@ -21,7 +21,8 @@ use Rattle.plan.specs.Rules.{home}
 use Rattle.paths.specs.Walk.{onward, walked}
 use Rattle.paths.specs.Served.{served}
 use Rattle.paths.specs.Steps.{standsOn}
-use Rattle.feeding.specs.Queue.{Queue, activeOut, activeIn, passiveIn, passiveOut, U, Q, F, K, queues, queueAt}
+use Rattle.feeding.specs.Queue.{ahead, back, Queue, activeOut, activeIn, passiveIn, passiveOut, U, Q, F, K, queues}
+use Rattle.feeding.specs.Queue.{queueAt}
 use Rattle.feeding.specs.Role.{Role, isUnit}
 use Rattle.feeding.specs.Feeds.{Output, ofActive, ofPassive, ofSide, toUnit, fromUnit, Place, inQueue, handledAt, span}
 use Rattle.feeding.specs.Feeds.{headPlace}
@@ -56,6 +57,11 @@ abbrev pub leftTest : Plan → ℕ → ℕ → ℕ → ℕ → Bool
 leftTest pl a p r zero = false
 leftTest pl a p r (suc m) = standsOn r (reached pl a p m)
 
+-- and the walk came in to it by side i
+abbrev pub leftAtTest : Plan → ℕ → ℕ → ℕ → ℕ → ℕ → Bool
+leftAtTest pl a p r i zero = false
+leftAtTest pl a p r i (suc m) = standsAt r i (reached pl a p m)
+
 -- the walk to e from a port comes in by y, within as many steps as there are routers
 unfoldable pub meetsTest : Plan → Interface → Port → Port → Bool
 meetsTest pl e from y = anyBelow (R pl) (λ k. standsAt (y .router) (y .side) (walked pl e k from))
@@ -64,9 +70,10 @@ meetsTest pl e from y = anyBelow (R pl) (λ k. standsAt (y .router) (y .side) (w
 unfoldable pub aheadTest : Plan → ℕ → ℕ → Place → ℕ → Bool
 aheadTest pl a p (inQueue (activeOut x)) n = also (eqb x a) (eqb n 0)
 aheadTest pl a p (inQueue (U r i)) n = standsAt r i (reached pl a p n)
-aheadTest pl a p (inQueue (Q r)) n = standsOn r (reached pl a p n)
-aheadTest pl a p (handledAt r) n = leftTest pl a p r n
-aheadTest pl a p (inQueue (F r o)) n = also (leftTest pl a p r n) (eqb o (routeTo pl (passive p) r))
+aheadTest pl a p (inQueue (Q r i)) n = standsAt r i (reached pl a p n)
+aheadTest pl a p (handledAt r i) n = leftAtTest pl a p r i n
+aheadTest pl a p (inQueue (F back r o)) n = false
+aheadTest pl a p (inQueue (F ahead r o)) n = also (leftTest pl a p r n) (eqb o (routeTo pl (passive p) r))
 aheadTest pl a p (inQueue (passiveIn x)) n = also (eqb x p) (eqb n (span pl a p))
 aheadTest pl a p (inQueue (activeIn x)) n = false
 aheadTest pl a p (inQueue (passiveOut x)) n = false
@@ -91,12 +98,13 @@ returnsTest pl a p n y =
 
 unfoldable pub backTest : Plan → ℕ → ℕ → Place → ℕ → Bool
 backTest pl a p (inQueue (passiveOut x)) n = also (eqb x p) (eqb n (span pl a p))
-backTest pl a p (handledAt r) n = standsOn r (reached pl a p n)
-backTest pl a p (inQueue (F r o)) n = also (standsOn r (reached pl a p n)) (eqb o (routeTo pl (active a) r))
+backTest pl a p (handledAt r i) n = standsAt r i (reached pl a p n)
+backTest pl a p (inQueue (F ahead r o)) n = false
+backTest pl a p (inQueue (F back r o)) n = also (standsOn r (reached pl a p n)) (eqb o (routeTo pl (active a) r))
 backTest pl a p (inQueue (K r i o)) n =
     also (eqb o (routeTo pl (active a) r)) (returnsTest pl a p n (record { router = r; side = i }))
 backTest pl a p (inQueue (activeIn x)) n = also (eqb x a) (leb n (span pl a p))
-backTest pl a p (inQueue (Q r)) n = false
+backTest pl a p (inQueue (Q r i)) n = false
 backTest pl a p (inQueue (U r i)) n = false
 backTest pl a p (inQueue (activeOut x)) n = false
 backTest pl a p (inQueue (passiveIn x)) n = false

@@ -41,10 +41,10 @@ abbrev pub passiveOutRow : Head → ℕ → ℕ
 passiveOutRow h p = 2 + 39 * (h .actives + p)
 
 abbrev pub activeInRow : Head → ℕ → ℕ
-activeInRow h a = 2 + 39 * (destinations h + 21 * h .routers + a)
+activeInRow h a = 2 + 39 * (destinations h + 28 * h .routers + a)
 
 abbrev pub passiveInRow : Head → ℕ → ℕ
-passiveInRow h p = 2 + 39 * (destinations h + 21 * h .routers + h .actives + p)
+passiveInRow h p = 2 + 39 * (destinations h + 28 * h .routers + h .actives + p)
 
 abbrev pub allowanceByte : Head → ℕ → ℕ
 allowanceByte h a = allowancesFrom h + a

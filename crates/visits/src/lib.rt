@@ -52,7 +52,7 @@ pub fn active_in(h: Head, a: usize) -> usize
     requires { ⌜ Counts h × (a < 16) ⌝ }
     ensures { λ i. ⌜ (i ≡ activeInRow h a) × (i < 20000) ⌝ }
 {
-    acts::queue_row(h.actives + h.passives + 21 * h.routers + a)
+    acts::queue_row(h.actives + h.passives + 28 * h.routers + a)
 }
 
 // The row of a passive's in-queue.
@@ -60,7 +60,7 @@ pub fn passive_in(h: Head, p: usize) -> usize
     requires { ⌜ Counts h × (p < 16) ⌝ }
     ensures { λ i. ⌜ (i ≡ passiveInRow h p) × (i < 20000) ⌝ }
 {
-    acts::queue_row(h.actives + h.passives + 21 * h.routers + h.actives + p)
+    acts::queue_row(h.actives + h.passives + 28 * h.routers + h.actives + p)
 }
 
 // The row of a passive's out-queue.

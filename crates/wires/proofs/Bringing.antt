@@ -78,7 +78,7 @@ module _ (pl : Plan) where
         (λ t. eqb-false k n ne
         (sym (at-number pl k below) ∙ ap (number pl) (at ∙ same-queue q (queueAt pl n) t) ∙ at-number pl n h))
 
-    small : k < 400
+    small : k < 512
     small = let e = queues-by pl in let a = few .0 in let b = few .1 in let c = few .2 in omega arith
 
     pub brought-one : (t : List ℕ) → Brought pl (λ n. bit (sameQueue q (queueAt pl n))) t (set t k (getD t k 0 + 1))
@@ -98,7 +98,7 @@ module _ (pl : Plan) where
         itself : sameQueue q (queueAt pl k) ≡ true
         itself = rw at (queue-same q)
 
-        grown : length t ≡ 400 → (n : ℕ) → n < queues pl → (eqb k n ≡ true) ⊎ (eqb k n ≡ false)
+        grown : length t ≡ 512 → (n : ℕ) → n < queues pl → (eqb k n ≡ true) ⊎ (eqb k n ≡ false)
             → getD (set t k (getD t k 0 + 1)) n 0 ≡ getD t n 0 + bit (sameQueue q (queueAt pl n))
         grown l n h (inl f) = rw (← eqb-true k n f, itself) (here (rw l small))
         grown l n h (inr f) = rw (away n f, same-at n h f) (omega arith)
@@ -133,7 +133,7 @@ module _ (pl : Plan) where
       omega arith
 
   -- what the caller gets: how many packets are on the way to each queue
-  pub coming-is : (b c d t u : List ℕ) {r : Bool} → length c ≡ 400 → ((n : ℕ) → getD c n 0 ≡ 0)
+  pub coming-is : (b c d t u : List ℕ) {r : Bool} → length c ≡ 512 → ((n : ℕ) → getD c n 0 ≡ 0)
       → OutputsChecked pl b r c d t u → r ≡ true → Coming pl b d
   unfolding onWires
   coming-is b c d t u l z k e n h = let a = k .come e .grown l n h in let y = z n in omega arith

@@ -84,7 +84,7 @@ module _ {h : Head} {routes : List (List ℕ)} {joints homes : List ℕ} {length
       tested : (packetTest net x ≡ true) × (served net (x .active) (x .passive) ≡ true)
       tested = also-true {a = packetTest net x} {b = served net (x .active) (x .passive)} (sym e ∙ f)
 
-      pub asked : Asked h (h .actives) (h .actives + h .passives) (21 * h .routers) routes joints homes lengths by up
+      pub asked : Asked h (h .actives) (h .actives + h .passives) (28 * h .routers) routes joints homes lengths by up
           (x .active) (x .passive)
       asked = asking ready x (sym e ∙ f)
 
@@ -94,6 +94,9 @@ module _ {h : Head} {routes : List (List ℕ)} {joints homes : List ℕ} {length
 
       pub active-few : x .active < 16
       active-few = let a = ready .lent .range .actives .1 in let b = numbers .0 in omega arith
+
+      pub passive-few : x .passive < 16
+      passive-few = let a = ready .lent .range .passives .1 in let b = numbers .1 in omega arith
 
       -- where it goes
       module _ (m v : ℕ) (g : v ≡ numberOr net (nextBy net (outputAt net m) x)) where
@@ -121,7 +124,7 @@ module _ {h : Head} {routes : List (List ℕ)} {joints homes : List ℕ} {length
           pub in-queues : v < queues net
           in-queues = to .below
 
-          pub in-table : v < 400
+          pub in-table : v < 512
           in-table =
               let l = in-queues in let k = queues-by net in
               let a = counts .0 in let b = counts .1 in let c = counts .2 in

@@ -31,8 +31,8 @@ spentOn pl b a m = inWire (spends a) (decode pl b .links .wire (outputAt pl m))
 
 -- the table t of packets to come grew by w, queue by queue
 pub record Brought (pl : Plan) (w : ℕ → ℕ) (t u : List ℕ) : Type 0 where
-  pub long : length t ≡ 400 → length u ≡ 400
-  pub grown : length t ≡ 400 → (n : ℕ) → n < queues pl → getD u n 0 ≡ getD t n 0 + w n
+  pub long : length t ≡ 512 → length u ≡ 512
+  pub grown : length t ≡ 512 → (n : ℕ) → n < queues pl → getD u n 0 ≡ getD t n 0 + w n
   pub most : (n : ℕ) → n < queues pl → getD u n 0 ≤ getD t n 0 + w n
 
 -- no count is above m: one more fits a byte

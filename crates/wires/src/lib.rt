@@ -5,11 +5,15 @@ use packets::Packet;
 use plan::Head;
 ghost use mathlib.Core.Path.{_≡_};
 ghost use mathlib.Core.Bool.{true, false};
+ghost use mathlib.Core.List.{List};
 ghost use Prim.Native.Nat.{ℕ, _+_, _*_, _≤_, _<_};
 ghost use lib.ListN.{getD, length};
 ghost use Rattle.plan.specs.Head.{Counts};
 ghost use Rattle.plan.specs.Plan.{Plan};
 ghost use Rattle.plan.specs.Tables.{tablePlan};
+ghost use Rattle.machine.specs.Outputs.{outputAt};
+ghost use Rattle.moves.specs.Next.{AtUnit};
+ghost use Rattle.places.specs.Asked.{Asked};
 ghost use Rattle.acts.specs.Counts.{stateSize, outputCount, outputsFrom};
 ghost use Rattle.states.specs.Forms.{zeros};
 ghost use Rattle.states.specs.Check.{outputsPart};
@@ -41,6 +45,40 @@ fn full(s: &[u8], i: usize) -> bool
     s[i + 1] <= 3
 }
 
+// The queue at a unit that a packet of a served pair joins, if output m leads to a unit: that of the side by which the
+// pair's walk comes in there.
+fn at_unit(
+    h: Head,
+    joints: &[u8; 64],
+    homes: &[u8; 32],
+    by: &[[u32; 4]; 16],
+    up: &[[u32; 32]; 17],
+    m: usize,
+    x: Packet,
+) -> usize
+    requires { ⌜ Counts h × (m < outputCount h) × (x .active < 16) × (x .passive < 16)
+        × (getD (now homes) (x .active) 0 < 64) ⌝ }
+    ensures { λ q. ⌜ ((outs inner : ℕ) (routes lengths : List (List ℕ))
+        → Asked h (h .actives) outs inner routes (now (joints .entry)) (now (homes .entry)) lengths (now (by .entry))
+        (now (up .entry)) (x .active) (x .passive)
+        → AtUnit (tablePlan h routes (now (joints .entry))) (outputAt (tablePlan h routes (now (joints .entry))) m) x
+        q) ⌝ }
+{
+    let d = h.actives + h.passives;
+    if m < d {
+        return moves::NO_QUEUE;
+    }
+    if (m - d) % 6 != 4 {
+        return moves::NO_QUEUE;
+    }
+    let r = (m - d) / 6;
+    let i = places::came_in(h.actives, joints, homes, by, up, x, r);
+    if i < 4 {
+        return moves::base_of(h, r) + 4 + i;
+    }
+    moves::NO_QUEUE
+}
+
 // Whether a packet on output m's wire belongs where it goes; READ. It is counted, for its queue and for its active.
 fn joins(
     h: Head,
@@ -52,7 +90,7 @@ fn joins(
     up: &[[u32; 32]; 17],
     m: usize,
     x: Packet,
-    coming: &mut [u8; 400],
+    coming: &mut [u8; 512],
     spent: &mut [u8; 16],
 ) -> bool
     requires { ⌜ Ready h (now routes) (now joints) (now homes) (now lengths) (now by) (now up) × (m < outputCount h)
@@ -63,7 +101,8 @@ fn joins(
     if !lines::packet_ok(h, lengths, x) {
         return false;
     }
-    let n = moves::next(h, routes, joints, homes, m, x);
+    let q = at_unit(h, joints, homes, by, up, m, x);
+    let n = moves::next(h, routes, joints, homes, m, q, x);
     if n == moves::NO_QUEUE {
         return false;
     }
@@ -71,7 +110,7 @@ fn joins(
     if !places::fits(
         h.actives,
         h.actives + h.passives,
-        21 * h.routers,
+        28 * h.routers,
         routes,
         joints,
         homes,
@@ -105,7 +144,7 @@ fn wire_ok(
     s: &[u8],
     m: usize,
     i: usize,
-    coming: &mut [u8; 400],
+    coming: &mut [u8; 512],
     spent: &mut [u8; 16],
 ) -> bool
     requires { ⌜ Ready h (now routes) (now joints) (now homes) (now lengths) (now by) (now up) × (m < outputCount h)
@@ -145,7 +184,7 @@ fn output_ok(
     s: &[u8],
     m: usize,
     i: usize,
-    coming: &mut [u8; 400],
+    coming: &mut [u8; 512],
     spent: &mut [u8; 16],
 ) -> bool
     requires { ⌜ Ready h (now routes) (now joints) (now homes) (now lengths) (now by) (now up) × (m < outputCount h)
@@ -183,7 +222,7 @@ fn outputs_read(
     by: &[[u32; 4]; 16],
     up: &[[u32; 32]; 17],
     s: &[u8],
-    coming: &mut [u8; 400],
+    coming: &mut [u8; 512],
     spent: &mut [u8; 16],
 ) -> bool
     requires { ⌜ Ready h (now routes) (now joints) (now homes) (now lengths) (now by) (now up)
@@ -239,7 +278,7 @@ pub fn outputs_ok(
     by: &[[u32; 4]; 16],
     up: &[[u32; 32]; 17],
     s: &[u8],
-    coming: &mut [u8; 400],
+    coming: &mut [u8; 512],
     spent: &mut [u8; 16],
 ) -> bool
     requires { ⌜ Ready h (now routes) (now joints) (now homes) (now lengths) (now by) (now up)

@@ -16,13 +16,13 @@ use Rattle.plan.specs.declared.Head.{Head}
 use Rattle.plan.specs.Head.{InRange}
 use Rattle.plan.specs.Plan.{Plan, A, P}
 use Rattle.feeding.specs.Queue.{Queue, Exists, number}
-use Rattle.feeding.specs.Feeds.{Output, headPlace}
+use Rattle.feeding.specs.Feeds.{Output, Place, headPlace}
 use Rattle.wiring.specs.Wired.{Wired}
 use Rattle.journeys.proofs.Numbers.{number-below}
 use Rattle.machine.specs.Outputs.{nextBy, outputs, outputAt}
 use Rattle.machine.specs.State.{State, Choice, nobody, sender, withQueue, withWire, withChoice, withLastSender}
 use Rattle.machine.specs.Write.{raise, spend, sendHead, sendFrom, sendBy, send}
-use Rattle.machine.specs.Valid.{fed}
+use Rattle.machine.specs.Valid.{Belongs, fed}
 use Rattle.machine.proofs.Numbers.{sender-exists}
 use Rattle.machine.proofs.OutNumbers.{drives-at}
 use Rattle.theory.specs.Invariant.{Core, Sendable, account}
@@ -40,7 +40,8 @@ use Rattle.layout.proofs.Readings.{choice-at, length-at, credit-at}
 use Rattle.layout.proofs.Updates.{put-last-sender}
 use Rattle.acts.specs.Acts.{Holds, Steps}
 use Rattle.acts.specs.Counts.{outputCount, outputsFrom, turnsFrom}
-use Rattle.moves.specs.Next.{numberOr}
+use Rattle.moves.specs.Next.{numberOr, AtUnit}
+use Rattle.moves.proofs.Onward.{onward}
 use Rattle.reading.proofs.Offsets.{range-counts, outputs-of, queues-of, output-row, queue-row, number-or}
 use Rattle.reading.proofs.Offsets.{turn-row, first, queue-within, output-within, turn-within}
 use Rattle.writing.specs.Writing.{sending, Leaves, Picking, senderOf, behind, left, Any, Headed, Sends}
@@ -80,6 +81,8 @@ module _ {pl : Plan} (wired : Wired pl) (range : InRange (pl .head)) where
             few = few s c (g .queue) h;
             active = here .ranges .active;
             passive = here .ranges .passive;
+            unit = onward wired (outputAt pl m) (g .queue) h (sender-leaves (outputAt pl m) k (g .queue) (g .rank))
+                (subst (λ (at : Place). Belongs pl at (r .head)) (head-leaves s (g .queue) (r .leaves)) here);
             next = r .next;
             goes = r .goes;
             there = belongs-exists wired (r .next) (r .head) there;
@@ -206,6 +209,13 @@ module _ (pl : Plan) {h : Head} (e : pl .head ≡ h) (m i : ℕ) (below : m < ou
                 subst (λ (y : Head). (x .active < y .actives) × (x .passive < y .passives)) e
                 (subst (λ (z : Packet). (z .active < A pl) × (z .passive < P pl)) (sym head-is)
                 (leaving a .active, leaving a .passive))
+
+            -- to a unit it goes four queues behind
+            pub onward-of : AtUnit pl (outputAt pl m) x (n + 4)
+            onward-of =
+                subst (λ (u : ℕ). AtUnit pl (outputAt pl m) x (u + 4)) (sym (number-is a))
+                (subst (λ (z : Packet). AtUnit pl (outputAt pl m) z (number pl (leaving a .queue) + 4)) (sym head-is)
+                (leaving a .unit))
 
             after : c ≡ encode pl (left (leaving a .queue) (a .state)) (a .rest)
             after =

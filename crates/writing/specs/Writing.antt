@@ -22,7 +22,7 @@ use Rattle.theory.specs.Invariant.{Core, WiresEmpty, ChoicesSendable}
 use Rattle.layout.specs.Offsets.{places, queueRow, outputRow}
 use Rattle.layout.specs.Encode.{encode}
 use Rattle.acts.specs.Acts.{Steps}
-use Rattle.moves.specs.Next.{baseOf}
+use Rattle.moves.specs.Next.{baseOf, AtUnit}
 
 -- ---- the turn of an output
 abbrev pub sending : Plan → ℕ → State → State
@@ -39,6 +39,7 @@ pub record Leaves (pl : Plan) (s : State) (o : Output) (k : ℕ) : Type 0 where
   pub few : length (s .lines .queue queue) ≤ places
   pub active : head .active < A pl
   pub passive : head .passive < P pl
+  pub unit : AtUnit pl o head (number pl queue + 4)
   pub next : Queue
   pub goes : nextBy pl o head ≡ some next
   pub there : Exists pl next
@@ -57,7 +58,7 @@ pub record Picked (pl : Plan) (s : State) : Type 0 where
 -- ---- the sender of a rank
 -- its number, by the k-th output of router r, and by output m
 abbrev pub routerSender : ℕ → ℕ → ℕ → ℕ
-routerSender base o k = pick (ltb o 4) (base + 5 + 4 * o + k) (pick (eqb o 4) (base + k) (base + 4))
+routerSender base o k = pick (ltb o 4) (base + 8 + 5 * o + k) (pick (eqb o 4) (base + k) (base + 4 + k))
 
 unfoldable pub senderOf : Head → ℕ → ℕ → ℕ
 senderOf h m k =

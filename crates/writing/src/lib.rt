@@ -71,12 +71,12 @@ fn sender_of(h: Head, m: usize, k: usize) -> usize
     let base = base_of(h, (m - n) / 6);
     let o = (m - n) % 6;
     if o < 4 {
-        return base + 5 + 4 * o + k;
+        return base + 8 + 5 * o + k;
     }
     if o == 4 {
         return base + k;
     }
-    base + 4
+    base + 4 + k
 }
 
 // A head of the row at i has left by output m: the flag rises, but not that of an out-queue, and a unit's mark goes.
@@ -130,7 +130,7 @@ fn remember(h: Head, s: &mut [u8], m: usize, c: u8)
 }
 
 // The turn of output m: if it picked a sender, that one's head leaves its queue and enters the wire, and the output
-// remembers its rank.
+// remembers its rank. To a unit the head of U[i] goes to Q[i], which stands four queues behind.
 fn send(
     h: Head,
     routes: &[[u8; 32]; 16],
@@ -152,7 +152,7 @@ fn send(
     }
     let n = sender_of(h, m, rank(c));
     let x = take(h, s, m, queue_row(n));
-    enter(s, i, next(h, routes, joints, homes, m, x), x);
+    enter(s, i, next(h, routes, joints, homes, m, n + 4, x), x);
     remember(h, s, m, c);
 }
 

@@ -181,6 +181,6 @@ fn last_byte(random: &mut Random, network: &Network, bytes: &mut [u8]) {
     if random.chance(1, 4) {
         tweak(random, byte);
     } else {
-        *byte = random.below(5) as u8;
+        *byte = random.below(6) as u8;
     }
 }

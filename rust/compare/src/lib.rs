@@ -2,15 +2,17 @@
 //! the answer, all bytes of the state, the bytes past it and what is returned.
 //!
 //! * [`Calls`]: the calls on slices, whoever has them. [`Tally`]: how often each answer was met.
-//! * [`lists`]: lists of calls on random plans. [`change`]: changed bytes.
+//! * [`lists`]: lists of calls on random plans. [`change`]: changed bytes. [`loads`]: Load alone.
 
 #![forbid(unsafe_code)]
 
 pub mod calls;
 pub mod change;
 pub mod lists;
+pub mod loads;
 pub mod tally;
 
 pub use calls::Calls;
 pub use lists::compare;
+pub use loads::compare_loads;
 pub use tally::Tally;

@@ -2,11 +2,11 @@
 
 use model::generate::calls::{stray, Caller};
 use model::generate::states::{jam, scramble};
-use model::generate::{damage, good, rings, Random};
+use model::generate::{crossing, damage, good, rings, Random};
 use model::machine::bytes::packet_bytes;
-use model::machine::{Answer, Call, Connection, Network, Phase, State};
+use model::machine::{Answer, Call, Connection, Link, Network, Phase, State};
 use model::refusal::NOT_A_STATE;
-use model::{named, Plan, Queue};
+use model::{named, Plan, Queue, SIDES};
 
 use crate::calls::{narrow, Calls, Out};
 use crate::change::changed;
@@ -25,6 +25,7 @@ pub fn compare(calls: &Calls, seed: u64, listed: usize, changed: usize) -> Tally
     while tally.listed < listed || tally.changed < changed {
         let plan = any_plan(&mut random, tally.plans);
         tally.plans += 1;
+        tally.crossing += usize::from(plan.is_crossing());
         let length = random.within(LONGEST / 8..=LONGEST);
         let mut list = List::start(calls, &mut random, Network::of(plan), &mut tally);
         if random.chance(1, 3) {
@@ -41,13 +42,20 @@ pub fn compare(calls: &Calls, seed: u64, listed: usize, changed: usize) -> Tally
     tally
 }
 
-/// Random plans of all sizes, and now and then one with a name.
+/// Random plans of all sizes, after some with a name; every other one is crossing.
 fn any_plan(random: &mut Random, number: usize) -> Plan {
-    let named = [named::plan_t(), named::largest(), named::four_routers(), named::all_sides()];
-    match named.get(number) {
-        Some(draft) => Plan::load(&draft.encode()).expect("loads"),
-        None if random.chance(1, 2) => good::crowded(random),
-        None => good::loadable(random),
+    let named = [
+        [named::plan_t(), named::crossing_four_slots()],
+        [named::largest(), crossing::line(16, 32, 7)],
+        [named::four_routers(), named::crossing_row()],
+        [named::all_sides(), named::crossing_star()],
+    ];
+    match (named.as_flattened().get(number), number % 2) {
+        (Some(draft), _) => Plan::load(&draft.encode()).expect("loads"),
+        (None, 0) if random.chance(1, 2) => good::crowded(random),
+        (None, 0) => good::loadable(random),
+        _ if random.chance(1, 2) => crossing::crowded(random),
+        _ => crossing::any(random),
     }
 }
 
@@ -56,6 +64,7 @@ struct List<'c> {
     calls: &'c Calls,
     network: Network,
     plan: Vec<u8>,
+    is_crossing: bool,
     /// Damaged plans with their refusals.
     damaged: Vec<(Vec<u8>, u32)>,
     caller: Caller,
@@ -78,7 +87,8 @@ impl<'c> List<'c> {
         let bytes: Vec<u8> = (0..size + PAST).map(|_| random.number() as u8).collect();
         let state = network.start();
         let damaged = damaged(random, network.plan());
-        let mut list = List { calls, network, plan, damaged, caller, state, bytes };
+        let is_crossing = network.plan().is_crossing();
+        let mut list = List { calls, network, plan, is_crossing, damaged, caller, state, bytes };
         list.refused_starts(random, tally);
         let mut expected = list.network.encode(&list.state);
         expected.extend_from_slice(&list.bytes[size..]);
@@ -170,6 +180,7 @@ impl<'c> List<'c> {
         if random.chance(1, 30) {
             self.with_damaged_plan(random, call, tally);
         }
+        let together = self.units_with_several_heads();
         let expected = self.network.call(&mut self.state, call);
         let mut bytes = match expected {
             Ok(_) => self.network.encode(&self.state),
@@ -178,9 +189,11 @@ impl<'c> List<'c> {
         bytes.extend_from_slice(&self.bytes[self.network.size()..]);
         self.compared(random, call, expected, &bytes, tally);
         tally.listed += 1;
+        tally.crossed += usize::from(self.is_crossing);
         tally.packets = tally.packets.max(self.network.packets(&self.state).count());
         tally.accepted = tally.accepted.max(self.state.marks.len());
         if call == Call::Execute && expected.is_ok() {
+            tally.together += together;
             self.note_picks(tally);
         }
         // From a state that no list reaches, a call may leave none: then the list goes on elsewhere.
@@ -188,6 +201,15 @@ impl<'c> List<'c> {
             self.state = self.network.start();
             self.elsewhere(random);
         }
+    }
+
+    /// How many units have heads of several sides that are not handled.
+    fn units_with_several_heads(&self) -> usize {
+        let waits = |&queue: &Queue| {
+            !self.state.is_handled(queue) && !self.network.queue(&self.state, queue).is_empty()
+        };
+        let heads = |router| (0..SIDES).map(move |from| Queue::Q { router, from }).filter(waits);
+        (0..self.network.plan().routers()).filter(|&router| heads(router).count() > 1).count()
     }
 
     /// Who was picked where several were candidates, and where nobody was since the slot is booked.
@@ -204,6 +226,7 @@ impl<'c> List<'c> {
                 None => tally.skipped += 1,
                 Some(rank) => {
                     tally.contested += 1;
+                    tally.contested_back += usize::from(matches!(link, Link::Back(_)));
                     tally.turned += usize::from(first != rank);
                 }
             }

@@ -18,8 +18,12 @@ const ANSWERS: usize = 17;
 #[derive(Clone, Copy, Debug, Default, PartialEq, Eq)]
 pub struct Tally {
     answers: [[usize; ANSWERS]; NAMES.len()],
-    /// Plans.
+    /// Plans, a list on each.
     pub plans: usize,
+    /// Of these, how many were refused as rings before request (i): set-ups cross in them.
+    pub crossing: usize,
+    /// Calls in lists on these.
+    pub crossed: usize,
     /// Calls in lists.
     pub listed: usize,
     /// Calls on changed bytes, and how many of these bytes were a state's.
@@ -34,6 +38,10 @@ pub struct Tally {
     pub contested: usize,
     /// Of these, how many picked another than the first in order.
     pub turned: usize,
+    /// Of the picks among several, how many were those of a unit's way back.
+    pub contested_back: usize,
+    /// How many times a unit handled heads of several sides in one Execute.
+    pub together: usize,
     /// How many sides picked nobody, being booked, while several senders were candidates.
     pub skipped: usize,
 }
@@ -71,6 +79,8 @@ impl Tally {
             row.iter_mut().zip(more).for_each(|(count, more)| *count += more);
         }
         self.plans += other.plans;
+        self.crossing += other.crossing;
+        self.crossed += other.crossed;
         self.listed += other.listed;
         self.changed += other.changed;
         self.states += other.states;
@@ -78,6 +88,8 @@ impl Tally {
         self.accepted = self.accepted.max(other.accepted);
         self.contested += other.contested;
         self.turned += other.turned;
+        self.contested_back += other.contested_back;
+        self.together += other.together;
         self.skipped += other.skipped;
     }
 
@@ -100,7 +112,9 @@ impl fmt::Display for Tally {
     fn fmt(&self, f: &mut fmt::Formatter) -> fmt::Result {
         let Tally { plans, listed, changed, states, packets, accepted, .. } = self;
         let Tally { contested, turned, skipped, .. } = self;
+        let Tally { crossing, crossed, contested_back, together, .. } = self;
         writeln!(f, "{plans} plans, {listed} calls in lists, {changed} on changed bytes")?;
+        writeln!(f, "{crossing} plans crossing, {crossed} calls in lists on these")?;
         writeln!(f, "{states} changed bytes were a state's")?;
         writeln!(f, "most at once: {packets} packets, {accepted} accepted connections")?;
         write!(
@@ -108,6 +122,8 @@ impl fmt::Display for Tally {
             "{contested} picks among several candidates, {turned} not of the first in order; "
         )?;
         writeln!(f, "{skipped} times several waited at a booked side")?;
+        write!(f, "{together} times a unit handled heads of several sides in one Execute, ")?;
+        writeln!(f, "{contested_back} picks among several on the way back from a unit")?;
         write!(f, "{:>8}", "answer")?;
         (0..ANSWERS).try_for_each(|answer| write!(f, " {answer:>7}"))?;
         for (name, row) in NAMES.iter().zip(&self.answers) {

@@ -1,7 +1,7 @@
 //! The proved calls against the model: the same bytes to both, the answers equal.
 
 use compare::Calls;
-use model::generate::{damage, good, rings, Random};
+use model::generate::{crossing, damage, good, rings, Random};
 use model::Plan;
 use pandabrass::bytes;
 
@@ -100,7 +100,7 @@ fn pairs(plan: Option<&Plan>, random: &mut Random) -> Vec<(u32, u32)> {
     pairs
 }
 
-/// A dozen plans around one random good one: itself, damaged, ringed, noise.
+/// A dozen plans around one random good one: itself, damaged, crossing, ringed, noise.
 pub fn compare_family(random: &mut Random, tally: &mut Tally) {
     let fields = good::joined(random);
     compare(&fields.encode(), random, tally);
@@ -112,13 +112,15 @@ pub fn compare_family(random: &mut Random, tally: &mut Tally) {
     }
     let bytes = damage::headed_noise(random, &fields);
     compare(&bytes, random, tally);
+    let bytes = crossing::any(random).encode();
+    compare(&bytes, random, tally);
     let bytes = rings::ringed(random).encode();
     compare(&bytes, random, tally);
     let bytes = damage::noise(random);
     compare(&bytes, random, tally);
 }
 
-/// Plans with a ring of one kind, of routers and then of K queues, and near misses of each.
+/// Plans with a ring of one kind, of set-ups and then of answers, and near misses of each.
 pub fn compare_rings(random: &mut Random, tally: &mut Tally) {
     for answers in [false, true] {
         let ringed = rings::of_one_kind(random, answers).encode();

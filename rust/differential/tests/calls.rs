@@ -13,6 +13,10 @@ const CHANGED: usize = 200_000;
 const LEAST: usize = 1_000;
 /// How often at least an output picks another of several candidates than the first in order.
 const TURNED: usize = 5_000;
+/// How often at least a unit handles heads of several sides in one Execute, and picks among several
+/// on its way back.
+const TOGETHER: usize = 500;
+const BACK: usize = 2_000;
 /// A seed for each thread.
 const SEEDS: [u64; 2] = [2028, 2029];
 
@@ -33,4 +37,6 @@ fn lists_and_changed_bytes() {
     assert_eq!(tally.rarer_than(LEAST), [], "{tally}");
     assert_eq!(tally.rarer_of_an_active(LEAST), [], "{tally}");
     assert!(tally.turned >= TURNED, "{tally}");
+    assert!(tally.crossing * 2 >= tally.plans, "{tally}");
+    assert!(tally.together >= TOGETHER && tally.contested_back >= BACK, "{tally}");
 }

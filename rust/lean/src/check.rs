@@ -31,8 +31,11 @@ pub type Rows = [u16; 128];
 #[derive(Clone, Copy)]
 enum Place {
     U(usize),
-    Q,
-    F(usize),
+    Q(usize),
+    /// Of set-ups and tear-downs.
+    There(usize),
+    /// Of answers.
+    Back(usize),
     K(usize, usize),
 }
 
@@ -42,20 +45,27 @@ const PLACES: [Place; QUEUES] = [
     Place::U(1),
     Place::U(2),
     Place::U(3),
-    Place::Q,
-    Place::F(0),
+    Place::Q(0),
+    Place::Q(1),
+    Place::Q(2),
+    Place::Q(3),
+    Place::There(0),
+    Place::Back(0),
     Place::K(1, 0),
     Place::K(2, 0),
     Place::K(3, 0),
-    Place::F(1),
+    Place::There(1),
+    Place::Back(1),
     Place::K(0, 1),
     Place::K(2, 1),
     Place::K(3, 1),
-    Place::F(2),
+    Place::There(2),
+    Place::Back(2),
     Place::K(0, 2),
     Place::K(1, 2),
     Place::K(3, 2),
-    Place::F(3),
+    Place::There(3),
+    Place::Back(3),
     Place::K(0, 3),
     Place::K(1, 3),
     Place::K(2, 3),
@@ -268,14 +278,14 @@ impl<'a> Busy<'a> {
                 let port = net.home[(net.a + i) & 31] as usize;
                 (k.p == i && walks.fits_passive_out(net, &k), net.enter(port, &k))
             }
-            _ => {
-                let fits = match i {
-                    4 => walks.fits_unit(net, group, &k),
-                    5 => walks.fits_done(net, group, &k),
-                    _ => walks.fits_side(net, group, i, &k),
-                };
-                (fits, net.next_queue(group, i, &k))
-            }
+            _ => match i {
+                4 => {
+                    let to = 32 * group + Q + walks.side_in(net, group, &k);
+                    (walks.fits_unit(net, group, &k), to)
+                }
+                5 => (walks.fits_done(net, group, &k), net.after_unit(group, &k)),
+                _ => (walks.fits_side(net, group, i, &k), net.beyond(group, i, &k)),
+            },
         };
         fits.then_some(to)
     }
@@ -296,13 +306,13 @@ impl<'a> Busy<'a> {
             let joined = |side: usize| self.net.joint[(4 * x + side) & 63] >> 6 != 0;
             let fed = match place {
                 Place::U(side) | Place::K(side, _) => joined(side),
-                Place::Q | Place::F(_) => true,
+                Place::Q(_) | Place::There(_) | Place::Back(_) => true,
             };
             let coming = (self.coming[x & 15] >> i & 1) as u8;
             if !frame_fits(at, caps[i], coming, fed, self.state[0]) {
                 return false;
             }
-            if at[2] != 0 && (i != Q || at[2] > 1 || at[3] == 0) {
+            if at[2] != 0 && (!(Q..SENDERS).contains(&i) || at[2] > 1 || at[3] == 0) {
                 return false;
             }
             if at[3] != 0 && !self.queue_fits(x, place, at) {
@@ -320,9 +330,16 @@ impl<'a> Busy<'a> {
             let Some(k) = net.packet(place(row, m)) else { return false };
             let fits = match at {
                 Place::U(side) => walks.fits_u(net, 4 * x + side, &k),
-                Place::Q if m == 0 && row[2] != 0 => walks.fits_done(net, x, &k),
-                Place::Q => walks.fits_unit(net, x, &k),
-                Place::F(side) => net.side(x, net.dest(&k)) == side && walks.fits_done(net, x, &k),
+                Place::Q(side) if m == 0 && row[2] != 0 => {
+                    walks.fits_handled(net, 4 * x + side, &k)
+                }
+                Place::Q(side) => walks.fits_u(net, 4 * x + side, &k),
+                Place::There(side) => {
+                    k.kind < ACK && net.side(x, net.a + k.p) == side && walks.fits_done(net, x, &k)
+                }
+                Place::Back(side) => {
+                    k.kind >= ACK && net.side(x, k.a) == side && walks.fits_done(net, x, &k)
+                }
                 Place::K(from, to) => net.side(x, k.a) == to && walks.fits_k(net, 4 * x + from, &k),
             };
             if !fits {
@@ -395,7 +412,8 @@ impl<'a> Busy<'a> {
         if word(self.state, at) << 16 != 0 {
             return None;
         }
-        let from = row(self.state, sender_at(net, group, i, self.state[at + 6])?);
+        let choice = self.state[at + 6];
+        let from = row(self.state, sender_at(net, group, i, choice)?);
         let handled = group >= ACTIVE_OUT || i != 5 || from[2] != 0;
         if from[3] == 0 || from[1] != 0 || !handled {
             return None;
@@ -404,7 +422,11 @@ impl<'a> Busy<'a> {
         let to = match group {
             ACTIVE_OUT => net.enter(net.home[i & 31] as usize, &k),
             PASSIVE_OUT => net.enter(net.home[(net.a + i) & 31] as usize, &k),
-            _ => net.next_queue(group, i, &k),
+            _ => match i {
+                4 => 32 * group + Q + choice as usize - 1,
+                5 => net.after_unit(group, &k),
+                _ => net.beyond(group, i, &k),
+            },
         };
         if to == NO_QUEUE {
             return None;
@@ -421,9 +443,9 @@ pub fn sender_at(net: &Net, group: usize, i: usize, choice: u8) -> Option<usize>
     let rank = (choice as usize).wrapping_sub(1);
     match (group, i) {
         (ACTIVE_OUT | PASSIVE_OUT, _) if rank == 0 => Some(first + ROW * i),
-        (0..=15, 0..=3) if rank < 4 => Some(first + ROW * (5 + 4 * i + rank)),
+        (0..=15, 0..=3) if rank < 5 => Some(first + ROW * (SENDERS + 5 * i + rank)),
         (0..=15, 4) if rank < 4 => Some(first + ROW * rank),
-        (0..=15, 5) if rank == 0 => Some(first + ROW * Q),
+        (0..=15, 5) if rank < 4 => Some(first + ROW * (Q + rank)),
         _ => None,
     }
 }

@@ -1,6 +1,6 @@
 //! Where things stand in the state's bytes (docs/STATE.md), and packets in rows.
 //!
-//! Queues go by groups: the 21 of router x are group x, then out-queues of actives and of passives,
+//! Queues go by groups: the 28 of router x are group x, then out-queues of actives and of passives,
 //! in-queues of actives and of passives. A queue's code is 32 * group + its number in the group.
 
 use crate::load::Net;
@@ -9,9 +9,11 @@ use crate::load::Net;
 pub const ROW: usize = 39;
 /// Bytes of an output's row.
 pub const OUT: usize = 7;
-/// Queues of a router, and Q's number among them.
-pub const QUEUES: usize = 21;
+/// Queues of a router: four U, four Q from this number on, and from this one on the five senders of
+/// each side.
+pub const QUEUES: usize = 28;
 pub const Q: usize = 4;
+pub const SENDERS: usize = 8;
 
 /// The groups after those of routers.
 pub const ACTIVE_OUT: usize = 16;
@@ -42,7 +44,7 @@ impl Net {
     /// The first output's row.
     #[inline(always)]
     pub(crate) fn outputs_at(&self) -> usize {
-        2 + 78 * (self.a + self.p) + 819 * self.r
+        2 + 78 * (self.a + self.p) + 1092 * self.r
     }
 
     /// How many outputs there are.
@@ -54,7 +56,7 @@ impl Net {
     /// The first allowance.
     #[inline(always)]
     pub(crate) fn allowances_at(&self) -> usize {
-        2 + 85 * (self.a + self.p) + 861 * self.r
+        2 + 85 * (self.a + self.p) + 1134 * self.r
     }
 
     /// The first entry of the table.
@@ -139,7 +141,13 @@ impl Net {
     #[inline(always)]
     pub(crate) fn router_caps(&self) -> [u8; QUEUES] {
         let [_, _, u, q, f, k, ..] = self.cap;
-        [u, u, u, u, q, f, k, k, k, f, k, k, k, f, k, k, k, f, k, k, k]
+        let mut caps = [k; QUEUES];
+        caps[..Q].fill(u);
+        caps[Q..SENDERS].fill(q);
+        for side in caps[SENDERS..].chunks_exact_mut(5) {
+            side[..2].fill(f);
+        }
+        caps
     }
 }
 

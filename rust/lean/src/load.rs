@@ -81,17 +81,23 @@ impl Net {
         }
         let everywhere = self.reach(&mut arrive);
         let mut starts = self.serve(&arrive, everywhere);
-        // A ring of queues is a ring of routers that follow one another on served walks (then of
-        // their U, Q and F), or one of K queues: from K only K and in-queues are fed. A router that
-        // is alone has neither.
+        // A ring of queues is a ring of links, the sides that served walks leave by (then of their
+        // F, U and Q), or one of K queues: from K and from an F of answers only K and in-queues are
+        // fed. A router that is alone has neither.
         if self.r == 1 {
             return 0;
         }
-        if self.walks_ring(&mut starts) {
-            return 6;
-        }
-        // Links, as if every router answered: without a ring there is none of K queues.
-        if self.links_ring(&arrive, starts.live) && self.answers_ring(&self.leaving()) {
+        let mut follow = [0; 16];
+        let carried = self.carried(&mut starts, &mut follow);
+        let live = starts.live;
+        let answers = arrive.map(|set| set & live);
+        let rings = if self.may_ring(&follow) {
+            self.links_rings::<true>(&answers, &carried)
+        } else {
+            self.links_rings::<false>(&answers, &carried)
+        };
+        // Answers were taken as if every router sent some: without a ring there is none of K queues.
+        if rings != 0 && (rings >> self.a != 0 || self.answers_ring(&self.leaving())) {
             return 6;
         }
         0
@@ -269,17 +275,16 @@ impl Net {
         starts
     }
 
-    /// A ring of routers that follow one another on served walks.
+    /// By router: the passives whose served walks meet it; and the routers that follow it on these.
     #[inline(always)]
-    fn walks_ring(&self, starts: &mut Starts) -> bool {
+    fn carried(&self, starts: &mut Starts, follow: &mut [u16; 16]) -> [u32; 32] {
         let Starts { walks: pend, routers: work, .. } = starts;
-        let mut follow = [0u16; 16];
-        let mut used = [0u32; 16];
+        let mut met = [0; 32];
         while *work != 0 {
             let x = work.trailing_zeros() as usize & 15;
             *work &= *work - 1;
-            let m = core::mem::take(&mut pend[x]) & !used[x];
-            used[x] |= m;
+            let m = core::mem::take(&mut pend[x]) & !met[x];
+            met[x] |= m;
             for o in 0..4 {
                 let (k, n) = (m & self.by[x][o], self.next[x][o]);
                 if k != 0 && n < 16 {
@@ -289,22 +294,24 @@ impl Net {
                 }
             }
         }
+        met
+    }
+
+    /// Whether routers may follow one another in a ring: some are left after those that nobody left
+    /// follows are taken away, downwards and once more upwards. No ring of links is without one.
+    #[inline(always)]
+    fn may_ring(&self, follow: &[u16; 16]) -> bool {
         let mut left = (0xffffu32 >> (16 - self.r)) as u16;
-        loop {
-            let before = left;
-            for x in (0..self.r).rev() {
-                left &= !(((follow[x & 15] & left == 0) as u16) << x);
-            }
-            if left == 0 {
-                return false;
-            }
-            for x in 0..self.r {
-                left &= !(((follow[x & 15] & left == 0) as u16) << x);
-            }
-            if left == before {
-                return true;
-            }
+        for x in (0..self.r).rev() {
+            left &= !(((follow[x & 15] & left == 0) as u16) << x);
         }
+        if left == 0 {
+            return false;
+        }
+        for x in 0..self.r {
+            left &= !(((follow[x & 15] & left == 0) as u16) << x);
+        }
+        left != 0
     }
 
     /// Which of these destinations' walks (they arrive) from router x meet each router.
@@ -329,46 +336,56 @@ impl Net {
         met
     }
 
-    /// A ring of links that an active's answers, if every router sent some, would follow. By router:
-    /// the actives whose answers leave by a link that may be in one. Takes them away until no more go.
+    /// The destinations of walks that leave by links which follow one another in a ring: of answers,
+    /// and of set-ups where these count too. By router, a set of those that leave it; takes away those
+    /// that leave by a link in no ring, until no more go.
     #[inline(always)]
-    fn links_ring(&self, arrive: &[u32; 32], live: u32) -> bool {
-        let mut leave = arrive.map(|reached| reached & live);
+    fn links_rings<const BOTH: bool>(&self, answers: &[u32; 32], carried: &[u32; 32]) -> u32 {
+        let mut walks = *answers;
+        if BOTH {
+            for (walks, carried) in walks.iter_mut().zip(carried) {
+                *walks |= carried;
+            }
+        }
+        let mut leave = walks;
+        let actives = (1u32 << self.a) - 1;
         loop {
             let (mut any, mut gone) = (0, 0);
             for x in 0..self.r {
-                let stay = self.stay(&leave, arrive[x & 15] & live, x);
+                let stay = self.stay::<BOTH>(&leave, walks[x & 15], x, actives);
                 leave[x & 15] = stay;
                 any |= stay;
             }
             if any == 0 {
-                return false;
+                return 0;
             }
             any = 0;
             for x in (0..self.r).rev() {
-                let stay = self.stay(&leave, arrive[x & 15] & live, x);
+                let stay = self.stay::<BOTH>(&leave, walks[x & 15], x, actives);
                 gone |= stay ^ leave[x & 15];
                 leave[x & 15] = stay;
                 any |= stay;
             }
             if any == 0 || gone == 0 {
-                return any != 0;
+                return any;
             }
         }
     }
 
-    /// Of the actives that router x answers: those that leave by a side behind which one of them
-    /// goes on.
+    /// Of the walks that leave router x: those that leave by a side behind which one of them goes on,
+    /// answers for themselves and set-ups for themselves.
     #[inline(always)]
-    fn stay(&self, leave: &[u32; 32], answers: u32, x: usize) -> u32 {
+    fn stay<const BOTH: bool>(&self, leave: &[u32; 32], walks: u32, x: usize, actives: u32) -> u32 {
         let (by, next) = (&self.by[x & 15], &self.next[x & 15]);
         let by_side = |o: usize| {
-            let actives = by[o] & answers;
-            if actives & leave[next[o] as usize & 31] != 0 {
-                actives
-            } else {
-                0
+            let by_link = by[o] & walks;
+            let on = by_link & leave[next[o] as usize & 31];
+            if !BOTH {
+                return if on != 0 { by_link } else { 0 };
             }
+            let a = if on & actives != 0 { by_link & actives } else { 0 };
+            let p = if on > actives { by_link & !actives } else { 0 };
+            a | p
         };
         by_side(0) | by_side(1) | by_side(2) | by_side(3)
     }

@@ -4,7 +4,7 @@ use crate::check::{sender_at, Found, Rows};
 use crate::layout::*;
 use crate::load::Net;
 use crate::turns::{in_turn, rank_asked};
-use crate::walks::{numbers, NO_QUEUE};
+use crate::walks::{numbers, Numbers, NO_QUEUE};
 
 /// Each wire's packet joins its queue, each raised flag becomes a credit.
 #[inline(always)]
@@ -73,37 +73,41 @@ fn router(net: &Net, state: &mut [u8], x: usize, set: u32) {
     let entry = net.table_at() + 256 * x + 2 * state[1] as usize;
     let turns = net.turns_at() + net.first_out(x);
     let q = first + ROW * Q;
-    let mut set = set;
-    if set >> Q & 1 != 0 && state[q + 2] == 0 && handle(net, state, x, q) {
-        set &= !(1 << Q);
-    }
+    let handled = if set >> Q & 15 != 0 { handle_all(net, state, x, set >> Q & 15) } else { 0 };
     for o in 0..4 {
-        let senders = set >> (5 + 4 * o) & 15;
+        let senders = set >> (SENDERS + 5 * o) & 31;
         if senders != 0 && state[entry + 64 * o] == 0 {
-            let last = state[turns + o];
-            let row = first + ROW * (5 + 4 * o);
-            state[choices + OUT * o] = pick(net, state, x, o, row, senders, last);
+            let first = first + ROW * (SENDERS + 5 * o);
+            let to = |rank| net.beyond(x, o, &head(state, first + ROW * rank));
+            let sent = |rank| to(rank) != NO_QUEUE && state[net.row_at(to(rank))] != 0;
+            state[choices + OUT * o] = pick::<5>(senders, state[turns + o], sent);
         }
     }
     if set & 15 != 0 {
-        let last = state[turns + 4];
-        state[choices + OUT * 4] = pick(net, state, x, 4, first, set & 15, last);
+        let sent = |rank| state[q + ROW * rank] != 0;
+        state[choices + OUT * 4] = pick::<4>(set & 15, state[turns + 4], sent);
     }
-    if set >> Q & 1 != 0 && state[q + 2] != 0 {
-        state[choices + OUT * 5] = pick(net, state, x, 5, q, 1, 3);
+    if handled != 0 {
+        let to = |rank| net.after_unit(x, &head(state, q + ROW * rank));
+        let sent = |rank| state[net.row_at(to(rank))] != 0;
+        state[choices + OUT * 5] = pick::<4>(handled, state[turns + 5], sent);
     }
 }
 
-/// The first of these senders of output i, from the one behind the last on, whose next queue has
-/// credit: 1 + its rank, else 0.
+/// The numbers of a row's head.
 #[inline(always)]
-fn pick(net: &Net, state: &[u8], x: usize, i: usize, first: usize, senders: u32, last: u8) -> u8 {
-    let mut left = in_turn(senders, last);
+fn head(state: &[u8], at: usize) -> Numbers {
+    numbers(place(row(state, at), 0))
+}
+
+/// The first of these senders, from the one behind the last on, whose next queue has credit: 1 + its
+/// rank, else 0.
+#[inline(always)]
+fn pick<const N: usize>(senders: u32, last: u8, sent: impl Fn(usize) -> bool) -> u8 {
+    let mut left = in_turn::<N>(senders, last);
     while left != 0 {
-        let rank = rank_asked(take(&mut left), last);
-        let k = numbers(place(row(state, first + ROW * rank), 0));
-        let to = net.next_queue(x, i, &k);
-        if to != NO_QUEUE && state[net.row_at(to)] != 0 {
+        let rank = rank_asked::<N>(take(&mut left), last);
+        if sent(rank) {
             return 1 + rank as u8;
         }
     }
@@ -134,10 +138,24 @@ fn tear_down(net: &Net, state: &mut [u8], active: usize) {
     }
 }
 
-/// The unit of x and the head of its Q, which is not handled; true if Q is empty after it.
+/// The unit of x and its Q that have a packet; which of them have a handled head after it.
 #[inline(always)]
-fn handle(net: &Net, state: &mut [u8], x: usize, q: usize) -> bool {
-    let k = numbers(place(row(state, q), 0));
+fn handle_all(net: &Net, state: &mut [u8], x: usize, set: u32) -> u32 {
+    let (mut left, mut handled) = (set, set);
+    while left != 0 {
+        let i = take(&mut left);
+        let q = net.group_at(x) + ROW * (Q + i);
+        if state[q + 2] == 0 && handle(net, state, x, i, q) {
+            handled &= !(1 << i);
+        }
+    }
+    handled
+}
+
+/// The unit of x and the head of its Q of side i, which is not handled; whether it ends.
+#[inline(always)]
+fn handle(net: &Net, state: &mut [u8], x: usize, i: usize, q: usize) -> bool {
+    let k = head(state, q);
     let side = net.table_at() + 256 * x + 64 * net.side(x, net.a + k.p);
     let entry = side + 2 * k.slot as usize;
     let later = if k.slot as usize + 1 == net.s { 0 } else { k.slot + 1 };
@@ -146,7 +164,7 @@ fn handle(net: &Net, state: &mut [u8], x: usize, q: usize) -> bool {
         if state[entry] != 0 || !is_free_besides(state, side, entry, net.s) {
             state[q + 4] = NACK;
         } else {
-            state[entry] = 1 + net.side_in(x, &k);
+            state[entry] = 1 + i as u8;
             state[q + 7] = later;
             state[q + 8] += 1;
         }
@@ -156,7 +174,7 @@ fn handle(net: &Net, state: &mut [u8], x: usize, q: usize) -> bool {
     if k.hub == 1 {
         pop(state, q);
         state[q + 1] = 1;
-        return state[q + 3] == 0;
+        return true;
     }
     state[q + 2] = 1;
     state[q + 7] = later;

@@ -35,7 +35,7 @@ pub fn start(net: &Net, state: &mut [u8]) {
     credits(&mut back[ROW * net.a..ROW * (net.a + net.p)], net.cap[CAP_PASSIVE_IN]);
     state[net.allowances_at()..net.table_at()].fill(net.allowance());
     for turns in state[net.turns_at() + net.first_out(0)..].chunks_exact_mut(6) {
-        turns.copy_from_slice(&[3, 3, 3, 3, 3, 0]);
+        turns.copy_from_slice(&[4, 4, 4, 4, 3, 3]);
     }
 }
 

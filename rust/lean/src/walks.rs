@@ -1,6 +1,6 @@
 //! The walks from every router to every destination, and where packets of a pair may be.
 
-use crate::layout::{take, Packet, ACK, ACTIVE_IN, NACK, PASSIVE_IN, Q, SETUP, TDOWN};
+use crate::layout::{take, Packet, ACK, ACTIVE_IN, NACK, PASSIVE_IN, SENDERS, SETUP, TDOWN};
 use crate::load::Net;
 
 /// So few destinations are taken one by one.
@@ -56,7 +56,7 @@ impl Net {
             return 32 * r + i;
         }
         let o = self.side(r, k.a);
-        32 * r + 5 + 4 * o + i + (i < o) as usize
+        32 * r + SENDERS + 5 * o + i + 1 + (i < o) as usize
     }
 
     /// The code of the queue beyond side o of router r.
@@ -71,14 +71,11 @@ impl Net {
         }
     }
 
-    /// The code of the queue after output i of router g.
+    /// The code of the F of router r that a packet goes to from the unit.
     #[inline(always)]
-    pub(crate) fn next_queue(&self, g: usize, i: usize, k: &Numbers) -> usize {
-        match i {
-            4 => 32 * g + Q,
-            5 => 32 * g + 5 + 4 * self.side(g, self.dest(k)),
-            _ => self.beyond(g, i, k),
-        }
+    pub(crate) fn after_unit(&self, r: usize, k: &Numbers) -> usize {
+        let o = self.side(r, self.dest(k));
+        32 * r + SENDERS + 5 * o + (k.kind >= ACK) as usize
     }
 
     /// Does the walk, given by its routers, to destination d come in by this port?
@@ -88,20 +85,6 @@ impl Net {
         let from = (joint >> 2 & 15) as usize;
         let leaves = self.by[from][(joint & 3) as usize] >> d;
         joint >> 6 == 1 && walk >> from & leaves & 1 != 0
-    }
-
-    /// The side by which the pair's walk comes into r, a router on it.
-    #[inline(always)]
-    pub(crate) fn side_in(&self, r: usize, k: &Numbers) -> u8 {
-        let (mut port, d) = (self.home[k.a & 31] as usize, self.a + k.p);
-        for _ in 0..16 {
-            let x = port >> 2;
-            if x == r {
-                break;
-            }
-            port = (self.joint[(4 * x + self.side(x, d)) & 63] & 63) as usize;
-        }
-        (port & 3) as u8
     }
 }
 
@@ -217,7 +200,21 @@ impl Walks {
         Some((length - (self.up[r & 15][(net.a + k.p) & 31] >> 16), length))
     }
 
-    /// In Q of r, not handled, or on the wire to it.
+    /// Does the pair's walk come in by this port of a router on it?
+    #[inline(always)]
+    fn came_by(&self, net: &Net, port: usize, k: &Numbers) -> bool {
+        net.home[k.a & 31] as usize == port || net.comes_by(port, self.walk(net, k), net.a + k.p)
+    }
+
+    /// The side by which the pair's walk comes into r, a router on it: of the four the one that is
+    /// the active's own, or whose neighbour is on the walk and leads here.
+    #[inline(always)]
+    pub fn side_in(&self, net: &Net, r: usize, k: &Numbers) -> usize {
+        let by = |i| self.came_by(net, 4 * r + i, k);
+        by(1) as usize + 2 * by(2) as usize + 3 * by(3) as usize
+    }
+
+    /// On the wire to the unit of r.
     #[inline(always)]
     pub fn fits_unit(&self, net: &Net, r: usize, k: &Numbers) -> bool {
         let Some((n, length)) = self.index(net, r, k) else { return false };
@@ -228,7 +225,7 @@ impl Walks {
         }
     }
 
-    /// Q's handled head, on the wire back, or in F of the side that the packet takes.
+    /// On the wire back from the unit of r, or in the F that the packet goes to.
     #[inline(always)]
     pub fn fits_done(&self, net: &Net, r: usize, k: &Numbers) -> bool {
         let Some((n, length)) = self.index(net, r, k) else { return false };
@@ -240,12 +237,16 @@ impl Walks {
         }
     }
 
-    /// In U of a port.
+    /// In U or Q of a port, not handled.
     #[inline(always)]
     pub fn fits_u(&self, net: &Net, port: usize, k: &Numbers) -> bool {
-        let by = |d| net.comes_by(port, self.walk(net, k), d);
-        self.fits_unit(net, port >> 2, k)
-            && (net.home[k.a & 31] as usize == port || by(net.a + k.p))
+        self.fits_unit(net, port >> 2, k) && self.came_by(net, port, k)
+    }
+
+    /// The handled head of Q of a port.
+    #[inline(always)]
+    pub fn fits_handled(&self, net: &Net, port: usize, k: &Numbers) -> bool {
+        self.fits_done(net, port >> 2, k) && self.came_by(net, port, k)
     }
 
     /// An answer that comes in by this port, and takes the side of its route.

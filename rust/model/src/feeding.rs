@@ -2,7 +2,7 @@
 
 use crate::fields::{Joint, SIDES};
 use crate::plan::{Plan, Port};
-use crate::walk::Interface;
+use crate::walk::Hop;
 
 /// The queues of a network.
 #[derive(Clone, Copy, Debug, PartialEq, Eq)]
@@ -22,15 +22,20 @@ pub enum Queue {
         /// The side its packets came in by.
         from: usize,
     },
-    /// Q of a router, "at the unit".
+    /// `Q[from]` of a router, "at the unit": "split Q by incoming side".
     Q {
         /// The router.
         router: usize,
+        /// The side its packets came in by.
+        from: usize,
     },
-    /// `F[to]` of a router: "from unit to side o".
+    /// `F[to]` of a router, "from unit to side o": "one queue for set-ups and tear-downs and one for
+    /// answers".
     F {
         /// The router.
         router: usize,
+        /// Which of the two.
+        class: Class,
         /// The side its packets leave by.
         to: usize,
     },
@@ -45,8 +50,19 @@ pub enum Queue {
     },
 }
 
-/// Numbers of the queues of one router: U, Q, F, K (`K[i,i]` has a number and is never used).
-const PER_ROUTER: usize = SIDES + 1 + SIDES + SIDES * SIDES;
+/// What goes together from the unit to a side.
+#[derive(Clone, Copy, Debug, PartialEq, Eq)]
+pub enum Class {
+    /// Set-ups and tear-downs.
+    SetUps,
+    /// ACKs and NACKs.
+    Answers,
+}
+
+/// Numbers of the queues of one router: U, Q, both F, K (`K[i,i]` has a number and is never used).
+const PER_ROUTER: usize = CROSSING + SIDES * SIDES;
+/// The first of these that is a K.
+const CROSSING: usize = 4 * SIDES;
 
 impl Queue {
     /// This queue's number among `count(plan)`.
@@ -55,11 +71,11 @@ impl Queue {
         let (actives, passives) = (plan.actives(), plan.passives());
         match self {
             Queue::U { router, from } => PER_ROUTER * router + from,
-            Queue::Q { router } => PER_ROUTER * router + SIDES,
-            Queue::F { router, to } => PER_ROUTER * router + SIDES + 1 + to,
-            Queue::K { router, from, to } => {
-                PER_ROUTER * router + SIDES + 1 + SIDES + SIDES * from + to
+            Queue::Q { router, from } => PER_ROUTER * router + SIDES + from,
+            Queue::F { router, class, to } => {
+                PER_ROUTER * router + (2 + class as usize) * SIDES + to
             }
+            Queue::K { router, from, to } => PER_ROUTER * router + CROSSING + SIDES * from + to,
             Queue::ActiveOut(number) => routers + number,
             Queue::ActiveIn(number) => routers + actives + number,
             Queue::PassiveIn(number) => routers + 2 * actives + number,
@@ -73,12 +89,37 @@ impl Queue {
     }
 }
 
-/// The queues that one queue feeds: at most four, for they are the queues behind one wire, or the
-/// four F of a router.
+/// Which queues document 02 (i) split. Neither split: document 01's queues.
+#[derive(Clone, Copy, Debug, PartialEq, Eq)]
+pub struct Split {
+    /// "Split Q by incoming side."
+    pub q: bool,
+    /// "And `F[o]` into one queue for set-ups and tear-downs and one for answers."
+    pub f: bool,
+}
+
+impl Split {
+    /// The queues as they are.
+    pub const BOTH: Split = Split { q: true, f: true };
+    /// The queues as they were before the request.
+    pub const NEITHER: Split = Split { q: false, f: false };
+
+    /// The queue that stands for this one where not all are split.
+    fn merged(self, queue: Queue) -> Queue {
+        match queue {
+            Queue::Q { router, .. } if !self.q => Queue::Q { router, from: 0 },
+            Queue::F { router, to, .. } if !self.f => Queue::F { router, class: Class::SetUps, to },
+            _ => queue,
+        }
+    }
+}
+
+/// The queues that one queue feeds: at most eight, for they are the queues behind one wire, or the
+/// F of a router.
 #[derive(Clone, Copy, Debug, Default)]
 struct Fed {
     count: usize,
-    queues: [u16; 4],
+    queues: [u16; 2 * SIDES],
 }
 
 impl Fed {
@@ -98,13 +139,19 @@ impl Fed {
 #[derive(Clone, Debug)]
 pub struct Feeding<'a> {
     plan: &'a Plan,
+    split: Split,
     fed: Vec<Fed>,
 }
 
 impl<'a> Feeding<'a> {
     /// All that feed, of all served pairs.
     pub fn of(plan: &'a Plan) -> Self {
-        let mut feeding = Feeding { plan, fed: vec![Fed::default(); Queue::count(plan)] };
+        Feeding::with_split(plan, Split::BOTH)
+    }
+
+    /// The same where only these queues are split.
+    pub fn with_split(plan: &'a Plan, split: Split) -> Self {
+        let mut feeding = Feeding { plan, split, fed: vec![Fed::default(); Queue::count(plan)] };
         for active in 0..plan.actives() {
             feeding.add_active(active);
         }
@@ -112,51 +159,46 @@ impl<'a> Feeding<'a> {
     }
 
     /// The served pairs of one active. A router that is on several of its walks sends its NACKs
-    /// the same way for each of them, so these are added once.
+    /// the same way for each of them, so these are added once for each side that walks come in by.
     fn add_active(&mut self, active: usize) {
         let plan = self.plan;
-        let start = plan.active_port(active).router;
         let back = plan.ways_back(active);
-        let mut declines = vec![false; plan.routers()];
+        let mut declines = vec![[false; SIDES]; plan.routers()];
         for passive in 0..plan.passives() {
-            let Some(walk) = plan.way(start, Interface::Passive(passive)) else { continue };
-            if !walk.iter().all(|exit| back[exit.router].is_some()) {
+            let Some(walk) = plan.walk(active, passive) else { continue };
+            if !walk.iter().all(|hop| back[hop.router].is_some()) {
                 continue;
             }
-            self.add_walk(active, &walk);
+            self.add_walk(active, passive, &walk);
             let last = plan.passive_port(passive);
             if let Some(back) = &back[last.router] {
                 self.add_answers(passive, last, back);
             }
-            for exit in &walk {
-                declines[exit.router] = true;
+            for hop in &walk {
+                declines[hop.router][hop.came_in] = true;
             }
         }
-        for back in back.iter().zip(declines).filter_map(|(back, on)| back.as_ref().filter(|_| on))
-        {
-            self.add_declines(back);
+        for (back, sides) in back.iter().zip(declines) {
+            for from in (0..SIDES).filter(|&from| sides[from]) {
+                back.iter().for_each(|back| self.add_declines(from, back));
+            }
         }
     }
 
     /// "Set-ups and tear-downs along the walk": active out, then U, Q, F of each router, then
     /// passive in.
-    fn add_walk(&mut self, active: usize, walk: &[Port]) {
-        let mut from = Queue::ActiveOut(active);
-        let mut came_in = self.plan.active_port(active).side;
-        for &Port { router, side } in walk {
-            let u = Queue::U { router, from: came_in };
-            let q = Queue::Q { router };
-            let f = Queue::F { router, to: side };
-            self.add(from, u);
+    fn add_walk(&mut self, active: usize, passive: usize, walk: &[Hop]) {
+        let mut before = Queue::ActiveOut(active);
+        for &Hop { router, came_in: from, side: to } in walk {
+            let u = Queue::U { router, from };
+            let q = Queue::Q { router, from };
+            let f = Queue::F { router, class: Class::SetUps, to };
+            self.add(before, u);
             self.add(u, q);
             self.add(q, f);
-            from = f;
-            match self.plan.joint(Port { router, side }) {
-                Joint::Router { side, .. } => came_in = side,
-                Joint::Passive(passive) => self.add(f, Queue::PassiveIn(passive)),
-                Joint::Nothing | Joint::Active(_) => unreachable!("the walk arrives"),
-            }
+            before = f;
         }
+        self.add(before, Queue::PassiveIn(passive));
     }
 
     /// "ACKs back from the passive", and NACKs from it: passive out, then K of each router of the
@@ -167,12 +209,12 @@ impl<'a> Feeding<'a> {
         self.add_crossing(first, back);
     }
 
-    /// "NACKs back from Q of each router on it": Q, F towards the active, then K of each further
-    /// router of the way back, then active in.
-    fn add_declines(&mut self, back: &[Port]) {
-        let Port { router, side } = back[0];
-        let first = Queue::F { router, to: side };
-        self.add(Queue::Q { router }, first);
+    /// "NACKs back from Q of each router on it": Q of the side that the walk comes in by, F towards
+    /// the active, then K of each further router of the way back, then active in.
+    fn add_declines(&mut self, from: usize, back: &[Port]) {
+        let Port { router, side: to } = back[0];
+        let first = Queue::F { router, class: Class::Answers, to };
+        self.add(Queue::Q { router, from }, first);
         self.add_crossing(first, back);
     }
 
@@ -193,12 +235,19 @@ impl<'a> Feeding<'a> {
     }
 
     fn add(&mut self, from: Queue, to: Queue) {
-        self.fed[from.index(self.plan)].insert(to.index(self.plan) as u16);
+        let to = self.number(to) as u16;
+        let from = self.number(from);
+        self.fed[from].insert(to);
+    }
+
+    /// The number of the queue, or of the one that stands for it.
+    fn number(&self, queue: Queue) -> usize {
+        self.split.merged(queue).index(self.plan)
     }
 
     /// Whether X feeds Y.
     pub fn feeds(&self, x: Queue, y: Queue) -> bool {
-        self.fed[x.index(self.plan)].as_slice().contains(&(y.index(self.plan) as u16))
+        self.fed[self.number(x)].as_slice().contains(&(self.number(y) as u16))
     }
 
     /// Whether some queues feed each other in a ring.
@@ -210,7 +259,7 @@ impl<'a> Feeding<'a> {
     /// tear-downs go round, or answers do.
     pub fn rings(&self) -> [bool; 2] {
         let crosses =
-            |at: usize| at < PER_ROUTER * self.plan.routers() && at % PER_ROUTER > SIDES + SIDES;
+            |at: usize| at < PER_ROUTER * self.plan.routers() && at % PER_ROUTER >= CROSSING;
         [self.has_ring_among(|at| !crosses(at)), self.has_ring_among(crosses)]
     }
 

@@ -19,7 +19,7 @@ pub mod plan;
 pub mod refusal;
 pub mod walk;
 
-pub use feeding::{Feeding, Queue};
+pub use feeding::{Class, Feeding, Queue, Split};
 pub use fields::{Capacities, Fields, Joint, Router, SIDES};
 pub use plan::{Plan, Port};
 pub use walk::{Hop, Interface};

@@ -1,6 +1,6 @@
 //! Plans with a name; `all` lists them, and broken ones, each with the answer of document 01.
 
-use crate::generate::{rings, Draft};
+use crate::generate::{crossing as crossed, rings, Draft};
 
 mod list;
 
@@ -44,6 +44,13 @@ pub fn narrow_there() -> Draft {
     let mut draft = Draft::new(1, 16, 1);
     draft.capacities([6, 7, 4, 3, 2, 5, 1, 4]);
     draft.active(0, 1).active(0, 2).active(0, 3).passive(0, 0).shortest_routes();
+    draft
+}
+
+/// The same with room for two in each U.
+pub fn narrow_to_the_unit() -> Draft {
+    let mut draft = narrow_there();
+    draft.capacities([6, 7, 2, 3, 2, 5, 1, 4]);
     draft
 }
 
@@ -125,7 +132,39 @@ pub fn parallel_joints() -> Draft {
 
 /// "Two routers, each with an active and a passive, set-ups crossing both ways."
 pub fn crossing() -> Draft {
-    rings::crossing(2, 2, 1)
+    crossed::line(2, 2, 1)
+}
+
+/// The same with S=4 and other sides: "the crossing two-router plan" whose run is proved.
+pub fn crossing_four_slots() -> Draft {
+    let mut draft = Draft::new(2, 4, 1);
+    draft.active(0, 0).passive(0, 1).join((0, 2), (1, 2)).active(1, 0).passive(1, 1);
+    draft.shortest_routes();
+    draft
+}
+
+/// A line of four, two actives and a passive at one end, an active and two passives at the other;
+/// each end's set-ups cross to the other.
+pub fn crossing_row() -> Draft {
+    let mut draft = Draft::new(4, 8, 2);
+    draft.join((0, 0), (1, 1)).join((1, 0), (2, 1)).join((2, 0), (3, 1));
+    draft.active(0, 1).active(0, 2).passive(0, 3);
+    draft.active(3, 0).passive(3, 2).passive(3, 3);
+    draft.active(1, 2).passive(1, 3).active(2, 2).passive(2, 3);
+    draft.shortest_routes();
+    draft
+}
+
+/// Five routers, one in the middle; each other has an active and a passive, whose set-ups come to the
+/// middle one by all four sides and leave it by all four.
+pub fn crossing_star() -> Draft {
+    let mut draft = Draft::new(5, 16, 6);
+    for router in 1..5 {
+        draft.join((0, router - 1), (router, 0));
+        draft.active(router, 1).passive(router, 2);
+    }
+    draft.shortest_routes();
+    draft
 }
 
 /// Five routers in a ring with set-ups from 0 to 1, 2 to 3, 3 to 4, and all answers on around.
@@ -183,7 +222,7 @@ fn no_served_pair() -> Draft {
     draft
 }
 
-/// Crossing routers with the routes to one passive missing: no ring.
+/// Crossing routers with the routes to one passive missing: set-ups cross no longer.
 fn one_way_of_crossing() -> Draft {
     let mut draft = crossing();
     draft.fields_mut().routers[1].to_passive[0] = None;

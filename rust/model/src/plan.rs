@@ -1,6 +1,6 @@
 //! A plan that obeys every plan rule.
 
-use crate::feeding::Feeding;
+use crate::feeding::{Feeding, Split};
 use crate::fields::{Capacities, Fields, Joint};
 use crate::refusal::{JOINT, RING};
 
@@ -30,6 +30,11 @@ impl Plan {
             return Err(RING);
         }
         Ok(plan)
+    }
+
+    /// Whether this plan, which loads, had a ring before Q and F were split: set-ups cross in it.
+    pub fn is_crossing(&self) -> bool {
+        Feeding::with_split(self, Split::NEITHER).has_ring()
     }
 
     /// "A router joint not named back, a joint to the same router, or an interface without exactly

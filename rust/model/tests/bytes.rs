@@ -2,61 +2,73 @@
 
 use model::generate::calls::Caller;
 use model::generate::states::scramble;
-use model::generate::{good, Random};
+use model::generate::{crossing, good, Random};
 use model::machine::{Connection, Link, Network, Slot};
-use model::{named, Port, Queue};
+use model::{named, Class, Port, Queue};
 
 fn t() -> Network {
     Network::load(&named::T).expect("loads")
 }
 
-/// "R = A = P = 1, S = 2: 25 queues, 8 outputs, 1,362 bytes."
+/// "R = A = P = 1, S = 2: 32 queues, 8 outputs, 1,635 bytes."
 #[test]
 fn figures_of_plan_t() {
     let network = t();
-    let (router, side) = (0, 0);
-    let rows = [
-        (Queue::ActiveOut(0), 2),
-        (Queue::PassiveOut(0), 41),
+    let router = 0;
+    let mut rows = vec![Queue::ActiveOut(0), Queue::PassiveOut(0)];
+    rows.extend((0..4).map(|from| Queue::U { router, from }));
+    rows.extend((0..4).map(|from| Queue::Q { router, from }));
+    for to in 0..4 {
+        rows.extend([Class::SetUps, Class::Answers].map(|class| Queue::F { router, class, to }));
+        let others = (0..4).filter(|&from| from != to);
+        rows.extend(others.map(|from| Queue::K { router, from, to }));
+    }
+    rows.extend([Queue::ActiveIn(0), Queue::PassiveIn(0)]);
+    assert_eq!((rows.len(), network.queues().len()), (32, 32));
+    for (number, queue) in rows.into_iter().enumerate() {
+        assert_eq!(network.queue_at(queue), 2 + 39 * number, "{queue:?}");
+    }
+    let side = |side| Link::Side(Port { router, side });
+    let outputs = [Link::Active(0), Link::Passive(0), side(0), side(1), side(2), side(3)];
+    let outputs = outputs.into_iter().chain([Link::Unit(router), Link::Back(router)]);
+    for (number, link) in outputs.enumerate() {
+        assert_eq!(network.output_at(link), 1250 + 7 * number, "{link:?}");
+        assert_eq!(network.last_at(link), 1627 + number, "{link:?}");
+    }
+    assert_eq!(network.allowance_at(0), 1306);
+    assert_eq!([0, 1, 2, 3].map(|side| network.entry_at(0, side, 0)), [1307, 1371, 1435, 1499]);
+    assert_eq!(network.marks_at(0), 1563);
+    assert_eq!(network.size(), 1635);
+}
+
+/// Some rows of the page's table for plan T.
+#[test]
+fn rows_of_plan_t() {
+    let router = 0;
+    for (queue, row) in [
         (Queue::U { router, from: 3 }, 197),
-        (Queue::Q { router }, 236),
-        (Queue::F { router, to: 0 }, 275),
-        (Queue::K { router, from: 1, to: 0 }, 314),
-        (Queue::F { router, to: 1 }, 431),
-        (Queue::K { router, from: 0, to: 1 }, 470),
-        (Queue::K { router, from: 3, to: 2 }, 704),
-        (Queue::K { router, from: 2, to: 3 }, 860),
-        (Queue::ActiveIn(0), 899),
-        (Queue::PassiveIn(0), 938),
-    ];
-    for (queue, row) in rows {
-        assert_eq!(network.queue_at(queue), row, "{queue:?}");
+        (Queue::Q { router, from: 0 }, 236),
+        (Queue::Q { router, from: 3 }, 353),
+        (Queue::F { router, class: Class::SetUps, to: 0 }, 392),
+        (Queue::F { router, class: Class::Answers, to: 0 }, 431),
+        (Queue::K { router, from: 1, to: 0 }, 470),
+        (Queue::K { router, from: 0, to: 1 }, 665),
+        (Queue::K { router, from: 3, to: 2 }, 938),
+        (Queue::F { router, class: Class::Answers, to: 3 }, 1016),
+        (Queue::K { router, from: 2, to: 3 }, 1133),
+        (Queue::ActiveIn(0), 1172),
+        (Queue::PassiveIn(0), 1211),
+    ] {
+        assert_eq!(t().queue_at(queue), row, "{queue:?}");
     }
-    let outputs = [
-        (Link::Active(0), 977),
-        (Link::Passive(0), 984),
-        (Link::Side(Port { router, side }), 991),
-        (Link::Side(Port { router, side: 3 }), 1012),
-        (Link::Unit(router), 1019),
-        (Link::Back(router), 1026),
-    ];
-    for (link, row) in outputs {
-        assert_eq!(network.output_at(link), row, "{link:?}");
-    }
-    assert_eq!(network.allowance_at(0), 1033);
-    assert_eq!([0, 1, 2, 3].map(|side| network.entry_at(0, side, 0)), [1034, 1098, 1162, 1226]);
-    assert_eq!(network.marks_at(0), 1290);
-    let last = outputs.map(|(link, _)| network.last_at(link));
-    assert_eq!(last, [1354, 1355, 1356, 1359, 1360, 1361]);
-    assert_eq!(network.size(), 1362);
 }
 
 /// The mark of (a, p, t) is bit t%8 of byte begin + 64a + 4p + t/8, where the part begins at
-/// 2 + 86A + 85P + 1117R.
+/// 2 + 86A + 85P + 1390R.
 #[test]
 fn figures_of_the_marks() {
     let network = Network::load(&named::largest().encode()).expect("loads");
-    let begin = 2 + (86 + 85 + 1117) * 16;
+    let begin = 2 + (86 + 85 + 1390) * 16;
     let at = |active, passive, start| {
         network.mark_at(Connection { active, passive, start: Slot(start) })
     };
@@ -86,23 +98,25 @@ fn every_bit_is_a_mark() {
     }
 }
 
-/// "After Start all bytes are 0 but the credits and the allowance, these 26 are 1, and the senders
-/// last served at the sides and on the way to the unit, these five are 3."
+/// "After Start all bytes are 0 but the credits and the allowance, these 33 are 1, the turns of the
+/// sides, these four are 4, and the turns of the ways to the unit and back, these two are 3."
 #[test]
 fn start_of_plan_t() {
     let bytes = t().encode(&t().start());
-    let rows = (2..=938).step_by(39).chain([1033]);
-    let mut expected = vec![0; 1362];
-    rows.for_each(|at| expected[at] = 1);
-    expected[1356..1361].fill(3);
+    let rows: Vec<usize> = (2..=1211).step_by(39).chain([1306]).collect();
+    assert_eq!(rows.len(), 33);
+    let mut expected = vec![0; 1635];
+    rows.into_iter().for_each(|at| expected[at] = 1);
+    expected[1629..1633].fill(4);
+    expected[1633..1635].fill(3);
     assert_eq!(bytes, expected);
 }
 
-/// "At most 21,762 bytes (R, A, P = 16)."
+/// "At most 26,130 bytes (R, A, P = 16)."
 #[test]
 fn largest_state() {
     let network = Network::load(&named::largest().encode()).expect("loads");
-    assert_eq!(network.size(), 21_762);
+    assert_eq!(network.size(), 26_130);
 }
 
 /// Rows of queues and outputs, allowances, tables, marks and senders last served fill the state,
@@ -129,8 +143,9 @@ fn every_byte_has_one_place() {
 #[test]
 fn reading_undoes_writing() {
     let mut random = Random::new(62);
-    for _ in 0..60 {
-        let network = Network::of(good::loadable(&mut random));
+    for turn in 0..60 {
+        let plan = if turn % 2 == 0 { good::loadable } else { crossing::any };
+        let network = Network::of(plan(&mut random));
         let mut caller = Caller::new(&mut random, &network);
         let mut state = network.start();
         for round in 0..200 {

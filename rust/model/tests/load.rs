@@ -1,7 +1,8 @@
 //! Load on the runs of document 01, on the named plans and on random ones.
 
-use model::generate::{damage, good, rings, Random};
-use model::{named, Feeding, Fields, Hop, Interface, Plan, Port, Queue};
+use model::generate::{crossing, damage, good, rings, Random};
+use model::machine::Network;
+use model::{named, Class, Feeding, Fields, Hop, Interface, Plan, Port, Queue, Split};
 
 fn answer(bytes: &[u8]) -> u32 {
     Plan::load(bytes).err().unwrap_or(0)
@@ -22,7 +23,80 @@ fn starred_runs_of_load() {
     let mut bytes = named::T;
     bytes[0] = 0;
     assert_eq!(answer(&bytes), 2);
-    assert_eq!(answer(&named::crossing().encode()), 6);
+    // Document 01's last run: "set-ups crossing both ways: 6". Since document 02 (i) it loads.
+    assert_eq!(answer(&named::crossing().encode()), 0);
+}
+
+fn ring(plan: &Plan, q: bool, f: bool) -> bool {
+    Feeding::with_split(plan, Split { q, f }).has_ring()
+}
+
+/// "Split Q by incoming side, and F[o] into one queue for set-ups and tear-downs and one for answers":
+/// with one of the two the crossing plan is refused as before.
+#[test]
+fn crossing_needs_both_splits() {
+    for draft in [named::crossing(), named::crossing_four_slots(), crossing::line(5, 8, 2)] {
+        let plan = built(&draft);
+        assert!(plan.is_crossing());
+        let rings = [(true, true), (true, false), (false, true), (false, false)];
+        assert_eq!(rings.map(|(q, f)| ring(&plan, q, f)), [false, true, true, true]);
+    }
+}
+
+/// "Refusal 6 keeps its condition over these queues": three routers, all set-ups one way round.
+#[test]
+fn set_ups_around_a_ring_do_not_load() {
+    for routers in 3..=16 {
+        let draft = rings::set_ups_around(routers, 4, 1);
+        assert_eq!(answer(&draft.encode()), 6);
+        let plan = Plan::join(draft.fields().clone()).expect("joints fit");
+        let feeding = Feeding::of(&plan);
+        assert_eq!(feeding.rings(), [true, false]);
+        for router in 0..routers {
+            let (next, class) = ((router + 1) % routers, Class::SetUps);
+            let [f, on] = [router, next].map(|router| Queue::F { router, class, to: 0 });
+            let (u, q) = (Queue::U { router: next, from: 1 }, Queue::Q { router: next, from: 1 });
+            assert!(feeding.feeds(f, u) && feeding.feeds(u, q) && feeding.feeds(q, on));
+        }
+    }
+}
+
+/// Every plan that loaded before loads; of those that did not, most load now.
+#[test]
+fn plans_that_loaded_before_load() {
+    let mut random = Random::new(43);
+    let [mut loaded, mut load_now, mut rings] = [0; 3];
+    let [mut only_q, mut only_f] = [0; 2];
+    for turn in 0..6_000 {
+        let fields = match turn % 3 {
+            0 => rings::ringed(&mut random),
+            _ => good::joined(&mut random),
+        };
+        let plan = Plan::join(fields).expect("joined");
+        let (now, before) = (ring(&plan, true, true), ring(&plan, false, false));
+        assert!(before || !now, "{:02X?}", plan.encode());
+        loaded += usize::from(!before);
+        load_now += usize::from(before && !now);
+        rings += usize::from(now);
+        only_q += usize::from(!now && ring(&plan, true, false));
+        only_f += usize::from(!now && ring(&plan, false, true));
+    }
+    println!("loaded {loaded}, load now {load_now}, rings {rings}; only Q {only_q}, F {only_f}");
+    assert!([loaded, load_now, rings, only_q, only_f].iter().all(|&count| count > 300));
+}
+
+/// Each loads now and did not before; several shapes and sizes are among them.
+#[test]
+fn crossing_plans_cross() {
+    let mut random = Random::new(44);
+    let mut sizes = [0; 17];
+    for turn in 0..600 {
+        let plan = if turn % 2 == 0 { crossing::any } else { crossing::crowded };
+        let plan = plan(&mut random);
+        assert!(plan.is_crossing() && answer(&plan.encode()) == 0);
+        sizes[plan.routers()] += 1;
+    }
+    assert!(sizes[2..].iter().all(|&count| count > 3), "{sizes:?}");
 }
 
 #[test]
@@ -86,7 +160,8 @@ fn answers_take_another_joint_than_set_ups() {
     assert_eq!(plan.way(1, Interface::Active(0)), Some(back.to_vec()));
     let feeding = Feeding::of(&plan);
     let k = Queue::K { router: 0, from: 1, to: 2 };
-    assert!(feeding.feeds(Queue::F { router: 1, to: 3 }, k));
+    assert!(feeding.feeds(Queue::F { router: 1, class: Class::Answers, to: 3 }, k));
+    assert!(!feeding.feeds(Queue::F { router: 1, class: Class::SetUps, to: 3 }, k));
     assert!(feeding.feeds(k, Queue::ActiveIn(0)));
     assert!(!feeding.feeds(Queue::ActiveIn(0), Queue::ActiveOut(0)));
 }
@@ -96,8 +171,9 @@ fn feeding_in_plan_t_is_exactly_this() {
     let plan = Plan::load(&named::T).expect("loads");
     let feeding = Feeding::of(&plan);
     let u = Queue::U { router: 0, from: 0 };
-    let q = Queue::Q { router: 0 };
-    let [to_active, to_passive] = [0, 1].map(|to| Queue::F { router: 0, to });
+    let q = Queue::Q { router: 0, from: 0 };
+    let to_active = Queue::F { router: 0, class: Class::Answers, to: 0 };
+    let to_passive = Queue::F { router: 0, class: Class::SetUps, to: 1 };
     let k = Queue::K { router: 0, from: 1, to: 0 };
     let (out, answers) = (Queue::ActiveOut(0), Queue::ActiveIn(0));
     let (arrivals, replies) = (Queue::PassiveIn(0), Queue::PassiveOut(0));
@@ -111,9 +187,9 @@ fn feeding_in_plan_t_is_exactly_this() {
         (q, to_active),
         (to_active, answers),
     ];
-    let queues = [out, u, q, to_active, to_passive, k, answers, arrivals, replies];
-    for x in queues {
-        for y in queues {
+    let network = Network::of(plan.clone());
+    for &x in network.queues() {
+        for &y in network.queues() {
             assert_eq!(feeding.feeds(x, y), edges.contains(&(x, y)), "{x:?} {y:?}");
         }
     }
@@ -174,7 +250,7 @@ fn generated_plans_are_of_all_sizes_and_fates() {
 }
 
 #[test]
-fn rings_are_of_routers_or_of_answers() {
+fn rings_are_of_set_ups_or_of_answers() {
     let mut random = Random::new(41);
     for turn in 0..2_000 {
         let fields =

@@ -4,14 +4,14 @@ use std::collections::BTreeMap;
 
 use model::generate::calls::Caller;
 use model::generate::states::{scramble, CHANGES};
-use model::generate::{good, Random};
+use model::generate::{crossing, good, Random};
 use model::machine::claims::Claims;
 use model::machine::{
     Call, Connection, Credit, Hub, Kind, Link, Network, Packet, Phase, Slot, State,
 };
-use model::{named, Port, Queue};
+use model::{named, Class, Port, Queue};
 
-const Q: Queue = Queue::Q { router: 0 };
+const Q: Queue = Queue::Q { router: 0, from: 0 };
 const TO_PASSIVE: Link = Link::Side(Port { router: 0, side: 1 });
 
 fn t() -> Network {
@@ -104,8 +104,8 @@ fn a_head_in_q_before_and_after_handling() {
     for wrong in [packet(Kind::Setup, 0, 1), packet(Kind::Tdown, 0, 2), packet(Kind::Nack, 0, 0)] {
         refused(7, "packet", |network, state| state.queues[network.queue_index(Q)][0] = wrong);
     }
-    refused(7, "packet", |_, state| state.handled[0] = true);
-    refused(8, "packet", |_, state| state.handled[0] = false);
+    refused(7, "packet", |_, state| state.handled[0][0] = true);
+    refused(8, "packet", |_, state| state.handled[0][0] = false);
     // Handled by the last router, no router is ahead of a TDOWN.
     refused(8, "packet", |network, state| {
         state.queues[network.queue_index(Q)][0] = packet(Kind::Tdown, 0, 1);
@@ -130,7 +130,8 @@ fn wires_choices_flags_marks() {
     refused(3, "wire full outside READ", |_, state| state.phase = Phase::Execute);
     refused(2, "choice", |_, state| state.phase = Phase::Read);
     refused(2, "choice", |network, state| {
-        state.choices[network.link_index(TO_PASSIVE)] = Some(Queue::F { router: 0, to: 1 });
+        let f = Queue::F { router: 0, class: Class::SetUps, to: 1 };
+        state.choices[network.link_index(TO_PASSIVE)] = Some(f);
     });
     refused(2, "choice", |network, state| {
         state.choices[network.link_index(TO_PASSIVE)] = Some(Queue::ActiveOut(0));
@@ -142,7 +143,71 @@ fn wires_choices_flags_marks() {
     refused(5, "flag up in EXECUTE or on a queue whose head is picked", |network, state| {
         state.flags[network.queue_index(Queue::U { router: 0, from: 0 })] = true;
     });
-    refused(0, "handled mark", |_, state| state.handled[0] = true);
+    for from in 0..4 {
+        refused(0, "handled mark", |_, state| state.handled[0][from] = true);
+    }
+    // The mark of one Q is no other's.
+    refused(8, "handled mark", |_, state| state.handled[0][1] = true);
+}
+
+/// "A packet where no journey of its pair puts it": in Q of another side than the walk comes in by,
+/// a set-up in an answer F, an answer in a set-up F.
+#[test]
+fn packets_in_the_other_queues() {
+    let class = [Class::SetUps, Class::Answers];
+    let moved = |from: Queue, to: Queue| {
+        move |network: &Network, state: &mut State| {
+            let [from, to] = [from, to].map(|queue| network.queue_index(queue));
+            let packet = state.queues[from].pop_front().expect("it is here");
+            state.queues[to].push_back(packet);
+            (state.credits[from], state.credits[to]) = (Credit(1), Credit(0));
+        }
+    };
+    for from in 1..4 {
+        refused(7, "out of place", moved(Q, Queue::Q { router: 0, from }));
+    }
+    let [set_up, answer] = class.map(|class| Queue::F { router: 0, class, to: 1 });
+    refused(10, "out of place", moved(set_up, answer));
+    // A NACK of the unit stands in the answer F of side 0 and in no other F.
+    for (class, to) in [(class[0], 0), (class[0], 1), (class[1], 1), (class[1], 2)] {
+        refused(0, "out of place", nack_in(Queue::F { router: 0, class, to }));
+    }
+    let (network, mut state) = t_after(0);
+    nack_in(Queue::F { router: 0, class: Class::Answers, to: 0 })(&network, &mut state);
+    assert_eq!(network.fault(&state), None);
+}
+
+/// The launched SETUP's place is empty and a NACK of the unit stands in this queue.
+fn nack_in(queue: Queue) -> impl Fn(&Network, &mut State) {
+    move |network, state| {
+        state.queues[network.queue_index(Queue::ActiveOut(0))].clear();
+        let at = network.queue_index(queue);
+        state.queues[at].push_back(packet(Kind::Nack, 0, 0));
+        state.credits[at] = Credit(0);
+    }
+}
+
+/// The wire to the unit does not say which Q its packet joins, and no more does the sender that the
+/// output remembers: the pair's walk does. After six phases the SETUP is on that wire.
+#[test]
+fn the_walk_tells_which_q_is_joined() {
+    for rank in 0..4 {
+        let (network, mut state) = t_after(6);
+        let unit = network.link_index(Link::Unit(0));
+        assert!(state.wires[unit].is_some());
+        state.last[unit] = rank;
+        assert_eq!(network.fault(&state), None);
+        assert_eq!(network.read(&mut state), Ok(()));
+        assert_eq!(network.queue(&state, Q).len(), 1);
+        assert_eq!(network.fault(&state), None);
+    }
+    // Each Q has a credit of its own.
+    for from in 1..4 {
+        refused(6, "capacity", |network, state| {
+            state.credits[network.queue_index(Q)] = Credit(1);
+            state.credits[network.queue_index(Queue::Q { router: 0, from })] = Credit(0);
+        });
+    }
 }
 
 #[test]
@@ -154,6 +219,26 @@ fn sums() {
     });
     refused(0, "allowance", |_, state| state.allowances[0] = 1);
     refused(3, "allowance", |_, state| state.allowances[0] = 1);
+}
+
+/// All four Q and all eight F have flag and credit, also those of sides that are not joined: the wires
+/// to the unit and back feed them.
+#[test]
+fn queues_at_the_unit_are_fed() {
+    for side in 0..4 {
+        for queue in [
+            Queue::Q { router: 0, from: side },
+            Queue::F { router: 0, class: Class::SetUps, to: side },
+            Queue::F { router: 0, class: Class::Answers, to: side },
+        ] {
+            let (network, mut state) = t_after(0);
+            let at = network.queue_index(queue);
+            state.flags[at] = true;
+            assert!(network.fault(&state).is_some_and(|fault| fault.contains("capacity")));
+            state.credits[at] = Credit(0);
+            assert_eq!(network.fault(&state), None);
+        }
+    }
 }
 
 /// Of T's router sides 0 and 1 are joined: a raised flag stands for a credit in U and K of these. No
@@ -281,21 +366,25 @@ fn senders_last_served() {
     let last = |link: Link, rank| {
         move |network: &Network, state: &mut State| state.last[network.link_index(link)] = rank
     };
-    for link in [side(0), side(1), Link::Unit(0)] {
-        for rank in 0..4 {
+    for (link, ranks) in [(side(0), 5), (side(1), 5), (Link::Unit(0), 4), (Link::Back(0), 4)] {
+        for rank in 0..ranks {
             let (network, mut state) = t_after(2);
             last(link, rank)(&network, &mut state);
             assert_eq!(network.fault(&state), None);
         }
     }
-    for link in [side(0), side(1), side(2), side(3), Link::Unit(0)] {
+    for side in [0, 1, 2, 3].map(side) {
+        refused(1, "rank out of range", last(side, 5));
+        refused(1, "rank out of range", last(side, 255));
+    }
+    for link in [Link::Unit(0), Link::Back(0)] {
         refused(1, "rank out of range", last(link, 4));
         refused(1, "rank out of range", last(link, 255));
     }
-    for link in [Link::Back(0), Link::Active(0), Link::Passive(0)] {
+    for link in [Link::Active(0), Link::Passive(0)] {
         refused(1, "rank out of range", last(link, 1));
     }
-    for (link, rank) in [(side(2), 0), (side(2), 2), (side(3), 1)] {
+    for (link, rank) in [(side(2), 0), (side(2), 3), (side(3), 1)] {
         refused(1, "a side that is not joined", last(link, rank));
     }
     refused(1, "no state", |_, state| state.last.truncate(3));
@@ -356,7 +445,9 @@ fn states_that_no_list_reaches() {
     let mut random = Random::new(41);
     let mut met = Met::default();
     while met.calls < 400_000 {
-        let network = Network::of(good::loadable(&mut random));
+        let crossed = [crossing::any, crossing::crowded][random.below(2)];
+        let plan = if random.chance(1, 2) { crossed } else { good::loadable };
+        let network = Network::of(plan(&mut random));
         let mut caller = Caller::new(&mut random, &network);
         if caller.pairs() < 2 {
             continue;

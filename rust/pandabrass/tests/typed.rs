@@ -29,10 +29,10 @@ fn round(state: &mut State) -> Result<Option<Packet>, Refusal> {
 #[test]
 fn loads_and_starts() -> Result<(), Refusal> {
     let plan = Plan::load(&T)?;
-    assert_eq!((plan.bytes(), plan.state_size()), (&T[..], 1362));
+    assert_eq!((plan.bytes(), plan.state_size()), (&T[..], 1635));
     assert_eq!((plan.walk(0, 0), plan.walk(0, 1)), (Some(1), None));
     let state = plan.start();
-    assert_eq!(state.bytes().iter().filter(|&&byte| byte == 1).count(), 26);
+    assert_eq!(state.bytes().iter().filter(|&&byte| byte == 1).count(), 33);
     assert_eq!(plan.resume(state.bytes())?, state);
     assert_eq!(plan.resume(&state.bytes()[1..]), Err(Refusal::NotState));
     Ok(())
@@ -91,12 +91,12 @@ fn closed_and_opened_again() -> Result<(), Refusal> {
     for _ in 0..8 {
         assert_eq!(round(&mut state)?, None);
     }
-    // As at the start, but for whom the outputs served last: K[1,0] by side 0, F[1] by side 1 and
-    // U[0] on the way to the unit.
-    let (start, turns) = (plan.start(), 1354..1362);
-    assert_eq!(state.bytes()[..1354], start.bytes()[..1354]);
-    assert_eq!(start.bytes()[turns.clone()], [0, 0, 3, 3, 3, 3, 3, 0]);
-    assert_eq!(state.bytes()[turns], [0, 0, 1, 0, 3, 3, 0, 0]);
+    // As at the start, but for whom the outputs served last: K[1,0] by side 0, the set-up F[1] by
+    // side 1, U[0] on the way to the unit and Q[0] on the way back.
+    let (start, turns) = (plan.start(), 1627..1635);
+    assert_eq!(state.bytes()[..1627], start.bytes()[..1627]);
+    assert_eq!(start.bytes()[turns.clone()], [0, 0, 4, 4, 4, 4, 3, 3]);
+    assert_eq!(state.bytes()[turns], [0, 0, 2, 0, 4, 4, 0, 0]);
     open(&mut state)?;
     assert_eq!(state, opened);
     Ok(())
@@ -132,6 +132,33 @@ fn looked_at_and_dropped() -> Result<(), Refusal> {
     assert_eq!(state.drop(0), Err(Refusal::FlagUp));
     state.write()?;
     state.close(0, 0, 0)
+}
+
+/// Sensors and drives at both ends: two routers, set-ups crossing both ways, each booked at both.
+#[test]
+fn opened_both_ways() -> Result<(), Refusal> {
+    let plan = Plan::load(&[
+        0x10, 0x84, 0x21, 0x24, 0x92, 0x4C, 0x06, 0x02, 0x30, 0x04, 0x26, 0x22, 0x10, 0x00, 0x45,
+        0x20, 0x88,
+    ])?;
+    let mut state = plan.start();
+    state.launch(0, 1, 0)?;
+    state.launch(1, 0, 0)?;
+    for round in 0..11 {
+        state.read()?;
+        state.execute()?;
+        for passive in 0..2 {
+            let expected = if round == 7 { Ok(()) } else { Err(Refusal::QueueEmpty) };
+            assert_eq!(state.reply(passive, Choice::Accept), expected);
+        }
+        state.write()?;
+    }
+    state.read()?;
+    for (active, passive) in [(0, 1), (1, 0)] {
+        let ack = Packet { kind: Kind::Ack, active, passive, slot: 2, hub: 2 };
+        assert_eq!(state.look(active.into()), Ok(ack));
+    }
+    Ok(())
 }
 
 #[test]

@@ -15,7 +15,7 @@ CASES = [
      "The data block of the page is damaged"),
     ("a part missing", '"start":', '"begin":',
      "The data block of the page has no 'start'."),
-    ("a place of a later page", '["unit","Q of r0"', '["lane","Q of r0"',
+    ("a place of a later page", '["unit","Q[0] of r0', '["lane","Q[0] of r0',
      "it has a place 'lane' that this page cannot draw"),
     ("an unknown call", "\\nP0,1 ", "\\nZ0,1 ",
      "Line 16 of the recording is damaged: this page knows no call 'Z'."),
@@ -35,16 +35,16 @@ CASES = [
      "Line 36 of the recording is damaged: there is no entry 1295."),
     ("an owner that is none", " o7,1,w", " o7,9,w",
      "Line 36 of the recording is damaged: entry 7 has no readable owner."),
-    ("a place that is none", " >0,1d,q", " >0,zz,q",
+    ("a place that is none", " >0,1r,x", " >0,zz,x",
      "Line 4 of the recording is damaged: there is no place 1295."),
     ("an argument missing", "L1,0,0 ", "L1,0 ",
      "Line 1 of the recording is damaged: its call has another number of arguments."),
     ("a connection that is none", " c0,1", " c9,1",
      "Line 26 of the recording is damaged: there is no connection 9."),
-    ("an output that is none", " l6,2", " lzz,2",
+    ("an output that is none", " l7,2", " lzz,2",
      "Line 7 of the recording is damaged: there is no output 1295."),
-    ("a sender that is none", " l6,2", " l6,4",
-     "Line 7 of the recording is damaged: output 6 has no sender 4."),
+    ("a sender that is none", " l7,2", " l7,4",
+     "Line 7 of the recording is damaged: output 7 has no sender 4."),
     ("a check sum that is none", "R b2bdb407", "R xyz",
      "Line 2 of the recording is damaged: its call or its check sum is not readable."),
     ("an empty line", "\\nX cbd615f5 p2 *0", "\\n",
@@ -77,18 +77,16 @@ def wrong_state(browser, pages, source, tally):
 
 
 def later_places(browser, pages, source, tally):
-    """Places that a later program adds are drawn by this page: here four queues in each unit."""
-    units = [(router, side) for router in (0, 1) for side in (1, 2, 3)]
-    more = [f'["unit","Q[{side}] of r{router}","Q{side}",1,1,{router},{side},4]' for router, side in units]
+    """Places that a later program adds at spots that this page knows are drawn by it."""
+    sides = [(0, 1), (1, 0)]
+    more = [f'["cross","L[{router}] of r{router}","K·{side}",1,1,{router},{side}]' for router, side in sides]
     changed = source.replace("],\n\"outputs\"", ",\n" + ",\n".join(more) + "],\n\"outputs\"", 1)
-    for router in (0, 1):
-        changed = changed.replace(f'"Q",1,1,{router},0,1]', f'"Q",1,1,{router},0,4]', 1)
     page = pages / "damaged.html"
     page.write_text(changed, encoding="utf-8")
     browser.open(page, "selftest")
     report = browser.run('document.getElementById("selftest").textContent')
-    tally.check("places of a later program", report.startswith("PASS"), report)
-    tally.equal("their trays", browser.run('document.querySelectorAll("[data-tray^=unit]").length'), 8)
+    tally.check("places of a later program", changed != source and report.startswith("PASS"), report)
+    tally.equal("their trays are shared", browser.run('document.querySelectorAll("[data-tray^=cross]").length'), 5)
 
 
 def no_calls(browser, pages, source, tally):

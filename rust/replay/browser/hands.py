@@ -23,6 +23,8 @@ def test(browser, pages, tally):
     refusals(browser, pages, tally)
     closing(browser, pages, tally)
     turns(browser, pages, tally)
+    heads(browser, pages, tally)
+    queues_of_a_router(browser, pages, tally)
     looking(browser, pages, tally)
     phone(browser, pages, tally)
     browser.size(1280, 800)
@@ -98,7 +100,7 @@ def journey(browser, tally):
     browser.run("showPosition(48)")
     browser.click(".packet")
     text = browser.run(DETAILS)
-    told = all(words in text for words in ["Journey of this packet", "declined", "Q of r1"])
+    told = all(words in text for words in ["Journey of this packet", "declined", "Q[0] of r1's unit"])
     tally.check("a packet's journey", told, text)
     step = 'document.querySelector("#details tr.current td:nth-child(2)").textContent'
     tally.equal("the current step", browser.run(step), "✕ declined")
@@ -263,11 +265,42 @@ def turns(browser, pages, tally):
     tally.check("whose turn it is", told in text, text)
     browser.click('[data-router="0"] .router-name')
     row = 'document.querySelector(\'#details [data-output="0"]\').textContent.replace(/\\s+/g, " ").trim()'
-    tally.equal("the turns before", browser.run(row), "r0.0K[3,0]✕E F[0] ✓C K[2,0] ✓D K[3,0]")
+    tally.equal("the turns before", browser.run(row), "r0.0K[3,0]✕E answer F[0] ✓C K[2,0] ✓D K[3,0]")
     press(browser, "ArrowRight")
-    tally.equal("the turns after", browser.run(row), "r0.0F[0]✓C K[2,0] ✓D K[3,0]")
+    tally.equal("the turns after", browser.run(row), "r0.0answer F[0]✓C K[2,0] ✓D K[3,0]")
     press(browser, "ArrowRight", "ArrowRight", "ArrowRight")
-    tally.equal("a second NACK waits for its turn", browser.run(row), "r0.0K[2,0]✓D K[3,0] ✕F F[0]")
+    tally.equal("a second NACK waits for its turn", browser.run(row), "r0.0K[2,0]✓D K[3,0] ✕F answer F[0]")
+    press(browser, "Escape")
+
+
+def heads(browser, pages, tally):
+    """Two heads of one unit ask for the same entry in one Execute: side 0 has it, side 1 is told by whom."""
+    browser.open(pages / "heads.html", "29")
+    text = browser.run(NOW)
+    tally.check("side 0 books", "The unit of r0 books side 3, slot 1 for C: hub 1" in text, text)
+    told = "The unit of r0 declines E: side 3, slot 1 is booked by C (under way)"
+    tally.check("side 1 finds it booked", told in text, text)
+    told = "At the way from r0's unit it is the turn of ✕E: Q[0] of r0's unit went last. Waiting: +C"
+    tally.check("one of them is sent", told in text, text)
+
+
+def queues_of_a_router(browser, pages, tally):
+    """A router with four joined sides: for each side U, Q at the unit, both F, and K; where it is not joined, none."""
+    browser.open(pages / "crossing.html", "275")
+    trays = """((router) => ["in", "unit", "out", "out-back", "cross"].map((spot) =>
+        document.querySelectorAll(`[data-router="${router}"] [data-tray^="${spot},"]`).length))"""
+    tally.equal("four sides", browser.run(trays + "(0)"), [4, 4, 4, 4, 4])
+    tally.equal("three sides", browser.run(trays + "(1)"), [3, 3, 3, 3, 3])
+    labels = """[...document.querySelectorAll('[data-router="0"] .tray-label')]
+        .map((one) => one.textContent).sort().join(" ")"""
+    tally.equal("their labels", browser.run(labels),
+                "F0+ F0✕ F1+ F1✕ F2+ F2✕ F3+ F3✕ K·0 K·1 K·2 K·3 Q0 Q1 Q2 Q3 U0 U1 U2 U3")
+    text = browser.run(NOW)
+    told = ["✕X joins answer F[1] of arm1", "−A joins Q[0] of arm1's unit", "+AB joins set-up F[3] of box1"]
+    tally.check("which F and which Q", all(words in text for words in told), text)
+    browser.click('[data-router="1"] .router-name')
+    row = 'document.querySelector(\'#details [data-output="10"]\').textContent.replace(/\\s+/g, " ").trim()'
+    tally.equal("the way from a unit has turns", browser.run(row), "the way from arm1's unitQ[1]−A Q[0]")
     press(browser, "Escape")
 
 

@@ -2,7 +2,7 @@
 //! draws a place where its spot says, so places that are added later need no new page.
 
 use trace::plan::Interface;
-use trace::{Joint, Names, Output, Place, Plan, Port, Queue};
+use trace::{Heading, Joint, Output, Place, Plan, Port, Queue};
 
 /// One place as the page is told of it.
 #[derive(Clone, Debug)]
@@ -79,7 +79,7 @@ impl Places {
     }
 }
 
-/// The sides that are joined, and the ways to the units.
+/// The sides that are joined, and the ways to the units and from them.
 fn shared(plan: &Plan) -> Vec<Shared> {
     let leads = |output: &Output| match *output {
         Output::Side(port) => plan.joint(port) != Joint::Nothing,
@@ -94,28 +94,22 @@ fn shared(plan: &Plan) -> Vec<Shared> {
 
 /// A queue.
 fn told_queue(plan: &Plan, queue: Queue) -> Told {
-    let names = plan.names();
+    let at = |port: Port| vec![port.router, port.side];
     let (spot, numbers, label) = match queue {
         Queue::ActiveOut(active) => ("active-out", vec![active], String::new()),
         Queue::ActiveIn(active) => ("active-in", vec![active], String::new()),
         Queue::PassiveOut(passive) => ("passive-out", vec![passive], String::new()),
         Queue::PassiveIn(passive) => ("passive-in", vec![passive], String::new()),
-        Queue::U(port) => ("in", vec![port.router, port.side], format!("U{}", port.side)),
-        Queue::F(port) => ("out", vec![port.router, port.side], format!("F{}", port.side)),
-        Queue::K(_, port) => ("cross", vec![port.router, port.side], format!("K·{}", port.side)),
-        Queue::Q(router) => ("unit", vec![router, 0, 1], "Q".to_string()),
+        Queue::U(port) => ("in", at(port), format!("U{}", port.side)),
+        Queue::Q(port) => ("unit", at(port), format!("Q{}", port.side)),
+        Queue::F(Heading::Ahead, port) => ("out", at(port), format!("F{}+", port.side)),
+        // The answers that a unit sends are NACKs.
+        Queue::F(Heading::Back, port) => ("out-back", at(port), format!("F{}✕", port.side)),
+        Queue::K(_, port) => ("cross", at(port), format!("K·{}", port.side)),
     };
-    let name = queue_name(names, queue);
+    let name = plan.names().queue_words(queue);
     let (capacity, credit) = (plan.capacity(queue), has_credit(plan, queue));
     Told { spot, numbers, name, label, capacity, credit }
-}
-
-/// A queue in words.
-fn queue_name(names: &Names, queue: Queue) -> String {
-    match queue {
-        Queue::Q(router) => format!("Q of {}", names.router(router)),
-        _ => names.queue_words(queue),
-    }
 }
 
 /// Whether a wire leads into a queue.

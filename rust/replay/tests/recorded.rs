@@ -1,7 +1,7 @@
 //! Recorded data of random runs: the proved library and the model give the same lines; and the lines
 //! of document 01's first run.
 
-use model::generate::{good, Random};
+use model::generate::{crossing, good, Random};
 use model::named;
 use replay::Recording;
 use trace::{Call, Calls, Modelled, Names, Plan, Proved, Run};
@@ -79,8 +79,11 @@ fn compare(random: &mut Random, plan: &Plan, count: usize) -> Vec<String> {
 fn random_runs_of_library_and_model_are_recorded_alike() {
     let mut random = Random::new(10);
     let mut signs = std::collections::BTreeSet::new();
-    for _ in 0..150 {
-        let plan = plan(&good::loadable(&mut random).encode());
+    for number in 0..150 {
+        let plan = match number % 3 {
+            0 => plan(&crossing::any(&mut random).encode()),
+            _ => plan(&good::loadable(&mut random).encode()),
+        };
         for line in compare(&mut random, &plan, 300) {
             signs.extend(line.split(' ').skip(2).filter_map(|token| token.chars().next()));
         }
@@ -119,13 +122,13 @@ fn lines_of_the_first_run() {
         "L0,0,1!11",
         "R p1",
         "X p2 *0",
-        "W p0 s1 >0,p,2 *",
+        "W p0 s1 >0,w,2 *",
         "R p1 >0,2",
         "X p2 *0",
-        "W p0 s0 >0,t,6 * ^2 l2,0",
+        "W p0 s0 >0,10,6 * ^2 l2,0",
         "R p1 >0,6 _",
         "X p2 =0,S,1,1 *0 h6,1 t2,0 o2,0,w",
-        "W p0 s1 >0,u,b * ^6 h6,0",
+        "W p0 s1 >0,11,f * ^6 h6,0 l3,0",
         "E0,1,0=0",
         "D0!8",
         "H0!13",
@@ -153,11 +156,11 @@ fn lines_of_a_dropped_answer() {
     let (lines, _) = record(&plan, &Proved::new(&plan), &opened());
     let told: Vec<String> = lines.iter().map(told).collect();
     let wanted = [
-        "R p1 >0,n _",
+        "R p1 >0,u _",
         "H0=A,0,0,1,1",
         "X p2",
         "H0=A,0,0,1,1",
-        "D0 -0 ^n o2,0,a a0,1 c0,1",
+        "D0 -0 ^u o2,0,a a0,1 c0,1",
         "H0!13",
         "D0!14",
         "W p0 s0",
@@ -181,10 +184,10 @@ fn lines_of_a_closed_connection() {
         "K0,0,0!16",
         "R p1 _",
         "X p2 *1",
-        "W p0 s1 >1,p,2 *",
+        "W p0 s1 >1,w,2 *",
         "R p1 >1,2",
         "X p2 *1",
-        "W p0 s0 >1,t,6 * ^2",
+        "W p0 s0 >1,10,6 * ^2",
         "R p1 >1,6 _",
         "X p2 -1 ^6 t2,4 o2",
         "W p0 s1",

@@ -35,6 +35,6 @@ pub use calls::{Answer, Call, Calls, Modelled, Proved};
 pub use names::Names;
 pub use net::Net;
 pub use pandabrass::{Choice, Entry, Kind, Packet, Refusal};
-pub use place::{Output, Place, Port, Queue};
+pub use place::{Heading, Output, Place, Port, Queue};
 pub use plan::{Fault, Fields, Hop, Joint, Pair, Plan, Served};
 pub use run::{Connection, Event, Hold, Id, Owner, Run, Step};

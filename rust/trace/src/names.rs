@@ -1,6 +1,6 @@
 //! Names of routers, actives, passives, and by them of sides, queues and wires.
 
-use crate::place::{Output, Place, Port, Queue, SIDES};
+use crate::place::{Heading, Output, Place, Port, Queue, SIDES};
 
 /// The names of a plan's parts, by number.
 #[derive(Clone, Debug, Default, PartialEq, Eq)]
@@ -44,14 +44,19 @@ impl Names {
         format!("{}.{}", self.router(port.router), port.side)
     }
 
-    /// A queue, as in `r0.U1`, `r0.Q`, `r0.F1`, `r0.K01`, `camera.out`, `drive.in`.
+    /// A queue, as in `r0.U1`, `r0.Q1`, `r0.F1set`, `r0.F1ans`, `r0.K01`, `camera.out`, `drive.in`.
     pub fn queue(&self, queue: Queue) -> String {
         match queue {
             Queue::ActiveOut(number) => format!("{}.out", self.active(number)),
             Queue::PassiveOut(number) => format!("{}.out", self.passive(number)),
             Queue::U(port) => format!("{}.U{}", self.router(port.router), port.side),
-            Queue::Q(router) => format!("{}.Q", self.router(router)),
-            Queue::F(port) => format!("{}.F{}", self.router(port.router), port.side),
+            Queue::Q(port) => format!("{}.Q{}", self.router(port.router), port.side),
+            Queue::F(Heading::Ahead, port) => {
+                format!("{}.F{}set", self.router(port.router), port.side)
+            }
+            Queue::F(Heading::Back, port) => {
+                format!("{}.F{}ans", self.router(port.router), port.side)
+            }
             Queue::K(from, port) => format!("{}.K{from}{}", self.router(port.router), port.side),
             Queue::ActiveIn(number) => format!("{}.in", self.active(number)),
             Queue::PassiveIn(number) => format!("{}.in", self.passive(number)),
@@ -77,14 +82,19 @@ impl Names {
         }
     }
 
-    /// A queue in words: "U[0] of r0", "camera's out-queue", "r0's unit".
+    /// A queue in words: "U[0] of r0", "Q[0] of r0's unit", "answer F[1] of r0".
     pub fn queue_words(&self, queue: Queue) -> String {
         match queue {
             Queue::ActiveOut(number) => format!("{}'s out-queue", self.active(number)),
             Queue::PassiveOut(number) => format!("{}'s out-queue", self.passive(number)),
             Queue::U(port) => format!("U[{}] of {}", port.side, self.router(port.router)),
-            Queue::Q(router) => format!("{}'s unit", self.router(router)),
-            Queue::F(port) => format!("F[{}] of {}", port.side, self.router(port.router)),
+            Queue::Q(port) => format!("Q[{}] of {}'s unit", port.side, self.router(port.router)),
+            Queue::F(Heading::Ahead, port) => {
+                format!("set-up F[{}] of {}", port.side, self.router(port.router))
+            }
+            Queue::F(Heading::Back, port) => {
+                format!("answer F[{}] of {}", port.side, self.router(port.router))
+            }
             Queue::K(from, port) => {
                 format!("K[{from},{}] of {}", port.side, self.router(port.router))
             }
@@ -93,7 +103,7 @@ impl Names {
         }
     }
 
-    /// A place in words: "in F[1] of r0", "on the wire from r1's unit".
+    /// A place in words: "in U[1] of r0", "on the wire from r1's unit".
     pub fn place_words(&self, place: Place) -> String {
         match place {
             Place::In(queue) => format!("in {}", self.queue_words(queue)),
@@ -124,7 +134,7 @@ impl Names {
         }
     }
 
-    /// The queue of a name such as `r0.F1` or `drive.in`.
+    /// The queue of a name such as `r0.F1set` or `drive.in`.
     pub fn find_queue(&self, text: &str) -> Option<Queue> {
         let (owner, queue) = text.rsplit_once('.')?;
         let find = |names: &[String]| names.iter().position(|name| name == owner);
@@ -140,17 +150,22 @@ impl Names {
     }
 }
 
-/// The queue of a router: `U1`, `Q`, `F1`, `K01`.
+/// The queue of a router: `U1`, `Q1`, `F1set`, `F1ans`, `K01`.
 fn router_queue(router: usize, text: &str) -> Option<Queue> {
     let mut signs = text.chars();
     let letter = signs.next()?;
     let side = |sign: char| sign.to_digit(10).map(|n| n as usize).filter(|&n| n < SIDES);
-    let sides: Vec<usize> = signs.map(side).collect::<Option<_>>()?;
-    match (letter, sides.as_slice()) {
-        ('U', &[side]) => Some(Queue::U(Port { router, side })),
-        ('Q', &[]) => Some(Queue::Q(router)),
-        ('F', &[side]) => Some(Queue::F(Port { router, side })),
-        ('K', &[from, side]) if from != side => Some(Queue::K(from, Port { router, side })),
+    let first = Port { router, side: side(signs.next()?)? };
+    match (letter, signs.as_str()) {
+        ('U', "") => Some(Queue::U(first)),
+        ('Q', "") => Some(Queue::Q(first)),
+        ('F', "set") => Some(Queue::F(Heading::Ahead, first)),
+        ('F', "ans") => Some(Queue::F(Heading::Back, first)),
+        ('K', _) => {
+            let to =
+                side(signs.next()?).filter(|&to| to != first.side && signs.next().is_none())?;
+            Some(Queue::K(first.side, Port { router, side: to }))
+        }
         _ => None,
     }
 }

@@ -6,8 +6,12 @@ use crate::plan::{Interface, Joint, Plan};
 
 /// "Each with four sides 0 to 3".
 pub const SIDES: usize = 4;
-/// Queues and outputs of a router.
-const ROUTER_QUEUES: usize = 21;
+/// Queues of a router: U and Q of each side, then each side's senders.
+const ROUTER_QUEUES: usize = 28;
+/// The first sender of side 0, behind U and Q of the four sides.
+const FIRST_SENDER: usize = 8;
+/// "A side's order is now set-up F, answer F, then K."
+const SIDE_SENDERS: usize = 5;
 const ROUTER_OUTPUTS: usize = 6;
 
 /// A side of a router.
@@ -19,6 +23,15 @@ pub struct Port {
     pub side: usize,
 }
 
+/// Which way a packet goes.
+#[derive(Clone, Copy, Debug, PartialEq, Eq, Hash)]
+pub enum Heading {
+    /// To the passive: set-ups and tear-downs.
+    Ahead,
+    /// To the active: answers.
+    Back,
+}
+
 /// A queue.
 #[derive(Clone, Copy, Debug, PartialEq, Eq, Hash)]
 pub enum Queue {
@@ -28,10 +41,10 @@ pub enum Queue {
     PassiveOut(usize),
     /// `U[side]` of a router.
     U(Port),
-    /// Q of a router.
-    Q(usize),
-    /// `F[side]` of a router.
-    F(Port),
+    /// `Q[side]` of a router: at the unit, for the packets that came in by that side.
+    Q(Port),
+    /// `F[side]` of a router: one for set-ups and tear-downs, one for answers.
+    F(Heading, Port),
     /// `K[i,o]` of a router: the side it came in by, and the router with the side it leaves by.
     K(usize, Port),
     /// An active's in-queue.
@@ -64,9 +77,12 @@ pub enum Place {
     On(Output),
 }
 
-/// Whether it goes to the active.
-pub fn is_answer(packet: &Packet) -> bool {
-    matches!(packet.kind, Kind::Ack | Kind::Nack)
+/// Whether it goes to the passive or to the active.
+pub fn heading(packet: &Packet) -> Heading {
+    match packet.kind {
+        Kind::Setup | Kind::Tdown => Heading::Ahead,
+        Kind::Ack | Kind::Nack => Heading::Back,
+    }
 }
 
 impl Plan {
@@ -84,15 +100,14 @@ impl Plan {
     pub fn queue_number(&self, queue: Queue) -> usize {
         let (actives, ends) = (self.actives(), self.actives() + self.passives());
         let of = |router| ends + ROUTER_QUEUES * router;
+        let sender = |port: Port| of(port.router) + FIRST_SENDER + SIDE_SENDERS * port.side;
         match queue {
             Queue::ActiveOut(number) => number,
             Queue::PassiveOut(number) => actives + number,
             Queue::U(port) => of(port.router) + port.side,
-            Queue::Q(router) => of(router) + 4,
-            Queue::F(port) => of(port.router) + 5 + 4 * port.side,
-            Queue::K(from, port) => {
-                of(port.router) + 5 + 4 * port.side + from + usize::from(from < port.side)
-            }
+            Queue::Q(port) => of(port.router) + SIDES + port.side,
+            Queue::F(heading, port) => sender(port) + heading as usize,
+            Queue::K(from, port) => sender(port) + 1 + from + usize::from(from < port.side),
             Queue::ActiveIn(number) => of(self.routers()) + number,
             Queue::PassiveIn(number) => of(self.routers()) + actives + number,
         }
@@ -163,12 +178,15 @@ impl Plan {
             Output::Side(port) => {
                 let crossing = (0..SIDES).filter(|&from| from != port.side);
                 let crossing = crossing.map(|from| Queue::K(from, port));
-                std::iter::once(Queue::F(port)).chain(crossing).collect()
+                let units = [Heading::Ahead, Heading::Back].map(|way| Queue::F(way, port));
+                units.into_iter().chain(crossing).collect()
             }
             Output::ToUnit(router) => {
                 (0..SIDES).map(|side| Queue::U(Port { router, side })).collect()
             }
-            Output::FromUnit(router) => vec![Queue::Q(router)],
+            Output::FromUnit(router) => {
+                (0..SIDES).map(|side| Queue::Q(Port { router, side })).collect()
+            }
         }
     }
 
@@ -178,8 +196,8 @@ impl Plan {
             Queue::ActiveOut(number) => Some(Output::Active(number)),
             Queue::PassiveOut(number) => Some(Output::Passive(number)),
             Queue::U(port) => Some(Output::ToUnit(port.router)),
-            Queue::Q(router) => Some(Output::FromUnit(router)),
-            Queue::F(port) | Queue::K(_, port) => Some(Output::Side(port)),
+            Queue::Q(port) => Some(Output::FromUnit(port.router)),
+            Queue::F(_, port) | Queue::K(_, port) => Some(Output::Side(port)),
             Queue::ActiveIn(_) | Queue::PassiveIn(_) => None,
         }
     }
@@ -195,17 +213,21 @@ impl Plan {
                 Joint::Active(number) => Some(Queue::ActiveIn(number)),
                 Joint::Passive(number) => Some(Queue::PassiveIn(number)),
             },
-            Output::ToUnit(router) => Some(Queue::Q(router)),
+            Output::ToUnit(router) => {
+                // "Split Q by incoming side": the side by which its pair's walk comes in.
+                let hop = self.hop(packet.active.into(), packet.passive.into(), router)?;
+                Some(Queue::Q(Port { router, side: hop.came_in }))
+            }
             Output::FromUnit(router) => {
                 let side = self.route(router, destination(packet))?;
-                Some(Queue::F(Port { router, side }))
+                Some(Queue::F(heading(packet), Port { router, side }))
             }
         }
     }
 
     /// U for the unit's packets, K for answers.
     fn entered(&self, port: Port, packet: &Packet) -> Option<Queue> {
-        if !is_answer(packet) {
+        if heading(packet) == Heading::Ahead {
             return Some(Queue::U(port));
         }
         let side = self.route(port.router, destination(packet))?;
@@ -219,7 +241,7 @@ impl Plan {
             Queue::ActiveIn(_) => 1,
             Queue::U(_) => 2,
             Queue::Q(_) => 3,
-            Queue::F(_) => 4,
+            Queue::F(..) => 4,
             Queue::K(..) => 5,
             Queue::PassiveIn(_) => 6,
             Queue::PassiveOut(_) => 7,
@@ -230,24 +252,24 @@ impl Plan {
 
 /// The queue of a router at that number among its own.
 fn router_queue(router: usize, number: usize) -> Queue {
-    let Some(row) = number.checked_sub(5) else {
-        let side = number;
-        return if side < SIDES { Queue::U(Port { router, side }) } else { Queue::Q(router) };
+    let Some(row) = number.checked_sub(FIRST_SENDER) else {
+        let port = Port { router, side: number % SIDES };
+        return if number < SIDES { Queue::U(port) } else { Queue::Q(port) };
     };
-    let (side, rank) = (row / 4, row % 4);
+    let (side, rank) = (row / SIDE_SENDERS, row % SIDE_SENDERS);
     let port = Port { router, side };
     match rank {
-        0 => Queue::F(port),
-        rank if rank <= side => Queue::K(rank - 1, port),
-        rank => Queue::K(rank, port),
+        0 => Queue::F(Heading::Ahead, port),
+        1 => Queue::F(Heading::Back, port),
+        rank if rank < side + 2 => Queue::K(rank - 2, port),
+        rank => Queue::K(rank - 1, port),
     }
 }
 
 /// "SETUP and TDOWN go to the passive, ACK and NACK to the active."
 pub fn destination(packet: &Packet) -> Interface {
-    if is_answer(packet) {
-        Interface::Active(packet.active.into())
-    } else {
-        Interface::Passive(packet.passive.into())
+    match heading(packet) {
+        Heading::Ahead => Interface::Passive(packet.passive.into()),
+        Heading::Back => Interface::Active(packet.active.into()),
     }
 }

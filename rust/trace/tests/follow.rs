@@ -3,7 +3,7 @@
 
 use std::collections::{BTreeSet, HashMap};
 
-use model::generate::{calls::Caller, good, Random};
+use model::generate::{calls::Caller, crossing, good, Random};
 use model::machine::{self, Network, Rules};
 use trace::place::SIDES;
 use trace::run::{Cell, Seated};
@@ -36,9 +36,12 @@ fn call(call: machine::Call) -> Call {
     }
 }
 
-/// A random loadable plan, and the model's network of it.
+/// A random loadable plan, every third a small one whose set-ups cross, and the model's network of it.
 fn random_plan(random: &mut Random) -> (Plan, Network) {
-    let bytes = good::loadable(random).encode();
+    let bytes = match random.chance(1, 3) {
+        true => crossing::crowded(random).encode(),
+        false => good::loadable(random).encode(),
+    };
     let network = Network::load(&bytes).unwrap();
     let plan = network.plan();
     let names = Names::numbered(plan.routers(), plan.actives(), plan.passives());
@@ -223,4 +226,36 @@ fn another_rule_is_followed_too() {
     // Who looks cannot drop.
     assert_eq!(follow_rule(|rules| rules.look_raises_the_flag = true, 1), 0);
     assert!(follow_rule(|_| {}, 1) > 1);
+}
+
+/// A unit by a student's rule, on small plans whose set-ups cross: every packet is followed.
+fn follow_unit(random: &mut Random, set: fn(&mut Rules)) -> usize {
+    let network = Network::of(crossing::crowded(random));
+    let (bytes, plan) = (network.plan().encode(), network.plan());
+    let names = Names::numbered(plan.routers(), plan.actives(), plan.passives());
+    let plan = Plan::load(&bytes, names).unwrap();
+    let mut rules = Rules::default();
+    set(&mut rules);
+    let modelled = Modelled::new(&plan, rules);
+    let mut run = Run::new(&plan, &modelled);
+    let mut caller = Caller::new(random, &network);
+    for _ in 0..300 {
+        let state = network.decode(run.bytes()).unwrap();
+        let step = run.call(call(caller.next(random, &network, &state)));
+        assert!(!words::step(&run, &step).is_empty());
+    }
+    run.book().launches.len()
+}
+
+#[test]
+fn another_unit_is_followed_too() {
+    let mut random = Random::new(13);
+    let others: [fn(&mut Rules); 3] = [
+        |rules| rules.one_head_a_unit = true,
+        |rules| rules.highest_side_first = true,
+        |rules| rules.unit_sends_lowest_first = true,
+    ];
+    let launched: usize =
+        (0..60).map(|number| follow_unit(&mut random, others[number % others.len()])).sum();
+    assert!(launched > 300, "{launched}");
 }

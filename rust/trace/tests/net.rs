@@ -1,17 +1,23 @@
 //! A state read from its bytes is the model's state, thing by thing.
 
-use model::generate::{calls::Caller, good, Random};
+use model::generate::{calls::Caller, crossing, good, Random};
 use model::machine::{self, Network, Slot};
 use trace::place::SIDES;
-use trace::{Entry, Names, Net, Output, Packet, Plan, Port, Queue};
+use trace::{Entry, Heading, Names, Net, Output, Packet, Plan, Port, Queue};
 
 fn queue(queue: Queue) -> model::Queue {
     match queue {
         Queue::ActiveOut(number) => model::Queue::ActiveOut(number),
         Queue::PassiveOut(number) => model::Queue::PassiveOut(number),
         Queue::U(port) => model::Queue::U { router: port.router, from: port.side },
-        Queue::Q(router) => model::Queue::Q { router },
-        Queue::F(port) => model::Queue::F { router: port.router, to: port.side },
+        Queue::Q(port) => model::Queue::Q { router: port.router, from: port.side },
+        Queue::F(heading, Port { router, side: to }) => {
+            let class = match heading {
+                Heading::Ahead => model::Class::SetUps,
+                Heading::Back => model::Class::Answers,
+            };
+            model::Queue::F { router, class, to }
+        }
         Queue::K(from, port) => model::Queue::K { router: port.router, from, to: port.side },
         Queue::ActiveIn(number) => model::Queue::ActiveIn(number),
         Queue::PassiveIn(number) => model::Queue::PassiveIn(number),
@@ -54,8 +60,7 @@ fn compare(plan: &Plan, network: &Network, state: &machine::State) {
         if network.is_fed_by_a_wire(queue(place)) {
             assert_eq!(row.credit, state.credits[at].0);
         }
-        let handled = matches!(place, Queue::Q(router) if state.handled[router]);
-        assert_eq!(row.handled, handled);
+        assert_eq!(row.handled, state.is_handled(queue(place)));
         assert_eq!(plan.capacity(place), network.capacity(queue(place)));
     }
     for output in plan.outputs() {
@@ -99,8 +104,11 @@ fn turns(plan: &Plan, network: &Network, net: &Net, output: Output, state: &mach
 #[test]
 fn states_are_read() {
     let mut random = Random::new(12);
-    for _ in 0..100 {
-        let bytes = good::loadable(&mut random).encode();
+    for number in 0..100 {
+        let bytes = match number % 3 {
+            0 => crossing::any(&mut random).encode(),
+            _ => good::loadable(&mut random).encode(),
+        };
         let network = Network::load(&bytes).unwrap();
         let loaded = network.plan();
         let names = Names::numbered(loaded.routers(), loaded.actives(), loaded.passives());

@@ -26,7 +26,7 @@ fn cases() -> Vec<(String, Vec<String>)> {
     add("show-json", &["show", "--json"]);
     add("show-largest-all", &["show", "plans/largest.plan", "--all"]);
     add("show-hex", &["show", "08 42 11 24 92 4C 06 00 00 00 20"]);
-    add("show-refused", &["show", "plans/refused/6-crossing.plan"]);
+    add("show-refused", &["show", "plans/refused/6-clockwise.plan"]);
     add("show-missing", &["show", "plans/nowhere.plan"]);
     let refused = files("plans/refused", ".plan");
     for file in &refused {
@@ -42,7 +42,7 @@ fn cases() -> Vec<(String, Vec<String>)> {
         add(&stem("decode", &file), &["decode", &file]);
     }
     add("encode-json", &["encode", "plans/t.plan", "--json"]);
-    add("encode-refused", &["encode", "plans/refused/6-crossing.plan"]);
+    add("encode-refused", &["encode", "plans/refused/6-clockwise.plan"]);
     add("decode-refused", &["decode", "plans/refused/4-active-3.plan"]);
     add("decode-hex", &["decode", "0842112492 4C06000000 20"]);
     for file in files("scripts", ".run") {
@@ -62,8 +62,8 @@ fn cases() -> Vec<(String, Vec<String>)> {
     add("orders-number", &["orders", "scripts/orders.run", "--samples", "many"]);
     add("lessons", &["lesson"]);
     add("lesson-json", &["lesson", "3", "--json"]);
-    add("lesson-11", &["lesson", "11"]);
-    for lesson in 1..=10 {
+    add("lesson-12", &["lesson", "12"]);
+    for lesson in 1..=11 {
         add(&format!("lesson-{lesson}-question"), &["lesson", &lesson.to_string()]);
         add(&format!("lesson-{lesson}-answer"), &["lesson", &lesson.to_string(), "--answers"]);
     }

@@ -3,6 +3,7 @@
 mod common;
 
 use model::generate::{damage, good, rings, Random};
+use trace::{Heading, Port};
 use trainer::plan::{decode, faults, PlanFile};
 
 /// Decoding gives a text that encodes to the same bytes.
@@ -91,8 +92,14 @@ fn modelled(queue: trace::Queue) -> model::Queue {
         trace::Queue::ActiveOut(number) => model::Queue::ActiveOut(number),
         trace::Queue::PassiveOut(number) => model::Queue::PassiveOut(number),
         trace::Queue::U(port) => model::Queue::U { router: port.router, from: port.side },
-        trace::Queue::Q(router) => model::Queue::Q { router },
-        trace::Queue::F(port) => model::Queue::F { router: port.router, to: port.side },
+        trace::Queue::Q(port) => model::Queue::Q { router: port.router, from: port.side },
+        trace::Queue::F(heading, Port { router, side: to }) => {
+            let class = match heading {
+                Heading::Ahead => model::Class::SetUps,
+                Heading::Back => model::Class::Answers,
+            };
+            model::Queue::F { router, class, to }
+        }
         trace::Queue::K(from, port) => model::Queue::K { router: port.router, from, to: port.side },
         trace::Queue::ActiveIn(number) => model::Queue::ActiveIn(number),
         trace::Queue::PassiveIn(number) => model::Queue::PassiveIn(number),

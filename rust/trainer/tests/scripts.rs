@@ -123,6 +123,18 @@ fn every_wrong_look_is_seen() {
     all_are_seen("scripts/look.run", &wrong);
 }
 
+/// What students write instead of a unit with four Q: the script of heads sees each of them.
+#[test]
+fn every_wrong_unit_is_seen() {
+    let wrong: [Wrong; 4] = [
+        ("a unit handles one head a round", |rules| rules.one_head_a_unit = true),
+        ("side 3 is handled first", |rules| rules.highest_side_first = true),
+        ("the lowest side is sent first", |rules| rules.unit_sends_lowest_first = true),
+        ("the first in order is always picked", |rules| rules.lowest_first = true),
+    ];
+    all_are_seen("scripts/heads.run", &wrong);
+}
+
 /// The number of a lesson's file: 10 of "scripts/lessons/10-look.run".
 fn number(file: &str) -> usize {
     let name = file.rsplit('/').next().unwrap_or(file);

@@ -1,5 +1,5 @@
-use Rattle.choices.proofs.Picking.{head-ranges, send-empty, send-flag, send-mark, send-none, send-below}
-use Rattle.choices.proofs.Picking.{send-credit}
+use Rattle.choices.proofs.Picking.{head-ranges, head-onward, send-empty, send-flag, send-mark, send-none}
+use Rattle.choices.proofs.Picking.{send-below, send-credit}
 use borrow.Author.Tests.{not-true, not-false}
 use native.Mathlib.Omega.{arith}
 use borrow.Author.Needs.{needs}
@@ -61,13 +61,25 @@ packet-at-requires : tie.Need-packet-at-requires
 packet-at-requires c κs = search needs
 
 -- src/lib.rt:86:9
+add-next : tie.Need-add-next
+add-next c =
+    let p = c .before .before .before .before .before .before .before .before .before .pre in
+    let a = p .0 .range .routers .1 in
+    let b = p .0 .range .actives .1 in
+    let d = p .0 .range .passives .1 in
+    omega arith
+
 next-requires : tie.Need-next-requires
 next-requires c κs =
     let p = c .before .before .before .before .before .before .before .before .before .pre in
     let r = head-ranges _ _ _ _ (p .0) _ (p .2) _ _ (p .3) (p .4) (p .5) _
     (c .before .before .before .before .before .before .before .queue-row .ensures)
     (c .before .before .before .before .before .if1 .left) _ (c .packet-at .ensures) in
-    (p .0, p .3, r .0, r .1)
+    let u = head-onward _ _ _ _ (p .0) _ (p .2) _ _ (p .3) (p .4) (p .5) _
+    (c .before .before .before .before .before .before .before .queue-row .ensures)
+    (c .before .before .before .before .before .if1 .left) (c .before .before .may-leave .ensures)
+    (not-false _ (c .before .if3 .left)) _ (c .packet-at .ensures) in
+    (p .0, p .3, r .0, r .1, u)
 
 -- src/lib.rt:88:9
 returns-4 : tie.Need-returns-4
@@ -139,6 +151,7 @@ may-send-spec =
     returns-3
     add-packet-at
     packet-at-requires
+    add-next
     next-requires
     returns-4
     queue-row-requires-2

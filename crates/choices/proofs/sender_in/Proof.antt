@@ -59,6 +59,9 @@ returns-4 c =
 add-result-5 : tie.Need-add-result-5
 add-result-5 c = search needs
 
+add-result-6 : tie.Need-add-result-6
+add-result-6 c = search needs
+
 -- src/lib.rt:22:1
 returns-5 : tie.Need-returns-5
 unfolding Rattle.choices.specs.Picks.senderIn
@@ -66,7 +69,7 @@ returns-5 c =
     simp (
       le-ltb _ _ (c .before .before .if1 .left),
       ne-eqb _ _ (c .before .if3 .left),
-      eq-eqb _ _ (c .if5 .taken),
+      lt-ltb _ _ (c .if5 .taken),
       c .before .before .before .base-of .ensures .0,
     )
 
@@ -74,7 +77,7 @@ returns-5 c =
 returns-6 : tie.Need-returns-6
 unfolding Rattle.choices.specs.Picks.senderIn
 returns-6 c =
-    simp (le-ltb _ _ (c .before .before .if1 .left), ne-eqb _ _ (c .before .if3 .left), ne-eqb _ _ (c .if5 .left))
+    simp (le-ltb _ _ (c .before .before .if1 .left), ne-eqb _ _ (c .before .if3 .left), le-ltb _ _ (c .if5 .left))
 
 pub sender-in-spec : {M : Type 1} → statement M
 sender-in-spec =
@@ -91,5 +94,6 @@ sender-in-spec =
     returns-3
     returns-4
     add-result-5
+    add-result-6
     returns-5
     returns-6)

@@ -1,42 +1,39 @@
-use Rattle.circles.proofs.Found.{walks-ring}
-use Rattle.onward.proofs.Onward.{nexts-long}
-use native.Mathlib.Omega.{arith}
-use mathlib.Core.Path.{sym}
+use borrow.Author.Tests.{not-true}
+use Rattle.circles.proofs.Found.{routers-clear, walks-ring}
 use borrow.Author.Needs.{needs}
 use Rattle.circles.proofs.walks_ring.Statement.{statement}
 use Rattle.circles.proofs.walks_ring.Tie as tie
 use Rattle.circles.proofs.walks_ring.Reads as reads
 use Rattle.circles.proofs.walks_ring.Lts as lts
+use Rattle.circles.proofs.routers_ring.Reads as routers-ring-reads
+use Rattle.circles.proofs.trails_ring.Reads as trails-ring-reads
 use Rattle.links.proofs.starts.carried.Reads as carried-reads
-use Rattle.onward.proofs.nexts.Reads as nexts-reads
-use Rattle.peel.proofs.words.has_ring.Reads as has-ring-reads
 
--- src/lib.rt:29:5
+-- src/lib.rt:63:5
 carried-requires : tie.Need-carried-requires
 carried-requires c κs = search needs
 
--- src/lib.rt:31:5
-nexts-requires : tie.Need-nexts-requires
-nexts-requires c κs = search needs
+-- src/lib.rt:64:9
+routers-ring-requires : tie.Need-routers-ring-requires
+routers-ring-requires c κs = search needs
 
--- src/lib.rt:32:27
-slice-aggregate-has-ring : tie.Need-slice-aggregate-has-ring
-slice-aggregate-has-ring c = sym (nexts-long _ _ _ _ (c .before .nexts .ensures .0))
-
--- src/lib.rt:32:5
-has-ring-requires : tie.Need-has-ring-requires
-has-ring-requires c κs =
-    let made = c .before .nexts .ensures in
-    let e = nexts-long _ _ _ _ (made .0) in
-    (omega arith, omega arith, made .1)
-
--- src/lib.rt:15:1
+-- src/lib.rt:65:9
 returns : tie.Need-returns
-returns c = λ pl arrive told. walks-ring (c .before .before .before .before .before .before .before .pre) told
-    (c .before .before .before .before .before .carried .ensures) (c .before .before .nexts .ensures .0)
-    (c .has-ring .ensures)
+returns c = λ pl arrive told.
+    routers-clear (c .before .before .before .before .before .pre) told (c .before .before .before .carried .ensures)
+    (c .before .routers-ring .ensures) (not-true _ (c .if1 .taken))
+
+-- src/lib.rt:67:5
+trails-ring-requires : tie.Need-trails-ring-requires
+trails-ring-requires c κs = search needs
+
+-- src/lib.rt:49:1
+returns-2 : tie.Need-returns-2
+returns-2 c = λ pl arrive told.
+    walks-ring (c .before .before .before .before .before .before .before .pre) told
+    (c .before .before .before .before .before .carried .ensures) (c .trails-ring .ensures)
 
 pub walks-ring-spec : {M : Type 1} → statement M
 walks-ring-spec =
     tie.close
-    (tie.spec carried-requires nexts-requires slice-aggregate-has-ring has-ring-requires returns)
+    (tie.spec carried-requires routers-ring-requires returns trails-ring-requires returns-2)

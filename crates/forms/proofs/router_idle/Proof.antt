@@ -13,12 +13,12 @@ returns : tie.Need-returns
 returns c = λ e. absurd (false≢true e)
 
 -- src/lib.rt:109:17
-add-idle : tie.Need-add-idle
-add-idle c = search needs
+add-rows-idle : tie.Need-add-rows-idle
+add-rows-idle c = search needs
 
 -- src/lib.rt:109:9
-idle-requires : tie.Need-idle-requires
-idle-requires c κs = search needs
+second-requires : tie.Need-rows-idle-requires-2
+second-requires c κs = search needs
 
 -- src/lib.rt:110:9
 returns-2 : tie.Need-returns-2
@@ -37,7 +37,7 @@ returns-3 : tie.Need-returns-3
 returns-3 c = λ e. record {
   entering = c .before .before .before .before .rows-idle .ensures (not-false _
       (c .before .before .before .if1 .left));
-  unit = c .before .before .idle .ensures (not-false _ (c .before .if2 .left));
+  unit = c .before .before .rows-idle2 .ensures (not-false _ (c .before .if2 .left));
   sides = c .sides-idle .ensures e;
 }
 
@@ -47,8 +47,8 @@ router-idle-spec =
     (tie.spec
     rows-idle-requires
     returns
-    add-idle
-    idle-requires
+    add-rows-idle
+    second-requires
     returns-2
     add-sides-idle
     sides-idle-requires

@@ -27,29 +27,17 @@ returns c = simp (lt-ltb _ _ (c .before .if1 .taken), c .joined .ensures)
 -- src/frame.rt:132:9
 returns-2 : tie.Need-returns-2
 unfolding Rattle.frames.specs.Frame.fedInRouter
-returns-2 c = simp (le-ltb _ _ (c .before .if1 .left), eq-eqb _ _ (c .if2 .taken))
-
--- src/frame.rt:134:14
-sub-j : tie.Need-sub-j
-sub-j c = search needs
+returns-2 c = simp (le-ltb _ _ (c .before .if1 .left), lt-ltb _ _ (c .if2 .taken))
 
 -- src/frame.rt:136:9
 returns-3 : tie.Need-returns-3
 unfolding Rattle.frames.specs.Frame.fedInRouter
 returns-3 c =
-    simp (le-ltb _ _ (c .before .before .if1 .left), ne-eqb _ _ (c .before .if2 .left), eq-eqb _ _ (c .if3 .taken))
+    simp (le-ltb _ _ (c .before .before .if1 .left), le-ltb _ _ (c .before .if2 .left), lt-ltb _ _ (c .if3 .taken))
 
 -- src/frame.rt:138:20
 mul-joined-2 : tie.Need-mul-joined-2
 mul-joined-2 c = search needs
-
--- src/frame.rt:138:39
-sub-cross-side : tie.Need-sub-cross-side
-sub-cross-side c = search needs
-
--- src/frame.rt:138:47
-sub-cross-side-2 : tie.Need-sub-cross-side-2
-sub-cross-side-2 c = search needs
 
 -- src/frame.rt:138:28
 cross-side-requires : tie.Need-cross-side-requires
@@ -69,9 +57,9 @@ unfolding Rattle.frames.specs.Frame.fedInRouter
 returns-4 c =
     simp (
       le-ltb _ _ (c .before .before .before .before .if1 .left),
-      ne-eqb _ _
+      le-ltb _ _
           (c .before .before .before .if2 .left),
-      ne-eqb _ _
+      le-ltb _ _
           (c .before .before .if3 .left),
       c .joined2 .ensures,
       c .before .cross-side .ensures .0,
@@ -86,11 +74,8 @@ fed-in-router-spec =
     joined-requires
     returns
     returns-2
-    sub-j
     returns-3
     mul-joined-2
-    sub-cross-side
-    sub-cross-side-2
     cross-side-requires
     add-joined-2
     joined-requires-2

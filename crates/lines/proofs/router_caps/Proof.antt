@@ -12,10 +12,10 @@ use Rattle.lines.proofs.router_caps.Lts as lts
 use Rattle.lines.proofs.cap_in.Reads as cap-in-reads
 
 abbrev Inv-loop : tie.InvT-loop
-Inv-loop h t₀ k₀ t k = (k ≤ 21) × (t ≡ upTo (fill (capIn h)) k (replicate 21 0))
+Inv-loop h t₀ k₀ t k = (k ≤ 28) × (t ≡ upTo (fill (capIn h)) k (replicate 28 0))
 
 abbrev μ-loop : tie.MeasureT-loop
-μ-loop h t₀ k₀ t k = 21 - k
+μ-loop h t₀ k₀ t k = 28 - k
 
 -- src/lib.rt:272:5
 loop-holds : tie.Need-loop-holds Inv-loop μ-loop

@@ -18,7 +18,7 @@ use Rattle.lines.proofs.rows_ok.Reads as rows-ok-reads
 
 abbrev Inv-loop : tie.InvT-loop
 Inv-loop h routes joints homes lengths by up s coming spent₀ n d caps r₀ spent r =
-    (r ≤ n) × RowsChecked (tablePlan h routes joints) s (destinations h) (21 * r) true spent₀ spent
+    (r ≤ n) × RowsChecked (tablePlan h routes joints) s (destinations h) (28 * r) true spent₀ spent
 
 abbrev μ-loop : tie.MeasureT-loop
 μ-loop h routes joints homes lengths by up s coming spent₀ n d caps r₀ spent r = n - r

@@ -6,71 +6,87 @@ use mathlib.Core.List.{List, [], _∷_, _++_}
 use Prim.Native.Nat.{ℕ}
 use Rattle.packets.specs.declared.Kind.the-variants.{Setup, Tdown, Ack, Nack}
 use Rattle.packets.specs.declared.Packet.{Packet}
-use Rattle.feeding.specs.Queue.{Queue, activeOut, activeIn, passiveIn, passiveOut, U, Q, F, K}
+use Rattle.feeding.specs.Queue.{ahead, Queue, activeOut, activeIn, passiveIn, passiveOut, U, Q, F, K}
 use Rattle.machine.specs.State.{State}
 use Rattle.machine.specs.Calls.{Call, read, execute, write, launch, reply, look, drop}
 use Rattle.machine.specs.Runs.Watch.{round, manyRounds, inWrite, packet, allowanceIn, countIn, creditIn, flagIn}
 use Rattle.machine.specs.Runs.Watch.{each, after, moments}
-use Rattle.plan.specs.Samples.{widerT, narrowThere, narrowBack}
+use Rattle.plan.specs.Samples.{widerT, narrowUnit, narrowBack}
 use Rattle.packets.specs.Answers.{refused, done, shows}
 use Rattle.machine.specs.Runs.Turns.{skipped-changes-nothing}
 use Rattle.machine.specs.Runs.Watch.{once}
 
--- ---- the way to a passive: active out 6, U 4, Q 3, F 2, passive in 1. Nobody replies
+-- ---- the way to a passive. Document 02 (i) splits Q by incoming side: an active's own set-ups are to fill its Q and
+-- its U, and three Qs fill. With Q 3 and U 4, as `narrowThere` has them, an allowance of 6 does not do it; with Q 1 and
+-- U 4 it does, and one set-up has to wait. The router is that of `narrowThere`: side 0 to passive 0, sides 1 to 3 to
+-- actives 0 to 2, S=16. Active out 6, in 7, U 4, Q 1, F 3, K 5, passive in 2, out 4.
+
+-- nobody replies before round 17
 abbrev pub fillThere : List (List Call)
 fillThere =
     -- round 0: active 0 launches six times, and once more
     each (launch 0 0) (15 ∷ 14 ∷ 13 ∷ 12 ∷ 11 ∷ 10 ∷ [])
     ∷ (launch 0 0 9 ∷ [])
-    -- rounds 0 to 5; round 6: active 1 launches six times. It waits till active 0's six are past U[1]: else U[1] and
-    -- U[2] would go turn about to the unit, and neither would fill
-    ∷ (manyRounds 6 ++ each (launch 1 0) (9 ∷ 8 ∷ 7 ∷ 6 ∷ 5 ∷ 4 ∷ []))
-    -- rounds 6 to 13; round 14
-    ∷ manyRounds 8
+    -- rounds 0 to 9; round 10: actives 1 and 2 launch six times each, when the way from the unit on is active 0's
+    ∷ (manyRounds 10
+    ++ each (launch 1 0) (9 ∷ 8 ∷ 7 ∷ 6 ∷ 5 ∷ 4 ∷ [])
+    ++ each (launch 2 0) (3 ∷ 2 ∷ 1 ∷ 0 ∷ 9 ∷ 8 ∷ []))
+    -- rounds 10 to 15; round 16
+    ∷ manyRounds 6
     ∷ round
-    -- round 15: the passive replies; rounds 16 to 19: after READ of each
+    -- round 17: the passive replies; rounds 18 to 22: after READ of each
     ∷ inWrite (reply 0 1)
     ∷ (write ∷ read ∷ [])
     ∷ (execute ∷ write ∷ read ∷ [])
     ∷ (execute ∷ write ∷ read ∷ [])
     ∷ (execute ∷ write ∷ read ∷ [])
+    ∷ (execute ∷ write ∷ read ∷ [])
     ∷ []
 
--- U[2], Q, F[0], passive 0's in-queue
-abbrev pub ahead : List Queue
-ahead = U 0 2 ∷ Q 0 ∷ F 0 0 ∷ passiveIn 0 ∷ []
+-- U[2], U[3], Q[1], Q[2], Q[3], set-up F[0], passive 0's in-queue
+abbrev pub wayAhead : List Queue
+wayAhead = U 0 2 ∷ U 0 3 ∷ Q 0 1 ∷ Q 0 2 ∷ Q 0 3 ∷ F ahead 0 0 ∷ passiveIn 0 ∷ []
 
--- the allowances of actives 0 and 1, the packets in their out-queues, then in the four; the credits of the four, and
+-- the allowances of actives 0 to 2, the packets in their out-queues, then in the seven; the credits of the seven, and
 -- the flag of the last
 abbrev pub there : State → List ℕ
 there s =
-    allowanceIn s 0 ∷ allowanceIn s 1 ∷ countIn s (activeOut 0) ∷ countIn s (activeOut 1) ∷ each (countIn s) ahead
-    ++ each (creditIn s) ahead
+    each (allowanceIn s) (0 ∷ 1 ∷ 2 ∷ []) ++ each (countIn s) (activeOut 0 ∷ activeOut 1 ∷ activeOut 2 ∷ [])
+    ++ each (countIn s) wayAhead
+    ++ each (creditIn s) wayAhead
     ++ flagIn s (passiveIn 0) ∷ []
 
--- the four at their capacities, and at 0
+-- the seven at their capacities, and at 0
 abbrev pub full : List ℕ
-full = 4 ∷ 3 ∷ 2 ∷ 1 ∷ []
+full = 4 ∷ 4 ∷ 1 ∷ 1 ∷ 1 ∷ 3 ∷ 2 ∷ []
 
 abbrev pub zeros : List ℕ
-zeros = 0 ∷ 0 ∷ 0 ∷ 0 ∷ []
+zeros = 0 ∷ 0 ∷ 0 ∷ 0 ∷ 0 ∷ 0 ∷ 0 ∷ []
 
-pub filled-there : moments narrowThere there [] fillThere
+-- the allowances are spent, and so many wait in the out-queues of actives 0 to 2
+abbrev pub waiting : ℕ → ℕ → ℕ → List ℕ
+waiting x y z = 0 ∷ 0 ∷ 0 ∷ x ∷ y ∷ z ∷ []
+
+pub filled-there : moments narrowUnit there [] fillThere
     -- round 0: the allowance is 6, not 7; a seventh launch finds the out-queue full too, but 11 comes before 12
-    ≡ after done (0 ∷ 6 ∷ 6 ∷ 0 ∷ zeros ++ full ++ 0 ∷ []) []
-    ∷ after (refused 11) (0 ∷ 6 ∷ 6 ∷ 0 ∷ zeros ++ full ++ 0 ∷ []) []
-    -- round 6: active 0's six have gone ahead, two of them on wires; active 1's six wait
-    ∷ after done (0 ∷ 0 ∷ 0 ∷ 6 ∷ (0 ∷ 1 ∷ 2 ∷ 1 ∷ []) ++ (4 ∷ 1 ∷ 0 ∷ 0 ∷ []) ++ 0 ∷ []) []
-    -- round 13: each is full, with credit 0, and two set-ups wait in active 1's out-queue; round 14: still
-    ∷ after done (0 ∷ 0 ∷ 0 ∷ 2 ∷ full ++ zeros ++ 0 ∷ []) []
-    ∷ after done (0 ∷ 0 ∷ 0 ∷ 2 ∷ full ++ zeros ++ 0 ∷ []) []
-    -- round 15: the reply makes room and the flag rises; round 16: the credit comes with Read
-    ∷ after done (0 ∷ 0 ∷ 0 ∷ 2 ∷ (4 ∷ 3 ∷ 2 ∷ 0 ∷ []) ++ zeros ++ 1 ∷ []) []
-    ∷ after done (0 ∷ 0 ∷ 0 ∷ 2 ∷ (4 ∷ 3 ∷ 2 ∷ 0 ∷ []) ++ (0 ∷ 0 ∷ 0 ∷ 1 ∷ []) ++ 0 ∷ []) []
-    -- rounds 17 to 19: one packet follows from F, one from Q, one from U
-    ∷ after done (0 ∷ 0 ∷ 0 ∷ 2 ∷ (4 ∷ 3 ∷ 1 ∷ 1 ∷ []) ++ (0 ∷ 0 ∷ 1 ∷ 0 ∷ []) ++ 0 ∷ []) []
-    ∷ after done (0 ∷ 0 ∷ 0 ∷ 2 ∷ (4 ∷ 2 ∷ 2 ∷ 1 ∷ []) ++ (0 ∷ 1 ∷ 0 ∷ 0 ∷ []) ++ 0 ∷ []) []
-    ∷ after done (0 ∷ 0 ∷ 0 ∷ 2 ∷ (3 ∷ 3 ∷ 2 ∷ 1 ∷ []) ++ (1 ∷ 0 ∷ 0 ∷ 0 ∷ []) ++ 0 ∷ []) []
+    ≡ after done ((0 ∷ 6 ∷ 6 ∷ 6 ∷ 0 ∷ 0 ∷ []) ++ zeros ++ full ++ 0 ∷ []) []
+    ∷ after (refused 11) ((0 ∷ 6 ∷ 6 ∷ 6 ∷ 0 ∷ 0 ∷ []) ++ zeros ++ full ++ 0 ∷ []) []
+    -- round 10: active 0's six have gone ahead: two are at the passive, two in F, one is on the wire to the unit, one
+    -- in U[1]
+    ∷ after done (waiting 0 6 6 ++ (0 ∷ 0 ∷ 0 ∷ 0 ∷ 0 ∷ 2 ∷ 2 ∷ []) ++ (4 ∷ 4 ∷ 0 ∷ 1 ∷ 1 ∷ 1 ∷ 0 ∷ []) ++ 0 ∷ []) []
+    -- round 15: each is full, with credit 0, also each of the three Qs, and a set-up waits in the out-queues of
+    -- actives 1 and 2; round 16: still
+    ∷ after done (waiting 0 1 1 ++ full ++ zeros ++ 0 ∷ []) []
+    ∷ after done (waiting 0 1 1 ++ full ++ zeros ++ 0 ∷ []) []
+    -- round 17: the reply makes room and the flag rises; round 18: the credit comes with Read
+    ∷ after done (waiting 0 1 1 ++ (4 ∷ 4 ∷ 1 ∷ 1 ∷ 1 ∷ 3 ∷ 1 ∷ []) ++ zeros ++ 1 ∷ []) []
+    ∷ after done (waiting 0 1 1 ++ (4 ∷ 4 ∷ 1 ∷ 1 ∷ 1 ∷ 3 ∷ 1 ∷ []) ++ (0 ∷ 0 ∷ 0 ∷ 0 ∷ 0 ∷ 0 ∷ 1 ∷ []) ++ 0 ∷ []) []
+    -- rounds 19 to 22: one packet follows from F, one from Q[2], for Q[1] has sent last, one from U[2], one from
+    -- active 1
+    ∷ after done (waiting 0 1 1 ++ (4 ∷ 4 ∷ 1 ∷ 1 ∷ 1 ∷ 2 ∷ 2 ∷ []) ++ (0 ∷ 0 ∷ 0 ∷ 0 ∷ 0 ∷ 1 ∷ 0 ∷ []) ++ 0 ∷ []) []
+    ∷ after done (waiting 0 1 1 ++ (4 ∷ 4 ∷ 1 ∷ 0 ∷ 1 ∷ 3 ∷ 2 ∷ []) ++ (0 ∷ 0 ∷ 0 ∷ 1 ∷ 0 ∷ 0 ∷ 0 ∷ []) ++ 0 ∷ []) []
+    ∷ after done (waiting 0 1 1 ++ (3 ∷ 4 ∷ 1 ∷ 1 ∷ 1 ∷ 3 ∷ 2 ∷ []) ++ (1 ∷ 0 ∷ 0 ∷ 0 ∷ 0 ∷ 0 ∷ 0 ∷ []) ++ 0 ∷ []) []
+    ∷ after done (waiting 0 0 1 ++ full ++ zeros ++ 0 ∷ []) []
     ∷ []
 unfolding moments
 filled-there = once skipped-changes-nothing refl

@@ -47,9 +47,9 @@ firstFreed = 4 ∷ 4 ∷ 4 ∷ 4 ∷ 2 ∷ 4 ∷ 4 ∷ 0 ∷ 0 ∷ 1 ∷ []
 abbrev pub bothFreed : List ℕ
 bothFreed = 4 ∷ 4 ∷ 4 ∷ 4 ∷ 2 ∷ 4 ∷ 4 ∷ 4 ∷ 0 ∷ 1 ∷ []
 
--- active 0's out-queue and in-queue, Q of the first router and of the second
+-- active 0's out-queue and in-queue, Q[0] of the first router and of the second
 abbrev pub places : List Queue
-places = activeOut 0 ∷ activeIn 0 ∷ Q 0 ∷ Q 1 ∷ []
+places = activeOut 0 ∷ activeIn 0 ∷ Q 0 0 ∷ Q 1 0 ∷ []
 
 abbrev pub seen : List Packet → List Packet → List Packet → List Packet → List (List Packet)
 seen out ain q0 q1 = out ∷ ain ∷ q0 ∷ q1 ∷ []

@@ -1,6 +1,8 @@
 -- 'Runs to compare' of document 01: 'S=4, two routers, start 3, second declines: NACK slot 0 hub 1, TDOWN slot 3 hub
 -- 1; the second router keeps its entry.' One list of calls and one theorem that evaluates it. Rounds are counted from
--- 0: round n begins with the current slot n modulo 4.
+-- 0: round n begins with the current slot n modulo 4. Request (i) of document 02 splits Q by incoming side: at the
+-- second router active 1's set-up is in Q[2] and active 0's in Q[0]; nothing else changes, for neither meets the
+-- other there.
 use mathlib.Core.Path.{_≡_, refl}
 use mathlib.Core.List.{List, [], _∷_, _++_}
 use Prim.Native.Nat.{ℕ}
@@ -71,25 +73,29 @@ secondDeclines =
     ++ round
     ++ round
 
--- active 0's out-queue, Q of the first router, Q of the second, active 0's in-queue
-abbrev pub seen : List Packet → List Packet → List Packet → List Packet → List (List Packet)
-seen out q0 q1 ain = out ∷ q0 ∷ q1 ∷ ain ∷ []
+-- active 0's out-queue, Q[0] of the first router, Q[0] and Q[2] of the second, active 0's in-queue
+abbrev pub seen : List Packet → List Packet → List Packet → List Packet → List Packet → List (List Packet)
+seen out q0 q10 q12 ain = out ∷ q0 ∷ q10 ∷ q12 ∷ ain ∷ []
 
 -- all are empty, or only one has a packet
 abbrev pub quiet : List (List Packet)
-quiet = seen [] [] [] []
+quiet = seen [] [] [] [] []
 
 abbrev pub inOut : Packet → List (List Packet)
-inOut x = seen (x ∷ []) [] [] []
+inOut x = seen (x ∷ []) [] [] [] []
 
 abbrev pub inFirst : Packet → List (List Packet)
-inFirst x = seen [] (x ∷ []) [] []
+inFirst x = seen [] (x ∷ []) [] [] []
 
 abbrev pub inSecond : Packet → List (List Packet)
-inSecond x = seen [] [] (x ∷ []) []
+inSecond x = seen [] [] (x ∷ []) [] []
+
+-- by side 2, where active 1 is
+abbrev pub inSecondBy2 : Packet → List (List Packet)
+inSecondBy2 x = seen [] [] [] (x ∷ []) []
 
 abbrev pub inIn : Packet → List (List Packet)
-inIn x = seen [] [] [] (x ∷ [])
+inIn x = seen [] [] [] [] (x ∷ [])
 
 -- active 0's set-up as launched, and as the first router sends it on: slot 0, hub 1
 abbrev pub setup : Packet
@@ -119,13 +125,13 @@ otherBooked = packet Setup 1 0 1 1
 abbrev pub otherAck : Packet
 otherAck = packet Ack 1 0 1 1
 
-pub second-declines : watch twoRouters bothSides (activeOut 0 ∷ Q 0 ∷ Q 1 ∷ activeIn 0 ∷ []) secondDeclines
+pub second-declines : watch twoRouters bothSides (activeOut 0 ∷ Q 0 0 ∷ Q 1 0 ∷ Q 1 2 ∷ activeIn 0 ∷ []) secondDeclines
     -- round 0: active 1 launches, then the round
     ≡ after done free quiet ∷ steady free quiet
     -- round 1
     ++ steady free quiet
     -- round 2: the second router books slot 0 for active 1
-    ++ after done free (inSecond other) ∷ after done second (inSecond otherBooked) ∷ after done second quiet ∷ []
+    ++ after done free (inSecondBy2 other) ∷ after done second (inSecondBy2 otherBooked) ∷ after done second quiet ∷ []
     -- round 3
     ++ steady second quiet
     -- round 4: accepted; four calls
@@ -154,8 +160,8 @@ pub second-declines : watch twoRouters bothSides (activeOut 0 ∷ Q 0 ∷ Q 1 �
     ++ steady both quiet
     -- round 17: the NACK has come, slot 0, hub 1; Execute puts a TDOWN, slot 3, hub 1, into the out-queue and marks
     -- the NACK, which is looked at and dropped
-    ++ after done both (inIn nack) ∷ after done both (seen (tdown ∷ []) [] [] (markedNack ∷ [])) ∷ []
-    ++ after (shows markedNack) both (seen (tdown ∷ []) [] [] (markedNack ∷ [])) ∷ []
+    ++ after done both (inIn nack) ∷ after done both (seen (tdown ∷ []) [] [] [] (markedNack ∷ [])) ∷ []
+    ++ after (shows markedNack) both (seen (tdown ∷ []) [] [] [] (markedNack ∷ [])) ∷ []
     ++ after done both (inOut tdown) ∷ after done both (inOut tdown) ∷ []
     -- round 18: the TDOWN is sent
     ++ after done both (inOut tdown) ∷ after done both (inOut tdown) ∷ after done both quiet ∷ []

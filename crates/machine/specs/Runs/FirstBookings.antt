@@ -5,7 +5,7 @@ use mathlib.Core.List.{List, [], _∷_, _++_}
 use Prim.Native.Nat.{ℕ}
 use Rattle.packets.specs.declared.Kind.the-variants.{Setup, Ack}
 use Rattle.packets.specs.declared.Packet.{Packet}
-use Rattle.feeding.specs.Queue.{activeIn, passiveIn, F}
+use Rattle.feeding.specs.Queue.{ahead, activeIn, passiveIn, F}
 use Rattle.machine.specs.State.{State}
 use Rattle.machine.specs.Calls.{Call, read, execute, write, launch, reply, look, drop}
 use Rattle.machine.specs.Runs.Watch.{round, packet, slotIn, entryIn, after, steady, watch}
@@ -100,14 +100,15 @@ launchInRound1 =
 abbrev pub slotAndSide1 : State → List ℕ
 slotAndSide1 s = slotIn s ∷ side1 s
 
--- F[1] and the passive's in-queue: the set-up is in F[1]; it has reached the passive
+-- F[1], by document 02 (i) that of set-ups, and the passive's in-queue: the set-up is in F[1]; it has reached the
+-- passive
 abbrev pub inF : List (List Packet)
 inF = (setup ∷ []) ∷ [] ∷ []
 
 abbrev pub hasReached : List (List Packet)
 hasReached = [] ∷ (setup ∷ []) ∷ []
 
-pub launch-in-round-1 : watch planT slotAndSide1 (F 0 1 ∷ passiveIn 0 ∷ []) launchInRound1
+pub launch-in-round-1 : watch planT slotAndSide1 (F ahead 0 1 ∷ passiveIn 0 ∷ []) launchInRound1
     -- round 0
     ≡ after done (0 ∷ free) nowhere ∷ after done (0 ∷ free) nowhere ∷ after done (1 ∷ free) nowhere ∷ []
     -- round 1: the launch, then the round

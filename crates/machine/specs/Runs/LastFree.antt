@@ -32,7 +32,7 @@ last = packet Setup 0 0 1 0
 abbrev pub nack : Packet
 nack = packet Nack 0 0 1 0
 
--- the active's out-queue, Q and the active's in-queue: all are empty, or one has a packet
+-- the active's out-queue, Q[0] and the active's in-queue: all are empty, or one has a packet
 abbrev pub quiet : List (List Packet)
 quiet = [] ∷ [] ∷ [] ∷ []
 
@@ -45,7 +45,7 @@ inQ x = [] ∷ (x ∷ []) ∷ [] ∷ []
 abbrev pub inIn : Packet → List (List Packet)
 inIn x = [] ∷ [] ∷ (x ∷ []) ∷ []
 
-pub last-free-entry : watch planT side1 (activeOut 0 ∷ Q 0 ∷ activeIn 0 ∷ []) lastFreeEntry
+pub last-free-entry : watch planT side1 (activeOut 0 ∷ Q 0 0 ∷ activeIn 0 ∷ []) lastFreeEntry
     -- round 0: Launch (0,0,0), then the round
     ≡ after done free (inOut launchedSetup) ∷ []
     ++ after done free (inOut launchedSetup) ∷ after done free (inOut launchedSetup) ∷ after done free quiet ∷ []

@@ -53,12 +53,12 @@ second a = a ∷ 4 ∷ 4 ∷ 4 ∷ 4 ∷ 4 ∷ 4 ∷ 4 ∷ 0 ∷ []
 abbrev pub allFree : ℕ → List ℕ
 allFree a = a ∷ 4 ∷ 4 ∷ 4 ∷ 4 ∷ 4 ∷ 4 ∷ 4 ∷ 4 ∷ []
 
--- active 0's out-queue and in-queue, Q of the first router and of the second, the passive's in-queue
+-- active 0's out-queue and in-queue, Q[0] of the first router and of the second, the passive's in-queue
 abbrev pub seen : List Packet → List Packet → List Packet → List Packet → List Packet → List (List Packet)
 seen out ain q0 q1 pin = out ∷ ain ∷ q0 ∷ q1 ∷ pin ∷ []
 
 abbrev pub places : List Queue
-places = activeOut 0 ∷ activeIn 0 ∷ Q 0 ∷ Q 1 ∷ passiveIn 0 ∷ []
+places = activeOut 0 ∷ activeIn 0 ∷ Q 0 0 ∷ Q 1 0 ∷ passiveIn 0 ∷ []
 
 abbrev pub quiet : List (List Packet)
 quiet = seen [] [] [] [] []
@@ -147,7 +147,8 @@ lastOne a = a ∷ 4 ∷ 4 ∷ 4 ∷ 4 ∷ 4 ∷ 4 ∷ 0 ∷ 4 ∷ 4 ∷ []
 abbrev pub noneBooked : ℕ → List ℕ
 noneBooked a = a ∷ 4 ∷ 4 ∷ 4 ∷ 4 ∷ 4 ∷ 4 ∷ 4 ∷ 4 ∷ 4 ∷ []
 
--- active 1's out-queue and in-queue, Q of routers 1, 2 and 3
+-- active 1's out-queue and in-queue; Q[2] of router 1, where active 1 is at side 2, and Q[0] of routers 2 and 3.
+-- (Request (i) of document 02 splits Q by incoming side; the figures are the old ones.)
 abbrev pub watched : List Packet → List Packet → List Packet → List Packet → List Packet → List (List Packet)
 watched out ain q1 q2 q3 = out ∷ ain ∷ q1 ∷ q2 ∷ q3 ∷ []
 
@@ -170,7 +171,8 @@ tdown2 = packet Tdown 1 0 2 2
 abbrev pub tdown1 : Packet
 tdown1 = packet Tdown 1 0 0 1
 
-pub torn-over-three : moments fourRouters allowanceAndThree (activeOut 1 ∷ activeIn 1 ∷ Q 1 ∷ Q 2 ∷ Q 3 ∷ []) overThree
+pub torn-over-three :
+    moments fourRouters allowanceAndThree (activeOut 1 ∷ activeIn 1 ∷ Q 1 2 ∷ Q 2 0 ∷ Q 3 0 ∷ []) overThree
     -- rounds 10 and 11
     ≡ after done (three 0) still
     ∷ after done (three 0) still

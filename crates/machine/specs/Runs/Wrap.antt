@@ -56,7 +56,7 @@ slot1 = 4 ∷ 0 ∷ 4 ∷ []
 abbrev pub slot2 : List ℕ
 slot2 = 4 ∷ 4 ∷ 0 ∷ []
 
--- Q of routers 0 to 3, the passive's in-queue
+-- Q[0] of routers 0 to 3, the passive's in-queue
 abbrev pub seen : List Packet → List Packet → List Packet → List Packet → List Packet → List (List Packet)
 seen q0 q1 q2 q3 pin = q0 ∷ q1 ∷ q2 ∷ q3 ∷ pin ∷ []
 
@@ -64,7 +64,7 @@ seen q0 q1 q2 q3 pin = q0 ∷ q1 ∷ q2 ∷ q3 ∷ pin ∷ []
 abbrev pub setup : ℕ → ℕ → List Packet
 setup t h = packet Setup 0 0 t h ∷ []
 
-pub going-round : moments fourRouters sides1 (Q 0 ∷ Q 1 ∷ Q 2 ∷ Q 3 ∷ passiveIn 0 ∷ []) goingRound
+pub going-round : moments fourRouters sides1 (Q 0 0 ∷ Q 1 0 ∷ Q 2 0 ∷ Q 3 0 ∷ passiveIn 0 ∷ []) goingRound
     -- round 2: slot 2 at router 0
     ≡ after done (free ++ free ++ free ++ free) (seen (setup 2 0) [] [] [] [])
     ∷ after done (slot2 ++ free ++ free ++ free) (seen (setup 0 1) [] [] [] [])

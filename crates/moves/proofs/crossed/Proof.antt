@@ -1,4 +1,4 @@
-use native.Mathlib.Numerals.{add-one}
+use native.Mathlib.Omega.{arith}
 use borrow.Author.Tests.{ltb-true, lt-ltb, le-ltb, eq-eqb, ne-eqb}
 use borrow.Author.Needs.{needs}
 use Rattle.moves.proofs.crossed.Statement.{statement}
@@ -38,8 +38,7 @@ returns-2 c = simp (
   lt-ltb _ _ (c .before .before .if1 .taken),
   ne-eqb _ _ (c .before .if2 .left),
   lt-ltb _ _ (c .if3 .taken),
-  add-one,
-)
+) (omega arith)
 
 -- src/lib.rt:76:16
 add-result-5 : tie.Need-add-result-5
@@ -57,6 +56,9 @@ add-result-6 c = search needs
 add-result-7 : tie.Need-add-result-7
 add-result-7 c = search needs
 
+add-result-8 : tie.Need-add-result-8
+add-result-8 c = search needs
+
 -- src/lib.rt:76:9
 returns-3 : tie.Need-returns-3
 unfolding Rattle.moves.specs.Next.crossedOf
@@ -64,7 +66,7 @@ returns-3 c = simp (
   lt-ltb _ _ (c .before .before .if1 .taken),
   ne-eqb _ _ (c .before .if2 .left),
   le-ltb _ _ (c .if3 .left),
-)
+) (omega arith)
 
 -- src/lib.rt:65:1
 returns-4 : tie.Need-returns-4
@@ -86,5 +88,6 @@ crossed-spec =
     mul-result-2
     add-result-6
     add-result-7
+    add-result-8
     returns-3
     returns-4)

@@ -41,8 +41,8 @@ returns c = rw (
   c .before .before .index .ensures .0,
   c .before .before .before .goes-back .ensures,
 )
-    (next-number _ _ _ _ (c .before .before .before .before .pre .0) _ (c .before .before .before .before .args .x)
-    (c .before .before .before .before .pre .1))
+    (next-number _ _ _ _ (c .before .before .before .before .pre .0) _ _ (c .before .before .before .before .args .x)
+    (c .before .before .before .before .pre .1) (c .before .before .before .before .pre .4))
 
 pub next-spec : {M : Type 1} → statement M
 next-spec =

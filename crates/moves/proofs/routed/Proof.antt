@@ -32,21 +32,13 @@ unfolding Rattle.moves.specs.Next.routedOf
 returns c = simp (lt-ltb _ _ (c .before .before .if1 .taken), c .across .ensures)
 
 -- src/lib.rt:144:9
-base-of-requires : tie.Need-base-of-requires
-base-of-requires c κs = search needs
-
--- src/lib.rt:146:16
-add-result : tie.Need-add-result
-add-result c = search needs
-
--- src/lib.rt:146:9
 returns-2 : tie.Need-returns-2
 unfolding Rattle.moves.specs.Next.routedOf
-returns-2 c = simp (
-  le-ltb _ _ (c .before .before .if1 .left),
-  eq-eqb _ _ (c .if2 .taken),
-  c .before .base-of .ensures .0,
-)
+returns-2 c = simp (le-ltb _ _ (c .before .if1 .left), eq-eqb _ _ (c .if2 .taken))
+
+-- src/lib.rt:146:9
+base-of-requires : tie.Need-base-of-requires
+base-of-requires c κs = search needs
 
 -- src/lib.rt:148:9
 column-of-requires : tie.Need-column-of-requires
@@ -65,11 +57,11 @@ returns-3 : tie.Need-returns-3
 unfolding Rattle.moves.specs.Next.routedOf
 returns-3 c = simp (
   le-ltb _ _ (c .before .before .before .before .before .if1 .left),
-  ne-eqb _ _ (c .before .before .before .if2 .left),
+  ne-eqb _ _ (c .before .before .before .before .if2 .left),
   c .leaves .ensures,
   c .before .side-out .ensures .0,
   c .before .before .column-of .ensures .0,
-  c .before .before .before .before .base-of .ensures .0,
+  c .before .before .before .base-of .ensures .0,
 )
 
 pub routed-spec : {M : Type 1} → statement M
@@ -81,9 +73,8 @@ routed-spec =
     element-copy-out-across
     across-requires
     returns
-    base-of-requires
-    add-result
     returns-2
+    base-of-requires
     column-of-requires
     side-out-requires
     leaves-requires

@@ -25,10 +25,19 @@ packet-at-requires c κs =
     let p = c .before .before .pre in let q = row-room (p .0) (p .2) (c .queue-row .ensures) (p .4) in omega arith
 
 -- src/picks.rt:53:9
+add-next : tie.Need-add-next
+add-next c =
+    let p = c .before .before .before .pre in
+    let a = p .0 .range .routers .1 in
+    let b = p .0 .range .actives .1 in
+    let d = p .0 .range .passives .1 in
+    omega arith
+
+-- src/picks.rt:53:9
 next-requires : tie.Need-next-requires
 next-requires c κs =
     let p = c .before .before .before .pre in let q = next-asks (p .0) _ (p .2) (p .3) (p .4) (read-at _ _ (c
-    .packet-at .ensures) (c .before .queue-row .ensures)) in (p .0, p .1, q .0, q .1)
+    .packet-at .ensures) (c .before .queue-row .ensures)) in (p .0, p .1, q .0, q .1, q .2)
 
 -- src/picks.rt:54:7
 queue-row-requires-2 : tie.Need-queue-row-requires-2
@@ -57,6 +66,7 @@ may-go-spec =
     queue-row-requires
     add-packet-at
     packet-at-requires
+    add-next
     next-requires
     queue-row-requires-2
     shared-slice-read-result

@@ -3,7 +3,7 @@ use mathlib.Core.Path.{refl, ap}
 use Rattle.picking.proofs.Tables.{range-of}
 use Rattle.picking.proofs.Choosing.{steps-idle}
 use Rattle.picking.proofs.Asked.{side-rows, side-sends, idle-rows, holds-open, steps-open, slot-small}
-use Rattle.picking.proofs.Asked.{side-asks, side-room, side-open, side-shut}
+use Rattle.picking.proofs.Asked.{base-asks, side-asks, side-room, side-open, side-shut}
 use native.Mathlib.Omega.{arith}
 use borrow.Author.Needs.{needs}
 use Rattle.picking.proofs.side.Statement.{statement}
@@ -13,7 +13,7 @@ use Rattle.picking.proofs.side.Lts as lts
 use Rattle.acts.proofs.entry_row.Reads as entry-row-reads
 use Rattle.acts.proofs.queue_row.Reads as queue-row-reads
 use Rattle.picking.proofs.first_of.Reads as first-of-reads
-use Rattle.picking.proofs.idle.Reads as idle-reads
+use Rattle.picking.proofs.side_idle.Reads as side-idle-reads
 use Rattle.picking.proofs.index.Reads as index-reads
 use Rattle.picking.proofs.pick.Reads as pick-reads
 use Rattle.moves.proofs.base_of.Reads as base-of-reads
@@ -39,8 +39,8 @@ queue-row-requires : tie.Need-queue-row-requires
 queue-row-requires c κs = search needs
 
 -- src/picks.rt:177:8
-idle-requires : tie.Need-idle-requires
-idle-requires c κs =
+side-idle-requires : tie.Need-side-idle-requires
+side-idle-requires c κs =
     let p = c .before .before .before .before .pre in side-rows (p .0) (p .1) (p .2) (c .before .before .base-of
     .ensures .0) (c .queue-row .ensures) (p .3)
 
@@ -54,7 +54,7 @@ returns c =
     let p = c .before .before .before .before .before .before .pre in steps-idle (p .0 .wired) (range-of (p .0)) _ _ _
     (side-sends (p .0) (p .1) (p .2) (c .before .before .before .before .base-of .ensures .0) refl) (idle-rows (c
     .before .before .before .before .before .before .args .s .now) _ (c .before .before .queue-row .ensures) (c .before
-    .idle .ensures (c .if1 .taken)))
+    .side-idle .ensures (c .if1 .taken)))
 
 -- src/picks.rt:180:19
 slice-read-index : tie.Need-slice-read-index
@@ -92,7 +92,9 @@ returns-2 c =
 
 -- src/picks.rt:184:13
 first-of-requires : tie.Need-first-of-requires
-first-of-requires c κs = search needs
+first-of-requires c κs =
+    let p = c .before .before .before .before .before .before .before .before .before .before .before .pre in
+    base-asks (p .0) (p .1)
 
 -- src/picks.rt:184:13
 add-m : tie.Need-add-m
@@ -143,7 +145,7 @@ side-spec =
     mul-n
     add-n-2
     queue-row-requires
-    idle-requires
+    side-idle-requires
     same-length
     returns
     slice-read-index

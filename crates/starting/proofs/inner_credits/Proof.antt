@@ -12,7 +12,7 @@ use Rattle.starting.proofs.inner_credits.Tie as tie
 
 abbrev Inv-loop : tie.InvT-loop
 Inv-loop s₀ t from n r₀ s r =
-    (r ≤ n) × (s ≡ upTo (λ k x. credits (from + 21 * k) t 21 x) r s₀)
+    (r ≤ n) × (s ≡ upTo (λ k x. credits (from + 28 * k) t 28 x) r s₀)
     × (length s ≡ length s₀)
 
 abbrev μ-loop : tie.MeasureT-loop

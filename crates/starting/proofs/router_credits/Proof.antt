@@ -30,6 +30,27 @@ array-write-t-8 c = search needs
 array-write-t-9 : tie.Need-array-write-t-9
 array-write-t-9 c = search needs
 
+array-write-t-10 : tie.Need-array-write-t-10
+array-write-t-10 c = search needs
+
+array-write-t-11 : tie.Need-array-write-t-11
+array-write-t-11 c = search needs
+
+array-write-t-12 : tie.Need-array-write-t-12
+array-write-t-12 c = search needs
+
+array-write-t-13 : tie.Need-array-write-t-13
+array-write-t-13 c = search needs
+
+array-write-t-14 : tie.Need-array-write-t-14
+array-write-t-14 c = search needs
+
+array-write-t-15 : tie.Need-array-write-t-15
+array-write-t-15 c = search needs
+
+array-write-t-16 : tie.Need-array-write-t-16
+array-write-t-16 c = search needs
+
 returns : tie.Need-returns
 unfolding Rattle.starting.specs.Starting.routerCredits Rattle.basis.specs.Fold.upTo
 returns c = refl
@@ -47,4 +68,11 @@ router-credits-spec =
     array-write-t-7
     array-write-t-8
     array-write-t-9
+    array-write-t-10
+    array-write-t-11
+    array-write-t-12
+    array-write-t-13
+    array-write-t-14
+    array-write-t-15
+    array-write-t-16
     returns)

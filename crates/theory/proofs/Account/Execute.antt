@@ -22,21 +22,21 @@ use Rattle.theory.proofs.Account.Units.{unit-by, undo-by}
 
 module _ {pl : Plan} (s : State) (c : Core pl s) where
   -- ---- a unit: Q's head changes, or ends; the table may change
-  handled-paid : (r : ℕ) (x y : Packet) (rest : List Packet) → s .lines .queue (Q r) ≡ x ∷ rest
-      → Paid pl (handledAs r y rest s)
-  handled-paid r x y rest e = paid-alike (withQueue (Q r) (y ∷ rest) s) (handledAs r y rest s) refl refl refl refl
-      (head-paid s (paid-of c) (Q r) x y rest refl e)
+  handled-paid : (r i : ℕ) (x y : Packet) (rest : List Packet) → s .lines .queue (Q r i) ≡ x ∷ rest
+      → Paid pl (handledAs r i y rest s)
+  handled-paid r i x y rest e = paid-alike (withQueue (Q r i) (y ∷ rest) s) (handledAs r i y rest s) refl refl refl refl
+      (head-paid s (paid-of c) (Q r i) x y rest refl e)
 
   entry-paid : (t : State) (r o k : ℕ) (e : Entry) → Paid pl t → Paid pl (withEntry r o k e t)
   entry-paid t r o k e p = paid-alike t (withEntry r o k e t) refl refl refl refl p
 
   -- a unit handles its head
-  pub unit-paid : (r : ℕ) → s .flow .flag (Q r) ≡ false → Paid pl (unit pl r s)
-  unit-paid r down =
-      unit-by pl s (Paid pl) r (paid-of c) (λ x y rest e m. handled-paid r x y rest e)
-      (λ x y rest o t b e m. entry-paid (handledAs r y rest s) r o t b (handled-paid r x y rest e))
-      (λ x rest o t b e m. entry-paid (withFlag (Q r) true (withQueue (Q r) rest s)) r o t b
-      (left-paid s (paid-of c) (Q r) x rest refl e down))
+  pub unit-paid : (r i : ℕ) → s .flow .flag (Q r i) ≡ false → Paid pl (unit pl r i s)
+  unit-paid r i down =
+      unit-by pl s (Paid pl) r i (paid-of c) (λ x y rest e m. handled-paid r i x y rest e)
+      (λ x y rest o t b e m. entry-paid (handledAs r i y rest s) r o t b (handled-paid r i x y rest e))
+      (λ x rest o t b e m. entry-paid (withFlag (Q r i) true (withQueue (Q r i) rest s)) r o t b
+      (left-paid s (paid-of c) (Q r i) x rest refl e down))
 
   -- an output picks
   pub choose-paid : (o : Output) → Paid pl (choose pl o s)

@@ -19,37 +19,37 @@ use Rattle.machine.specs.Execute.{handle, atUnit, unit, unmarked, torn, hasRoom
 module _ (pl : Plan) (s : State) (P : State → Type 0) where
   -- a unit does nothing; or its unhandled head becomes another packet, with or without a change of one entry; or the
   -- head ends
-  pub unit-by : (r : ℕ) → P s
-      → ((x y : Packet) (rest : List Packet) → s .lines .queue (Q r) ≡ x ∷ rest → s .lines .handled (Q r) ≡ false
-      → P (handledAs r y rest s))
-      → ((x y : Packet) (rest : List Packet) (o t : ℕ) (e : Entry) → s .lines .queue (Q r) ≡ x ∷ rest
-      → s .lines .handled (Q r) ≡ false → P (handledAs r y rest (withEntry r o t e s)))
-      → ((x : Packet) (rest : List Packet) (o t : ℕ) (e : Entry) → s .lines .queue (Q r) ≡ x ∷ rest
-      → s .lines .handled (Q r) ≡ false → P (withFlag (Q r) true (withQueue (Q r) rest (withEntry r o t e s))))
-      → P (unit pl r s)
+  pub unit-by : (r i : ℕ) → P s
+      → ((x y : Packet) (rest : List Packet) → s .lines .queue (Q r i) ≡ x ∷ rest → s .lines .handled (Q r i) ≡ false
+      → P (handledAs r i y rest s))
+      → ((x y : Packet) (rest : List Packet) (o t : ℕ) (e : Entry) → s .lines .queue (Q r i) ≡ x ∷ rest
+      → s .lines .handled (Q r i) ≡ false → P (handledAs r i y rest (withEntry r o t e s)))
+      → ((x : Packet) (rest : List Packet) (o t : ℕ) (e : Entry) → s .lines .queue (Q r i) ≡ x ∷ rest
+      → s .lines .handled (Q r i) ≡ false → P (withFlag (Q r i) true (withQueue (Q r i) rest (withEntry r o t e s))))
+      → P (unit pl r i s)
   unfolding unit atUnit handle setUp tearDown tearOne
-  unit-by r same turned booking ended = by (s .lines .queue (Q r)) refl (s .lines .handled (Q r)) refl
+  unit-by r i same turned booking ended = by (s .lines .queue (Q r i)) refl (s .lines .handled (Q r i)) refl
     where
-      set : (o : ℕ) (x : Packet) (rest : List Packet) → s .lines .queue (Q r) ≡ x ∷ rest
-          → s .lines .handled (Q r) ≡ false → (b : Bool) → P (setUp pl r o x rest b s)
+      set : (o : ℕ) (x : Packet) (rest : List Packet) → s .lines .queue (Q r i) ≡ x ∷ rest
+          → s .lines .handled (Q r i) ≡ false → (b : Bool) → P (setUp pl r i o x rest b s)
       set o x rest e m true =
           booking x (booked (S pl) x) rest o (x .slot .0) (Booked (cameIn pl (x .active) (x .passive) r)) e m
       set o x rest e m false = turned x (declined x) rest e m
 
-      tear : (o : ℕ) (x : Packet) (rest : List Packet) → s .lines .queue (Q r) ≡ x ∷ rest → s .lines .handled (Q r)
-          ≡ false → (b : Bool) → P (tearOne pl r x rest b (withEntry r o (x .slot .0) Free s))
+      tear : (o : ℕ) (x : Packet) (rest : List Packet) → s .lines .queue (Q r i) ≡ x ∷ rest → s .lines .handled (Q r i)
+          ≡ false → (b : Bool) → P (tearOne pl r i x rest b (withEntry r o (x .slot .0) Free s))
       tear o x rest e m true = ended x rest o (x .slot .0) Free e m
       tear o x rest e m false = booking x (freed (S pl) x) rest o (x .slot .0) Free e m
 
-      kind : (o : ℕ) (x : Packet) (rest : List Packet) → s .lines .queue (Q r) ≡ x ∷ rest
-          → s .lines .handled (Q r) ≡ false → (k : Kind) → P (handle pl r o k x rest s)
+      kind : (o : ℕ) (x : Packet) (rest : List Packet) → s .lines .queue (Q r i) ≡ x ∷ rest
+          → s .lines .handled (Q r i) ≡ false → (k : Kind) → P (handle pl r i o k x rest s)
       kind o x rest e m Setup = set o x rest e m (mayBook (S pl) (s .table r o) (x .slot .0))
       kind o x rest e m Tdown = tear o x rest e m (eqb (x .hub .0) 1)
       kind o x rest e m Ack = same
       kind o x rest e m Nack = same
 
-      by : (xs : List Packet) → s .lines .queue (Q r) ≡ xs → (b : Bool) → s .lines .handled (Q r) ≡ b
-          → P (atUnit pl r xs b s)
+      by : (xs : List Packet) → s .lines .queue (Q r i) ≡ xs → (b : Bool) → s .lines .handled (Q r i) ≡ b
+          → P (atUnit pl r i xs b s)
       by [] e b m = same
       by (x ∷ rest) e true m = same
       by (x ∷ rest) e false m = kind (routeTo pl (passive (x .passive)) r) x rest e m (x .kind)

@@ -69,56 +69,58 @@ picks-nobody pl s b o out = by (picked pl s o) refl
 
 module _ {pl : Plan} (wired : Wired pl) (range : InRange (pl .head)) where
   -- ---- a unit's unhandled head x
-  module _ (r : ℕ) (hr : r < R pl) (s : State) (k : Kept pl s) (x : Packet) (rest : List Packet)
-      (e : s .lines .queue (Q r) ≡ x ∷ rest) (f : s .lines .handled (Q r) ≡ false) where
+  module _ (r i : ℕ) (hr : (r < R pl) × (i < 4)) (s : State) (k : Kept pl s) (x : Packet) (rest : List Packet)
+      (e : s .lines .queue (Q r i) ≡ x ∷ rest) (f : s .lines .handled (Q r i) ≡ false) where
     abbrev side : ℕ
     side = routeTo pl (passive (x .passive)) r
 
-    here : Belongs pl (inQueue (Q r)) x
-    here = rw f at (head-belongs k (Q r) x rest hr e)
+    here : Belongs pl (inQueue (Q r i)) x
+    here = rw f at (head-belongs k (Q r i) x rest hr e)
 
     -- the side that it leaves by is one of the four
     out : side < 4
-    out = side-out wired range x (inQueue (Q r)) here r refl
+    out = side-out wired range x (inQueue (Q r i)) here r i refl
 
     -- it is handled as y, perhaps with an entry changed
-    handled-as : {t : State} → Kept pl t → (y : Packet) → Belongs pl (handledAt r) y → Kept pl (handledAs r y rest t)
+    handled-as : {t : State} → Kept pl t → (y : Packet) → Belongs pl (handledAt r i) y → Kept pl
+        (handledAs r i y rest t)
     handled-as kt y b =
-        mark-kept kt (Q r) true (y ∷ rest) hr (b, behind-belong k (Q r) x rest hr e) (λ d. (r, refl, head-some y rest))
+        mark-kept kt (Q r i) true (y ∷ rest) hr (b, behind-belong k (Q r i) x rest hr e) (λ d.
+        (r, i, refl, head-some y rest))
 
     set-up : (m : Bool) → mayBook (S pl) (s .table r side) (x .slot .0) ≡ m → x .kind ≡ Setup
-        → Kept pl (setUp pl r side x rest m s)
+        → Kept pl (setUp pl r i side x rest m s)
     unfolding setUp
     set-up true m q = handled-as (by (other-free (S pl) (s .table r side) (x .slot .0) m)) (booked (S pl) x)
-        (booked-belongs wired range x (inQueue (Q r)) here r refl q)
+        (booked-belongs wired range x (inQueue (Q r i)) here r i refl q)
       where
         by : (u : ℕ) × (u < S pl) × (u ≢ x .slot .0) × (s .table r side u ≡ Free)
             → Kept pl (withEntry r side (x .slot .0) (Booked (cameIn pl (x .active) (x .passive) r)) s)
         by (u, hu, ne, free) =
-            entry-kept k r side (x .slot .0) (Booked (cameIn pl (x .active) (x .passive) r)) hr out
+            entry-kept k r side (x .slot .0) (Booked (cameIn pl (x .active) (x .passive) r)) (hr .0) out
             (here .ranges .slot)
-            (λ j c. rw (← booked-same c) (side-in wired range x (inQueue (Q r)) here r refl)) u hu
+            (λ j c. rw (← booked-same c) (side-in wired range x (inQueue (Q r i)) here r i refl)) u hu
             (put-away eqb number-one eqb-true (s .table r side) (x .slot .0)
             (Booked (cameIn pl (x .active) (x .passive) r)) u ne ∙ free)
-    set-up false m q = handled-as k (declined x) (declined-belongs wired range x (inQueue (Q r)) here r refl q)
+    set-up false m q = handled-as k (declined x) (declined-belongs wired range x (inQueue (Q r i)) here r i refl q)
 
-    tear-down : x .kind ≡ Tdown → Kept pl (tearDown pl r side x rest s)
+    tear-down : x .kind ≡ Tdown → Kept pl (tearDown pl r i side x rest s)
     unfolding tearDown tearOne
     tear-down q = by (eqb (x .hub .0) 1) refl
       where
         entry : Kept pl (withEntry r side (x .slot .0) Free s)
         entry =
-            entry-kept k r side (x .slot .0) Free hr out (here .ranges .slot) (λ j c. absurd (booked-not c))
+            entry-kept k r side (x .slot .0) Free (hr .0) out (here .ranges .slot) (λ j c. absurd (booked-not c))
             (x .slot .0) (here .ranges .slot)
             (put-here eqb number-one eqb-true (s .table r side) (x .slot .0) Free)
 
         by : (one : Bool) → eqb (x .hub .0) 1 ≡ one
-            → Kept pl (tearOne pl r x rest one (withEntry r side (x .slot .0) Free s))
-        by true o = flag-kept (gone-kept entry (Q r) x rest hr e f) (Q r) true hr
+            → Kept pl (tearOne pl r i x rest one (withEntry r side (x .slot .0) Free s))
+        by true o = flag-kept (gone-kept entry (Q r i) x rest hr e f) (Q r i) true hr
         by false o = handled-as entry (freed (S pl) x)
-            (freed-belongs wired range x (inQueue (Q r)) here r refl q (eqb-false (x .hub .0) 1 o))
+            (freed-belongs wired range x (inQueue (Q r i)) here r i refl q (eqb-false (x .hub .0) 1 o))
 
-    handled : (kind : Kind) → x .kind ≡ kind → Kept pl (handle pl r side kind x rest s)
+    handled : (kind : Kind) → x .kind ≡ kind → Kept pl (handle pl r i side kind x rest s)
     unfolding handle
     handled Setup q = set-up (mayBook (S pl) (s .table r side) (x .slot .0)) refl q
     handled Tdown q = tear-down q
@@ -126,15 +128,15 @@ module _ {pl : Plan} (wired : Wired pl) (range : InRange (pl .head)) where
     handled Nack q = k
 
   -- a unit handles its head
-  pub unit-kept : (r : ℕ) (s : State) → r < R pl → Kept pl s → Kept pl (unit pl r s)
+  pub unit-kept : (r i : ℕ) (s : State) → (r < R pl) × (i < 4) → Kept pl s → Kept pl (unit pl r i s)
   unfolding unit atUnit
-  unit-kept r s hr k = by (s .lines .queue (Q r)) refl (s .lines .handled (Q r)) refl
+  unit-kept r i s hr k = by (s .lines .queue (Q r i)) refl (s .lines .handled (Q r i)) refl
     where
-      by : (l : List Packet) → s .lines .queue (Q r) ≡ l → (done : Bool) → s .lines .handled (Q r) ≡ done
-          → Kept pl (atUnit pl r l done s)
+      by : (l : List Packet) → s .lines .queue (Q r i) ≡ l → (done : Bool) → s .lines .handled (Q r i) ≡ done
+          → Kept pl (atUnit pl r i l done s)
       by [] e done f = k
       by (x ∷ rest) e true f = k
-      by (x ∷ rest) e false f = handled r hr s k x rest e f (x .kind) refl
+      by (x ∷ rest) e false f = handled r i hr s k x rest e f (x .kind) refl
 
   -- an output picks a sender
   pub choose-kept : (o : Output) (s : State) → Kept pl s → Kept pl (choose pl o s)

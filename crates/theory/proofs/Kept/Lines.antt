@@ -42,20 +42,20 @@ module _ {pl : Plan} {s : State} (k : Kept pl s) where
       (λ (x : Queue) (v : List Packet). Exists pl x → Lined pl x (s .lines .handled x) v) (s .lines .queue) q l
       (λ e. f) (λ x ne. k .places x))
       (put-cases sameQueue queue-same same-queue (λ (x : Queue) (v : List Packet). Exists pl x → s .lines .handled x
-      ≡ true → (r : ℕ) × (x ≡ Q r) × (v ≢ [])) (s .lines .queue) q l
-      (λ e t. let m = k .marks q e t in (m .0, m .1, n t)) (λ x ne. k .marks x))
+      ≡ true → (r i : ℕ) × (x ≡ Q r i) × (v ≢ [])) (s .lines .queue) q l
+      (λ e t. let m = k .marks q e t in (m .0, m .1, m .2, n t)) (λ x ne. k .marks x))
       (put-outside sameQueue queue-same same-queue (Exists pl) (s .lines .queue) (blank pl .lines .queue) q l h
       (b .queue)) (b .handled)
 
   -- the line and the mark of a queue replaced together
   pub mark-kept : (q : Queue) (done : Bool) (l : List Packet) → Exists pl q → Lined pl q done l
-      → (done ≡ true → (r : ℕ) × (q ≡ Q r) × (l ≢ [])) → Kept pl (withHandled q done (withQueue q l s))
+      → (done ≡ true → (r i : ℕ) × (q ≡ Q r i) × (l ≢ [])) → Kept pl (withHandled q done (withQueue q l s))
   mark-kept q done l h f n =
       lines-kept k (withHandled q done (withQueue q l s) .lines)
       (put-both sameQueue queue-same same-queue (λ (x : Queue) (d : Bool) (v : List Packet). Exists pl x
       → Lined pl x d v) (s .lines .handled) (s .lines .queue) q done l (λ e. f) (λ x ne. k .places x))
       (put-both sameQueue queue-same same-queue (λ (x : Queue) (d : Bool) (v : List Packet). Exists pl x → d ≡ true
-      → (r : ℕ) × (x ≡ Q r) × (v ≢ [])) (s .lines .handled) (s .lines .queue) q done l
+      → (r i : ℕ) × (x ≡ Q r i) × (v ≢ [])) (s .lines .handled) (s .lines .queue) q done l
       (λ e. n) (λ x ne. k .marks x))
       (put-outside sameQueue queue-same same-queue (Exists pl) (s .lines .queue) (blank pl .lines .queue) q l h
       (b .queue))

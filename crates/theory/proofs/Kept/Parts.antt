@@ -162,7 +162,7 @@ module _ {pl : Plan} {s : State} (k : Kept pl s) where
 
   -- the lines, and the marks of their heads
   pub lines-kept : (l : Lines) → ((q : Queue) → Exists pl q → Lined pl q (l .handled q) (l .queue q))
-      → ((q : Queue) → Exists pl q → l .handled q ≡ true → (r : ℕ) × (q ≡ Q r) × (l .queue q ≢ []))
+      → ((q : Queue) → Exists pl q → l .handled q ≡ true → (r i : ℕ) × (q ≡ Q r i) × (l .queue q ≢ []))
       → Outside (Exists pl) (l .queue) (blank pl .lines .queue)
       → Outside (Exists pl) (l .handled) (blank pl .lines .handled) → Kept pl (withLines l s)
   lines-kept l places marks lines heads =

@@ -44,7 +44,7 @@ module _ {pl : Plan} (wired : Wired pl) (range : InRange (pl .head)) where
       by : (m : Role) → role q ≡ m → Kept pl (raiseAs m q (withQueue q rest s))
       by sending m = goes (rw m)
       by receiving m = flag-kept (goes (rw m)) q true h
-      by (handling r) m = flag-kept (mark-kept k q false rest h (line-of pl q rest (behind-belong k q x rest h e))
+      by (handling r i) m = flag-kept (mark-kept k q false rest h (line-of pl q rest (behind-belong k q x rest h e))
           (λ t. absurd (false≢true t))) q true h
       by passing m = flag-kept (goes (rw m)) q true h
 

@@ -13,7 +13,7 @@ use Rattle.packets.specs.declared.Packet.{Packet}
 use Rattle.packets.specs.Counters.{slotNext, startSlot}
 use Rattle.plan.specs.Plan.{Plan, active, passive, A, P, S}
 use Rattle.paths.specs.Served.{Served}
-use Rattle.feeding.specs.Queue.{Queue, activeOut, activeIn, passiveIn, passiveOut, U, Q, F, K}
+use Rattle.feeding.specs.Queue.{back, Queue, activeOut, activeIn, passiveIn, passiveOut, U, Q, F, K}
 use Rattle.feeding.specs.Feeds.{Place, inQueue, handledAt, headingOf, ahead, leaving, next, Stands, Ahead, Fits}
 use Rattle.feeding.specs.Feeds.{leavesFrom}
 use Rattle.wiring.specs.Wired.{Wired}
@@ -40,9 +40,10 @@ module _ {pl : Plan} (wired : Wired pl) (a p : ℕ) (ha : a < A pl) (hp : p < P 
   unfolding Ahead behind
   ahead-behind (inQueue (activeOut x)) n (e, z) = sym z
   ahead-behind (inQueue (U r i)) n f = number-is n r i f
-  ahead-behind (inQueue (Q r)) n (i, f) = number-is n r i f
-  ahead-behind (handledAt r) n (i, m, f, e) = let q = number-is m r i f in omega arith
-  ahead-behind (inQueue (F r o)) n (i, m, f, e, g) = let q = number-is m r i f in omega arith
+  ahead-behind (inQueue (Q r i)) n f = number-is n r i f
+  ahead-behind (handledAt r i) n (m, f, e) = let q = number-is m r i f in omega arith
+  ahead-behind (inQueue (F back r o)) n f = absurd f
+  ahead-behind (inQueue (F ahead r o)) n (i, m, f, e, g) = let q = number-is m r i f in omega arith
   ahead-behind (inQueue (passiveIn x)) n (e, z) = sym z
   ahead-behind (inQueue (activeIn x)) n f = absurd f
   ahead-behind (inQueue (passiveOut x)) n f = absurd f
@@ -158,51 +159,51 @@ module _ (pl : Plan) (r o t : ℕ) (v : Holder) where
         (after-start (S pl) (x .slot) (record { 0 = n }) (b .ranges .slot))
 
     -- A set-up that is booked owns that entry more.
-    pub booked-owns : (i : ℕ) (x : Packet) → x .kind ≡ Setup → Belongs pl (inQueue (Q i)) x
-        → owns pl r o t v (handledAt i) (booked (S pl) x) ≡ owns pl r o t v (inQueue (Q i)) x + oneAt i x
-    booked-owns i x e b =
-        let f = unit-setup wired (x .active) (x .passive) (b .ranges .active) (b .ranges .passive) (b .serves) i
+    pub booked-owns : (i j : ℕ) (x : Packet) → x .kind ≡ Setup → Belongs pl (inQueue (Q i j)) x
+        → owns pl r o t v (handledAt i j) (booked (S pl) x) ≡ owns pl r o t v (inQueue (Q i j)) x + oneAt i x
+    booked-owns i j x e b =
+        let f = unit-setup wired (x .active) (x .passive) (b .ranges .active) (b .ranges .passive) (b .serves) i j
         (x .hub .0) (fits-as Setup e b) in
-        let new = owns-of Setup (handledAt i) (booked (S pl) x) e in
+        let new = owns-of Setup (handledAt i j) (booked (S pl) x) e in
         let start = ap (λ (u : Slot). owning pl r o t v (x .active) (x .passive) u 0 (x .hub .0 + 1))
         (start-next (S pl) (x .slot) (x .hub) (b .ranges .slot)) in
         let all = owning-sum pl r o t v (x .active) (x .passive) (startSlot (x .slot) (x .hub) (S pl)) 0 (x .hub .0)
         (x .hub .0 + 1) (omega arith) (omega arith) in
-        let one = one-at i x (inQueue (Q i)) b (x .hub .0) (f .0) (f .1) in
-        let old = owns-of Setup (inQueue (Q i)) x e in
+        let one = one-at i x (inQueue (Q i j)) b (x .hub .0) j f in
+        let old = owns-of Setup (inQueue (Q i j)) x e in
         omega arith
 
     -- A tear-down that frees an entry owns that entry less.
-    pub freed-owns : (i : ℕ) (x : Packet) → x .kind ≡ Tdown → Belongs pl (inQueue (Q i)) x
-        → owns pl r o t v (inQueue (Q i)) x ≡ owns pl r o t v (handledAt i) (freed (S pl) x) + oneAt i x
+    pub freed-owns : (i j : ℕ) (x : Packet) → x .kind ≡ Tdown → Belongs pl (inQueue (Q i j)) x
+        → owns pl r o t v (inQueue (Q i j)) x ≡ owns pl r o t v (handledAt i j) (freed (S pl) x) + oneAt i x
     unfolding Ahead
-    freed-owns i x e b = by (fits-as Tdown e b)
+    freed-owns i j x e b = by (fits-as Tdown e b)
       where
-        by : Fits pl Tdown (x .active) (x .passive) (x .hub .0) (inQueue (Q i))
-            → owns pl r o t v (inQueue (Q i)) x ≡ owns pl r o t v (handledAt i) (freed (S pl) x) + oneAt i x
-        by (n, (j, f), l, g) =
+        by : Fits pl Tdown (x .active) (x .passive) (x .hub .0) (inQueue (Q i j))
+            → owns pl r o t v (inQueue (Q i j)) x ≡ owns pl r o t v (handledAt i j) (freed (S pl) x) + oneAt i x
+        by (n, f, l, g) =
             let here = ahead-behind wired (x .active) (x .passive) (b .ranges .active) (b .ranges .passive) (b .serves)
-            (inQueue (Q i)) n (j, f) in
+            (inQueue (Q i j)) n f in
             let there = ahead-behind wired (x .active) (x .passive) (b .ranges .active) (b .ranges .passive)
-            (b .serves) (handledAt i) (n + 1) (j, n, f, omega arith) in
-            let old = owns-of Tdown (inQueue (Q i)) x e ∙ ap (λ (m : ℕ). ownsDown pl r o t v m x) here in
-            let new = owns-of Tdown (handledAt i) (freed (S pl) x) e
+            (b .serves) (handledAt i j) (n + 1) (n, f, omega arith) in
+            let old = owns-of Tdown (inQueue (Q i j)) x e ∙ ap (λ (m : ℕ). ownsDown pl r o t v m x) here in
+            let new = owns-of Tdown (handledAt i j) (freed (S pl) x) e
             ∙ ap (λ (m : ℕ). ownsDown pl r o t v m (freed (S pl) x)) there in
             let size : n + 1 + (x .hub .0 - 1) ≡ n + x .hub .0 = omega arith in
             let start = ap₂ (λ (u : Slot) (m : ℕ). owning pl r o t v (x .active) (x .passive) u (n + 1) m)
             (start-next (S pl) (x .slot) (record { 0 = n }) (b .ranges .slot)) size in
             let all = owning-sum pl r o t v (x .active) (x .passive) (startSlot (x .slot) (record { 0 = n }) (S pl)) n
             (n + 1) (n + x .hub .0) (omega arith) (omega arith) in
-            let one = one-at i x (inQueue (Q i)) b n j f in
+            let one = one-at i x (inQueue (Q i j)) b n j f in
             omega arith
 
     -- With hub 1 that entry is all that it owns.
-    pub ended-owns : (i : ℕ) (x : Packet) → x .kind ≡ Tdown → x .hub .0 ≡ 1 → Belongs pl (inQueue (Q i)) x
-        → owns pl r o t v (inQueue (Q i)) x ≡ oneAt i x
-    ended-owns i x e h b =
-        let n : ℕ = behind pl (x .active) (x .passive) (handledAt i) in
+    pub ended-owns : (i j : ℕ) (x : Packet) → x .kind ≡ Tdown → x .hub .0 ≡ 1 → Belongs pl (inQueue (Q i j)) x
+        → owns pl r o t v (inQueue (Q i j)) x ≡ oneAt i x
+    ended-owns i j x e h b =
+        let n : ℕ = behind pl (x .active) (x .passive) (handledAt i j) in
         let none = owning-none pl r o t v (x .active) (x .passive)
         (startSlot (slotNext (x .slot) (S pl)) (record { 0 = n }) (S pl)) n (n + (x .hub .0 - 1)) (omega arith) in
-        let new = owns-of Tdown (handledAt i) (freed (S pl) x) e in
-        let all = freed-owns i x e b in
+        let new = owns-of Tdown (handledAt i j) (freed (S pl) x) e in
+        let all = freed-owns i j x e b in
         omega arith

@@ -127,16 +127,16 @@ module _ {X : Type 0} {f : State → X} (k : Apart f) where
         by (x ∷ rest) = to x rest (unmarked x && hasRoom pl (activeOut a) s)
 
 -- A unit leaves the connections and what outputs remember: whatever is read of these.
-pub unit-leaves : {X : Type 0} (g : (ℕ → ℕ → ℕ → Bool) → (Output → ℕ) → X) (pl : Plan) (s : State) (r : ℕ)
-    → g (unit pl r s .connections) (unit pl r s .lastSender) ≡ g (s .connections) (s .lastSender)
-unit-leaves {X} g pl s r = by (unit-does pl r s)
+pub unit-leaves : {X : Type 0} (g : (ℕ → ℕ → ℕ → Bool) → (Output → ℕ) → X) (pl : Plan) (s : State) (r i : ℕ)
+    → g (unit pl r i s .connections) (unit pl r i s .lastSender) ≡ g (s .connections) (s .lastSender)
+unit-leaves {X} g pl s r i = by (unit-does pl r i s)
   where
     of : State → X
     of u = g (u .connections) (u .lastSender)
 
-    by : UnitDoes pl r s → of (unit pl r s) ≡ of s
+    by : UnitDoes pl r i s → of (unit pl r i s) ≡ of s
     by (rests e) = ap of e
-    by (books x rest e f q t) = ap of (unit-books pl r s x rest e f q t)
-    by (declines x rest e f q t) = ap of (unit-declines pl r s x rest e f q t)
-    by (ends x rest e f q t) = ap of (unit-ends pl r s x rest e f q t)
-    by (frees x rest e f q t) = ap of (unit-frees pl r s x rest e f q t)
+    by (books x rest e f q t) = ap of (unit-books pl r i s x rest e f q t)
+    by (declines x rest e f q t) = ap of (unit-declines pl r i s x rest e f q t)
+    by (ends x rest e f q t) = ap of (unit-ends pl r i s x rest e f q t)
+    by (frees x rest e f q t) = ap of (unit-frees pl r i s x rest e f q t)

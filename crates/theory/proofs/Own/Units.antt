@@ -97,9 +97,9 @@ put-owned {pl} {acc} s t k i j n m e w =
             rw q (omega arith)
 
 module _ {pl : Plan} (wired : Wired pl) {acc : List Connection} (s : State) (c : Core pl s) (k : Owned pl acc s)
-    (i : ℕ) (h : i < R pl) where
-  module _ (x : Packet) (rest : List Packet) (e : s .lines .queue (Q i) ≡ x ∷ rest)
-      (f : s .lines .handled (Q i) ≡ false) where
+    (i d : ℕ) (h : (i < R pl) × (d < 4)) where
+  module _ (x : Packet) (rest : List Packet) (e : s .lines .queue (Q i d) ≡ x ∷ rest)
+      (f : s .lines .handled (Q i d) ≡ false) where
     -- the entry of the unit's head, and its pair's holder on it
     abbrev exit : ℕ
     exit = exitAt pl i x
@@ -107,67 +107,67 @@ module _ {pl : Plan} (wired : Wired pl) {acc : List Connection} (s : State) (c :
     abbrev own : Holder
     own = holderOf pl (x .active) (x .passive) i
 
-    here : Belongs pl (inQueue (Q i)) x
-    here = subst (λ (d : Bool). Belongs pl (headPlace d (Q i)) x) f (core-head c (Q i) h x rest e)
+    here : Belongs pl (inQueue (Q i d)) x
+    here = subst (λ (b : Bool). Belongs pl (headPlace b (Q i d)) x) f (core-head c (Q i d) h x rest e)
 
     -- the side out is one of the four
-    exit-below : (n : ℕ) → Fits pl Setup (x .active) (x .passive) n (inQueue (Q i)) → exit < 4
+    exit-below : (n : ℕ) → Fits pl Setup (x .active) (x .passive) n (inQueue (Q i d)) → exit < 4
     exit-below n g =
         let p = unit-setup wired (x .active) (x .passive) (here .ranges .active) (here .ranges .passive) (here .serves)
-        i n g in
+        i d n g in
         stands-exit wired (x .active) (x .passive) (here .ranges .active) (here .ranges .passive) (here .serves) n i
-        (p .0) (p .1)
+        d p
 
     -- ---- a set-up
     -- A set-up that books keeps the ownership: nobody owned the entry, now the set-up does.
-    pub booked-owned : x .kind ≡ Setup → mayBookAt pl i s x ≡ true → Owned pl acc (unit pl i s)
+    pub booked-owned : x .kind ≡ Setup → mayBookAt pl i s x ≡ true → Owned pl acc (unit pl i d s)
     booked-owned q t =
-        put-owned s (unit pl i s) k i exit (x .slot .0) (some own)
-        (ap (λ (u : State). u .table) (unit-books pl i s x rest e f q t)) by
+        put-owned s (unit pl i d s) k i exit (x .slot .0) (some own)
+        (ap (λ (u : State). u .table) (unit-books pl i d s x rest e f q t)) by
       where
         free : k .holders i exit (x .slot .0) ≡ none
         free =
             free-none (k .holders i exit (x .slot .0))
-            (sym (k .entries i exit (x .slot .0) h (exit-below (x .hub .0) (fits-as Setup q here))
+            (sym (k .entries i exit (x .slot .0) (h .0) (exit-below (x .hub .0) (fits-as Setup q here))
             (here .ranges .slot))
             ∙ may-free (S pl) (s .table i exit) (x .slot .0) t)
 
-        by : (r o u : ℕ) (v : Holder) → weighed pl (owns pl r o u v) (unit pl i s)
+        by : (r o u : ℕ) (v : Holder) → weighed pl (owns pl r o u v) (unit pl i d s)
             + pick (sameEntry r o u i exit (x .slot .0)) (holds (k .holders i exit (x .slot .0)) v) 0
             ≡ weighed pl (owns pl r o u v) s + pick (sameEntry r o u i exit (x .slot .0)) (holds (some own) v) 0
         by r o u v =
-            let all = booked-weighed pl (owns pl r o u v) i h s x rest e f q t in
-            let one = booked-owns pl r o u v wired i x q here in
+            let all = booked-weighed pl (owns pl r o u v) i d h s x rest e f q t in
+            let one = booked-owns pl r o u v wired i d x q here in
             let old : pick (sameEntry r o u i exit (x .slot .0)) (holds (k .holders i exit (x .slot .0)) v) 0 ≡ 0 =
             rw free (pick-same (sameEntry r o u i exit (x .slot .0)) 0) in
             omega arith
 
     -- A declined set-up keeps what it owned.
-    pub declined-owned : x .kind ≡ Setup → mayBookAt pl i s x ≡ false → Owned pl acc (unit pl i s)
+    pub declined-owned : x .kind ≡ Setup → mayBookAt pl i s x ≡ false → Owned pl acc (unit pl i d s)
     declined-owned q t =
-        owned-same s (unit pl i s) k (ap (λ (u : State). u .table) (unit-declines pl i s x rest e f q t)) by
+        owned-same s (unit pl i d s) k (ap (λ (u : State). u .table) (unit-declines pl i d s x rest e f q t)) by
       where
-        by : (r o u : ℕ) (v : Holder) → weighed pl (owns pl r o u v) (unit pl i s) ≡ weighed pl (owns pl r o u v) s
+        by : (r o u : ℕ) (v : Holder) → weighed pl (owns pl r o u v) (unit pl i d s) ≡ weighed pl (owns pl r o u v) s
         by r o u v =
-            let all = declined-weighed pl (owns pl r o u v) i h s x rest e f q t in
-            let one = declined-owns pl r o u v (inQueue (Q i)) (handledAt i) x q in
+            let all = declined-weighed pl (owns pl r o u v) i d h s x rest e f q t in
+            let one = declined-owns pl r o u v (inQueue (Q i d)) (handledAt i d) x q in
             omega arith
 
     -- ---- a tear-down
     -- the sum falls by the entry that is freed
     down-weighed : x .kind ≡ Tdown → (r o u : ℕ) (v : Holder)
-        → weighed pl (owns pl r o u v) (unit pl i s) + oneAt pl r o u v i x ≡ weighed pl (owns pl r o u v) s
+        → weighed pl (owns pl r o u v) (unit pl i d s) + oneAt pl r o u v i x ≡ weighed pl (owns pl r o u v) s
     down-weighed q r o u v = by (test (eqb (x .hub .0) 1))
       where
         by : (eqb (x .hub .0) 1 ≡ true) ⊎ (eqb (x .hub .0) 1 ≡ false)
-            → weighed pl (owns pl r o u v) (unit pl i s) + oneAt pl r o u v i x ≡ weighed pl (owns pl r o u v) s
+            → weighed pl (owns pl r o u v) (unit pl i d s) + oneAt pl r o u v i x ≡ weighed pl (owns pl r o u v) s
         by (inl t) =
-            let all = ended-weighed pl (owns pl r o u v) i h s x rest e f q t in
-            let one = ended-owns pl r o u v wired i x q (eqb-true (x .hub .0) 1 t) here in
+            let all = ended-weighed pl (owns pl r o u v) i d h s x rest e f q t in
+            let one = ended-owns pl r o u v wired i d x q (eqb-true (x .hub .0) 1 t) here in
             omega arith
         by (inr t) =
-            let all = freed-weighed pl (owns pl r o u v) i h s x rest e f q t in
-            let one = freed-owns pl r o u v wired i x q here in
+            let all = freed-weighed pl (owns pl r o u v) i d h s x rest e f q t in
+            let one = freed-owns pl r o u v wired i d x q here in
             omega arith
 
     -- A tear-down finds its entry held for its own pair.
@@ -177,7 +177,7 @@ module _ {pl : Plan} (wired : Wired pl) {acc : List Connection} (s : State) (c :
         let g = fits-as Tdown q here in
         let all = down-weighed q i exit (x .slot .0) own in
         let one : oneAt pl i exit (x .slot .0) own i x ≡ 1 = rw (entry-same i exit (x .slot .0), holder-same own) in
-        let sum = k .owners i exit (x .slot .0) h (exit-below (g .0) (g .1)) (here .ranges .slot) own in
+        let sum = k .owners i exit (x .slot .0) (h .0) (exit-below (g .0) (g .1)) (here .ranges .slot) own in
         held (k .holders i exit (x .slot .0)) own (omega arith)
 
     -- A tear-down finds its entry booked with the side that its walk came in by.
@@ -185,26 +185,26 @@ module _ {pl : Plan} (wired : Wired pl) {acc : List Connection} (s : State) (c :
         → s .table i (exitAt pl i x) (x .slot .0) ≡ Booked (cameIn pl (x .active) (x .passive) i)
     tdown-entry q =
         let g = fits-as Tdown q here in
-        k .entries i exit (x .slot .0) h (exit-below (g .0) (g .1)) (here .ranges .slot)
+        k .entries i exit (x .slot .0) (h .0) (exit-below (g .0) (g .1)) (here .ranges .slot)
         ∙ ap heldEntry (tdown-holder q)
 
     -- A tear-down owns the entry that it frees: it is held for its own pair, and holds the side that the pair's walk
     -- came in by.
-    pub tdown-own : x .kind ≡ Tdown → OwnEntry pl acc s k i x
+    pub tdown-own : x .kind ≡ Tdown → OwnEntry pl acc s k i d x
     tdown-own q = record { holder = tdown-holder q; entry = tdown-entry q; own = own′ }
       where
-        own′ : owns pl i exit (x .slot .0) own (inQueue (Q i)) x ≡ 1
+        own′ : owns pl i exit (x .slot .0) own (inQueue (Q i d)) x ≡ 1
         own′ =
-            let all = freed-owns pl i exit (x .slot .0) own wired i x q here in
+            let all = freed-owns pl i exit (x .slot .0) own wired i d x q here in
             let one : oneAt pl i exit (x .slot .0) own i x ≡ 1 = rw (entry-same i exit (x .slot .0), holder-same own) in
-            let most = owns-most pl i exit (x .slot .0) own (inQueue (Q i)) x in
+            let most = owns-most pl i exit (x .slot .0) own (inQueue (Q i d)) x in
             omega arith
 
-    torn-owned : x .kind ≡ Tdown → unit pl i s .table ≡ put3 (s .table) i exit (x .slot .0) Free
-        → Owned pl acc (unit pl i s)
-    torn-owned q t = put-owned s (unit pl i s) k i exit (x .slot .0) none t by
+    torn-owned : x .kind ≡ Tdown → unit pl i d s .table ≡ put3 (s .table) i exit (x .slot .0) Free
+        → Owned pl acc (unit pl i d s)
+    torn-owned q t = put-owned s (unit pl i d s) k i exit (x .slot .0) none t by
       where
-        by : (r o u : ℕ) (v : Holder) → weighed pl (owns pl r o u v) (unit pl i s)
+        by : (r o u : ℕ) (v : Holder) → weighed pl (owns pl r o u v) (unit pl i d s)
             + pick (sameEntry r o u i exit (x .slot .0)) (holds (k .holders i exit (x .slot .0)) v) 0
             ≡ weighed pl (owns pl r o u v) s + pick (sameEntry r o u i exit (x .slot .0)) 0 0
         by r o u v =
@@ -213,18 +213,18 @@ module _ {pl : Plan} (wired : Wired pl) {acc : List Connection} (s : State) (c :
             rw (tdown-holder q) (omega arith)
 
     -- A tear-down that frees its last entry keeps the ownership of the others.
-    pub ended-owned : x .kind ≡ Tdown → eqb (x .hub .0) 1 ≡ true → Owned pl acc (unit pl i s)
-    ended-owned q t = torn-owned q (ap (λ (u : State). u .table) (unit-ends pl i s x rest e f q t))
+    pub ended-owned : x .kind ≡ Tdown → eqb (x .hub .0) 1 ≡ true → Owned pl acc (unit pl i d s)
+    ended-owned q t = torn-owned q (ap (λ (u : State). u .table) (unit-ends pl i d s x rest e f q t))
 
     -- So does one that frees an entry and goes on.
-    pub freed-owned : x .kind ≡ Tdown → eqb (x .hub .0) 1 ≡ false → Owned pl acc (unit pl i s)
-    freed-owned q t = torn-owned q (ap (λ (u : State). u .table) (unit-frees pl i s x rest e f q t))
+    pub freed-owned : x .kind ≡ Tdown → eqb (x .hub .0) 1 ≡ false → Owned pl acc (unit pl i d s)
+    freed-owned q t = torn-owned q (ap (λ (u : State). u .table) (unit-frees pl i d s x rest e f q t))
 
   -- A unit's turn keeps the ownership.
-  pub unit-owned : Owned pl acc (unit pl i s)
-  unit-owned = by (unit-does pl i s)
+  pub unit-owned : Owned pl acc (unit pl i d s)
+  unit-owned = by (unit-does pl i d s)
     where
-      by : UnitDoes pl i s → Owned pl acc (unit pl i s)
+      by : UnitDoes pl i d s → Owned pl acc (unit pl i d s)
       by (rests e) = subst (Owned pl acc) (sym e) k
       by (books x rest e f q t) = booked-owned x rest e f q t
       by (declines x rest e f q t) = declined-owned x rest e f q t

@@ -20,6 +20,7 @@ use Rattle.wiring.proofs.Wires.{home-inside}
 use Rattle.journeys.proofs.Walks.{onward-on, onward-end, walk-short, size-is}
 use Rattle.journeys.proofs.Places.{meets-here, meets-next, goes-from, back-walk, nack-walk, next-walk, some-same}
 use Rattle.journeys.proofs.Places.{some-not-none}
+use Rattle.journeys.proofs.CameIn.{came-in}
 
 module _ {pl : Plan} (wired : Wired pl) (a p : ℕ) (ha : a < A pl) (hp : p < P pl) (s : Served pl a p) where
   abbrev start : Port
@@ -60,9 +61,10 @@ module _ {pl : Plan} (wired : Wired pl) (a p : ℕ) (ha : a < A pl) (hp : p < P 
       → Ahead pl a p (inQueue y) n
   unfolding Ahead next
   ahead-next n (activeOut x) y (e, z) q = rw (← some-same q) (rw (e, z) (spot-none (onward pl (passive p)) (on start)))
-  ahead-next n (U r i) y f q = rw (← some-same q) (i, f)
-  ahead-next n (Q r) y (i, m, f, e) q = rw (← some-same q) (i, m, f, e, refl)
-  ahead-next n (F r o) y (i, m, f, e, g) q =
+  ahead-next n (U r i) y f q = rw (← some-same q, came-in wired a p ha s n r i f) f
+  ahead-next n (Q r i) y (m, f, e) q = rw (← some-same q) (i, m, f, e, refl)
+  ahead-next n (F back r o) y f q = absurd f
+  ahead-next n (F ahead r o) y (i, m, f, e, g) q =
       by (goes-from pl (passive p) start (s .ahead) x (record { steps = m; here = f }))
     where
       x : Port
@@ -102,8 +104,9 @@ module _ {pl : Plan} (wired : Wired pl) (a p : ℕ) (ha : a < A pl) (hp : p < P 
   unfolding Back next
   back-next n (passiveOut x) y (e, z) q =
       rw (← some-same q) (rw e (inl (meets-here pl (active a) (home pl (passive p)), z), refl))
-  back-next n (Q r) y (i, f) q = rw (← some-same q) (i, f, refl)
-  back-next n (F r o) y (i, f, g) q = by (goes-from pl (active a) x
+  back-next n (Q r i) y f q = rw (← some-same q) (i, f, refl)
+  back-next n (F ahead r o) y f q = absurd f
+  back-next n (F back r o) y (i, f, g) q = by (goes-from pl (active a) x
       (nack-walk wired a p ha hp s x (record { steps = n; here = f })) x (meets-here pl (active a) x))
     where
       x : Port
@@ -136,27 +139,28 @@ module _ {pl : Plan} (wired : Wired pl) (a p : ℕ) (ha : a < A pl) (hp : p < P 
   fits-next Nack hub x y f q = back-next hub x y f q
 
   -- ---- at a unit: an unhandled head is a SETUP or a TDOWN
-  pub unit-setup : (r hub : ℕ) → Fits pl Setup a p hub (inQueue (Q r)) → (i : ℕ) × Stands pl a p hub r i
+  pub unit-setup : (r i hub : ℕ) → Fits pl Setup a p hub (inQueue (Q r i)) → Stands pl a p hub r i
   unfolding Ahead
-  unit-setup r hub f = f
+  unit-setup r i hub f = f
 
-  pub unit-booked : (r hub : ℕ) → Fits pl Setup a p hub (inQueue (Q r)) → Fits pl Setup a p (hub + 1) (handledAt r)
+  pub unit-booked : (r i hub : ℕ) → Fits pl Setup a p hub (inQueue (Q r i)) → Fits pl Setup a p (hub + 1)
+      (handledAt r i)
   unfolding Ahead
-  unit-booked r hub (i, f) = (i, hub, f, omega arith)
+  unit-booked r i hub f = (hub, f, omega arith)
 
-  pub unit-declined : (r hub : ℕ) → Fits pl Setup a p hub (inQueue (Q r)) → Fits pl Nack a p hub (handledAt r)
+  pub unit-declined : (r i hub : ℕ) → Fits pl Setup a p hub (inQueue (Q r i)) → Fits pl Nack a p hub (handledAt r i)
   unfolding Ahead Back
-  unit-declined r hub f = f
+  unit-declined r i hub f = f
 
-  pub unit-freed : (r hub : ℕ) → 1 < hub → Fits pl Tdown a p hub (inQueue (Q r))
-      → Fits pl Tdown a p (hub - 1) (handledAt r)
+  pub unit-freed : (r i hub : ℕ) → 1 < hub → Fits pl Tdown a p hub (inQueue (Q r i))
+      → Fits pl Tdown a p (hub - 1) (handledAt r i)
   unfolding Ahead
-  unit-freed r hub h (n, (i, f), g, l) = (suc n, (i, n, f, refl), omega arith, omega arith)
+  unit-freed r i hub h (n, f, g, l) = (suc n, (n, f, refl), omega arith, omega arith)
 
-  pub unit-no-answer : (r hub : ℕ) → (Fits pl Ack a p hub (inQueue (Q r)) → ⊥)
-      × (Fits pl Nack a p hub (inQueue (Q r)) → ⊥)
+  pub unit-no-answer : (r i hub : ℕ) → (Fits pl Ack a p hub (inQueue (Q r i)) → ⊥)
+      × (Fits pl Nack a p hub (inQueue (Q r i)) → ⊥)
   unfolding Back
-  unit-no-answer r hub = (λ f. f .0, λ f. f)
+  unit-no-answer r i hub = (λ f. f .0, λ f. f)
 
   -- ---- at a passive: a SETUP with the walk's length, whose answer fits the out-queue
   pub passive-setup : (k : Kind) (hub x : ℕ) → Fits pl k a p hub (inQueue (passiveIn x))

@@ -38,8 +38,8 @@ feeder pl (passiveOut x) = none
 feeder pl (activeIn x) = some (ofSide (home pl (active x) .router) (home pl (active x) .side))
 feeder pl (passiveIn x) = some (ofSide (home pl (passive x) .router) (home pl (passive x) .side))
 feeder pl (U r i) = leadsIn (pl .joint r i)
-feeder pl (Q r) = some (toUnit r)
-feeder pl (F r o) = some (fromUnit r)
+feeder pl (Q r i) = some (toUnit r)
+feeder pl (F h r o) = some (fromUnit r)
 feeder pl (K r i o) = leadsIn (pl .joint r i)
 
 module _ {pl : Plan} (wired : Wired pl) where
@@ -90,8 +90,8 @@ feeder-fed pl (passiveOut x) o e = absurd (some-not-none e)
 feeder-fed pl (activeIn x) o e = refl
 feeder-fed pl (passiveIn x) o e = refl
 feeder-fed pl (U r i) o e = leads-joined (pl .joint r i) o e
-feeder-fed pl (Q r) o e = refl
-feeder-fed pl (F r k) o e = refl
+feeder-fed pl (Q r i) o e = refl
+feeder-fed pl (F h r k) o e = refl
 feeder-fed pl (K r i k) o e = leads-joined (pl .joint r i) o e
 
 joined-fed : (j : Joint) → j ≢ Nothing → isJoined j ≡ true
@@ -113,8 +113,8 @@ module _ {pl : Plan} (wired : Wired pl) where
   visits-fed a p ha hp s ahead (U r i) v =
       joined-fed (pl .joint r i) (walk-joined wired a p ha hp s (record { router = r; side = i }) v)
   visits-fed a p ha hp s back (U r i) v = absurd v
-  visits-fed a p ha hp s h (Q r) v = refl
-  visits-fed a p ha hp s h (F r o) v = refl
+  visits-fed a p ha hp s h (Q r i) v = refl
+  visits-fed a p ha hp s h (F g r o) v = refl
   visits-fed a p ha hp s ahead (K r i o) v = absurd v
   visits-fed a p ha hp s back (K r i o) v =
       joined-fed (pl .joint r i) (returns-joined wired a p ha hp s (record { router = r; side = i }) (v .0))
@@ -135,14 +135,18 @@ sender-leaves (ofSide r o) zero q e = rw (← some-same e)
 sender-leaves (ofSide r o) (suc zero) q e = rw (← some-same e)
 sender-leaves (ofSide r o) (suc (suc zero)) q e = rw (← some-same e)
 sender-leaves (ofSide r o) (suc (suc (suc zero))) q e = rw (← some-same e)
-sender-leaves (ofSide r o) (suc (suc (suc (suc k)))) q e = absurd (some-not-none e)
+sender-leaves (ofSide r o) (suc (suc (suc (suc zero)))) q e = rw (← some-same e)
+sender-leaves (ofSide r o) (suc (suc (suc (suc (suc k))))) q e = absurd (some-not-none e)
 sender-leaves (toUnit r) zero q e = rw (← some-same e)
 sender-leaves (toUnit r) (suc zero) q e = rw (← some-same e)
 sender-leaves (toUnit r) (suc (suc zero)) q e = rw (← some-same e)
 sender-leaves (toUnit r) (suc (suc (suc zero))) q e = rw (← some-same e)
 sender-leaves (toUnit r) (suc (suc (suc (suc k)))) q e = absurd (some-not-none e)
 sender-leaves (fromUnit r) zero q e = rw (← some-same e)
-sender-leaves (fromUnit r) (suc k) q e = absurd (some-not-none e)
+sender-leaves (fromUnit r) (suc zero) q e = rw (← some-same e)
+sender-leaves (fromUnit r) (suc (suc zero)) q e = rw (← some-same e)
+sender-leaves (fromUnit r) (suc (suc (suc zero))) q e = rw (← some-same e)
+sender-leaves (fromUnit r) (suc (suc (suc (suc k)))) q e = absurd (some-not-none e)
 
 -- so two outputs with one sender are one
 pub one-output : (o u : Output) (k m : ℕ) (q : Queue) → ofRank (senders o) k ≡ some q → ofRank (senders u) m ≡ some q

@@ -31,12 +31,12 @@ use Rattle.theory.proofs.Places.CameIn.{stands-inside}
 -- only a unit's queue has a mark
 pub no-mark : (pl : Plan) (s : State) → Marks pl s → (q : Queue) → Exists pl q → isUnit q ≡ false
     → s .lines .handled q ≡ false
-no-mark pl s m q h f = refuted (s .lines .handled q) (λ t. let g = m q h t in false≢true (sym f ∙ ap isUnit (g .1)))
+no-mark pl s m q h f = refuted (s .lines .handled q) (λ t. let g = m q h t in false≢true (sym f ∙ ap isUnit (g .2)))
 
 -- an empty queue has none
 pub empty-mark : (pl : Plan) (s : State) → Marks pl s → (q : Queue) → Exists pl q → s .lines .queue q ≡ []
     → s .lines .handled q ≡ false
-empty-mark pl s m q h e = refuted (s .lines .handled q) (λ t. m q h t .2 e)
+empty-mark pl s m q h e = refuted (s .lines .handled q) (λ t. m q h t .3 e)
 
 -- the place of an unhandled head is its queue
 pub head-unhandled : (q : Queue) → headPlace false q ≡ inQueue q
@@ -45,7 +45,7 @@ head-unhandled q = by (role q)
     by : (k : Role) → headPlaceAs k false q ≡ inQueue q
     by sending = refl
     by receiving = refl
-    by (handling r) = refl
+    by (handling r i) = refl
     by passing = refl
 
 -- the place of a head that may leave is the one that it leaves from
@@ -56,21 +56,21 @@ head-leaves s q t = by (role q) t
         → headPlaceAs k (s .lines .handled q) q ≡ headPlaceAs k true q
     by sending t = refl
     by receiving t = refl
-    by (handling r) t = rw t
+    by (handling r i) t = rw t
     by passing t = refl
 
 -- a head may leave if it is at no unit, or handled there
-pub may-leave : (s : State) (q : Queue) → ((r : ℕ) → q ≡ Q r → s .lines .handled q ≡ true) → mayLeave s q ≡ true
+pub may-leave : (s : State) (q : Queue) → ((r i : ℕ) → q ≡ Q r i → s .lines .handled q ≡ true) → mayLeave s q ≡ true
 may-leave s q f = at (unit-or q)
   where
     by : (k : Role) → isUnitAs k ≡ false → mayLeaveAs k (s .lines .handled q) ≡ true
     by sending n = refl
     by receiving n = refl
-    by (handling r) n = absurd (false≢true (sym n))
+    by (handling r i) n = absurd (false≢true (sym n))
     by passing n = refl
 
-    at : ((r : ℕ) × (q ≡ Q r)) ⊎ (isUnit q ≡ false) → mayLeave s q ≡ true
-    at (inl (r, e)) = rw e (rw e at (f r e))
+    at : ((r i : ℕ) × (q ≡ Q r i)) ⊎ (isUnit q ≡ false) → mayLeave s q ≡ true
+    at (inl (r, i, e)) = rw e (rw e at (f r i e))
     at (inr n) = by (role q) n
 
 -- ---- lines
@@ -108,18 +108,18 @@ output-drives pl (activeIn x) o h e = absurd (some-not-none e)
 output-drives pl (passiveIn x) o h e = absurd (some-not-none e)
 output-drives pl (passiveOut x) o h e = rw (← some-same e) h
 output-drives pl (U r i) o h e = rw (← some-same e) (h .0)
-output-drives pl (Q r) o h e = rw (← some-same e) h
-output-drives pl (F r i) o h e = rw (← some-same e) h
+output-drives pl (Q r i) o h e = rw (← some-same e) (h .0)
+output-drives pl (F g r i) o h e = rw (← some-same e) h
 output-drives pl (K r i j) o h e = rw (← some-same e) (h .0, h .2)
 
 module _ {pl : Plan} (wired : Wired pl) where
-  unit-exists : (k : Kind) (a p hub r : ℕ) → a < A pl → p < P pl → Served pl a p → Fits pl k a p hub (inQueue (Q r))
-      → r < R pl
+  unit-exists : (k : Kind) (a p hub r i : ℕ) → a < A pl → p < P pl → Served pl a p
+      → Fits pl k a p hub (inQueue (Q r i)) → (r < R pl) × (i < 4)
   unfolding Ahead Back
-  unit-exists Setup a p hub r ha hp s (i, f) = stands-inside wired a p ha hp s hub r i f .0
-  unit-exists Tdown a p hub r ha hp s (n, (i, f), h, l) = stands-inside wired a p ha hp s n r i f .0
-  unit-exists Ack a p hub r ha hp s (f, e) = absurd f
-  unit-exists Nack a p hub r ha hp s f = absurd f
+  unit-exists Setup a p hub r i ha hp s f = stands-inside wired a p ha hp s hub r i f
+  unit-exists Tdown a p hub r i ha hp s (n, f, h, l) = stands-inside wired a p ha hp s n r i f
+  unit-exists Ack a p hub r i ha hp s (f, e) = absurd f
+  unit-exists Nack a p hub r i ha hp s f = absurd f
 
   -- the queue in which a packet belongs is the plan's
   pub belongs-exists : (q : Queue) (x : Packet) → Belongs pl (inQueue q) x → Exists pl q
@@ -135,7 +135,7 @@ module _ {pl : Plan} (wired : Wired pl) where
       by (passiveIn y) f = at (passiveIn y) f
       by (passiveOut y) f = at (passiveOut y) f
       by (U r i) f = at (U r i) f
-      by (Q r) f = unit-exists (x .kind) (x .active) (x .passive) (x .hub .0) r (b .ranges .active)
+      by (Q r i) f = unit-exists (x .kind) (x .active) (x .passive) (x .hub .0) r i (b .ranges .active)
           (b .ranges .passive) (b .serves) f
-      by (F r o) f = at (F r o) f
+      by (F h r o) f = at (F h r o) f
       by (K r i o) f = at (K r i o) f

@@ -92,52 +92,52 @@ module _ {pl : Plan} (wired : Wired pl) (range : InRange (pl .head)) where
         }
 
     -- ---- at a unit
-    module _ (r : ℕ) (unit : from ≡ inQueue (Q r)) where
+    module _ (r i : ℕ) (unit : from ≡ inQueue (Q r i)) where
       -- an unhandled packet at a unit stands there on its walk
-      pub unit-stands : (n i : ℕ) × Stands pl a p n r i
+      pub unit-stands : (n : ℕ) × Stands pl a p n r i
       unit-stands = by (x .kind) (rw unit at (here .fits))
         where
-          by : (k : Kind) → Fits pl k a p (x .hub .0) (inQueue (Q r)) → (n i : ℕ) × Stands pl a p n r i
-          by Setup f = let s = unit-setup wired a p ha hp served r (x .hub .0) f in (x .hub .0, s .0, s .1)
-          by Tdown f = let s = unit-setup wired a p ha hp served r (f .0) (f .1) in (f .0, s .0, s .1)
-          by Ack f = absurd (unit-no-answer wired a p ha hp served r (x .hub .0) .0 f)
-          by Nack f = absurd (unit-no-answer wired a p ha hp served r (x .hub .0) .1 f)
+          by : (k : Kind) → Fits pl k a p (x .hub .0) (inQueue (Q r i)) → (n : ℕ) × Stands pl a p n r i
+          by Setup f = (x .hub .0, unit-setup wired a p ha hp served r i (x .hub .0) f)
+          by Tdown f = (f .0, unit-setup wired a p ha hp served r i (f .0) (f .1))
+          by Ack f = absurd (unit-no-answer wired a p ha hp served r i (x .hub .0) .0 f)
+          by Nack f = absurd (unit-no-answer wired a p ha hp served r i (x .hub .0) .1 f)
 
       -- the side by which it leaves is one of the four
       pub side-out : routeTo pl (passive p) r < 4
-      side-out = let s = unit-stands in stands-exit wired a p ha hp served (s .0) r (s .1) (s .2)
+      side-out = let s = unit-stands in stands-exit wired a p ha hp served (s .0) r i (s .1)
 
       -- and so is the side by which its walk came in
       pub side-in : cameIn pl a p r < 4
       side-in =
           let s = unit-stands in
-          rw (came-in wired a p ha hp served (s .0) r (s .1) (s .2))
-          (stands-inside wired a p ha hp served (s .0) r (s .1) (s .2) .1)
+          rw (came-in wired a p ha hp served (s .0) r i (s .1))
+          (stands-inside wired a p ha hp served (s .0) r i (s .1) .1)
 
       -- a booked SETUP belongs there as handled
-      pub booked-belongs : x .kind ≡ Setup → Belongs pl (handledAt r) (booked (S pl) x)
+      pub booked-belongs : x .kind ≡ Setup → Belongs pl (handledAt r i) (booked (S pl) x)
       booked-belongs q =
-          let f : Fits pl Setup a p (x .hub .0) (inQueue (Q r)) = rw (unit, q) at (here .fits) in
-          let s = unit-setup wired a p ha hp served r (x .hub .0) f in
-          let before = stands-below wired a p ha hp served (x .hub .0) (record { router = r; side = s .0 }) (s .1) in
+          let f : Fits pl Setup a p (x .hub .0) (inQueue (Q r i)) = rw (unit, q) at (here .fits) in
+          let s = unit-setup wired a p ha hp served r i (x .hub .0) f in
+          let before = stands-below wired a p ha hp served (x .hub .0) (record { router = r; side = i }) s in
           let short = span-short wired a p ha hp served in
-          belongs-as pl from (handledAt r) x (x .kind) (booked (S pl) x .slot) (booked (S pl) x .hub) here
-          (rw q (unit-booked wired a p ha hp served r (x .hub .0) f)) (slot-in (x .slot .0 + 1))
+          belongs-as pl from (handledAt r i) x (x .kind) (booked (S pl) x .slot) (booked (S pl) x .hub) here
+          (rw q (unit-booked wired a p ha hp served r i (x .hub .0) f)) (slot-in (x .slot .0 + 1))
           (omega (arith, range .routers))
 
       -- so does the NACK that a SETUP becomes
-      pub declined-belongs : x .kind ≡ Setup → Belongs pl (handledAt r) (declined x)
+      pub declined-belongs : x .kind ≡ Setup → Belongs pl (handledAt r i) (declined x)
       declined-belongs q =
-          belongs-as pl from (handledAt r) x Nack (declined x .slot) (declined x .hub) here
-          (unit-declined wired a p ha hp served r (x .hub .0) (rw (unit, q) at (here .fits))) (here .ranges .slot)
+          belongs-as pl from (handledAt r i) x Nack (declined x .slot) (declined x .hub) here
+          (unit-declined wired a p ha hp served r i (x .hub .0) (rw (unit, q) at (here .fits))) (here .ranges .slot)
           (here .ranges .hub)
 
       -- and a TDOWN that has more to free
-      pub freed-belongs : x .kind ≡ Tdown → (x .hub .0 ≡ 1 → ⊥) → Belongs pl (handledAt r) (freed (S pl) x)
+      pub freed-belongs : x .kind ≡ Tdown → (x .hub .0 ≡ 1 → ⊥) → Belongs pl (handledAt r i) (freed (S pl) x)
       freed-belongs q more =
-          let f : Fits pl Tdown a p (x .hub .0) (inQueue (Q r)) = rw (unit, q) at (here .fits) in
-          belongs-as pl from (handledAt r) x (x .kind) (freed (S pl) x .slot) (freed (S pl) x .hub) here
-          (rw q (unit-freed wired a p ha hp served r (x .hub .0) (omega (arith, f .2)) f)) (slot-in (x .slot .0 + 1))
+          let f : Fits pl Tdown a p (x .hub .0) (inQueue (Q r i)) = rw (unit, q) at (here .fits) in
+          belongs-as pl from (handledAt r i) x (x .kind) (freed (S pl) x .slot) (freed (S pl) x .hub) here
+          (rw q (unit-freed wired a p ha hp served r i (x .hub .0) (omega (arith, f .2)) f)) (slot-in (x .slot .0 + 1))
           (omega (arith, here .ranges .hub))
 
     -- ---- at a passive

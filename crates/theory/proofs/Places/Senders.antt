@@ -29,7 +29,7 @@ raise-leaves f flags marks q s = by (role q)
     by : (k : Role) → f (raiseAs k q s) ≡ f s
     by sending = refl
     by receiving = flags q true s
-    by (handling r) = flags q true (withHandled q false s) ∙ marks q false s
+    by (handling r i) = flags q true (withHandled q false s) ∙ marks q false s
     by passing = flags q true s
 
 -- queues, credits, wires, choices and allowances stay
@@ -52,7 +52,7 @@ raise-handled q s p ne = by (role q)
     by : (k : Role) → raiseAs k q s .lines .handled p ≡ s .lines .handled p
     by sending = refl
     by receiving = refl
-    by (handling r) = queue-away (s .lines .handled) q false p ne
+    by (handling r i) = queue-away (s .lines .handled) q false p ne
     by passing = refl
 
 -- the flag of a queue that is no out-queue rises
@@ -63,7 +63,7 @@ raise-flag q s f = by (role q) f
     by : (k : Role) → isOutQueueAs k ≡ false → raiseAs k q s .flow .flag ≡ put sameQueue (s .flow .flag) q true
     by sending f = absurd (not-both refl f)
     by receiving f = refl
-    by (handling r) f = refl
+    by (handling r i) f = refl
     by passing f = refl
 
 -- an out-queue's flag stays
@@ -73,7 +73,7 @@ raise-none q s f = by (role q) f
     by : (k : Role) → isOutQueueAs k ≡ true → raiseAs k q s .flow .flag ≡ s .flow .flag
     by sending f = refl
     by receiving f = absurd (not-both f refl)
-    by (handling r) f = absurd (not-both f refl)
+    by (handling r i) f = absurd (not-both f refl)
     by passing f = absurd (not-both f refl)
 
 -- another queue's flag stays

@@ -249,6 +249,6 @@ module _ {pl : Plan} (wired : Wired pl) (range : InRange (pl .head)) (free : Fee
       no-in (passiveIn x) b = absurd (false≢true b)
       no-in (passiveOut x) b = refl
       no-in (U r i) b = refl
-      no-in (Q r) b = refl
-      no-in (F r o) b = refl
+      no-in (Q r i) b = refl
+      no-in (F k r o) b = refl
       no-in (K r i o) b = refl

@@ -2,12 +2,12 @@
 -- Read, an Execute or a Write. Suppose nothing moves. After the first EXECUTE's units the network is as in a state p,
 -- but for what Still allows. Each output comes to a round in which it is open and picks nobody, so no head of its
 -- senders finds credit: the network is jammed, and Stuck says that it then holds no packet.
-use mathlib.Core.Path.{_≡_, refl, sym, ap, _∙_}
+use mathlib.Core.Path.{subst, _≡_, refl, sym, ap, _∙_}
 use mathlib.Core.Logic.{_⊎_, inl, inr, _≢_}
 use mathlib.Core.Bool.{Bool, true, false, not, true≢false, false≢true}
 use mathlib.Core.List.{List, [], _∷_, _++_}
 use mathlib.Core.Option.{Option, some}
-use Prim.Native.Nat.{ℕ, zero, suc, _+_, _-_, _%_, _≤_, _<_}
+use Prim.Native.Nat.{ℕ, zero, suc, _+_, _-_, _%_, _≤_, _<_, _*_, _/_}
 use native.Mathlib.Nat.{mod-add-mod, mod-eq-of-lt, mod-eq-sub-mod, add-zero}
 use native.Mathlib.Omega.{arith}
 use lib.Dec.{ltb}
@@ -27,14 +27,14 @@ use Rattle.packets.specs.declared.Entry.{Entry}
 use Rattle.packets.specs.declared.Entry.the-variants.{Free}
 use Rattle.plan.specs.Head.{InRange}
 use Rattle.plan.specs.Plan.{Plan, R, A, S}
-use Rattle.feeding.specs.Queue.{Queue, activeOut, activeIn, passiveIn, passiveOut, U, Q, F, K, Exists}
+use Rattle.feeding.specs.Queue.{ahead, back, Queue, activeOut, activeIn, passiveIn, passiveOut, U, Q, F, K, Exists}
 use Rattle.feeding.specs.Role.{isOutQueue}
 use Rattle.feeding.specs.Feeds.{Output, ofActive, ofPassive, ofSide, toUnit, fromUnit, outputOf, headingOf, next}
 use Rattle.feeding.specs.Feeds.{inQueue, FeedRing}
 use Rattle.wiring.specs.Wired.{Wired}
 use Rattle.machine.specs.Outputs.{nextBy, senders, outputs, outputAt, outputNumber}
 use Rattle.machine.specs.State.{State, Choice, nobody, sender, isFree}
-use Rattle.machine.specs.Execute.{unit, mayLeave, candidate, isOpen, picked, doExecute}
+use Rattle.machine.specs.Execute.{unitAt, unit, mayLeave, candidate, isOpen, picked, doExecute}
 use Rattle.machine.specs.Write.{ofRank, doWrite}
 use Rattle.machine.specs.Read.{doRead}
 use Rattle.machine.specs.Calls.{Outcome, Call, turn, visit, read, execute, write, call}
@@ -50,7 +50,7 @@ use Rattle.theory.proofs.Places.Closure.{unit-no-answer}
 use Rattle.theory.proofs.Places.Lines.{output-drives}
 use Rattle.theory.proofs.Places.Senders.{candidate-ready}
 use Rattle.theory.proofs.Shape.Arbitration.{picked-none}
-use Rattle.theory.proofs.Shape.Execute.{FlagsBehind, quiet-start, quiet-down, unit-quiet, units-wires}
+use Rattle.theory.proofs.Shape.Execute.{qAt, FlagsBehind, quiet-start, quiet-down, unit-quiet, units-wires}
 use Rattle.theory.proofs.Shape.Calls.{execute-has, write-has}
 use Rattle.theory.proofs.Keeps.{unit-core, call-inv}
 use Rattle.theory.proofs.Progress.Stuck.{Jammed, Closed, none-waits}
@@ -81,8 +81,16 @@ ranked pl (activeOut x) o h e = let z : ofActive x ≡ o = cc in (0, rw (← z))
 ranked pl (activeIn x) o h e = let z : _≡_ {A = ℕ} 0 1 = cc in absurd (omega arith)
 ranked pl (passiveIn x) o h e = let z : _≡_ {A = ℕ} 0 1 = cc in absurd (omega arith)
 ranked pl (passiveOut x) o h e = let z : ofPassive x ≡ o = cc in (0, rw (← z))
-ranked pl (Q r) o h e = let z : fromUnit r ≡ o = cc in (0, rw (← z))
-ranked pl (F r s) o h e = let z : ofSide r s ≡ o = cc in (0, rw (← z))
+ranked pl (Q r i) o (hr, hi) e = let z : fromUnit r ≡ o = cc in rw (← z) (at i hi)
+  where
+    at : (i : ℕ) → i < 4 → (k : ℕ) × (ofRank (senders (fromUnit r)) k ≡ some (Q r i))
+    at zero l = (0, refl)
+    at (suc zero) l = (1, refl)
+    at (suc (suc zero)) l = (2, refl)
+    at (suc (suc (suc zero))) l = (3, refl)
+    at (suc (suc (suc (suc i)))) l = absurd (omega arith)
+ranked pl (F ahead r s) o h e = let z : ofSide r s ≡ o = cc in (0, rw (← z))
+ranked pl (F back r s) o h e = let z : ofSide r s ≡ o = cc in (1, rw (← z))
 ranked pl (U r i) o (hr, hi) e = let z : toUnit r ≡ o = cc in rw (← z) (at i hi)
   where
     at : (i : ℕ) → i < 4 → (k : ℕ) × (ofRank (senders (toUnit r)) k ≡ some (U r i))
@@ -95,23 +103,23 @@ ranked pl (K r i s) o (hr, hi, hs, ne) e = let z : ofSide r s ≡ o = cc in rw (
   where
     at : (i s : ℕ) → i < 4 → s < 4 → i ≢ s → (k : ℕ) × (ofRank (senders (ofSide r s)) k ≡ some (K r i s))
     at zero zero a b n = absurd (n refl)
-    at zero (suc zero) a b n = (1, refl)
-    at zero (suc (suc zero)) a b n = (1, refl)
-    at zero (suc (suc (suc zero))) a b n = (1, refl)
+    at zero (suc zero) a b n = (2, refl)
+    at zero (suc (suc zero)) a b n = (2, refl)
+    at zero (suc (suc (suc zero))) a b n = (2, refl)
     at zero (suc (suc (suc (suc s)))) a b n = absurd (omega arith)
-    at (suc zero) zero a b n = (1, refl)
+    at (suc zero) zero a b n = (2, refl)
     at (suc zero) (suc zero) a b n = absurd (n refl)
-    at (suc zero) (suc (suc zero)) a b n = (2, refl)
-    at (suc zero) (suc (suc (suc zero))) a b n = (2, refl)
+    at (suc zero) (suc (suc zero)) a b n = (3, refl)
+    at (suc zero) (suc (suc (suc zero))) a b n = (3, refl)
     at (suc zero) (suc (suc (suc (suc s)))) a b n = absurd (omega arith)
-    at (suc (suc zero)) zero a b n = (2, refl)
-    at (suc (suc zero)) (suc zero) a b n = (2, refl)
+    at (suc (suc zero)) zero a b n = (3, refl)
+    at (suc (suc zero)) (suc zero) a b n = (3, refl)
     at (suc (suc zero)) (suc (suc zero)) a b n = absurd (n refl)
-    at (suc (suc zero)) (suc (suc (suc zero))) a b n = (3, refl)
+    at (suc (suc zero)) (suc (suc (suc zero))) a b n = (4, refl)
     at (suc (suc zero)) (suc (suc (suc (suc s)))) a b n = absurd (omega arith)
-    at (suc (suc (suc zero))) zero a b n = (3, refl)
-    at (suc (suc (suc zero))) (suc zero) a b n = (3, refl)
-    at (suc (suc (suc zero))) (suc (suc zero)) a b n = (3, refl)
+    at (suc (suc (suc zero))) zero a b n = (4, refl)
+    at (suc (suc (suc zero))) (suc zero) a b n = (4, refl)
+    at (suc (suc (suc zero))) (suc (suc zero)) a b n = (4, refl)
     at (suc (suc (suc zero))) (suc (suc (suc zero))) a b n = absurd (n refl)
     at (suc (suc (suc zero))) (suc (suc (suc (suc s)))) a b n = absurd (omega arith)
     at (suc (suc (suc (suc i)))) s a b n = absurd (omega arith)
@@ -123,8 +131,8 @@ leaves (activeIn x) e = absurd (true≢false e)
 leaves (passiveIn x) e = absurd (true≢false e)
 leaves (passiveOut x) e = (ofPassive x, refl)
 leaves (U r i) e = (toUnit r, refl)
-leaves (Q r) e = (fromUnit r, refl)
-leaves (F r o) e = (ofSide r o, refl)
+leaves (Q r i) e = (fromUnit r, refl)
+leaves (F h r o) e = (ofSide r o, refl)
 leaves (K r i o) e = (ofSide r o, refl)
 
 next-by : (pl : Plan) (q : Queue) (o : Output) (x : Packet) → outputOf q ≡ some o
@@ -156,20 +164,20 @@ module _ {pl : Plan} (wired : Wired pl) (range : InRange (pl .head)) (free : Fee
     has = execute-has e phase (inv .shape)
 
     -- an unhandled head at a unit is a SETUP or a TDOWN
-    own : (r : ℕ) (x : Packet) (l : List Packet) → r < R pl → e .lines .queue (Q r) ≡ x ∷ l
-        → e .lines .handled (Q r) ≡ false → (x .kind ≡ Setup) ⊎ (x .kind ≡ Tdown)
-    own r x l h q f = by (x .kind) refl
+    own : (n : ℕ) (x : Packet) (l : List Packet) → n < 4 * R pl → e .lines .queue (qAt n) ≡ x ∷ l
+        → e .lines .handled (qAt n) ≡ false → (x .kind ≡ Setup) ⊎ (x .kind ≡ Tdown)
+    own n x l h q f = by (x .kind) refl
       where
-        b : Belongs pl (inQueue (Q r)) x
-        b = rw f at ((rw q at (inv .core .places (Q r) h)) .0)
+        b : Belongs pl (inQueue (qAt n)) x
+        b = rw f at ((rw q at (inv .core .places (qAt n) (omega arith, omega arith))) .0)
 
         by : (k : Kind) → x .kind ≡ k → (k ≡ Setup) ⊎ (k ≡ Tdown)
         by Setup g = inl refl
         by Tdown g = inr refl
         by Ack g = absurd (unit-no-answer wired (x .active) (x .passive) (b .ranges .active) (b .ranges .passive)
-            (b .serves) r (x .hub .0) .0 (rw g at (b .fits)))
+            (b .serves) (n / 4) (n % 4) (x .hub .0) .0 (rw g at (b .fits)))
         by Nack g = absurd (unit-no-answer wired (x .active) (x .passive) (b .ranges .active) (b .ranges .passive)
-            (b .serves) r (x .hub .0) .1 (rw g at (b .fits)))
+            (b .serves) (n / 4) (n % 4) (x .hub .0) .1 (rw g at (b .fits)))
 
     -- where Execute moves a packet, a list with a whole round does
     until-execute : MovesNow pl execute e → (cs : List Call) → 1 ≤ rounds pl cs e → Moves pl cs e
@@ -191,15 +199,19 @@ module _ {pl : Plan} (wired : Wired pl) (range : InRange (pl .head)) (free : Fee
         by (visit v) rec h = other (visit v) (λ g. visit-not v Execute g) rec h
 
     -- ---- no unit ends a packet: the state p after the units
-    module _ (u : Upto pl e own (R pl) (upTo (unit pl) (R pl) e)) where
+    module _ (u : Upto pl e own (4 * R pl) (upTo (unitAt pl) (4 * R pl) e)) where
       p : State
-      p = upTo (unit pl) (R pl) e
+      p = upTo (unitAt pl) (4 * R pl) e
 
       core-p : Core pl p
       unfolding p
       core-p =
-          up-keeps-at (λ (n : ℕ) (t : State). FlagsBehind pl n t × Core pl t) (unit pl) (R pl) e
-          (λ i t h q. (unit-quiet pl i t (q .0), unit-core wired range i t h (quiet-down pl i t h (q .0)) (q .1)))
+          up-keeps-at (λ (n : ℕ) (t : State). FlagsBehind pl n t × Core pl t) (unitAt pl) (4 * R pl) e
+          (λ i t h q. (
+            unit-quiet pl i t (q .0),
+            unit-core wired range (i / 4) (i % 4) t (omega arith, omega arith)
+                (quiet-down pl i t h (q .0)) (q .1),
+          ))
           (quiet-start pl e (has .2), inv .core) .1
 
       wires-p : WiresEmpty pl p
@@ -238,10 +250,10 @@ module _ {pl : Plan} (wired : Wired pl) (range : InRange (pl .head)) (free : Fee
       handled-s : (s : State) → Same pl p s → AllHandled pl s
       handled-s s k r h = by (handled-p r h)
         where
-          by : (p .lines .queue (Q r) ≡ []) ⊎ (p .lines .handled (Q r) ≡ true)
-              → (s .lines .queue (Q r) ≡ []) ⊎ (s .lines .handled (Q r) ≡ true)
-          by (inl a) = inl (k .inner (Q r) refl refl ∙ a)
-          by (inr a) = inr (k .handled (Q r) ∙ a)
+          by : (p .lines .queue (qAt r) ≡ []) ⊎ (p .lines .handled (qAt r) ≡ true)
+              → (s .lines .queue (qAt r) ≡ []) ⊎ (s .lines .handled (qAt r) ≡ true)
+          by (inl a) = inl (k .inner (qAt r) refl refl ∙ a)
+          by (inr a) = inr (k .handled (qAt r) ∙ a)
 
       at-start : At 0 e
       at-start = sym (ap (λ (n : ℕ). n % S pl) (add-zero (e .clock .slot .0)) ∙ mod-eq-of-lt (inv .core .slot))
@@ -443,6 +455,28 @@ module _ {pl : Plan} (wired : Wired pl) (range : InRange (pl .head)) (free : Fee
             by (inl b) = let o = k .outs q b in (rest ++ o .0, o .1 ∙ ap (λ (l : List Packet). l ++ o .0) g)
             by (inr b) = (rest, k .inner q b ni ∙ g)
 
+        -- a unit's head is handled
+        head-done : (r i : ℕ) (x : Packet) (rest : List Packet) → (r < R pl) × (i < 4)
+            → p .lines .queue (Q r i) ≡ x ∷ rest → p .lines .handled (Q r i) ≡ true
+        head-done r i x rest (h, l) g =
+            subst (λ (z : Queue). p .lines .handled z ≡ true) same
+            (by (handled-p (4 * r + i) (omega arith)) (subst (λ (z : Queue). p .lines .queue z ≡ x ∷ rest)
+            (sym same) g))
+          where
+            same : qAt (4 * r + i) ≡ Q r i
+            same =
+                let a : (4 * r + i) / 4 ≡ r = omega arith in
+                let b : (4 * r + i) % 4 ≡ i = omega arith in
+                rw (a, b)
+
+            by : (p .lines .queue (qAt (4 * r + i)) ≡ []) ⊎ (p .lines .handled (qAt (4 * r + i)) ≡ true)
+                → p .lines .queue (qAt (4 * r + i)) ≡ x ∷ rest → p .lines .handled (qAt (4 * r + i)) ≡ true
+            by (inl z) w =
+                let v : [] ≡ x ∷ rest = sym z ∙ w in
+                let z′ : _≡_ {A = ℕ} 0 1 = cc in
+                absurd (omega arith)
+            by (inr b) w = b
+
         -- a head that may leave: at a unit it is handled
         may-leave : (d : State) → Same pl p d → (q : Queue) (x : Packet) (rest : List Packet) → Exists pl q
             → p .lines .queue q ≡ x ∷ rest → mayLeave d q ≡ true
@@ -451,16 +485,8 @@ module _ {pl : Plan} (wired : Wired pl) (range : InRange (pl .head)) (free : Fee
         may-leave d k (passiveIn a) x rest h g = refl
         may-leave d k (passiveOut a) x rest h g = refl
         may-leave d k (U r a) x rest h g = refl
-        may-leave d k (Q r) x rest h g = k .handled (Q r) ∙ handled-head r x rest h g
-          where
-            handled-head : (r : ℕ) (x : Packet) (rest : List Packet) → r < R pl → p .lines .queue (Q r) ≡ x ∷ rest
-                → p .lines .handled (Q r) ≡ true
-            handled-head r x rest h g = by (handled-p r h)
-              where
-                by : (p .lines .queue (Q r) ≡ []) ⊎ (p .lines .handled (Q r) ≡ true) → p .lines .handled (Q r) ≡ true
-                by (inl z) = let w : [] ≡ x ∷ rest = sym z ∙ g in let z′ : _≡_ {A = ℕ} 0 1 = cc in absurd (omega arith)
-                by (inr b) = b
-        may-leave d k (F r o) x rest h g = refl
+        may-leave d k (Q r i) x rest h g = k .handled (Q r i) ∙ head-done r i x rest h g
+        may-leave d k (F b r o) x rest h g = refl
         may-leave d k (K r a o) x rest h g = refl
 
         blocked : (q y : Queue) (x : Packet) (rest : List Packet) → Exists pl q → isInQueue q ≡ false
@@ -513,61 +539,66 @@ module _ {pl : Plan} (wired : Wired pl) (range : InRange (pl .head)) (free : Fee
               core = core-p;
               wires = wires-p;
               flags = flags-p;
-              handled = λ r x rest h g. head-done r x rest h g (handled-p r h);
+              handled = head-done;
               blocked = blocked;
             }
-          where
-            head-done : (r : ℕ) (x : Packet) (rest : List Packet) → r < R pl → p .lines .queue (Q r) ≡ x ∷ rest
-                → (p .lines .queue (Q r) ≡ []) ⊎ (p .lines .handled (Q r) ≡ true) → p .lines .handled (Q r) ≡ true
-            head-done r x rest h g (inl z) =
-                let w : [] ≡ x ∷ rest = sym z ∙ g in
-                let z′ : _≡_ {A = ℕ} 0 1 = cc in
-                absurd (omega arith)
-            head-done r x rest h g (inr b) = b
 
     -- ---- so a list with S whole rounds moves a packet
     pub from-execute : (set : Queue → Bool) → Closed pl set e → (q : Queue) (x : Packet) (rest : List Packet)
         → Exists pl q → isInQueue q ≡ false → set q ≡ true → e .lines .queue q ≡ x ∷ rest
         → (cs : List Call) → S pl ≤ rounds pl cs e → Moves pl cs e
     unfolding p
-    from-execute set c q x rest h ni b g cs n = by (units pl e own (R pl) (omega arith))
+    from-execute set c q x rest h ni b g cs n = by (units pl e own (4 * R pl) (omega arith))
       where
-        ended : (r : ℕ) → r < R pl → Ends e r → Moves pl cs e
+        ended : (r : ℕ) → r < 4 * R pl → Ends e r → Moves pl cs e
         ended r l w =
             let now : call pl execute e .state ≡ doExecute pl e =
             ap (λ (o : Outcome). o .state) (turn-now pl e Execute phase) in
             until-execute (refl, rw now (ends-moves pl e r w l)) cs (omega (arith, range .slots .0))
 
         -- the packet is still there
-        there : (u : Upto pl e own (R pl) (upTo (unit pl) (R pl) e)) (z : Queue) → e .lines .queue z ≡ x ∷ rest
-            → (y : Packet) × (more : List Packet) × (upTo (unit pl) (R pl) e .lines .queue z ≡ y ∷ more)
-        there u z w = at z w
+        there : (u : Upto pl e own (4 * R pl) (upTo (unitAt pl) (4 * R pl) e)) (z : Queue) → Exists pl z
+            → e .lines .queue z ≡ x ∷ rest
+            → (y : Packet) × (more : List Packet) × (upTo (unitAt pl) (4 * R pl) e .lines .queue z ≡ y ∷ more)
+        there u z k w = at z k w
           where
-            same : (z : Queue) → e .lines .queue z ≡ x ∷ rest → ((r : ℕ) → z ≢ Q r)
-                → (y : Packet) × (more : List Packet) × (upTo (unit pl) (R pl) e .lines .queue z ≡ y ∷ more)
+            same : (z : Queue) → e .lines .queue z ≡ x ∷ rest → ((r : ℕ) → z ≢ qAt r)
+                → (y : Packet) × (more : List Packet) × (upTo (unitAt pl) (4 * R pl) e .lines .queue z ≡ y ∷ more)
             same z w ne = (x, rest, u .others z ne ∙ w)
 
-            long : (r : ℕ) (l : List Packet)
-                → upTo (unit pl) (R pl) e .lines .queue (Q r) ≡ l → e .lines .queue (Q r) ≡ x ∷ rest
-                → (y : Packet) × (more : List Packet) × (upTo (unit pl) (R pl) e .lines .queue (Q r) ≡ y ∷ more)
-            long r [] v w =
-                let a : 0 ≡ length (e .lines .queue (Q r)) = ap length (sym v) ∙ u .long r in
-                let d : length (e .lines .queue (Q r)) ≡ suc (length rest) = ap length w in
+            long : (z : Queue) (l : List Packet)
+                → length (upTo (unitAt pl) (4 * R pl) e .lines .queue z) ≡ length (e .lines .queue z)
+                → upTo (unitAt pl) (4 * R pl) e .lines .queue z ≡ l → e .lines .queue z ≡ x ∷ rest
+                → (y : Packet) × (more : List Packet) × (upTo (unitAt pl) (4 * R pl) e .lines .queue z ≡ y ∷ more)
+            long z [] u v w =
+                let a : 0 ≡ length (e .lines .queue z) = ap length (sym v) ∙ u in
+                let d : length (e .lines .queue z) ≡ suc (length rest) = ap length w in
                 absurd (omega arith)
-            long r (y ∷ more) v w = (y, more, v)
+            long z (y ∷ more) u v w = (y, more, v)
 
-            at : (z : Queue) → e .lines .queue z ≡ x ∷ rest
-                → (y : Packet) × (more : List Packet) × (upTo (unit pl) (R pl) e .lines .queue z ≡ y ∷ more)
-            at (activeOut a) w = same (activeOut a) w (λ r k. let z : _≡_ {A = ℕ} 0 1 = cc in omega arith)
-            at (activeIn a) w = same (activeIn a) w (λ r k. let z : _≡_ {A = ℕ} 0 1 = cc in omega arith)
-            at (passiveIn a) w = same (passiveIn a) w (λ r k. let z : _≡_ {A = ℕ} 0 1 = cc in omega arith)
-            at (passiveOut a) w = same (passiveOut a) w (λ r k. let z : _≡_ {A = ℕ} 0 1 = cc in omega arith)
-            at (U r i) w = same (U r i) w (λ r k. let z : _≡_ {A = ℕ} 0 1 = cc in omega arith)
-            at (Q r) w = long r (upTo (unit pl) (R pl) e .lines .queue (Q r)) refl w
-            at (F r o) w = same (F r o) w (λ r k. let z : _≡_ {A = ℕ} 0 1 = cc in omega arith)
-            at (K r i o) w = same (K r i o) w (λ r k. let z : _≡_ {A = ℕ} 0 1 = cc in omega arith)
+            as-long : (r i : ℕ) → i < 4 → length (upTo (unitAt pl) (4 * R pl) e .lines .queue (Q r i))
+                ≡ length (e .lines .queue (Q r i))
+            as-long r i l =
+                let a : (4 * r + i) / 4 ≡ r = omega arith in
+                let b : (4 * r + i) % 4 ≡ i = omega arith in
+                let same : qAt (4 * r + i) ≡ Q r i = rw (a, b) in
+                subst (λ (z : Queue). length (upTo (unitAt pl) (4 * R pl) e .lines .queue z)
+                ≡ length (e .lines .queue z)) same (u .long (4 * r + i))
 
-        closed-p : Upto pl e own (R pl) (upTo (unit pl) (R pl) e) → Closed pl set (upTo (unit pl) (R pl) e)
+            at : (z : Queue) → Exists pl z → e .lines .queue z ≡ x ∷ rest
+                → (y : Packet) × (more : List Packet) × (upTo (unitAt pl) (4 * R pl) e .lines .queue z ≡ y ∷ more)
+            at (activeOut a) k w = same (activeOut a) w (λ r f. let z : _≡_ {A = ℕ} 0 1 = cc in omega arith)
+            at (activeIn a) k w = same (activeIn a) w (λ r f. let z : _≡_ {A = ℕ} 0 1 = cc in omega arith)
+            at (passiveIn a) k w = same (passiveIn a) w (λ r f. let z : _≡_ {A = ℕ} 0 1 = cc in omega arith)
+            at (passiveOut a) k w = same (passiveOut a) w (λ r f. let z : _≡_ {A = ℕ} 0 1 = cc in omega arith)
+            at (U r i) k w = same (U r i) w (λ r f. let z : _≡_ {A = ℕ} 0 1 = cc in omega arith)
+            at (Q r i) k w = long (Q r i) (upTo (unitAt pl) (4 * R pl) e .lines .queue (Q r i)) (as-long r i
+                (k .1)) refl w
+            at (F b r o) k w = same (F b r o) w (λ r f. let z : _≡_ {A = ℕ} 0 1 = cc in omega arith)
+            at (K r i o) k w = same (K r i o) w (λ r f. let z : _≡_ {A = ℕ} 0 1 = cc in omega arith)
+
+        closed-p : Upto pl e own (4 * R pl) (upTo (unitAt pl) (4 * R pl) e) → Closed pl set (upTo (unitAt pl)
+            (4 * R pl) e)
         closed-p u =
             record {
               stays = c .stays;
@@ -575,17 +606,19 @@ module _ {pl : Plan} (wired : Wired pl) (range : InRange (pl .head)) (free : Fee
                   omega arith)) (c .room hd a z b q ha hz d k v m l);
             }
 
-        stuck : (u : Upto pl e own (R pl) (upTo (unit pl) (R pl) e)) → ((j : ℕ) → j < S pl → Seen u j) → ⊥
+        stuck : (u : Upto pl e own (4 * R pl) (upTo (unitAt pl) (4 * R pl) e)) → ((j : ℕ) → j < S pl → Seen u j) → ⊥
         stuck u seen =
-            let w = there u q g in
-            none-waits wired range free (upTo (unit pl) (R pl) e) (jammed u seen) set (closed-p u) q (w .0) (w .1) h ni
+            let w = there u q h g in
+            none-waits wired range free (upTo (unitAt pl) (4 * R pl) e) (jammed u seen) set (closed-p u) q (w .0)
+            (w .1) h ni
             b (w .2)
 
-        rest-of : (u : Upto pl e own (R pl) (upTo (unit pl) (R pl) e))
+        rest-of : (u : Upto pl e own (4 * R pl) (upTo (unitAt pl) (4 * R pl) e))
             → Moves pl cs e ⊎ ((j : ℕ) → j < S pl → Seen u j) → Moves pl cs e
         rest-of u (inl m) = m
         rest-of u (inr seen) = absurd (stuck u seen)
 
-        by : ((r : ℕ) × (r < R pl) × Ends e r) ⊎ Upto pl e own (R pl) (upTo (unit pl) (R pl) e) → Moves pl cs e
+        by : ((r : ℕ) × (r < 4 * R pl) × Ends e r) ⊎ Upto pl e own (4 * R pl) (upTo (unitAt pl) (4 * R pl) e)
+            → Moves pl cs e
         by (inl (r, l, w)) = ended r l w
         by (inr u) = rest-of u (interval pl (Calm u) (Seen u) (goes-on u) (S pl) cs e (first refl refl) n)

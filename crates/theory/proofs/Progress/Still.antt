@@ -5,7 +5,7 @@ use mathlib.Core.Logic.{_⊎_, inl, inr}
 use mathlib.Core.Bool.{Bool, true, false, _&&_, true≢false}
 use mathlib.Core.List.{List, [], _∷_, _++_, append-assoc}
 use mathlib.Core.Option.{Option}
-use Prim.Native.Nat.{ℕ, suc, _+_, _≤_, _<_}
+use Prim.Native.Nat.{ℕ, suc, _+_, _≤_, _<_, _*_, _/_, _%_}
 use native.Mathlib.Omega.{arith}
 use Rattle.basis.specs.Choice.{pick, test}
 use Rattle.basis.specs.Bounded.{below-suc}
@@ -26,7 +26,7 @@ use Rattle.machine.specs.Outputs.{outputs, outputAt}
 use Rattle.machine.specs.State.{State, Choice, nobody, join, withPhase, withQueue, withFlag, withChoice}
 use Rattle.machine.specs.State.{withConnection}
 use Rattle.machine.specs.Read.{arrive, deliver, lower, settle, doRead}
-use Rattle.machine.specs.Execute.{unit, atUnit, picked}
+use Rattle.machine.specs.Execute.{unitAt, unit, atUnit, picked}
 use Rattle.machine.specs.Execute.{choose, answer, atActive, undo, doExecute, hasRoom, unmarked}
 use Rattle.machine.specs.Write.{sendBy, send, doWrite}
 use Rattle.machine.specs.Visits.{launched, replied, removed, closed}
@@ -35,6 +35,7 @@ use Rattle.machine.proofs.OutNumbers.{drives-at}
 use Rattle.theory.proofs.Ground.Cells.{queue-away}
 use Rattle.theory.specs.Invariant.{WiresEmpty, NoChoices}
 use Rattle.theory.proofs.Shape.Arbitration.{chosen, picks-alike}
+use Rattle.theory.proofs.Shape.Execute.{qAt}
 
 -- s is as p was, but for what may happen while nothing moves
 pub record Same (pl : Plan) (p s : State) : Type 0 where
@@ -185,21 +186,23 @@ read-stays pl p s k =
 -- ---- EXECUTE: units with handled heads do nothing, outputs pick, actives tear down
 -- no unit has a head that is not handled
 abbrev pub AllHandled : Plan → State → Type 0
-AllHandled pl s = (r : ℕ) → r < R pl → (s .lines .queue (Q r) ≡ []) ⊎ (s .lines .handled (Q r) ≡ true)
+AllHandled pl s = (n : ℕ) → n < 4 * R pl → (s .lines .queue (qAt n) ≡ []) ⊎ (s .lines .handled (qAt n) ≡ true)
 
-no-unit : (pl : Plan) (s : State) (r : ℕ) → (s .lines .queue (Q r) ≡ []) ⊎ (s .lines .handled (Q r) ≡ true)
-    → unit pl r s ≡ s
+no-unit : (pl : Plan) (s : State) (r i : ℕ) → (s .lines .queue (Q r i) ≡ []) ⊎ (s .lines .handled (Q r i) ≡ true)
+    → unit pl r i s ≡ s
 unfolding unit atUnit
-no-unit pl s r (inl e) = rw e
-no-unit pl s r (inr e) = by (s .lines .queue (Q r))
+no-unit pl s r i (inl e) = rw e
+no-unit pl s r i (inr e) = by (s .lines .queue (Q r i))
   where
-    by : (l : List Packet) → atUnit pl r l (s .lines .handled (Q r)) s ≡ s
+    by : (l : List Packet) → atUnit pl r i l (s .lines .handled (Q r i)) s ≡ s
     by [] = refl
     by (x ∷ l) = rw e
 
-pub no-units : (pl : Plan) (s : State) → AllHandled pl s → upTo (unit pl) (R pl) s ≡ s
+pub no-units : (pl : Plan) (s : State) → AllHandled pl s → upTo (unitAt pl) (4 * R pl) s ≡ s
 no-units pl s h =
-    up-keeps (λ (t : State). t ≡ s) (unit pl) (R pl) s (λ r t l e. no-unit pl t r (rw e (h r l)) ∙ e) refl
+    up-keeps (λ (t : State). t ≡ s) (unitAt pl) (4 * R pl) s (λ n t l e. no-unit pl t (n / 4) (n % 4) (rw e (h n l))
+    ∙ e)
+    refl
 
 pub record Chosen (pl : Plan) (s t : State) (n : ℕ) : Type 0 where
   pub choices : Output → Choice
@@ -294,7 +297,8 @@ unfolding doExecute
 execute-picks pl p s k h =
     let e = no-units pl s h in
     let t : Picks pl p s (upTo (undo pl) (A pl)
-    (upTo (λ n. choose pl (outputAt pl n)) (outputs pl) (upTo (unit pl) (R pl) s))) = rw e (execute-rest pl p s k) in
+    (upTo (λ n. choose pl (outputAt pl n)) (outputs pl) (upTo (unitAt pl) (4 * R pl) s))) = rw e
+    (execute-rest pl p s k) in
     record { same = phase-same pl p _ Write (t .same); slot = t .slot; picks = t .picks }
 
 -- ---- WRITE: where nobody is picked nothing is sent

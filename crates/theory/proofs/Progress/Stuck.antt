@@ -27,7 +27,8 @@ use Rattle.paths.specs.Served.{Served}
 use Rattle.feeding.specs.Queue.{Queue, activeOut, activeIn, passiveIn, passiveOut, U, Q, F, K, Exists, number, queues}
 use Rattle.feeding.specs.Queue.{queueAt}
 use Rattle.feeding.specs.Feeds.{Heading, ahead, back, headingOf, destination, Output, outputOf, leaving, enters}
-use Rattle.feeding.specs.Feeds.{across, next, span, leavesFrom, Fits, inQueue, Feeds, FeedRing, headPlace}
+use Rattle.feeding.specs.Feeds.{cameIn, Meets, across, next, span, leavesFrom, Fits, inQueue, Feeds, FeedRing}
+use Rattle.feeding.specs.Feeds.{headPlace}
 use Rattle.wiring.specs.Wired.{Wired}
 use Rattle.wiring.proofs.Joints.{router-some, interface-some}
 use Rattle.journeys.proofs.Numbers.{queue-at, number-same, number-below}
@@ -76,13 +77,15 @@ module _ {pl : Plan} (wired : Wired pl) (a p : ℕ) (ha : a < A pl) (hp : p < P 
   next-some h (activeIn x) v e = absurd (true≢false e)
   next-some h (passiveIn x) v e = absurd (true≢false e)
   next-some h (passiveOut x) v e = (enters pl h a p (home pl (passive x)), refl)
-  next-some h (U r i) v e = (Q r, refl)
-  next-some h (Q r) v e = (F r (routeTo pl (destination h a p) r), refl)
-  next-some ahead (F r o) ((i, m), g) e =
+  next-some h (U r i) v e = (Q r (cameIn pl a p r), refl)
+  next-some h (Q r i) v e = (F h r (routeTo pl (destination h a p) r), refl)
+  next-some ahead (F back r o) v e = absurd v
+  next-some back (F ahead r o) v e = absurd v
+  next-some ahead (F ahead r o) ((i, m), g) e =
       across-some pl ahead a p (pl .joint r o)
       (rw g (goes-joined pl (passive p) (record { router = r; side = i })
       (goes-from pl (passive p) (home pl (active a)) (s .ahead) (record { router = r; side = i }) m)))
-  next-some back (F r o) ((i, m), g) e =
+  next-some back (F back r o) ((i, m), g) e =
       across-some pl back a p (pl .joint r o)
       (rw g (goes-joined pl (active a) (record { router = r; side = i })
       (goes-from pl (active a) (record { router = r; side = i })
@@ -110,8 +113,8 @@ capacity-some h r (activeIn x) = r .ain .0
 capacity-some h r (passiveIn x) = r .pin .0
 capacity-some h r (passiveOut x) = r .pout .0
 capacity-some h r (U i j) = r .u .0
-capacity-some h r (Q i) = r .q .0
-capacity-some h r (F i j) = r .f .0
+capacity-some h r (Q i j) = r .q .0
+capacity-some h r (F k i j) = r .f .0
 capacity-some h r (K i j k) = r .k .0
 
 -- ---- every head is handled where a unit has one, and its next queue has no credit
@@ -119,8 +122,8 @@ pub record Jammed (pl : Plan) (s : State) : Type 0 where
   pub core : Core pl s
   pub wires : WiresEmpty pl s
   pub flags : FlagsDown pl s
-  pub handled : (r : ℕ) (x : Packet) (rest : List Packet) → r < R pl → s .lines .queue (Q r) ≡ x ∷ rest
-      → s .lines .handled (Q r) ≡ true
+  pub handled : (r i : ℕ) (x : Packet) (rest : List Packet) → Exists pl (Q r i) → s .lines .queue (Q r i) ≡ x ∷ rest
+      → s .lines .handled (Q r i) ≡ true
   pub blocked : (q y : Queue) (x : Packet) (rest : List Packet) → Exists pl q → isInQueue q ≡ false
       → s .lines .queue q ≡ x ∷ rest
       → next pl (headingOf (x .kind)) (x .active) (x .passive) q ≡ some y → s .flow .credit y .0 ≡ 0
@@ -144,7 +147,7 @@ module _ {pl : Plan} (wired : Wired pl) (range : InRange (pl .head)) (free : Fee
   head-place : (q : Queue) (x : Packet) (rest : List Packet) → Exists pl q → s .lines .queue q ≡ x ∷ rest
       → headPlace (s .lines .handled q) q ≡ leavesFrom q
   head-place q x rest h e =
-      head-leaves s q (may-leave s q (λ r u. rw u (jam .handled r x rest (rw u at h) (rw u at e))))
+      head-leaves s q (may-leave s q (λ r i u. rw u (jam .handled r i x rest (rw u at h) (rw u at e))))
 
   head-belongs : (q : Queue) (x : Packet) (rest : List Packet) → Exists pl q → s .lines .queue q ≡ x ∷ rest
       → Belongs pl (leavesFrom q) x
@@ -279,8 +282,8 @@ module _ {pl : Plan} (wired : Wired pl) (range : InRange (pl .head)) (free : Fee
       into (activeOut a) n = inner (activeOut a) n refl
       into (passiveOut a) n = inner (passiveOut a) n refl
       into (U r i) n = inner (U r i) n refl
-      into (Q r) n = inner (Q r) n refl
-      into (F r o) n = inner (F r o) n refl
+      into (Q r i) n = inner (Q r i) n refl
+      into (F k r o) n = inner (F k r o) n refl
       into (K r i o) n = inner (K r i o) n refl
       into (passiveIn c) n =
           inr (let l = closed .room (headingOf (x .kind)) (x .active) (x .passive) c q (g .ranges .active)
@@ -345,13 +348,17 @@ answering-closed {pl} wired s = record { stays = stays′; room = room′ }
     stays′ h a p (activeIn x) y ha hp d b v n i = absurd (false≢true b)
     stays′ h a p (passiveIn x) y ha hp d b v n i = absurd (false≢true b)
     stays′ h a p (U r j) y ha hp d b v n i = absurd (false≢true b)
-    stays′ h a p (Q r) y ha hp d b v n i = absurd (false≢true b)
-    stays′ h a p (F r o) y ha hp d b v n i = absurd (false≢true b)
+    stays′ h a p (Q r j) y ha hp d b v n i = absurd (false≢true b)
+    stays′ h a p (F ahead r o) y ha hp d b v n i = absurd (false≢true b)
+    stays′ ahead a p (F back r o) y ha hp d b v n i = absurd v
+    stays′ back a p (F back r o) y ha hp d b v n i = across-answers pl a p (pl .joint r o) y n i
 
     -- a way back leads to no passive
-    never : (a p r j o c : ℕ) → a < A pl → p < P pl → Served pl a p → Visits pl back a p (K r j o)
-        → across pl back a p (pl .joint r o) ≡ some (passiveIn c) → ⊥
-    never a p r j o c ha hp d (m, g) n = by (returns-on wired a p ha hp d (record { router = r; side = j }) m)
+    leads-never : (a p r j o c : ℕ) → o ≡ routeTo pl (active a) r
+        → across pl back a p (pl .joint r o) ≡ some (passiveIn c)
+        → ((z : Port) × (onward pl (active a) (record { router = r; side = j }) ≡ on z))
+        ⊎ (onward pl (active a) (record { router = r; side = j }) ≡ end) → ⊥
+    leads-never a p r j o c g n = by
       where
         there : pl .joint r (routeTo pl (active a) r) ≡ Passive c
         there = rw (← g) (across-passive pl a p c (pl .joint r o) n)
@@ -368,6 +375,21 @@ answering-closed {pl} wired s = record { stays = stays′; room = room′ }
             let z′ : _≡_ {A = ℕ} 0 1 = cc in
             omega arith
 
+    never : (a p r j o c : ℕ) → a < A pl → p < P pl → Served pl a p → Visits pl back a p (K r j o)
+        → across pl back a p (pl .joint r o) ≡ some (passiveIn c) → ⊥
+    never a p r j o c ha hp d (m, g) n =
+        leads-never a p r j o c g n (returns-on wired a p ha hp d (record { router = r; side = j }) m)
+
+    -- nor does it from a unit
+    never-from : (a p r j o c : ℕ) → a < A pl → p < P pl → Served pl a p
+        → Meets pl (passive p) (home pl (active a)) (record { router = r; side = j }) → o ≡ routeTo pl (active a) r
+        → across pl back a p (pl .joint r o) ≡ some (passiveIn c) → ⊥
+    never-from a p r j o c ha hp d m g n =
+        leads-never a p r j o c g n
+        (goes-from pl (active a) (record { router = r; side = j })
+        (nack-walk wired a p ha hp d (record { router = r; side = j }) m) (record { router = r; side = j })
+        (meets-here pl (active a) (record { router = r; side = j })))
+
     room′ : (h : Heading) (a p c : ℕ) (q : Queue) → a < A pl → p < P pl → Served pl a p → answering q ≡ true
         → Visits pl h a p q → next pl h a p q ≡ some (passiveIn c) → c < P pl
         → length (s .lines .queue (passiveIn c)) < capacity (pl .head) (passiveIn c)
@@ -383,5 +405,7 @@ answering-closed {pl} wired s = record { stays = stays′; room = room′ }
     room′ h a p c (activeIn x) ha hp d b v n l = absurd (false≢true b)
     room′ h a p c (passiveIn x) ha hp d b v n l = absurd (false≢true b)
     room′ h a p c (U r j) ha hp d b v n l = absurd (false≢true b)
-    room′ h a p c (Q r) ha hp d b v n l = absurd (false≢true b)
-    room′ h a p c (F r o) ha hp d b v n l = absurd (false≢true b)
+    room′ h a p c (Q r i) ha hp d b v n l = absurd (false≢true b)
+    room′ h a p c (F ahead r o) ha hp d b v n l = absurd (false≢true b)
+    room′ ahead a p c (F back r o) ha hp d b v n l = absurd v
+    room′ back a p c (F back r o) ha hp d b ((j, m), g) n l = absurd (never-from a p r j o c ha hp d m g n)

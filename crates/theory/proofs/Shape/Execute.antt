@@ -4,7 +4,7 @@ use mathlib.Core.Path.{_≡_, refl, sym, ap, subst, _∙_}
 use mathlib.Core.Logic.{_⊎_, inl, inr, _≢_}
 use mathlib.Core.Bool.{Bool, true, false}
 use mathlib.Core.List.{_∷_}
-use Prim.Native.Nat.{ℕ, suc, _<_}
+use Prim.Native.Nat.{ℕ, suc, _<_, _*_, _/_, _%_}
 use native.Mathlib.Nat.{not-suc-le-zero}
 use native.Mathlib.Omega.{arith}
 use Rattle.basis.specs.Choice.{not-both, refuted}
@@ -18,7 +18,7 @@ use Rattle.journeys.proofs.Places.{some-not-none}
 use Rattle.machine.specs.Store.{put, sameQueue}
 use Rattle.machine.specs.Outputs.{outputs, outputAt, outputNumber}
 use Rattle.machine.specs.State.{State, Choice, sender, withQueue, withFlag, withEntry, join}
-use Rattle.machine.specs.Execute.{handledAs, unit, mayLeave, picked, choose, marked, tdownOf, undo, doExecute}
+use Rattle.machine.specs.Execute.{unitAt, handledAs, unit, mayLeave, picked, choose, marked, tdownOf, undo, doExecute}
 use Rattle.machine.specs.Valid.{Drives}
 use Rattle.machine.proofs.Apart.{unit-same}
 use Rattle.machine.proofs.Numbers.{sender-exists}
@@ -32,22 +32,29 @@ use Rattle.theory.proofs.Shape.Spared.{Spares, spared-sendable, spares-
 use Rattle.theory.proofs.Shape.Spared.{turn-spares}
 
 -- ---- (1) units
--- while the units below n have had their turn: a flag that is up is that of such a unit's Q, and its mark is down
+-- the Q whose turn is the n-th
+abbrev pub qAt : ℕ → Queue
+qAt n = Q (n / 4) (n % 4)
+
+pub q-same : (n m : ℕ) → qAt n ≡ qAt m → n ≡ m
+q-same n m e = let z = unit-same e in let a = z .0 in let b = z .1 in omega arith
+
+-- while the first n units' queues have had their turn: a flag that is up is that of such a Q, and its mark is down
 abbrev pub FlagsBehind : Plan → ℕ → State → Type 0
 FlagsBehind pl n s =
-    (q : Queue) → Exists pl q → s .flow .flag q ≡ true → (r : ℕ) × (r < n) × (q ≡ Q r) × (s .lines .handled q ≡ false)
+    (q : Queue) → Exists pl q → s .flow .flag q ≡ true → (r : ℕ) × (r < n) × (q ≡ qAt r) × (s .lines .handled q ≡ false)
 
 module _ (pl : Plan) where
-  -- before the first unit's turn
+  -- before the first turn
   pub quiet-start : (s : State) → FlagsDown pl s → FlagsBehind pl 0 s
   quiet-start s f q h up = absurd (not-both up (f q h))
 
-  -- the flag of the unit whose turn it is is down
-  pub quiet-down : (n : ℕ) (s : State) → n < R pl → FlagsBehind pl n s → s .flow .flag (Q n) ≡ false
-  quiet-down n s h g = refuted (s .flow .flag (Q n)) (λ up. by (g (Q n) h up))
+  -- the flag of the Q whose turn it is is down
+  pub quiet-down : (n : ℕ) (s : State) → n < 4 * R pl → FlagsBehind pl n s → s .flow .flag (qAt n) ≡ false
+  quiet-down n s h g = refuted (s .flow .flag (qAt n)) (λ up. by (g (qAt n) (omega arith, omega arith) up))
     where
-      by : (r : ℕ) × (r < n) × (Q n ≡ Q r) × (s .lines .handled (Q n) ≡ false) → ⊥
-      by (r, l, e, m) = let z : n ≡ r = unit-same e in omega arith
+      by : (r : ℕ) × (r < n) × (qAt n ≡ qAt r) × (s .lines .handled (qAt n) ≡ false) → ⊥
+      by (r, l, e, m) = let z : n ≡ r = q-same n r e in omega arith
 
   quiet-same : (n : ℕ) (s t : State) → t .flow .flag ≡ s .flow .flag → t .lines .handled ≡ s .lines .handled
       → FlagsBehind pl n s → FlagsBehind pl n t
@@ -58,61 +65,63 @@ module _ (pl : Plan) where
   quiet-more : (n : ℕ) (s : State) → FlagsBehind pl n s → FlagsBehind pl (suc n) s
   quiet-more n s g q h up = by (g q h up)
     where
-      by : (r : ℕ) × (r < n) × (q ≡ Q r) × (s .lines .handled q ≡ false)
-          → (r : ℕ) × (r < suc n) × (q ≡ Q r) × (s .lines .handled q ≡ false)
+      by : (r : ℕ) × (r < n) × (q ≡ qAt r) × (s .lines .handled q ≡ false)
+          → (r : ℕ) × (r < suc n) × (q ≡ qAt r) × (s .lines .handled q ≡ false)
       by (r, l, e, m) = (r, omega arith, e, m)
 
-  -- the head of Q n is handled
+  -- its head is handled
   quiet-handled : (n : ℕ) (s t : State) → t .flow .flag ≡ s .flow .flag → t .lines .handled
-      ≡ put sameQueue (s .lines .handled) (Q n) true → FlagsBehind pl n s → FlagsBehind pl (suc n) t
+      ≡ put sameQueue (s .lines .handled) (qAt n) true → FlagsBehind pl n s → FlagsBehind pl (suc n) t
   quiet-handled n s t f m g q h up = by (g q h (sym (ap (λ (m : Queue → Bool). m q) f) ∙ up))
     where
-      by : (r : ℕ) × (r < n) × (q ≡ Q r) × (s .lines .handled q ≡ false)
-          → (r : ℕ) × (r < suc n) × (q ≡ Q r) × (t .lines .handled q ≡ false)
+      by : (r : ℕ) × (r < n) × (q ≡ qAt r) × (s .lines .handled q ≡ false)
+          → (r : ℕ) × (r < suc n) × (q ≡ qAt r) × (t .lines .handled q ≡ false)
       by (r, l, e, d) =
-          let ne : q ≢ Q n = λ z. let i : r ≡ n = unit-same (sym e ∙ z) in omega arith in
-          (r, omega arith, e, ap (λ (m : Queue → Bool). m q) m ∙ queue-away (s .lines .handled) (Q n) true q ne ∙ d)
+          let ne : q ≢ qAt n = λ z. let i : r ≡ n = q-same r n (sym e ∙ z) in omega arith in
+          (r, omega arith, e, ap (λ (m : Queue → Bool). m q) m ∙ queue-away (s .lines .handled) (qAt n) true q ne ∙ d)
 
-  -- the head of Q n ended
-  quiet-ended : (n : ℕ) (s t : State) → t .flow .flag ≡ put sameQueue (s .flow .flag) (Q n) true → t .lines .handled
-      ≡ s .lines .handled → s .lines .handled (Q n) ≡ false → FlagsBehind pl n s → FlagsBehind pl (suc n) t
-  quiet-ended n s t f m d g q h up = by (queue-or q (Q n))
+  -- its head ended
+  quiet-ended : (n : ℕ) (s t : State) → t .flow .flag ≡ put sameQueue (s .flow .flag) (qAt n) true → t .lines .handled
+      ≡ s .lines .handled → s .lines .handled (qAt n) ≡ false → FlagsBehind pl n s → FlagsBehind pl (suc n) t
+  quiet-ended n s t f m d g q h up = by (queue-or q (qAt n))
     where
-      by : (q ≡ Q n) ⊎ (q ≢ Q n) → (r : ℕ) × (r < suc n) × (q ≡ Q r) × (t .lines .handled q ≡ false)
+      by : (q ≡ qAt n) ⊎ (q ≢ qAt n) → (r : ℕ) × (r < suc n) × (q ≡ qAt r) × (t .lines .handled q ≡ false)
       by (inl e) = (n, omega arith, e, ap (λ (m : Queue → Bool). m q) m ∙ rw e d)
       by (inr ne) =
-          last (g q h (sym (ap (λ (m : Queue → Bool). m q) f ∙ queue-away (s .flow .flag) (Q n) true q ne) ∙ up))
+          last (g q h (sym (ap (λ (m : Queue → Bool). m q) f ∙ queue-away (s .flow .flag) (qAt n) true q ne) ∙ up))
         where
-          last : (r : ℕ) × (r < n) × (q ≡ Q r) × (s .lines .handled q ≡ false)
-              → (r : ℕ) × (r < suc n) × (q ≡ Q r) × (t .lines .handled q ≡ false)
+          last : (r : ℕ) × (r < n) × (q ≡ qAt r) × (s .lines .handled q ≡ false)
+              → (r : ℕ) × (r < suc n) × (q ≡ qAt r) × (t .lines .handled q ≡ false)
           last (r, l, e, d) = (r, omega arith, e, ap (λ (m : Queue → Bool). m q) m ∙ d)
 
   -- a unit's turn
-  pub unit-quiet : (n : ℕ) (s : State) → FlagsBehind pl n s → FlagsBehind pl (suc n) (unit pl n s)
+  pub unit-quiet : (n : ℕ) (s : State) → FlagsBehind pl n s → FlagsBehind pl (suc n) (unitAt pl n s)
   unit-quiet n s g =
-      unit-by pl s (FlagsBehind pl (suc n)) n (quiet-more n s g)
-      (λ x y rest e m. quiet-handled n s (handledAs n y rest s) refl refl g)
-      (λ x y rest o t b e m. quiet-handled n s (handledAs n y rest (withEntry n o t b s)) refl refl g)
-      (λ x rest o t b e m. quiet-ended n s (withFlag (Q n) true (withQueue (Q n) rest (withEntry n o t b s))) refl refl
-      m g)
+      unit-by pl s (FlagsBehind pl (suc n)) (n / 4) (n % 4) (quiet-more n s g)
+      (λ x y rest e m. quiet-handled n s (handledAs (n / 4) (n % 4) y rest s) refl refl g)
+      (λ x y rest o t b e m. quiet-handled n s (handledAs (n / 4) (n % 4) y rest (withEntry (n / 4) o t b s)) refl refl
+      g)
+      (λ x rest o t b e m. quiet-ended n s (withFlag (qAt n) true (withQueue (qAt n) rest
+      (withEntry (n / 4) o t b s))) refl refl m g)
 
   -- it changes no wire
-  pub unit-wire : (n : ℕ) (s : State) → unit pl n s .links .wire ≡ s .links .wire
-  unit-wire n s = unit-by pl s (λ (t : State). t .links .wire ≡ s .links .wire) n refl (λ x y rest e m. refl)
+  pub unit-wire : (r i : ℕ) (s : State) → unit pl r i s .links .wire ≡ s .links .wire
+  unit-wire r i s = unit-by pl s (λ (t : State). t .links .wire ≡ s .links .wire) r i refl (λ x y rest e m. refl)
       (λ x y rest o t b e m. refl) (λ x rest o t b e m. refl)
 
   -- after all units
-  pub units-quiet : (s : State) → FlagsDown pl s → FlagsBehind pl (R pl) (upTo (unit pl) (R pl) s)
-  units-quiet s f = up-keeps-at (FlagsBehind pl) (unit pl) (R pl) s (λ i t h g. unit-quiet i t g) (quiet-start s f)
+  pub units-quiet : (s : State) → FlagsDown pl s → FlagsBehind pl (4 * R pl) (upTo (unitAt pl) (4 * R pl) s)
+  units-quiet s f = up-keeps-at (FlagsBehind pl) (unitAt pl) (4 * R pl) s (λ i t h g. unit-quiet i t g)
+      (quiet-start s f)
 
   -- after all units wires are still empty
-  pub units-wires : (s : State) → WiresEmpty pl s → WiresEmpty pl (upTo (unit pl) (R pl) s)
-  units-wires s w = up-keeps (WiresEmpty pl) (unit pl) (R pl) s
-      (λ i t h p o d. ap (λ (m : Output → Wire). m o) (unit-wire i t) ∙ p o d) w
+  pub units-wires : (s : State) → WiresEmpty pl s → WiresEmpty pl (upTo (unitAt pl) (4 * R pl) s)
+  units-wires s w = up-keeps (WiresEmpty pl) (unitAt pl) (4 * R pl) s
+      (λ i t h p o d. ap (λ (m : Output → Wire). m o) (unit-wire (i / 4) (i % 4) t) ∙ p o d) w
 
   -- ---- (2) picks
   -- what an output picks can be sent
-  pub picked-sendable : (s : State) → FlagsBehind pl (R pl) s → (o : Output) (k : ℕ) → Drives pl o
+  pub picked-sendable : (s : State) → FlagsBehind pl (4 * R pl) s → (o : Output) (k : ℕ) → Drives pl o
       → picked pl s o ≡ sender k → Sendable pl s o k
   picked-sendable s g o k d e =
       let c = picked-candidate pl s o k e .1 in
@@ -125,13 +134,14 @@ module _ (pl : Plan) where
             (candidate-ready pl s o (c .0) (c .2) .leaves)) (g (c .0) (sender-exists pl o k (c .0) d (c .1)) up .3));
       }
     where
-      leaves : (q : Queue) → (r : ℕ) × (r < R pl) × (q ≡ Q r) × (s .lines .handled q ≡ false) → mayLeave s q ≡ true
+      leaves : (q : Queue) → (r : ℕ) × (r < 4 * R pl) × (q ≡ qAt r) × (s .lines .handled q ≡ false) → mayLeave s q
+          ≡ true
           → s .lines .handled q ≡ true
       leaves q (r, l, e, m) h = rw e (rw e at h)
 
   -- the outputs below n have picked
   abbrev pub Picked : ℕ → State → Type 0
-  Picked n s = FlagsBehind pl (R pl) s
+  Picked n s = FlagsBehind pl (4 * R pl) s
       × ((j : ℕ) → j < n → (k : ℕ) → s .links .choice (outputAt pl j) ≡ sender k → Sendable pl s (outputAt pl j) k)
 
   choose-spares : (o u : Output) (s : State) → Spares pl s (choose pl o s) u
@@ -142,7 +152,7 @@ module _ (pl : Plan) where
   pub choose-picked : (n : ℕ) (s : State) → n < outputs pl → Picked n s → Picked (suc n) (choose pl (outputAt pl n) s)
   unfolding choose
   choose-picked n s h g =
-      (quiet-same (R pl) s (choose pl (outputAt pl n) s) refl refl (g .0), λ j l. by j (below-suc l))
+      (quiet-same (4 * R pl) s (choose pl (outputAt pl n) s) refl refl (g .0), λ j l. by j (below-suc l))
     where
       by : (j : ℕ) → (j < n) ⊎ (j ≡ n) → (k : ℕ) → choose pl (outputAt pl n) s .links .choice (outputAt pl j)
           ≡ sender k → Sendable pl (choose pl (outputAt pl n) s) (outputAt pl j) k
@@ -163,7 +173,7 @@ module _ (pl : Plan) where
   chooses n = choose pl (outputAt pl n)
 
   -- after all picks
-  pub picks-sendable : (s : State) → FlagsBehind pl (R pl) s → ChoicesSendable pl (upTo chooses (outputs pl) s)
+  pub picks-sendable : (s : State) → FlagsBehind pl (4 * R pl) s → ChoicesSendable pl (upTo chooses (outputs pl) s)
   picks-sendable s g o k d e =
       let all = up-keeps-at Picked chooses (outputs pl) s (λ i t h p. choose-picked i t h p)
       (g, λ j l. absurd (not-suc-le-zero l)) in
@@ -200,9 +210,9 @@ module _ (pl : Plan) where
   pub execute-wires : (s : State) → WiresEmpty pl s → WiresEmpty pl (doExecute pl s)
   unfolding doExecute
   execute-wires s w =
-      up-keeps (WiresEmpty pl) (undo pl) (A pl) (upTo chooses (outputs pl) (upTo (unit pl) (R pl) s))
+      up-keeps (WiresEmpty pl) (undo pl) (A pl) (upTo chooses (outputs pl) (upTo (unitAt pl) (4 * R pl) s))
       (λ i t h p o d. ap (λ (m : Output → Wire). m o) (undo-wire i t) ∙ p o d)
-      (picks-wires (upTo (unit pl) (R pl) s) (units-wires s w))
+      (picks-wires (upTo (unitAt pl) (4 * R pl) s) (units-wires s w))
 
   undone : (s : State) → ChoicesSendable pl s → ChoicesSendable pl (upTo (undo pl) (A pl) s)
   undone s c =
@@ -214,9 +224,9 @@ module _ (pl : Plan) where
   pub execute-choices : (s : State) → FlagsDown pl s → ChoicesSendable pl (doExecute pl s)
   unfolding doExecute
   execute-choices s f o k d e =
-      let u : State = upTo (undo pl) (A pl) (upTo chooses (outputs pl) (upTo (unit pl) (R pl) s)) in
+      let u : State = upTo (undo pl) (A pl) (upTo chooses (outputs pl) (upTo (unitAt pl) (4 * R pl) s)) in
       spared-sendable (spares-alike u (doExecute pl s) refl refl refl refl) k (undone (upTo chooses (outputs pl)
-      (upTo (unit pl) (R pl) s)) (picks-sendable (upTo (unit pl) (R pl) s) (units-quiet s f)) o k d e)
+      (upTo (unitAt pl) (4 * R pl) s)) (picks-sendable (upTo (unitAt pl) (4 * R pl) s) (units-quiet s f)) o k d e)
 
   -- EXECUTE ends in the shape of WRITE
   pub execute-shape : (s : State) → WiresEmpty pl s → FlagsDown pl s → Shape pl (doExecute pl s)

@@ -2,7 +2,8 @@
 -- phase keeps.
 use mathlib.Core.Path.{_≡_}
 use mathlib.Core.Bool.{false}
-use Prim.Native.Nat.{ℕ, suc, _<_}
+use native.Mathlib.Omega.{arith}
+use Prim.Native.Nat.{ℕ, suc, _<_, _*_, _/_, _%_}
 use Rattle.basis.specs.Fold.{upTo, up-keeps, up-keeps-at}
 use Rattle.packets.specs.declared.Wire.the-variants.{Empty}
 use Rattle.packets.specs.declared.Phase.the-variants.{Read, Execute, Write}
@@ -14,7 +15,7 @@ use Rattle.wiring.specs.Wired.{Wired}
 use Rattle.machine.specs.Outputs.{outputs, outputAt}
 use Rattle.machine.specs.State.{State, sender, withPhase, withSlot}
 use Rattle.machine.specs.Read.{deliver, settle, doRead}
-use Rattle.machine.specs.Execute.{unit, choose, undo, doExecute}
+use Rattle.machine.specs.Execute.{unitAt, unit, choose, undo, doExecute}
 use Rattle.machine.specs.Write.{send, doWrite}
 use Rattle.machine.specs.Valid.{Drives}
 use Rattle.machine.proofs.Numbers.{exists-at}
@@ -38,20 +39,25 @@ module _ (pl : Plan) (P : State → Type 0) (s : State) where
       (λ i t h q. delivers (outputAt pl i) t (drives-at pl i h) q) p))
 
   -- EXECUTE: units, whose Q's flag is down at their turn, then picks, then tear-downs
-  pub execute-keeps : ((r : ℕ) (t : State) → r < R pl → t .flow .flag (Q r) ≡ false → P t → P (unit pl r t))
+  pub execute-keeps : ((r i : ℕ) (t : State) → (r < R pl) × (i < 4) → t .flow .flag (Q r i) ≡ false → P t → P
+      (unit pl r i t))
       → ((o : Output) (t : State) → Drives pl o → P t → P (choose pl o t))
       → ((a : ℕ) (t : State) → a < A pl → P t → P (undo pl a t))
       → ((t : State) → P t → P (withPhase Write t))
       → FlagsDown pl s → P s → P (doExecute pl s)
   unfolding doExecute
   execute-keeps units chooses undoes ends f p =
-      ends (upTo (undo pl) (A pl) (upTo (λ n. choose pl (outputAt pl n)) (outputs pl) (upTo (unit pl) (R pl) s)))
-      (up-keeps P (undo pl) (A pl) (upTo (λ n. choose pl (outputAt pl n)) (outputs pl) (upTo (unit pl) (R pl) s))
+      ends (upTo (undo pl) (A pl) (upTo (λ n. choose pl (outputAt pl n)) (outputs pl) (upTo (unitAt pl) (4 * R pl) s)))
+      (up-keeps P (undo pl) (A pl) (upTo (λ n. choose pl (outputAt pl n)) (outputs pl) (upTo (unitAt pl) (4 * R pl) s))
       (λ i t h q. undoes i t h q)
-      (up-keeps P (λ n. choose pl (outputAt pl n)) (outputs pl) (upTo (unit pl) (R pl) s)
+      (up-keeps P (λ n. choose pl (outputAt pl n)) (outputs pl) (upTo (unitAt pl) (4 * R pl) s)
       (λ i t h q. chooses (outputAt pl i) t (drives-at pl i h) q)
-      (up-keeps-at (λ (n : ℕ) (t : State). FlagsBehind pl n t × P t) (unit pl) (R pl) s
-      (λ i t h q. (unit-quiet pl i t (q .0), units i t h (quiet-down pl i t h (q .0)) (q .1)))
+      (up-keeps-at (λ (n : ℕ) (t : State). FlagsBehind pl n t × P t) (unitAt pl) (4 * R pl) s
+      (λ i t h q. (
+        unit-quiet pl i t (q .0),
+        units (i / 4) (i % 4) t (omega arith, omega arith) (quiet-down pl i t h
+            (q .0)) (q .1),
+      ))
       (quiet-start pl s f, p) .1)))
 
   -- WRITE: sendings, each with an empty wire and a choice that can be sent at its turn

@@ -118,32 +118,32 @@ module _ {pl : Plan} {s : State} (c : Core pl s) where
 
   -- ---- EXECUTE
   -- A unit's turn keeps the allowances.
-  pub unit-allowances : (r : ℕ) → r < R pl → Allowances pl (unit pl r s)
-  unit-allowances r h = by (unit-does pl r s)
+  pub unit-allowances : (r i : ℕ) → (r < R pl) × (i < 4) → Allowances pl (unit pl r i s)
+  unit-allowances r i h = by (unit-does pl r i s)
     where
       changed : (t : State)
-          → unit pl r s ≡ t → t .links .wire ≡ s .links .wire → t .flow .allowance ≡ s .flow .allowance
-          → ((a : ℕ) → weighed pl (anywhere (spends a)) (unit pl r s) ≡ weighed pl (anywhere (spends a)) s)
-          → Allowances pl (unit pl r s)
-      changed t is e f k = allowances-kept (unit pl r s) (ap (λ (u : State). u .links .wire) is ∙ e)
+          → unit pl r i s ≡ t → t .links .wire ≡ s .links .wire → t .flow .allowance ≡ s .flow .allowance
+          → ((a : ℕ) → weighed pl (anywhere (spends a)) (unit pl r i s) ≡ weighed pl (anywhere (spends a)) s)
+          → Allowances pl (unit pl r i s)
+      changed t is e f k = allowances-kept (unit pl r i s) (ap (λ (u : State). u .links .wire) is ∙ e)
           (ap (λ (u : State). u .flow .allowance) is ∙ f) k
 
-      by : UnitDoes pl r s → Allowances pl (unit pl r s)
+      by : UnitDoes pl r i s → Allowances pl (unit pl r i s)
       by (rests is) = subst (Allowances pl) (sym is) (c .allowances)
       by (books x rest e f k t) =
-          changed _ (unit-books pl r s x rest e f k t) refl refl
-          (λ a. let all = booked-weighed pl (anywhere (spends a)) r h s x rest e f k t in omega arith)
+          changed _ (unit-books pl r i s x rest e f k t) refl refl
+          (λ a. let all = booked-weighed pl (anywhere (spends a)) r i h s x rest e f k t in omega arith)
       by (declines x rest e f k t) =
-          changed _ (unit-declines pl r s x rest e f k t) refl refl
-          (λ a. let all = declined-weighed pl (anywhere (spends a)) r h s x rest e f k t in
+          changed _ (unit-declines pl r i s x rest e f k t) refl refl
+          (λ a. let all = declined-weighed pl (anywhere (spends a)) r i h s x rest e f k t in
           let same = kinds-spend a x (declined x) refl (sym (ap spendsKind k)) in omega arith)
       by (ends x rest e f k t) =
-          changed _ (unit-ends pl r s x rest e f k t) refl refl
-          (λ a. let all = ended-weighed pl (anywhere (spends a)) r h s x rest e f k t in
+          changed _ (unit-ends pl r i s x rest e f k t) refl refl
+          (λ a. let all = ended-weighed pl (anywhere (spends a)) r i h s x rest e f k t in
           let none = tdown-spends a x k in omega arith)
       by (frees x rest e f k t) =
-          changed _ (unit-frees pl r s x rest e f k t) refl refl
-          (λ a. let all = freed-weighed pl (anywhere (spends a)) r h s x rest e f k t in omega arith)
+          changed _ (unit-frees pl r i s x rest e f k t) refl refl
+          (λ a. let all = freed-weighed pl (anywhere (spends a)) r i h s x rest e f k t in omega arith)
 
   -- A choice keeps the allowances.
   pub choose-allowances : (o : Output) → Allowances pl (choose pl o s)

@@ -42,49 +42,49 @@ module _ (pl : Plan) (w : Weight) where
       omega arith
 
   -- ---- a unit
-  module _ (r : ℕ) (h : r < R pl) (s : State) where
+  module _ (r i : ℕ) (h : (r < R pl) × (i < 4)) (s : State) where
     -- A unit's head handled: what it became weighs as handled.
-    pub handled-weighed : (x y : Packet) (rest : List Packet) → s .lines .queue (Q r) ≡ x ∷ rest
-        → s .lines .handled (Q r) ≡ false
-        → weighed pl w (handledAs r y rest s) + w (inQueue (Q r)) x ≡ weighed pl w s + w (handledAt r) y
+    pub handled-weighed : (x y : Packet) (rest : List Packet) → s .lines .queue (Q r i) ≡ x ∷ rest
+        → s .lines .handled (Q r i) ≡ false
+        → weighed pl w (handledAs r i y rest s) + w (inQueue (Q r i)) x ≡ weighed pl w s + w (handledAt r i) y
     unfolding inLine
     handled-weighed x y rest e f =
-        let all = weighed-line pl w (Q r) h true (y ∷ rest) s in
-        let old = ap₂ (inLine w (Q r)) f e in
+        let all = weighed-line pl w (Q r i) h true (y ∷ rest) s in
+        let old = ap₂ (inLine w (Q r i)) f e in
         omega arith
 
-    module _ (x : Packet) (rest : List Packet) (e : s .lines .queue (Q r) ≡ x ∷ rest)
-        (f : s .lines .handled (Q r) ≡ false) where
+    module _ (x : Packet) (rest : List Packet) (e : s .lines .queue (Q r i) ≡ x ∷ rest)
+        (f : s .lines .handled (Q r i) ≡ false) where
       -- A set-up is booked.
       pub booked-weighed : x .kind ≡ Setup → mayBookAt pl r s x ≡ true
-          → weighed pl w (unit pl r s) + w (inQueue (Q r)) x ≡ weighed pl w s + w (handledAt r) (booked (S pl) x)
+          → weighed pl w (unit pl r i s) + w (inQueue (Q r i)) x ≡ weighed pl w s + w (handledAt r i) (booked (S pl) x)
       unfolding weighed
       booked-weighed k t =
-          ap (λ (u : State). weighed pl w u + w (inQueue (Q r)) x) (unit-books pl r s x rest e f k t)
+          ap (λ (u : State). weighed pl w u + w (inQueue (Q r i)) x) (unit-books pl r i s x rest e f k t)
           ∙ handled-weighed x (booked (S pl) x) rest e f
 
       -- A set-up is declined.
       pub declined-weighed : x .kind ≡ Setup → mayBookAt pl r s x ≡ false
-          → weighed pl w (unit pl r s) + w (inQueue (Q r)) x ≡ weighed pl w s + w (handledAt r) (declined x)
+          → weighed pl w (unit pl r i s) + w (inQueue (Q r i)) x ≡ weighed pl w s + w (handledAt r i) (declined x)
       declined-weighed k t =
-          ap (λ (u : State). weighed pl w u + w (inQueue (Q r)) x) (unit-declines pl r s x rest e f k t)
+          ap (λ (u : State). weighed pl w u + w (inQueue (Q r i)) x) (unit-declines pl r i s x rest e f k t)
           ∙ handled-weighed x (declined x) rest e f
 
       -- A tear-down frees an entry and goes on.
       pub freed-weighed : x .kind ≡ Tdown → eqb (x .hub .0) 1 ≡ false
-          → weighed pl w (unit pl r s) + w (inQueue (Q r)) x ≡ weighed pl w s + w (handledAt r) (freed (S pl) x)
+          → weighed pl w (unit pl r i s) + w (inQueue (Q r i)) x ≡ weighed pl w s + w (handledAt r i) (freed (S pl) x)
       unfolding weighed
       freed-weighed k t =
-          ap (λ (u : State). weighed pl w u + w (inQueue (Q r)) x) (unit-frees pl r s x rest e f k t)
+          ap (λ (u : State). weighed pl w u + w (inQueue (Q r i)) x) (unit-frees pl r i s x rest e f k t)
           ∙ handled-weighed x (freed (S pl) x) rest e f
 
       -- A tear-down frees its last entry and ends.
       pub ended-weighed : x .kind ≡ Tdown → eqb (x .hub .0) 1 ≡ true
-          → weighed pl w (unit pl r s) + w (inQueue (Q r)) x ≡ weighed pl w s
+          → weighed pl w (unit pl r i s) + w (inQueue (Q r i)) x ≡ weighed pl w s
       unfolding weighed
       ended-weighed k t =
-          ap (λ (u : State). weighed pl w u + w (inQueue (Q r)) x) (unit-ends pl r s x rest e f k t)
-          ∙ taken-weighed (Q r) h s (rw f) x rest e
+          ap (λ (u : State). weighed pl w u + w (inQueue (Q r i)) x) (unit-ends pl r i s x rest e f k t)
+          ∙ taken-weighed (Q r i) h s (rw f) x rest e
 
   -- ---- an active and a passive
   module _ {s : State} (c : Core pl s) where
@@ -96,7 +96,7 @@ module _ (pl : Plan) (w : Weight) where
     unfolding weighed
     torn-weighed a h x rest e u g =
         let joined = weighed-join pl w (activeOut a) h (tdownOf (S pl) x) (withQueue (activeIn a) (marked x ∷ rest) s)
-        (λ m. c .marks (activeOut a) h m .2) in
+        (λ m. c .marks (activeOut a) h m .3) in
         let swapped = swapped-weighed (activeIn a) h s refl x (marked x) rest e in
         let is : weighed pl w (undo pl a s)
         ≡ weighed pl w (join (activeOut a) (tdownOf (S pl) x) (withQueue (activeIn a) (marked x ∷ rest) s))
@@ -107,7 +107,7 @@ module _ (pl : Plan) (w : Weight) where
     pub launched-weighed : (a p t : ℕ) → a < A pl
         → weighed pl w (launched a p t s) ≡ weighed pl w s + w (inQueue (activeOut a)) (setupOf a p t)
     unfolding launched weighed
-    launched-weighed a p t h = weighed-join pl w (activeOut a) h (setupOf a p t) s (λ m. c .marks (activeOut a) h m .2)
+    launched-weighed a p t h = weighed-join pl w (activeOut a) h (setupOf a p t) s (λ m. c .marks (activeOut a) h m .3)
 
     -- A closing tear-down joins the out-queue.
     pub closed-weighed : (a p t : ℕ) → a < A pl
@@ -115,7 +115,7 @@ module _ (pl : Plan) (w : Weight) where
     unfolding closed
     closed-weighed a p t h =
         connection-weighed pl w a p t false (join (activeOut a) (closingOf pl a p t) s)
-        ∙ weighed-join pl w (activeOut a) h (closingOf pl a p t) s (λ m. c .marks (activeOut a) h m .2)
+        ∙ weighed-join pl w (activeOut a) h (closingOf pl a p t) s (λ m. c .marks (activeOut a) h m .3)
 
     -- A passive's head goes, and its answer joins the out-queue.
     pub replied-weighed : (p : ℕ) → p < P pl → (k : Kind) (x : Packet) (rest : List Packet)
@@ -125,7 +125,7 @@ module _ (pl : Plan) (w : Weight) where
     unfolding weighed
     replied-weighed p h k x rest e =
         let joined = weighed-join pl w (passiveOut p) h (repliedAs k x)
-        (withFlag (passiveIn p) true (withQueue (passiveIn p) rest s)) (λ m. c .marks (passiveOut p) h m .2) in
+        (withFlag (passiveIn p) true (withQueue (passiveIn p) rest s)) (λ m. c .marks (passiveOut p) h m .3) in
         let taken = taken-weighed (passiveIn p) h s refl x rest e in
         omega arith
 

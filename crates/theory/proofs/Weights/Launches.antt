@@ -166,25 +166,25 @@ module _ (pl : Plan) (d : Connection) where
           (send-weighed pl (anywhere (bears pl d)) wired c o h (λ u m q y x g e f b. refl) ready z)
 
       -- So does a unit's turn: a booked set-up is the same connection, a declined one is none.
-      pub unit-counted : (r : ℕ) → r < R pl → Counted pl d m n (unit pl r s)
+      pub unit-counted : (r i : ℕ) → (r < R pl) × (i < 4) → Counted pl d m n (unit pl r i s)
       unfolding borne
-      unit-counted r h = counted-less s (unit pl r s) k (by (unit-does pl r s))
+      unit-counted r i h = counted-less s (unit pl r i s) k (by (unit-does pl r i s))
         where
-          by : UnitDoes pl r s → borne pl d (unit pl r s) ≤ borne pl d s
+          by : UnitDoes pl r i s → borne pl d (unit pl r i s) ≤ borne pl d s
           by (rests e) = let w = ap (weighed pl (anywhere (bears pl d))) e in omega arith
           by (books x rest e f q t) =
-              let w = booked-weighed pl (anywhere (bears pl d)) r h s x rest e f q t in
-              let b = booked-bears x q (core-head c (Q r) h x rest e .ranges .slot) in
+              let w = booked-weighed pl (anywhere (bears pl d)) r i h s x rest e f q t in
+              let b = booked-bears x q (core-head c (Q r i) h x rest e .ranges .slot) in
               omega arith
           by (declines x rest e f q t) =
-              let w = declined-weighed pl (anywhere (bears pl d)) r h s x rest e f q t in
+              let w = declined-weighed pl (anywhere (bears pl d)) r i h s x rest e f q t in
               let b = bears-of Nack (declined x) refl in
               omega arith
           by (ends x rest e f q t) =
-              let w = ended-weighed pl (anywhere (bears pl d)) r h s x rest e f q t in
+              let w = ended-weighed pl (anywhere (bears pl d)) r i h s x rest e f q t in
               omega arith
           by (frees x rest e f q t) =
-              let w = freed-weighed pl (anywhere (bears pl d)) r h s x rest e f q t in
+              let w = freed-weighed pl (anywhere (bears pl d)) r i h s x rest e f q t in
               let b = bears-of Tdown (freed (S pl) x) q in
               omega arith
 

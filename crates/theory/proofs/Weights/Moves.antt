@@ -108,7 +108,7 @@ module _ (pl : Plan) (w : Weight) where
           (s .lines .queue q) ≡ weighed pl w s + inAll (w (inQueue q)) xs
       by sending e = plain (rw e)
       by receiving e = plain (rw e)
-      by (handling r) e = weighed-line pl w q h false xs s ∙ ap (λ (n : ℕ). weighed pl w s + n) (line-fresh w q xs)
+      by (handling r i) e = weighed-line pl w q h false xs s ∙ ap (λ (n : ℕ). weighed pl w s + n) (line-fresh w q xs)
       by passing e = plain (rw e)
 
   -- A head that is sent weighs as in its next queue from then on.
@@ -142,7 +142,7 @@ module _ (pl : Plan) (w : Weight) where
         by (Full x) e =
             let k : Carries pl o x = c .wires o d x e in
             let h = belongs-exists wired (k .queue) x (k .belongs) in
-            let joined = weighed-join pl w (k .queue) h x (withWire o Empty s) (λ t. c .marks (k .queue) h t .2) in
+            let joined = weighed-join pl w (k .queue) h x (withWire o Empty s) (λ t. c .marks (k .queue) h t .3) in
             let wire = weighed-wire pl w o d Empty s in
             let was : onWire pl w o (s .links .wire o) ≡ w (inQueue (k .queue)) x = rw (e, k .next) in
             let left : onWire pl w o Empty ≡ 0 = refl in

@@ -2,7 +2,7 @@ use Rattle.plan.specs.Tables.{tablePlan}
 use Rattle.reading.proofs.Offsets.{table-head, range-counts}
 use Rattle.writing.proofs.Turns.{next-small, next-within, next-credit, last-within, send-done}
 use Rattle.writing.proofs.Turns.{choice-within, send-none, sender-small, sender-within, sender-some, sender-few}
-use Rattle.writing.proofs.Turns.{pair-of, wire-within}
+use Rattle.writing.proofs.Turns.{pair-of, onward-of, wire-within}
 use native.Mathlib.Omega.{arith}
 use borrow.Author.Needs.{needs}
 use Rattle.writing.proofs.send.Statement.{statement}
@@ -78,9 +78,25 @@ take-requires c κs = (
 )
 
 -- src/lib.rt:135:17
+add-next : tie.Need-add-next
+add-next c =
+    let pre = c .before .before .before .before .before .before .before .before .before .before .before .before .pre in
+    let n = sender-small (tablePlan _ _ _) (table-head _ _ _) _ _ (pre .1)
+    (c .before .before .before .before .before .before .before .before .before .before .output-row .ensures)
+    (c .before .before .before .before .before .before .before .rank .ensures .0)
+    (c .before .before .before .before .before .before .sender-of .ensures) (pre .2) (pre .0 .range) in omega arith
+
+-- src/lib.rt:135:17
 next-requires : tie.Need-next-requires
 next-requires c κs =
     let p = pair-of (tablePlan _ _ _) (table-head _ _ _) _ _
+    (c .before .before .before .before .before .before .before .before .before .before .before .before .pre .1)
+    (c .before .before .before .before .before .before .before .before .before .before .output-row .ensures)
+    (c .before .before .before .before .before .before .before .rank .ensures .0)
+    (c .before .before .before .before .before .before .sender-of .ensures)
+    (c .before .before .before .before .queue-row .ensures) (c .before .before .before .take .ensures)
+    (c .before .before .before .before .before .before .before .before .before .before .before .before .pre .2) in
+    let u = onward-of (tablePlan _ _ _) (table-head _ _ _) _ _
     (c .before .before .before .before .before .before .before .before .before .before .before .before .pre .1)
     (c .before .before .before .before .before .before .before .before .before .before .output-row .ensures)
     (c .before .before .before .before .before .before .before .rank .ensures .0)
@@ -91,6 +107,7 @@ next-requires c κs =
       c .before .before .before .before .before .before .before .before .before .before .before .before .pre .1,
       p .0,
       p .1,
+      u,
     )
 
 -- src/lib.rt:135:5
@@ -181,6 +198,7 @@ send-spec =
     sender-of-requires
     queue-row-requires
     take-requires
+    add-next
     next-requires
     enter-requires
     remember-requires

@@ -52,6 +52,9 @@ returns-3 c =
 add-result-5 : tie.Need-add-result-5
 add-result-5 c = search needs
 
+add-result-6 : tie.Need-add-result-6
+add-result-6 c = search needs
+
 -- src/lib.rt:52:1
 returns-4 : tie.Need-returns-4
 returns-4 c =
@@ -73,4 +76,5 @@ sender-of-spec =
     add-result-4
     returns-3
     add-result-5
+    add-result-6
     returns-4)

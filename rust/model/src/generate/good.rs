@@ -67,7 +67,7 @@ fn without_ring(random: &mut Random, mut fields: Fields) -> Plan {
 }
 
 /// S from 2 to 32, small ones more often.
-fn slots(random: &mut Random) -> usize {
+pub(super) fn slots(random: &mut Random) -> usize {
     if random.chance(1, 2) {
         random.within(2..=5)
     } else {
@@ -76,7 +76,7 @@ fn slots(random: &mut Random) -> usize {
 }
 
 /// Eight capacities from 1 to 7, or eight times 1.
-fn capacities(random: &mut Random) -> [usize; 8] {
+pub(super) fn capacities(random: &mut Random) -> [usize; 8] {
     let highest = if random.chance(1, 4) { 1 } else { random.within(1..=7) };
     std::array::from_fn(|_| random.within(1..=highest))
 }
@@ -110,7 +110,7 @@ fn join_routers(random: &mut Random, draft: &mut Draft) {
 }
 
 /// Joins two routers by free sides, if both have one; a second joint of the same two is parallel.
-fn join_somewhere(random: &mut Random, draft: &mut Draft, one: usize, other: usize) {
+pub(super) fn join_somewhere(random: &mut Random, draft: &mut Draft, one: usize, other: usize) {
     let side = random.pick(&draft.free_sides(one));
     let back = random.pick(&draft.free_sides(other));
     if let (Some(side), Some(back)) = (side, back) {
@@ -119,7 +119,7 @@ fn join_somewhere(random: &mut Random, draft: &mut Draft, one: usize, other: usi
 }
 
 /// At least one active and one passive.
-fn place_interfaces(random: &mut Random, draft: &mut Draft) {
+pub(super) fn place_interfaces(random: &mut Random, draft: &mut Draft) {
     let most = draft.free_ports().len().min(32);
     let total = if random.chance(1, 4) { most } else { random.within(2..=most) };
     let actives = random.within(1..=total - 1).clamp(total.saturating_sub(16), 16).max(1);
@@ -149,7 +149,7 @@ fn shuffle(random: &mut Random, ports: &mut [Port]) {
 }
 
 /// Some routes are missing, some lead elsewhere.
-fn spoil_routes(random: &mut Random, draft: &mut Draft) {
+pub(super) fn spoil_routes(random: &mut Random, draft: &mut Draft) {
     let parts = random.within(1..=4);
     for router in &mut draft.fields_mut().routers {
         for route in router.to_active.iter_mut().chain(&mut router.to_passive) {

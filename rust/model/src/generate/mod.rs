@@ -1,6 +1,8 @@
-//! Plans from a seed: good ones of all sizes, damaged ones, plans with rings; calls and states.
+//! Plans from a seed: good ones of all sizes, crossing ones, damaged ones, plans with rings; calls and
+//! states.
 
 pub mod calls;
+pub mod crossing;
 pub mod damage;
 pub mod draft;
 pub mod good;

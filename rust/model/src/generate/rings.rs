@@ -1,19 +1,29 @@
-//! Plans with a ring of feeding queues: crossing set-ups, rings of routers alone, rings among
-//! answers alone, and plans that miss a ring by one route.
+//! Plans with a ring of feeding queues: rings of set-ups alone, rings among answers alone, and plans
+//! that miss a ring by one route.
 
 use super::{Draft, Random};
 use crate::feeding::Feeding;
 use crate::fields::Fields;
 use crate::plan::Plan;
 
-/// A line of routers, an active and a passive at each end, set-ups crossing both ways.
-pub fn crossing(routers: usize, slots: usize, capacity: usize) -> Draft {
+/// `routers` in a ring (side 0 leads on, side 1 back), each with an active and a passive; the set-ups
+/// of each go two routers on, all one way round, and the answers go back.
+pub fn set_ups_around(routers: usize, slots: usize, capacity: usize) -> Draft {
     let mut draft = Draft::new(routers, slots, capacity);
-    for router in 1..routers {
-        draft.join((router - 1, 0), (router, 1));
+    for router in 0..routers {
+        draft.join((router, 0), ((router + 1) % routers, 1));
     }
-    draft.active(0, 2).passive(0, 3).active(routers - 1, 2).passive(routers - 1, 3);
-    draft.shortest_routes();
+    for router in 0..routers {
+        draft.active(router, 2).passive((router + 2) % routers, 3);
+    }
+    for pair in 0..routers {
+        for router in 0..routers {
+            draft.route_active(router, pair, if router == pair { 2 } else { 1 });
+        }
+        let [next, end] = [1, 2].map(|step| (pair + step) % routers);
+        draft.route_passive(pair, pair, 0).route_passive(next, pair, 0);
+        draft.route_passive(end, pair, 3);
+    }
     draft
 }
 
@@ -42,7 +52,7 @@ pub fn answers_around(routers: usize, starts: &[usize], slots: usize, capacity: 
 pub fn ringed(random: &mut Random) -> Fields {
     let (slots, capacity) = (random.within(2..=32), random.within(1..=7));
     let draft = if random.chance(1, 2) {
-        crossing(random.within(2..=16), slots, capacity)
+        set_ups_around(random.within(3..=16), slots, capacity)
     } else {
         let routers = random.within(3..=12);
         let starts: Vec<usize> = (0..routers).filter(|_| random.chance(3, 5)).collect();
@@ -82,11 +92,11 @@ fn pairs_around(random: &mut Random, routers: usize, reach: usize) -> Draft {
     draft
 }
 
-/// A plan with a ring of K queues and no other, or with a ring of routers and none of K.
+/// A plan with a ring of K queues and no other, or with a ring of set-ups' queues and none of K.
 pub fn of_one_kind(random: &mut Random, answers: bool) -> Fields {
     loop {
         let routers = random.within(3..=9);
-        let fields = pairs_around(random, routers, if answers { 3 } else { 2 }).fields().clone();
+        let fields = pairs_around(random, routers, if answers { 3 } else { 4 }).fields().clone();
         let plan = if fields.actives == 0 { None } else { Plan::join(fields).ok() };
         if let Some(plan) = plan {
             if Feeding::of(&plan).rings() == [!answers, answers] {

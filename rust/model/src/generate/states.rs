@@ -95,7 +95,8 @@ fn change_packet(random: &mut Random, network: &Network, state: &mut State) {
 
 fn turn_handled(random: &mut Random, network: &Network, state: &mut State) {
     let router = random.below(network.plan().routers());
-    state.handled[router] = !state.handled[router];
+    let handled = &mut state.handled[router][random.below(SIDES)];
+    *handled = !*handled;
 }
 
 /// A flag turned over, its queue's credit with it.
@@ -159,7 +160,7 @@ fn change_choice(random: &mut Random, network: &Network, state: &mut State) {
 fn change_last(random: &mut Random, network: &Network, state: &mut State) {
     let link = network.links()[random.below(network.links().len())];
     let any = usize::from(random.number() as u8);
-    state.last[network.link_index(link)] = if random.chance(1, 8) { any } else { random.below(5) };
+    state.last[network.link_index(link)] = if random.chance(1, 8) { any } else { random.below(6) };
 }
 
 fn spend_credit(state: &mut State, at: usize) -> bool {

@@ -6,7 +6,7 @@ use super::connection::Connection;
 use super::network::{Link, Network};
 use super::packet::{Hub, Kind, Packet, Slot};
 use super::state::{Credit, Phase, State, Table};
-use crate::feeding::Queue;
+use crate::feeding::{Class, Queue};
 use crate::fields::SIDES;
 use crate::plan::Port;
 
@@ -27,7 +27,7 @@ const MARK_ROW: usize = 64;
 const MARK_PASSIVES: usize = 16;
 const MARK_SLOTS: usize = 32;
 /// Queues and outputs of a router.
-const ROUTER_QUEUES: usize = 21;
+const ROUTER_QUEUES: usize = 28;
 const ROUTER_OUTPUTS: usize = 6;
 
 /// The kinds by their bytes.
@@ -50,10 +50,11 @@ impl Network {
             Queue::ActiveOut(number) => number,
             Queue::PassiveOut(number) => actives + number,
             Queue::U { router, from } => of_router(router) + from,
-            Queue::Q { router } => of_router(router) + 4,
-            Queue::F { router, to } => of_router(router) + 5 + 4 * to,
+            Queue::Q { router, from } => of_router(router) + 4 + from,
+            Queue::F { router, class: Class::SetUps, to } => of_router(router) + 8 + 5 * to,
+            Queue::F { router, class: Class::Answers, to } => of_router(router) + 8 + 5 * to + 1,
             Queue::K { router, from, to } => {
-                of_router(router) + 5 + 4 * to + from + usize::from(from < to)
+                of_router(router) + 8 + 5 * to + from + if from < to { 2 } else { 1 }
             }
             Queue::ActiveIn(number) => ends + number,
             Queue::PassiveIn(number) => ends + actives + number,
@@ -83,7 +84,7 @@ impl Network {
     /// The byte of an active's allowance; of A, the first byte after the allowances.
     pub fn allowance_at(&self, active: usize) -> usize {
         let (actives, passives) = (self.plan().actives(), self.plan().passives());
-        2 + 85 * actives + 85 * passives + 861 * self.plan().routers() + active
+        2 + 85 * actives + 85 * passives + 1134 * self.plan().routers() + active
     }
 
     /// The first byte of an entry.
@@ -155,7 +156,7 @@ impl Network {
         let packets = self.queue(state, queue);
         row[0] = credit as u8;
         row[1] = u8::from(state.flags[at]);
-        row[2] = u8::from(matches!(queue, Queue::Q { router } if state.handled[router]));
+        row[2] = u8::from(state.is_handled(queue));
         row[3] = packets.len() as u8;
         for (place, packet) in row[4..].chunks_exact_mut(PACKET).zip(packets) {
             place.copy_from_slice(&packet_bytes(packet));
@@ -228,8 +229,8 @@ impl Network {
             state.credits[at] = Credit(row[0].into());
         }
         state.flags[at] = row[1] == 1;
-        if let Queue::Q { router } = queue {
-            state.handled[router] = row[2] == 1;
+        if let Queue::Q { router, from } = queue {
+            state.handled[router][from] = row[2] == 1;
         }
         let places = row[4..].chunks_exact(PACKET).take(PLACES.min(row[3].into()));
         state.queues[at] = places.map(packet_of).collect::<Option<VecDeque<_>>>()?;

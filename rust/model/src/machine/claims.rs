@@ -4,11 +4,12 @@ use std::collections::{BTreeSet, HashMap};
 
 use super::connection::Connection;
 use super::list::{Answer, Call};
-use super::network::Network;
+use super::network::{Link, Network};
 use super::packet::{Kind, Slot};
 use super::places::Place;
 use super::state::{Phase, State, Table};
 use crate::feeding::Queue;
+use crate::fields::SIDES;
 
 /// What a list's calls and answers have told so far.
 #[derive(Clone, Debug)]
@@ -29,6 +30,10 @@ pub struct Claims<'n> {
     pub turned: usize,
     /// The most others that ever went before a head that stayed a candidate.
     pub most_before: usize,
+    /// How many of the contested picks were of a unit's way back.
+    pub contested_back: usize,
+    /// How many times a unit handled heads of several sides in one Execute.
+    pub together: usize,
     /// How many heads stayed in sight of a Look over a call that left the phase as it was.
     pub heads_kept: usize,
     /// Of these, how many over a Drop of another active.
@@ -56,6 +61,8 @@ impl<'n> Claims<'n> {
             contested: 0,
             turned: 0,
             most_before: 0,
+            contested_back: 0,
+            together: 0,
             heads_kept: 0,
             kept_at_drops: 0,
             uncovered: 0,
@@ -109,6 +116,7 @@ impl<'n> Claims<'n> {
         self.no_queue_over_capacity(state)?;
         self.note_heads(call, answer.is_ok(), before, state)?;
         if call == Call::Execute && answer.is_ok() {
+            self.note_handled(before, state)?;
             self.note_turns(state)?;
         }
         self.note_moves(call, answer.is_ok(), before, state)
@@ -176,9 +184,31 @@ impl<'n> Claims<'n> {
         Ok(())
     }
 
-    /// "A head that stays a candidate sees at most three others go before it on that output": after
-    /// an accepted Execute. What a head has seen is forgotten when it is picked, or when the output
-    /// picks and it is no candidate.
+    /// "A unit handles each queue's unhandled head once in a round": after an accepted Execute each of
+    /// them is handled or has ended, and no second one has.
+    fn note_handled(&mut self, before: &State, state: &State) -> Result<(), String> {
+        for router in 0..self.network.plan().routers() {
+            let mut heads = 0;
+            for queue in (0..SIDES).map(|from| Queue::Q { router, from }) {
+                let [was, is] = [before, state].map(|state| self.network.queue(state, queue).len());
+                if was == 0 || before.is_handled(queue) {
+                    continue;
+                }
+                heads += 1;
+                let stays = is == was && state.is_handled(queue);
+                let ends = is + 1 == was && !state.is_handled(queue);
+                if !stays && !ends {
+                    return Err(format!("the head of {queue:?} was not handled once"));
+                }
+            }
+            self.together += usize::from(heads > 1);
+        }
+        Ok(())
+    }
+
+    /// "A head that stays a candidate sees at most three others go before it on that output", and at a
+    /// side "at most four": each other sender once. After an accepted Execute. What a head has seen is
+    /// forgotten when it is picked, or when the output picks and it is no candidate.
     fn note_turns(&mut self, state: &State) -> Result<(), String> {
         for &link in self.network.links() {
             let at = self.network.link_index(link);
@@ -188,12 +218,14 @@ impl<'n> Claims<'n> {
             };
             let candidates = self.network.candidates(state, link);
             self.contested += usize::from(candidates.len() > 1);
+            let back = matches!(link, Link::Back(_));
+            self.contested_back += usize::from(back && candidates.len() > 1);
             self.turned += usize::from(candidates.first().is_some_and(|&first| first != picked));
             for (rank, others) in self.passed_by[at].iter_mut().enumerate() {
                 let stays = rank != picked && candidates.contains(&rank);
                 *others = if stays { *others + 1 } else { 0 };
                 self.most_before = self.most_before.max(*others);
-                if *others > 3 {
+                if *others > self.network.last_in_order(link) {
                     return Err(format!("{others} others went before sender {rank} of {link:?}"));
                 }
             }
@@ -318,11 +350,10 @@ impl<'n> Claims<'n> {
     /// Whether an accepted call took a packet out of its queue or wire: a full wire at Read, a
     /// packet that ends in Execute, a picked head at Write.
     fn moves(&self, call: Call, before: &State, state: &State) -> bool {
-        let mut routers = 0..self.network.plan().routers();
-        let waiting = |state, router| self.network.queue(state, Queue::Q { router }).len();
+        let mut queues = state.queues.iter().zip(&before.queues);
         match call {
             Call::Read => before.wires.iter().any(Option::is_some),
-            Call::Execute => routers.any(|router| waiting(state, router) < waiting(before, router)),
+            Call::Execute => queues.any(|(queue, before)| queue.len() < before.len()),
             Call::Write => before.choices.iter().any(Option::is_some),
             _ => false,
         }

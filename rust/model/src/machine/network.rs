@@ -2,7 +2,7 @@
 
 use super::packet::Packet;
 use super::rules::Rules;
-use crate::feeding::Queue;
+use crate::feeding::{Class, Queue};
 use crate::fields::{Joint, SIDES};
 use crate::plan::{Plan, Port};
 use crate::walk::{Hop, Interface};
@@ -134,19 +134,29 @@ impl Network {
         capacities.active_out.min(capacities.active_in)
     }
 
-    /// The queues that may send over a link, in order: "`F[o]`, `K[0,o]` to
-    /// `K[3,o]` for a side; `U[0]` to `U[3]` to the unit; Q to F; an interface's out-queue".
+    /// The queues that may send over a link, in order: "set-up F, answer F, then K" for a side;
+    /// "`U[0]` to `U[3]` to the unit; Q to F", side 0 first; "an interface's out-queue".
     pub fn senders(&self, link: Link) -> Vec<Queue> {
         match link {
             Link::Side(Port { router, side: to }) => {
                 let from = (0..SIDES).filter(|&from| from != to);
                 let crossing = from.map(|from| Queue::K { router, from, to });
-                std::iter::once(Queue::F { router, to }).chain(crossing).collect()
+                let unit = self.classes().map(|class| Queue::F { router, class, to });
+                unit.into_iter().chain(crossing).collect()
             }
             Link::Unit(router) => (0..SIDES).map(|from| Queue::U { router, from }).collect(),
-            Link::Back(router) => vec![Queue::Q { router }],
+            Link::Back(router) => (0..SIDES).map(|from| Queue::Q { router, from }).collect(),
             Link::Active(number) => vec![Queue::ActiveOut(number)],
             Link::Passive(number) => vec![Queue::PassiveOut(number)],
+        }
+    }
+
+    /// The two F of a side, in order.
+    fn classes(&self) -> [Class; 2] {
+        if self.rules.answers_before_set_ups {
+            [Class::Answers, Class::SetUps]
+        } else {
+            [Class::SetUps, Class::Answers]
         }
     }
 
@@ -174,9 +184,12 @@ impl Network {
                 Joint::Active(number) => Some(Queue::ActiveIn(number)),
                 Joint::Passive(number) => Some(Queue::PassiveIn(number)),
             },
-            Link::Unit(router) => Some(Queue::Q { router }),
+            Link::Unit(router) => {
+                self.comes_in_by(router, packet).map(|from| Queue::Q { router, from })
+            }
             Link::Back(router) => {
-                self.route(router, packet).map(|side| Queue::F { router, to: side })
+                let class = packet.class();
+                self.route(router, packet).map(|to| Queue::F { router, class, to })
             }
             Link::Active(number) => self.enter_router(self.plan.active_port(number), packet),
             Link::Passive(number) => self.enter_router(self.plan.passive_port(number), packet),
@@ -190,6 +203,12 @@ impl Network {
         } else {
             Some(Queue::U { router, from })
         }
+    }
+
+    /// The side by which the walk of the packet's pair comes in at a router.
+    fn comes_in_by(&self, router: usize, packet: &Packet) -> Option<usize> {
+        let journey = self.journey(packet.active, packet.passive)?;
+        journey.walk.iter().find(|hop| hop.router == router).map(|hop| hop.came_in)
     }
 
     /// The side the plan gives at a router for the interface a packet goes to.
@@ -211,16 +230,18 @@ fn journey(plan: &Plan, active: usize, passive: usize) -> Option<Journey> {
     Some(Journey { walk, back, answers: plan.passive_port(passive) })
 }
 
-/// "Active out and in; passive in and out; per router `U[i]`, Q, `F[o]`, `K[i,o]` with i≠o."
+/// "Active out and in; passive in and out; per router `U[i]`, Q, `F[o]`, `K[i,o]` with i≠o", Q one for
+/// each side and each F two.
 fn queues(plan: &Plan) -> Vec<Queue> {
     let mut queues = Vec::with_capacity(Queue::count(plan));
     queues.extend((0..plan.actives()).flat_map(|n| [Queue::ActiveOut(n), Queue::ActiveIn(n)]));
     queues.extend((0..plan.passives()).flat_map(|n| [Queue::PassiveIn(n), Queue::PassiveOut(n)]));
     for router in 0..plan.routers() {
-        queues.push(Queue::Q { router });
         for side in 0..SIDES {
             queues.push(Queue::U { router, from: side });
-            queues.push(Queue::F { router, to: side });
+            queues.push(Queue::Q { router, from: side });
+            queues.push(Queue::F { router, class: Class::SetUps, to: side });
+            queues.push(Queue::F { router, class: Class::Answers, to: side });
             let others = (0..SIDES).filter(|&to| to != side);
             queues.extend(others.map(|to| Queue::K { router, from: side, to }));
         }

@@ -1,5 +1,7 @@
 //! Packets and two of the three counters: slots and hub counts.
 
+use crate::feeding::Class;
+
 /// "SETUP and TDOWN go to the passive, ACK and NACK to the active."
 #[derive(Clone, Copy, Debug, PartialEq, Eq, Hash)]
 pub enum Kind {
@@ -72,6 +74,15 @@ impl Packet {
     /// Whether it goes to the active.
     pub fn is_answer(&self) -> bool {
         matches!(self.kind, Kind::Ack | Kind::Nack)
+    }
+
+    /// Which F takes it from the unit.
+    pub fn class(&self) -> Class {
+        if self.is_answer() {
+            Class::Answers
+        } else {
+            Class::SetUps
+        }
     }
 
     /// "A NACK with hub 0 is marked": here one that is not.

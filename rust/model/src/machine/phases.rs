@@ -6,6 +6,7 @@ use super::packet::{Hub, Kind, Packet, Slot};
 use super::rules::Rules;
 use super::state::{is_out_queue, Credit, Phase, State, Table};
 use crate::feeding::Queue;
+use crate::fields::SIDES;
 use crate::plan::Port;
 
 impl Network {
@@ -42,7 +43,7 @@ impl Network {
     /// "EXECUTE, in this order": units, outputs, tear-downs.
     pub(super) fn run_execute(&self, state: &mut State) {
         for router in 0..self.plan().routers() {
-            self.handle_head(state, router);
+            self.handle_heads(state, router);
         }
         for &link in self.links() {
             state.choices[self.link_index(link)] = self.pick(state, link);
@@ -53,17 +54,28 @@ impl Network {
         state.phase = Phase::Write;
     }
 
-    /// "(1) Each unit handles Q's head once, if not yet handled, and no second head in that round."
-    fn handle_head(&self, state: &mut State, router: usize) {
-        let q = self.queue_index(Queue::Q { router });
-        let Some(head) = state.queues[q].front_mut().filter(|_| !state.handled[router]) else {
-            return;
+    /// "(1) A unit handles each queue's unhandled head once in a round, side 0 first."
+    fn handle_heads(&self, state: &mut State, router: usize) {
+        for at in 0..SIDES {
+            let from = if self.rules().highest_side_first { SIDES - 1 - at } else { at };
+            if self.handle_head(state, router, from) && self.rules().one_head_a_unit {
+                return;
+            }
+        }
+    }
+
+    /// The head of one queue, if there is one that is not handled yet; whether there was.
+    fn handle_head(&self, state: &mut State, router: usize, from: usize) -> bool {
+        let q = self.queue_index(Queue::Q { router, from });
+        let handled = &mut state.handled[router][from];
+        let Some(head) = state.queues[q].front_mut().filter(|_| !*handled) else {
+            return false;
         };
         let found = *head;
         match self.handle(&mut state.table, router, found) {
             Some(packet) => {
                 *head = packet;
-                state.handled[router] = true;
+                *handled = true;
             }
             None => {
                 // "The packet ends and Q's flag rises."
@@ -74,6 +86,7 @@ impl Network {
                 }
             }
         }
+        true
     }
 
     /// The connection of a TDOWN at this router: at the n-th one its slot is the start slot + n.
@@ -141,6 +154,7 @@ impl Network {
         let last = state.last[self.link_index(link)];
         match self.rules() {
             Rules { lowest_first: true, .. } => 0,
+            Rules { unit_sends_lowest_first: true, .. } if matches!(link, Link::Back(_)) => 0,
             Rules { same_one_again: true, .. } => last,
             _ => last + 1,
         }
@@ -199,8 +213,8 @@ impl Network {
     fn send(&self, state: &mut State, sender: Queue) -> Packet {
         let at = self.queue_index(sender);
         state.flags[at] = !is_out_queue(sender);
-        if let Queue::Q { router } = sender {
-            state.handled[router] = false;
+        if let Queue::Q { router, from } = sender {
+            state.handled[router][from] = false;
         }
         state.queues[at].pop_front().expect("a candidate has a head")
     }

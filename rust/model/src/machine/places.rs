@@ -2,7 +2,7 @@
 
 use super::network::{Journey, Link, Network};
 use super::packet::{Kind, Packet, HUB_MAX};
-use crate::feeding::Queue;
+use crate::feeding::{Class, Queue};
 use crate::fields::Joint;
 use crate::plan::{Plan, Port};
 
@@ -11,8 +11,8 @@ use crate::plan::{Plan, Port};
 pub enum Place {
     /// A queue; in Q, anywhere but as its handled head.
     In(Queue),
-    /// The handled head of a router's Q.
-    Handled(usize),
+    /// The handled head of a router's Q of that side.
+    Handled(Port),
     /// The wire of a link.
     On(Link),
 }
@@ -48,22 +48,27 @@ impl Journey {
     /// if it is never there. Before a unit's handling its router is still ahead, after it passed.
     fn booked_before(&self, packet: &Packet, place: Place) -> Option<usize> {
         let at = |router| self.walk.iter().position(|hop| hop.router == router);
+        let entering = |router, from| at(router).filter(|&k| self.walk[k].came_in == from);
         let leaving = |port: Port| at(port.router).filter(|&k| self.walk[k].side == port.side);
         match place {
             Place::In(Queue::ActiveOut(active)) | Place::On(Link::Active(active)) => {
                 (active == packet.active).then_some(0)
             }
-            Place::In(Queue::U { router, from }) => {
-                at(router).filter(|&k| self.walk[k].came_in == from)
+            Place::In(Queue::U { router, from } | Queue::Q { router, from }) => {
+                entering(router, from)
             }
-            Place::On(Link::Unit(router)) | Place::In(Queue::Q { router }) => at(router),
-            Place::Handled(router) | Place::On(Link::Back(router)) => at(router).map(|k| k + 1),
-            Place::In(Queue::F { router, to }) => leaving(Port { router, side: to }).map(|k| k + 1),
+            Place::On(Link::Unit(router)) => at(router),
+            Place::Handled(Port { router, side }) => entering(router, side).map(|k| k + 1),
+            Place::On(Link::Back(router)) => at(router).map(|k| k + 1),
+            Place::In(Queue::F { router, class: Class::SetUps, to }) => {
+                leaving(Port { router, side: to }).map(|k| k + 1)
+            }
             Place::On(Link::Side(port)) => leaving(port).map(|k| k + 1),
             Place::In(Queue::PassiveIn(passive)) => {
                 (passive == packet.passive).then_some(self.walk.len())
             }
-            Place::In(Queue::K { .. } | Queue::ActiveIn(_) | Queue::PassiveOut(_))
+            Place::In(Queue::F { class: Class::Answers, .. } | Queue::K { .. })
+            | Place::In(Queue::ActiveIn(_) | Queue::PassiveOut(_))
             | Place::On(Link::Passive(_)) => None,
         }
     }
@@ -87,8 +92,11 @@ impl Journey {
         let back = &self.back[k];
         let Port { router, side } = back[0];
         match place {
-            Place::Handled(at) | Place::On(Link::Back(at)) => at == router,
-            Place::In(Queue::F { router: at, to }) => (at, to) == (router, side),
+            Place::Handled(at) => at == Port { router, side: self.walk[k].came_in },
+            Place::On(Link::Back(at)) => at == router,
+            Place::In(Queue::F { router: at, class: Class::Answers, to }) => {
+                (at, to) == (router, side)
+            }
             _ => crosses(plan, back, packet, place),
         }
     }

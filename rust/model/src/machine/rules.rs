@@ -43,6 +43,14 @@ pub struct Rules {
     pub accepted_at_the_look: bool,
     /// The allowance grows when an answer is looked at, not when it is dropped.
     pub allowance_at_the_look: bool,
+    /// A unit handles one head in a round, that of the first Q that has one which is not handled.
+    pub one_head_a_unit: bool,
+    /// A unit handles the head of side 3 first and that of side 0 last.
+    pub highest_side_first: bool,
+    /// A side's order is answer F, set-up F, then K.
+    pub answers_before_set_ups: bool,
+    /// A unit sends the head of the lowest side that has a candidate, whoever sent last.
+    pub unit_sends_lowest_first: bool,
 }
 
 impl Rules {

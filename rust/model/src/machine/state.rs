@@ -47,8 +47,8 @@ pub struct State {
     pub credits: Vec<Credit>,
     /// The flag of each queue fed by a wire.
     pub flags: Vec<bool>,
-    /// Whether Q's head is handled, by router.
-    pub handled: Vec<bool>,
+    /// Whether the head of `Q[i]` is handled, by router and side.
+    pub handled: Vec<[bool; SIDES]>,
     /// "Wires hold nothing or one packet."
     pub wires: Vec<Option<Packet>>,
     /// The sender that each output picked.
@@ -98,6 +98,13 @@ impl Table {
     }
 }
 
+impl State {
+    /// Whether this is a Q whose head is handled.
+    pub fn is_handled(&self, queue: Queue) -> bool {
+        matches!(queue, Queue::Q { router, from } if self.handled[router][from])
+    }
+}
+
 /// Whether this is an interface's out-queue.
 pub fn is_out_queue(queue: Queue) -> bool {
     matches!(queue, Queue::ActiveOut(_) | Queue::PassiveOut(_))
@@ -107,7 +114,7 @@ impl Network {
     /// Whether a wire leads into this queue: it has credit and a flag. "A wire enters each joined
     /// side and each interface from its neighbour; one leads from router to unit, one back." What
     /// enters by side i goes to `U[i]` or a `K[i,o]`, what enters an interface to its in-queue, what
-    /// goes to the unit to Q, and back to an `F[o]`.
+    /// goes to the unit to a `Q[i]`, and back to an `F[o]`.
     pub fn is_fed_by_a_wire(&self, queue: Queue) -> bool {
         match queue {
             Queue::U { router, from: side } | Queue::K { router, from: side, .. } => {
@@ -134,7 +141,7 @@ impl Network {
             queues: vec![VecDeque::new(); queues],
             credits,
             flags: vec![false; queues],
-            handled: vec![false; plan.routers()],
+            handled: vec![[false; SIDES]; plan.routers()],
             wires: vec![None; self.links().len()],
             choices: vec![None; self.links().len()],
             table: Table::free(plan.routers(), plan.slots()),
@@ -156,10 +163,7 @@ impl Network {
 
     /// "A candidate has a head (in Q a handled one) and its next queue has credit."
     pub fn is_candidate(&self, state: &State, link: Link, sender: Queue) -> bool {
-        let ready = match sender {
-            Queue::Q { router } => state.handled[router],
-            _ => true,
-        };
+        let ready = !matches!(sender, Queue::Q { .. }) || state.is_handled(sender);
         let head = self.queue(state, sender).front().filter(|_| ready);
         let next = head.and_then(|head| self.next_queue(link, head));
         next.is_some_and(|next| state.credits[self.queue_index(next)] != Credit(0))

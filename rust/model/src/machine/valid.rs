@@ -9,6 +9,7 @@ use super::places::Place;
 use super::state::{Phase, State};
 use crate::feeding::Queue;
 use crate::fields::SIDES;
+use crate::plan::Port;
 
 /// A condition that a state meets.
 type Condition = fn(&Network, &State) -> bool;
@@ -60,11 +61,13 @@ impl Network {
     pub fn packets<'s>(&'s self, state: &'s State) -> impl Iterator<Item = (Place, &'s Packet)> {
         let queued = self.queues().iter().flat_map(move |&queue| {
             let handled = match queue {
-                Queue::Q { router } if state.handled[router] => Some(router),
+                Queue::Q { router, from } if state.handled[router][from] => {
+                    Some(Port { router, side: from })
+                }
                 _ => None,
             };
             self.queue(state, queue).iter().enumerate().map(move |(at, packet)| match handled {
-                Some(router) if at == 0 => (Place::Handled(router), packet),
+                Some(port) if at == 0 => (Place::Handled(port), packet),
                 _ => (Place::In(queue), packet),
             })
         });
@@ -155,8 +158,8 @@ fn flags_allowed(network: &Network, state: &State) -> bool {
 }
 
 fn marks_have_heads(network: &Network, state: &State) -> bool {
-    let has_head = |router| !network.queue(state, Queue::Q { router }).is_empty();
-    state.handled.iter().enumerate().all(|(router, &handled)| !handled || has_head(router))
+    let mut handled = network.queues().iter().filter(|&&queue| state.is_handled(queue));
+    handled.all(|&queue| !network.queue(state, queue).is_empty())
 }
 
 fn answers_in_q_are_handled(network: &Network, state: &State) -> bool {

@@ -57,6 +57,7 @@ fn loading() -> Vec<Named> {
             ("declining", declining().encode()),
             ("wider-t", wider_t().encode()),
             ("narrow-there", narrow_there().encode()),
+            ("narrow-to-the-unit", narrow_to_the_unit().encode()),
             ("narrow-back", narrow_back().encode()),
             ("all-sides", all_sides().encode()),
             ("row-of-four", row_of_four().encode()),
@@ -69,6 +70,11 @@ fn loading() -> Vec<Named> {
             ("walk-in-a-circle", walk_in_a_circle().encode()),
             ("no-served-pair", no_served_pair().encode()),
             ("one-way-of-crossing", one_way_of_crossing().encode()),
+            ("crossing", crossing().encode()),
+            ("crossing-four-slots", crossing_four_slots().encode()),
+            ("crossing-row", crossing_row().encode()),
+            ("crossing-star", crossing_star().encode()),
+            ("crossing-sixteen", crossed::line(16, 32, 7).encode()),
             ("answers-around-without-ring", rings::answers_around(5, &[0, 2], 4, 1).encode()),
         ],
     )
@@ -132,10 +138,9 @@ fn refused_by_ring() -> Vec<Named> {
     list(
         6,
         [
-            ("crossing", crossing().encode()),
-            ("crossing-sixteen", rings::crossing(16, 32, 7).encode()),
             ("answers-ring", answers_ring().encode()),
             ("set-ups-ring", set_ups_ring().encode()),
+            ("set-ups-around-sixteen", rings::set_ups_around(16, 32, 7).encode()),
         ],
     )
 }

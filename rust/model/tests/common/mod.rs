@@ -3,8 +3,14 @@
 // Each file of tests uses a part of it.
 #![allow(dead_code)]
 
-use model::machine::{Answer, Call, Connection, Hub, Kind, Network, Packet, Rules, Slot, State};
+use model::machine::{
+    Answer, Call, Connection, Hub, Kind, Link, Network, Packet, Rules, Slot, State,
+};
 use model::Queue;
+
+pub mod plans;
+pub mod queues;
+pub mod watch;
 
 /// A network that is run in whole rounds; the round's number is told by the rounds run so far.
 pub struct Run {
@@ -123,6 +129,16 @@ impl Run {
         self.state.credits[self.network.queue_index(queue)].0
     }
 
+    /// A queue's flag: 1 up, 0 down.
+    pub fn flag(&self, queue: Queue) -> usize {
+        usize::from(self.state.flags[self.network.queue_index(queue)])
+    }
+
+    /// The last sender that an output served, by its rank.
+    pub fn last(&self, link: Link) -> usize {
+        self.state.last[self.network.link_index(link)]
+    }
+
     /// The entries of a side, slot by slot.
     pub fn side(&self, router: usize, side: usize) -> Vec<u32> {
         (0..self.network.slots()).map(|slot| self.entry(router, side, slot)).collect()
@@ -150,4 +166,20 @@ pub fn packet(kind: Kind, slot: usize, hub: usize) -> Packet {
 
 pub fn packet_of((active, passive): (usize, usize), kind: Kind, slot: usize, hub: usize) -> Packet {
     Packet { kind, active, passive, slot: Slot(slot), hub: Hub(hub) }
+}
+
+pub fn set_up(active: usize, passive: usize, slot: usize, hub: usize) -> Packet {
+    packet_of((active, passive), Kind::Setup, slot, hub)
+}
+
+pub fn tear_down(active: usize, passive: usize, slot: usize, hub: usize) -> Packet {
+    packet_of((active, passive), Kind::Tdown, slot, hub)
+}
+
+pub fn ack(active: usize, passive: usize, slot: usize, hub: usize) -> Packet {
+    packet_of((active, passive), Kind::Ack, slot, hub)
+}
+
+pub fn nack(active: usize, passive: usize, slot: usize, hub: usize) -> Packet {
+    packet_of((active, passive), Kind::Nack, slot, hub)
 }

@@ -1,4 +1,4 @@
-//! The calls of the pages: five lists, and a caller that keeps a network busy.
+//! The calls of the pages: six lists, and a caller that keeps a network busy.
 
 use model::generate::Random;
 use trace::net::Phase;
@@ -74,6 +74,17 @@ pub fn turns() -> Vec<Call> {
     calls.extend([Call::Read, Call::Execute, replies[0], replies[1], Call::Write]);
     calls.extend(rounds(6));
     calls.extend([Call::Read, Call::Execute, Call::Drop { active: 0 }, Call::Write]);
+    calls
+}
+
+/// One router: in round 7 the third set-ups of both actives are heads of `Q[0]` and `Q[1]` and ask for the
+/// same entry.
+pub fn heads() -> Vec<Call> {
+    let launch = |active, passive, slot| Call::Launch { active, passive, slot };
+    let mut calls = vec![launch(0, 0, 0), launch(0, 0, 4), launch(0, 1, 1), launch(1, 0, 3)];
+    calls.extend(rounds(2));
+    calls.extend([launch(1, 0, 3), launch(1, 1, 1)]);
+    calls.extend(rounds(9));
     calls
 }
 

@@ -1,4 +1,4 @@
-//! Writes the pages that the browser tests open into a folder: nine runs and some on random plans
+//! Writes the pages that the browser tests open into a folder: eleven runs and some on random plans
 //! for the self-test, and one of 5,000 calls on the largest plan for the times.
 //!
 //!     cargo run --release -p replay --example pages -- FOLDER
@@ -78,10 +78,15 @@ fn main() -> ExitCode {
     let note = "Several senders at one output take turns.";
     let one = plans::one_router();
     write(folder, "turns", "Turn about at an output", note, &one, &mut scripted(callers::turns()));
+    let note = "A unit handles the heads of all its queues, and sends one packet.";
+    write(folder, "heads", "Heads of a unit", note, &one, &mut scripted(callers::heads()));
     let note = "Answers are looked at in every phase, and then dropped.";
     write(folder, "looked", "Look before dropping", note, &one, &mut scripted(callers::looked()));
     let note = "Three sensors, two drives, any calls.";
     write(folder, "arm", "An arm of three routers", note, &plans::arm(), &mut busy(3, 420));
+    let note = "Sensors and drives on each end of the line: set-ups cross.";
+    let double_box = plans::double_box();
+    write(folder, "crossing", "The double-box arm", note, &double_box, &mut busy(8, 500));
     let note = "Nine routers; sensors left and above, drives below and right.";
     write(folder, "mesh", "A mesh of nine routers", note, &plans::mesh(), &mut busy(4, 500));
     // The title has every sign that could end a tag, a string or the data block.

@@ -1,6 +1,6 @@
 //! The plans of the pages.
 
-use model::generate::{good, Draft, Random};
+use model::generate::{crossing, good, Draft, Random};
 use model::named;
 use trace::{Names, Plan};
 
@@ -35,6 +35,17 @@ pub fn arm() -> Plan {
     draft.active(0, 0).active(1, 2).active(2, 3).passive(2, 1).passive(2, 2).shortest_routes();
     let routers = ["foot", "shoulder", "wrist"];
     named_plan(&draft, &routers, &["camera", "force", "lidar"], &["drive", "valve"])
+}
+
+/// The double-box arm: four routers in a line, two sensors, a drive and a valve at each end.
+pub fn double_box() -> Plan {
+    let mut draft = Draft::new(4, 8, 2);
+    draft.join((0, 1), (1, 0)).join((1, 1), (2, 0)).join((2, 1), (3, 0));
+    draft.active(0, 0).active(0, 2).active(3, 1).active(3, 2);
+    draft.passive(0, 3).passive(1, 2).passive(3, 3).passive(2, 2).shortest_routes();
+    let actives = ["camera1", "force1", "camera2", "force2"];
+    let passives = ["drive1", "valve1", "drive2", "valve2"];
+    named_plan(&draft, &["box1", "arm1", "arm2", "box2"], &actives, &passives)
 }
 
 /// Three times three routers; actives left and above, passives below and right.
@@ -96,11 +107,14 @@ pub fn largest() -> Plan {
     named_plan(&named::largest(), &[], &[], &[])
 }
 
-/// Plans of all sizes and forms, the same each time.
+/// Plans of all sizes and forms, every other one with set-ups that cross, the same each time.
 pub fn random(count: usize) -> Vec<Plan> {
     let mut random = Random::new(77);
-    let plan = |_| {
-        let bytes = good::loadable(&mut random).encode();
+    let plan = |number| {
+        let bytes = match number % 2 {
+            0 => good::loadable(&mut random).encode(),
+            _ => crossing::any(&mut random).encode(),
+        };
         let fields = trace::Fields::read(&bytes).expect("the plan can be read");
         let names = Names::numbered(fields.joints.len(), fields.actives, fields.passives);
         Plan::load(&bytes, names).expect("the plan loads")

@@ -42,7 +42,7 @@ function stepHtml(step, current) {
 function routerHtml(router) {
   const credits = creditsOf(shown.state);
   const queues = run.places.filter((place) => place.router === router && !isWire(place) && place.credit);
-  const used = queues.filter((place) => place.spot !== "cross" || isJoined(place));
+  const used = queues.filter(isJoined);
   const rows = used.map((place) => queueHtml(place, credits)).join("");
   const head = tableHead("queue", "packets, head first", "capacity", "credit", "flag");
   return `<h3>${html.router(router)}</h3>${turnsHtml(router)}<table>${head}<tbody>${rows}</tbody></table>`;
@@ -69,7 +69,7 @@ function queueShort(place) {
   return escapeText(place.name.replace(/ of .*/, ""));
 }
 
-/** Whether the side that a queue's packets leave by is joined. */
+/** Whether the side that a queue belongs to is joined. */
 function isJoined(place) {
   return run.plan.joints[place.router][place.side][0] !== JOINT.nothing;
 }

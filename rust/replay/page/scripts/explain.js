@@ -20,11 +20,43 @@ function entryText(entry) {
 /** All sentences about a call: its events, the state before it and the one after. */
 function explain(call, events, before, after) {
   if (call.refusal) return [{ html: "Nothing changed: a refusal alters no byte." }];
-  const sentences = events.map((event) => eventSentence(call, event, before, after)).filter(Boolean);
+  const sentence = (event) => eventSentence(call, event, foundBy(event, events, before), after);
+  const sentences = events.map(sentence).filter(Boolean);
   if (call.letter === "X") sentences.push(...executeSentences(after, sentences.length));
   if (call.letter === "R" || call.letter === "W") sentences.push(...moveSentences(call, events));
   if (call.letter === "H") sentences.push(lookSentence(call, after));
   return sentences;
+}
+
+/** The place at a unit where an event's packet was handled, if it was. */
+function unitOf({ what, packet, before }) {
+  const place = what === "changed" || what === "ended" ? placeOf((before ?? packet).place) : null;
+  return place?.spot === "unit" ? place : null;
+}
+
+/** The state as a unit found it when it handled a declined set-up: the one before the call, with what the heads of
+    lower sides booked and freed in the same call. */
+function foundBy(event, events, before) {
+  const unit = unitOf(event);
+  if (!unit || event.packet.kind !== "N") return before;
+  const { router, side } = unit;
+  const isEarlier = (other) => unitOf(other)?.router === router && unitOf(other).side < side;
+  const earlier = events.filter(isEarlier).sort((one, other) => unitOf(one).side - unitOf(other).side);
+  const found = copyState(before);
+  for (const { packet, before: was = packet } of earlier) {
+    const hop = hopAt(was);
+    const entry = entryNumber(router, hop.side, was.slot);
+    if (was.kind === "T") found.table[entry] = FREE;
+    else if (packet.kind === "S") setBooked(found, entry, hop, packet);
+  }
+  return found;
+}
+
+/** An entry is booked for a set-up. */
+function setBooked(state, entry, hop, packet) {
+  state.table[entry] = hop.cameIn;
+  state.owners[entry] = packet.id;
+  state.holds[entry] = "w";
 }
 
 /** The sentence about an event, if it has one of its own. */

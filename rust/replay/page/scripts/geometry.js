@@ -2,19 +2,29 @@
 
 /** Sizes of the drawing. A side's frame has x outwards from the box's middle and y along the edge. */
 const SIZE = {
-  box: 66, // half a router's box
-  lane: 17, // in- and out-lane, off the middle of a side
-  deep: 48, // trays, off the middle of the box
-  corner: 48, // the tray of crossing answers, along the edge
-  tray: [30, 20],
-  unit: [44, 74],
-  gap: 22, // the wires between a box and an interface
-  upright: [76, 24], // an interface above or below a router
+  box: 72, // half a router's box
+  lane: 20, // in- and out-lane, off the middle of a side
+  number: 4, // the number of a side, off the edge
+  tray: [30, 18],
+  unit: [72, 92],
+  unitTray: [17.5, 11.5], // the trays of a unit, off its middle
+  unitWire: 35, // the wires to and from a unit, above and below its trays
+  gap: 20, // the wires between a box and an interface
+  upright: [76, 22], // an interface above or below a router
   lying: [44, 66], // an interface beside a router
-  name: 18, // room for an interface's name
+  name: 16, // room for an interface's name
   beside: 30, // room for what a name is wider than an interface beside a router
-  between: 44, // between two boxes
+  between: [42, 38], // between two boxes beside and above one another
   margin: 8, // around the drawing
+};
+
+/** The trays at a side in its frame: at the right or left edge of a box below one another, at the upper or lower
+    edge beside one another, where the last has room only further in. */
+const TRAYS = {
+  in: { beside: [54, -20], above: [61, -20] },
+  out: { beside: [54, 20], above: [61, 20] },
+  "out-back": { beside: [54, 40.5], above: [61, 54] },
+  cross: { beside: [54, 61], above: [40.5, 54] },
 };
 
 /** A point of a side's frame, turned to an edge. */
@@ -74,8 +84,8 @@ function spread(room) {
 /** Works out the map: middles of the boxes, where interfaces are joined, width and height. */
 function workOutMap() {
   const layout = layOut();
-  const columns = spread(gaps(layout, 0, SIZE.gap + SIZE.lying[0] + SIZE.beside, SIZE.between));
-  const rows = spread(gaps(layout, 1, SIZE.gap + SIZE.upright[1] + SIZE.name, SIZE.between));
+  const columns = spread(gaps(layout, 0, SIZE.gap + SIZE.lying[0] + SIZE.beside, SIZE.between[0]));
+  const rows = spread(gaps(layout, 1, SIZE.gap + SIZE.upright[1] + SIZE.name, SIZE.between[1]));
   run.map = {
     edges: layout.edges,
     centres: layout.cells.map(([column, row]) => [columns.middles[column], rows.middles[row]]),
@@ -109,20 +119,22 @@ function interfacePoint(joined, lane) {
   return pointAt(joined.router, edge, SIZE.box + SIZE.gap + depth / 2, lane);
 }
 
-/** The queues of a unit stand in the middle, several below one another. */
-function unitPoint({ router, index, of }) {
-  return pointAt(router, 0, 0, (index - (of - 1) / 2) * 18);
+/** The queues of a unit stand in the middle, sides 0 and 1 above sides 2 and 3. */
+function unitPoint({ router, side }) {
+  const [x, y] = SIZE.unitTray;
+  return pointAt(router, 0, side % 2 ? x : -x, side < 2 ? -y : y);
 }
 
 /** Every spot that the data can give a place: the numbers that go with it, and the point where its packets
     are drawn. A spot more is one entry. */
 const SPOTS = {
-  in: { numbers: ["router", "side"], point: (place) => sidePoint(place, -SIZE.lane) },
-  out: { numbers: ["router", "side"], point: (place) => sidePoint(place, SIZE.lane) },
-  cross: { numbers: ["router", "side"], point: (place) => sidePoint(place, SIZE.corner) },
-  unit: { numbers: ["router", "index", "of"], point: unitPoint },
-  "to-unit": { numbers: ["router"], point: ({ router }) => pointAt(router, 0, 0, -23) },
-  "from-unit": { numbers: ["router"], point: ({ router }) => pointAt(router, 0, 0, 23) },
+  in: { numbers: ["router", "side"], point: trayPoint },
+  out: { numbers: ["router", "side"], point: trayPoint },
+  "out-back": { numbers: ["router", "side"], point: trayPoint },
+  cross: { numbers: ["router", "side"], point: trayPoint },
+  unit: { numbers: ["router", "side"], point: unitPoint },
+  "to-unit": { numbers: ["router"], point: ({ router }) => pointAt(router, 0, 0, -SIZE.unitWire) },
+  "from-unit": { numbers: ["router"], point: ({ router }) => pointAt(router, 0, 0, SIZE.unitWire) },
   "active-out": { numbers: ["active"], point: (place) => interfacePoint(homeOf(place), -SIZE.lane) },
   "active-in": { numbers: ["active"], point: (place) => interfacePoint(homeOf(place), SIZE.lane) },
   "passive-out": { numbers: ["passive"], point: (place) => interfacePoint(homeOf(place), -SIZE.lane) },
@@ -138,8 +150,10 @@ function homeOf({ active, passive }) {
 }
 
 /** A tray at a router's side. */
-function sidePoint({ router, side }, along) {
-  return pointAt(router, run.map.edges[router][side], SIZE.deep, along);
+function trayPoint({ spot, router, side }) {
+  const edge = run.map.edges[router][side];
+  const [x, y] = TRAYS[spot][edge % 2 ? "above" : "beside"];
+  return pointAt(router, edge, x, y);
 }
 
 /** A wire as a curve of four points, from its sender to where it leads; none for the wires of a unit. */

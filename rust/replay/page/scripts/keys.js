@@ -152,7 +152,8 @@ function signSentences() {
     "The letter is the connection: active, passive and start slot, in the order of the launches.",
     "A dot at a packet's tip: it is picked. ●○ beside an active: allowance left and spent.",
     "A bar across a side's way out: its entry for the current slot is booked, nobody leaves by it.",
-    "U, Q, F and K are document 01's queues; K·1 holds the answers that cross to side 1.",
+    "U, Q, F and K are the documents' queues: Q1 holds what came in by side 1 and stands at the unit, " +
+      "F1+ the set-ups and tear-downs from the unit to side 1, F1✕ its NACKs, K·1 the answers that cross to side 1.",
   ];
 }
 

@@ -54,7 +54,7 @@ function drawWire(place, layer) {
 function drawRouter(router, layer) {
   const group = svgElement("g", { class: "router", "data-router": router }, layer);
   const centre = run.map.centres[router];
-  svgBox(centre, [2 * SIZE.box, 2 * SIZE.box], { rx: 10, class: "router-box" }, group);
+  svgBox(centre, [2 * SIZE.box, 2 * SIZE.box], { rx: 7, class: "router-box" }, group);
   svgBox(centre, SIZE.unit, { rx: 8, class: "unit" }, group);
   drawn.routers[router] = { group, trays: svgElement("g", {}, group) };
   drawRouterName(router, group);
@@ -77,11 +77,11 @@ function drawRouterName(router, group) {
 /** The number of a side, and the bar that shows that its entry for the current slot is booked. */
 function drawSide(router, side, group) {
   const edge = run.map.edges[router][side];
-  const [from, to] = [pointAt(router, edge, SIZE.box, SIZE.lane - 8), pointAt(router, edge, SIZE.box, SIZE.lane + 8)];
+  const [from, to] = [pointAt(router, edge, SIZE.box, SIZE.lane - 6), pointAt(router, edge, SIZE.box, SIZE.lane + 8)];
   const bar = svgElement("line", { x1: from[0], y1: from[1], x2: to[0], y2: to[1], class: "bar" }, group);
   svgElement("title", {}, bar, `side ${side}: the entry for the current slot is booked, nobody leaves by it`);
   drawn.bars.push({ bar, router, side });
-  const [x, y] = pointAt(router, edge, SIZE.box, 0);
+  const [x, y] = pointAt(router, edge, SIZE.box + SIZE.number, 0);
   svgElement("circle", { cx: x, cy: y, r: 8.5, class: "side" }, group);
   svgElement("text", { x, y: y + 5, class: "side-number" }, group, side);
 }
@@ -90,12 +90,11 @@ function drawSide(router, side, group) {
 function drawTray(place) {
   const { group, trays } = drawn.routers[place.router];
   const { side } = place;
-  if (side !== undefined && run.plan.joints[place.router][side][0] === JOINT.nothing) return;
-  const key = [place.spot, side, place.index].join();
+  if (!isJoined(place)) return;
+  const key = [place.spot, side].join();
   if (group.querySelector(`[data-tray="${key}"]`)) return;
   const [x, y] = run.points[place.number];
-  const size = [SIZE.tray[0], place.of > 1 ? 16 : SIZE.tray[1]];
-  const tray = svgBox([x, y], size, { rx: 4, class: "tray", "data-tray": key }, trays);
+  const tray = svgBox([x, y], SIZE.tray, { rx: 4, class: "tray", "data-tray": key }, trays);
   svgElement("title", {}, tray, place.name);
   svgElement("text", { x, y: y + 4, class: "tray-label" }, trays, place.label);
 }
@@ -147,7 +146,7 @@ function drawPacket(packet, number, stacks) {
   const entry = drawn.packets.get(packet.id) ?? newPacket(packet);
   const [x, y] = run.points[number];
   const offset = Math.min(depth, 2);
-  const transform = `translate(${(x + offset * 3).toFixed(1)}px,${(y - offset * 4).toFixed(1)}px)`;
+  const transform = `translate(${(x + offset * 2).toFixed(1)}px,${(y - offset * 3).toFixed(1)}px)`;
   if (entry.transform !== transform) {
     entry.transform = transform;
     entry.group.style.transform = transform;

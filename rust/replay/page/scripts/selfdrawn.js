@@ -117,6 +117,26 @@ function checkLabels() {
   }));
 }
 
+/** Queues have trays of their own, but for K of one side, within the router's box and apart from each other. */
+function checkTrays() {
+  const point = (place) => SPOTS[place.spot].point(place);
+  drawn.routers.forEach(({ trays }, router) => {
+    const boxes = [...trays.querySelectorAll(".tray")].map((tray) => tray.getBBox());
+    const places = run.places.filter((place) => place.router === router && !isWire(place) && isJoined(place));
+    const spots = new Set(places.map((place) => point(place).join()));
+    must(boxes.length === spots.size, callCount(), `${nameOf.router(router)} has ${boxes.length} trays`);
+    const [x, y] = run.map.centres[router];
+    const apart = (one, other) => one.x + one.width <= other.x || other.x + other.width <= one.x ||
+      one.y + one.height <= other.y || other.y + other.height <= one.y;
+    boxes.forEach((one, at) => {
+      const inside = Math.abs(one.x + one.width / 2 - x) + one.width / 2 < SIZE.box &&
+        Math.abs(one.y + one.height / 2 - y) + one.height / 2 < SIZE.box;
+      const alone = boxes.slice(at + 1).every((other) => apart(one, other));
+      must(inside && alone, callCount(), `trays of ${nameOf.router(router)} overlap or leave its box`);
+    });
+  });
+}
+
 /** Whether two boxes do not overlap; lines of text have some room above and below. */
 function areApart(one, other) {
   return one.right <= other.left + 1 || other.right <= one.left + 1 ||

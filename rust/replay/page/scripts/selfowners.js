@@ -43,7 +43,7 @@ function checkTurns(position) {
 /** Where several heads wait, the details show them in the order of their turns. */
 function checkTurnRow(position, output, last) {
   const { name, senders } = run.outputs[output];
-  const ranks = [1, 2, 3, 4].map((more) => (last + more) % senders.length);
+  const ranks = senders.map((_, at) => (last + 1 + at) % senders.length);
   const wanted = ranks.map((rank) => senders[rank]).filter((place) => shown.state.held[place].length > 0);
   if (wanted.length < 2) return;
   const row = document.createElement("tbody");

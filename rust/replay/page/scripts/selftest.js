@@ -29,6 +29,7 @@ function selfTest() {
   checkMoments();
   checkQuestions();
   checkLabels();
+  checkTrays();
   checkSizes();
   writeReport(performance.now() - began);
 }

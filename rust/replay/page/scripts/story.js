@@ -122,7 +122,7 @@ function stepWord({ what, packet, before }) {
 
 /** The joined sides with the queues whose packets leave by them. */
 function findSides() {
-  const leaves = (place) => place.spot === "out" || place.spot === "cross";
+  const leaves = (place) => ["out", "out-back", "cross"].includes(place.spot);
   run.sides = run.plan.joints.flatMap((joints, router) => joints.map(([kind], side) => ({ kind, router, side })))
     .filter(({ kind }) => kind !== JOINT.nothing)
     .map(({ router, side }) => {

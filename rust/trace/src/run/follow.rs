@@ -6,7 +6,7 @@ use super::event::{Cell, Event, Wait, Why};
 use super::{Connection, Decline, Hold, Id, Run};
 use crate::calls::Call;
 use crate::net::{Net, Phase};
-use crate::place::{Output, Place, Port, Queue};
+use crate::place::{Output, Place, Port, Queue, SIDES};
 
 impl Run<'_> {
     /// The events of an accepted call; `self.net` is already what it left.
@@ -49,8 +49,9 @@ impl Run<'_> {
     fn follow_execute(&mut self, before: &Net) -> Vec<Event> {
         let plan = self.plan;
         let mut events = Vec::new();
-        for router in 0..plan.routers() {
-            events.extend(self.follow_unit(before, router));
+        for (router, side) in (0..plan.routers()).flat_map(|r| (0..SIDES).map(move |s| (r, s))) {
+            let handled = self.follow_unit(before, Port { router, side }, &events);
+            events.extend(handled);
         }
         for output in plan.outputs() {
             self.follow_output(output, &mut events);
@@ -61,34 +62,35 @@ impl Run<'_> {
         events
     }
 
-    /// What a unit did with its head.
-    fn follow_unit(&mut self, before: &Net, router: usize) -> Option<Event> {
-        let plan = self.plan;
-        let row = before.row(plan, Queue::Q(router));
-        let packet = *row.packets.first().filter(|_| !row.handled)?;
+    /// What a unit did with the head that came in by a side, after what the units did before it.
+    fn follow_unit(&mut self, before: &Net, from: Port, done: &[Event]) -> Option<Event> {
+        let (plan, router, q) = (self.plan, from.router, Queue::Q(from));
+        let (row, now) = (before.row(plan, q), self.net.row(plan, q));
+        // By a student's rule a head may have to wait.
+        let waits = !now.handled && now.packets.len() == row.packets.len();
+        let packet = *row.packets.first().filter(|_| !row.handled && !waits)?;
         let hop = plan.hop(packet.active.into(), packet.passive.into(), router)?;
         let port = Port { router, side: hop.side };
         let cell = Cell { port, slot: packet.slot.into() };
         if packet.kind == Kind::Tdown {
-            return Some(self.follow_freeing(cell, packet));
+            return Some(self.follow_freeing(q, cell, packet));
         }
-        let id = self.seats.head(plan, Queue::Q(router));
-        let now = self.net.row(plan, Queue::Q(router)).packets[0];
-        if now.kind == Kind::Setup {
+        let id = self.seats.head(plan, q);
+        if now.packets[0].kind == Kind::Setup {
             self.book.book(id, cell);
             return Some(Event::Booked { id, cell });
         }
-        let why = match before.entry(port, cell.slot) {
-            Entry::Free => Why::LastFree,
-            Entry::Booked(_) => Why::Booked(self.book.owner(cell)),
+        let why = match is_booked(before, done, cell) {
+            false => Why::LastFree,
+            true => Why::Booked(self.book.owner(cell)),
         };
         self.book.decline(id, Decline::Router(router, why));
         Some(Event::Declined { id, cell, why })
     }
 
     /// A tear-down frees an entry; "with hub 1 the packet ends".
-    fn follow_freeing(&mut self, cell: Cell, packet: Packet) -> Event {
-        let (plan, q) = (self.plan, Queue::Q(cell.port.router));
+    fn follow_freeing(&mut self, q: Queue, cell: Cell, packet: Packet) -> Event {
+        let plan = self.plan;
         let owner = self.book.free(cell);
         let ended = packet.hub == 1;
         let id = if ended { self.seats.leave(plan, q) } else { self.seats.head(plan, q) };
@@ -257,4 +259,15 @@ impl Run<'_> {
             _ => self.book.end(id),
         }
     }
+}
+
+/// Whether an entry was booked when a unit came to it: as the call found it, or as other heads that
+/// were handled in the same call left it.
+fn is_booked(before: &Net, done: &[Event], cell: Cell) -> bool {
+    let last = done.iter().rev().find_map(|event| match *event {
+        Event::Booked { cell: at, .. } if at == cell => Some(true),
+        Event::Freed { cell: at, .. } if at == cell => Some(false),
+        _ => None,
+    });
+    last.unwrap_or_else(|| before.entry(cell.port, cell.slot) != Entry::Free)
 }

@@ -18,7 +18,8 @@ refuses is encoded all the same; then the refusal is told and the exit status is
 Plan text has a statement a line, in any order; # begins a comment:
   slots N                                   2 to 32
   capacity KIND N, ..                       1 to 7; KIND: all, active-out, active-in, U, Q, F, K,
-                                            passive-in, passive-out; 1 where none is given
+                                            passive-in, passive-out; 1 where none is given;
+                                            of the Q of each side, and of both its F
   router NAME, ..                           numbered in order, from 0
   active NAME at ROUTER.SIDE                passive NAME at ROUTER.SIDE
   joint ROUTER.SIDE -- ROUTER.SIDE          both ends, once

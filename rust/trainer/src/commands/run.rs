@@ -34,8 +34,8 @@ A script names its plan first, then what is to be done, a statement a line (or w
   expect ok | refused N | ack|nack slot N hub N | free | side N         of the last call
   expect quiet | round N | entry ROUTER.SIDE SLOT free|side N | allowance ACTIVE N
   expect [not] accepted ACTIVE PASSIVE SLOT                             accepted, not closed since
-  expect at r0.F1|drive.in|.. setup|tdown|ack|nack slot N hub N
-  expect last r0.U0|r0.F1|r0.K01|..                                     its output served it last
+  expect at r0.F1set|drive.in|.. setup|tdown|ack|nack slot N hub N
+  expect last r0.U0|r0.Q0|r0.F1set|r0.F1ans|r0.K01|..                   its output served it last
   expect table empty | table ACTIVE PASSIVE SLOT, ..                    the table is theirs alone
 Names or numbers; a number out of range is passed on, so that refusal 9 can be shown.
 

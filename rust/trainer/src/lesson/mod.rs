@@ -39,7 +39,7 @@ pub enum Mistake {
 }
 
 /// All lessons.
-pub const LESSONS: [Lesson; 10] = [
+pub const LESSONS: [Lesson; 11] = [
     Lesson {
         title: "A declined set-up leaves nothing behind?",
         file: "1-declined.run",
@@ -172,8 +172,8 @@ pub const LESSONS: [Lesson; 10] = [
             "An output remembers the sender that it served last and looks from the next one on. \
                  After left's first set-up it is right's turn: right books slot 5, and left's third \
                  comes too late. If the first in order is always picked, right waits as long as \
-                 left talks, and is declined. In turn, a head that can go sees at most three \
-                 others go before it.",
+                 left talks, and is declined. In turn, a head that can go to the unit sees at most \
+                 three others go before it.",
     },
     Lesson {
         title: "A Look accepts the connection?",
@@ -192,6 +192,24 @@ pub const LESSONS: [Lesson; 10] = [
                  the connection is closed while its ACK still waits, and the next Look at the same \
                  ACK accepts it again. Its tear-down is on its way all the same: the panel says \
                  accepted, and the table keeps no slot for it.",
+    },
+    Lesson {
+        title: "A unit handles one head a round?",
+        file: "11-heads.run",
+        script: include_str!("../../../../scripts/lessons/11-heads.run"),
+        question: "left launches four times and right three times, in the same round; the last set-ups \
+                   of both ask for r0.3 slot 6. In round 7 left's third set-up stands at the head of \
+                   Q[0] and right's third at the head of Q[1]. Which of them does r0's unit handle in \
+                   that round, how many does it send, and who gets r0.3 slot 6?",
+        mistake: Mistake::Rule("one head a unit and round", |rules| {
+            rules.one_head_a_unit = true;
+        }),
+        answer: "Q is split by the side that packets come in by. A unit handles the head of each Q once \
+                 in a round, side 0 first, and sends one packet a round, turn about. So right's set-up \
+                 books slot 6 in round 7, and since left went last it is also the one that is sent. 'No \
+                 second head in that round' was document 01's rule for its one Q. Kept for four of \
+                 them, side 1 waits as long as side 0 brings new heads: left's fourth set-up comes a \
+                 round after right's third, is handled before it and takes the entry.",
     },
 ];
 

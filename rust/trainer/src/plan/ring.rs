@@ -2,17 +2,19 @@
 
 use std::collections::{HashMap, VecDeque};
 
-use trace::place::{Port, Queue, SIDES};
+use trace::place::{Heading, Port, Queue, SIDES};
 use trace::plan::{count, Served};
 use trace::{Fields, Joint, Names};
+
+use crate::print::wrap;
 
 /// Queues that feed each other in a ring, with a pair for each step.
 #[derive(Clone, Debug)]
 pub struct Ring {
     /// The queues, each feeding the next, the last the first.
     pub queues: Vec<Queue>,
-    /// The pairs that make it, active and passive, each once.
-    pub pairs: Vec<(usize, usize)>,
+    /// Some pairs that make it, active and passive.
+    pub pairs: Vec<Ends>,
 }
 
 impl Ring {
@@ -41,7 +43,8 @@ impl Ring {
             Some((last, rest)) if !rest.is_empty() => format!("{} and {last}", rest.join(", ")),
             _ => pairs.join(""),
         };
-        format!("{}\n    made by {made}: serve fewer pairs, or move one end", chain.join("\n"))
+        let made = format!("made by {made}: serve fewer pairs, or move one end");
+        format!("{}\n    {}", chain.join("\n"), wrap(&made, 6, 4))
     }
 }
 
@@ -49,8 +52,11 @@ fn pair(names: &Names, active: usize, passive: usize) -> String {
     format!("{} -> {}", names.active(active), names.passive(passive))
 }
 
-/// Which queue feeds which, with a pair that makes it so.
-type Feeding = HashMap<Queue, Vec<(Queue, (usize, usize))>>;
+/// An active and a passive.
+type Ends = (usize, usize);
+
+/// Which queue feeds which, with the pairs that make it so.
+type Feeding = HashMap<Queue, Vec<(Queue, Vec<Ends>)>>;
 
 /// A shortest ring.
 pub fn find(fields: &Fields) -> Option<Ring> {
@@ -63,16 +69,17 @@ pub fn find(fields: &Fields) -> Option<Ring> {
 
 /// A shortest ring through a queue.
 fn ring_from(feeding: &Feeding, start: Queue) -> Option<Ring> {
-    let mut before: HashMap<Queue, (Queue, (usize, usize))> = HashMap::new();
+    let mut before: HashMap<Queue, Queue> = HashMap::new();
     let mut border = VecDeque::from([start]);
     while let Some(queue) = border.pop_front() {
-        for &(next, pair) in feeding.get(&queue).into_iter().flatten() {
+        for &(next, _) in feeding.get(&queue).into_iter().flatten() {
             if before.contains_key(&next) {
                 continue;
             }
-            before.insert(next, (queue, pair));
+            before.insert(next, queue);
             if next == start {
-                return Some(walk_back(&before, start));
+                let queues = walk_back(&before, start);
+                return Some(Ring { pairs: pairs(feeding, &queues), queues });
             }
             border.push_back(next);
         }
@@ -80,23 +87,32 @@ fn ring_from(feeding: &Feeding, start: Queue) -> Option<Ring> {
     None
 }
 
-fn walk_back(before: &HashMap<Queue, (Queue, (usize, usize))>, start: Queue) -> Ring {
-    let mut ring = Ring { queues: Vec::new(), pairs: Vec::new() };
-    let mut queue = start;
-    loop {
-        let (previous, pair) = before[&queue];
-        ring.queues.push(previous);
-        if !ring.pairs.contains(&pair) {
-            ring.pairs.push(pair);
-        }
-        queue = previous;
-        if queue == start {
-            break;
-        }
+fn walk_back(before: &HashMap<Queue, Queue>, start: Queue) -> Vec<Queue> {
+    let mut queues = vec![before[&start]];
+    while queues[queues.len() - 1] != start {
+        queues.push(before[&queues[queues.len() - 1]]);
     }
-    ring.queues.reverse();
-    ring.pairs.sort();
-    ring
+    queues.reverse();
+    queues
+}
+
+/// A few pairs that make all steps of a ring: again and again the one that makes most of those left.
+fn pairs(feeding: &Feeding, queues: &[Queue]) -> Vec<Ends> {
+    let nexts = queues.iter().cycle().skip(1);
+    let step = |(queue, next): (&Queue, &Queue)| {
+        let fed = feeding[queue].iter().find(|(fed, _)| fed == next);
+        fed.map_or_else(Vec::new, |(_, pairs)| pairs.clone())
+    };
+    let mut left: Vec<Vec<Ends>> = queues.iter().zip(nexts).map(step).collect();
+    let mut chosen = Vec::new();
+    while let Some(first) = left.first() {
+        let steps = |pair: &Ends| left.iter().filter(|pairs| pairs.contains(pair)).count();
+        let Some(&pair) = first.iter().rev().max_by_key(|&pair| steps(pair)) else { break };
+        left.retain(|pairs| !pairs.contains(&pair));
+        chosen.push(pair);
+    }
+    chosen.sort();
+    chosen
 }
 
 /// "Queue X feeds Y if a packet of a served pair can go next from X to Y."
@@ -108,8 +124,9 @@ fn feeding(fields: &Fields) -> Feeding {
             let Ok(served) = fields.pair(home, active, passive) else { continue };
             for (from, to) in steps(fields, active, passive, &served) {
                 let fed = feeding.entry(from).or_default();
-                if !fed.iter().any(|&(known, _)| known == to) {
-                    fed.push((to, (active, passive)));
+                match fed.iter_mut().find(|(known, _)| *known == to) {
+                    Some((_, pairs)) => pairs.push((active, passive)),
+                    None => fed.push((to, vec![(active, passive)])),
                 }
             }
         }
@@ -122,13 +139,13 @@ fn steps(fields: &Fields, active: usize, passive: usize, served: &Served) -> Vec
     let mut steps = Vec::new();
     let mut from = Queue::ActiveOut(active);
     for (hop, back) in served.walk.iter().zip(&served.back) {
-        let router = hop.router;
-        let u = Queue::U(Port { router, side: hop.came_in });
-        let f = Queue::F(Port { router, side: hop.side });
-        steps.extend([(from, u), (u, Queue::Q(router)), (Queue::Q(router), f)]);
+        let entry = Port { router: hop.router, side: hop.came_in };
+        let (u, q) = (Queue::U(entry), Queue::Q(entry));
+        let f = Queue::F(Heading::Ahead, Port { router: hop.router, side: hop.side });
+        steps.extend([(from, u), (u, q), (q, f)]);
         from = f;
-        let first = Queue::F(back[0]);
-        steps.push((Queue::Q(router), first));
+        let first = Queue::F(Heading::Back, back[0]);
+        steps.push((q, first));
         crossing(fields, first, back, &mut steps);
     }
     steps.push((from, Queue::PassiveIn(passive)));

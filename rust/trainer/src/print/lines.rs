@@ -80,7 +80,10 @@ impl Teller for Lines {
         self.flush();
         let what = statement.text.trim_start_matches("expect ");
         let line = match found {
-            None => self.paint.text(Colour::Green, &format!("      as expected: {what}")),
+            None => {
+                let text = wrap(&format!("as expected: {what}"), 8, 6);
+                self.paint.text(Colour::Green, &format!("      {text}"))
+            }
             Some(found) => {
                 let place = format!("  {}:{}: ", script.source.name, statement.at);
                 let text = format!("NOT AS EXPECTED: {}; found {found}", statement.text);

@@ -33,7 +33,7 @@ pub fn text(run: &Run, paint: Paint) -> String {
 }
 
 /// Where several senders of an output have a packet, whom it served last and the order of the
-/// others: "r0.0: K[2,0] went last; A in F[0] is next, then B in K[1,0]".
+/// others: "r0.0: K[2,0] went last; A in answer F[0] is next, then B in K[1,0]".
 fn turn(run: &Run, output: Output) -> Option<String> {
     let (plan, net) = (run.plan(), run.net());
     let (last, waiting) = (net.last_served(plan, output)?, net.in_turn(plan, output));

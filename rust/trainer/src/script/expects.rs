@@ -11,6 +11,11 @@ use crate::text::{quoted, At, Mistake};
 const WHAT: &str = "ok, refused, ack, nack, free, side, quiet, round, entry, allowance, accepted, \
                     not accepted, at, last, table";
 
+/// The queues that share an output.
+const SHARED: &str =
+    "of ROUTER.U0 to U3 one went to the unit last, of .Q0 to Q3 one came from it last, \
+                      of .F0set, .F0ans, .K10, .K20, .K30 one left by side 0";
+
 /// What follows `expect`.
 pub fn parse(parser: &mut Parser) -> Result<Expected, Mistake> {
     let word = parser.cursor.word("what is expected")?;
@@ -99,12 +104,13 @@ fn connection(parser: &mut Parser) -> Result<Connection, Mistake> {
     Ok(Connection { active, passive, start: slot(parser)? })
 }
 
-/// A queue, as in "r0.F1" or "drive.in", and where it stands.
+/// A queue, as in "r0.F1set" or "drive.in", and where it stands.
 fn queue(parser: &mut Parser) -> Result<(Queue, At), Mistake> {
-    let word = parser.cursor.word("a queue, as in r0.F1 or drive.in")?;
+    let word = parser.cursor.word("a queue, as in r0.F1set or drive.in")?;
     let queue = parser.names.find_queue(word.text).ok_or_else(|| {
         Mistake::new(word.at, format!("no queue {}", quoted(word.text))).note(
-            "queues: ROUTER.U0 to U3, .Q, .F0 to F3, .K01 and so on; ACTIVE.out, .in; PASSIVE.in, .out",
+            "queues: ROUTER.U0 to U3, .Q0 to Q3, .F0set to F3set, .F0ans to F3ans, .K01 and so on; \
+             ACTIVE.out, .in; PASSIVE.in, .out",
         )
     })?;
     Ok((queue, word.at))
@@ -114,15 +120,13 @@ fn queue(parser: &mut Parser) -> Result<(Queue, At), Mistake> {
 fn last(parser: &mut Parser) -> Result<Expected, Mistake> {
     let (queue, at) = queue(parser)?;
     match queue {
-        Queue::U(_) | Queue::F(_) | Queue::K(..) => Ok(Expected::Last(queue)),
+        Queue::U(_) | Queue::Q(_) | Queue::F(..) | Queue::K(..) => Ok(Expected::Last(queue)),
         _ => Err(Mistake::new(at, "a queue that shares no output has nothing to take turns with")
-            .note(
-                "of ROUTER.U0 to U3 one went to the unit last, of .F0, .K10, .K20, .K30 by side 0",
-            )),
+            .note(SHARED)),
     }
 }
 
-/// "r0.F1 setup slot 1 hub 1".
+/// "r0.F1set setup slot 1 hub 1".
 fn at(parser: &mut Parser) -> Result<Expected, Mistake> {
     let (queue, _) = queue(parser)?;
     let kinds = [Kind::Setup, Kind::Tdown, Kind::Ack, Kind::Nack];

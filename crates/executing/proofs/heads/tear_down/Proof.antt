@@ -16,7 +16,7 @@ use Rattle.executing.proofs.heads.side_of.Reads as side-of-reads
 
 -- src/heads.rt:168:9
 side-of-requires : tie.Need-side-of-requires
-side-of-requires c κs = let p = c .before .pre in side-asks (p .0) (p .1) (p .4)
+side-of-requires c κs = let p = c .before .pre in side-asks (p .0) (p .1) (p .2) (p .5)
 
 -- src/heads.rt:169:41
 index-requires : tie.Need-index-requires
@@ -25,20 +25,23 @@ index-requires c κs = search needs
 -- src/heads.rt:169:9
 entry-row-requires : tie.Need-entry-row-requires
 entry-row-requires c κs =
-    let p = c .before .before .before .pre in entry-asks (p .0) (p .1) (p .4) (c .before .side-of .ensures) (c .index
+    let p = c .before .before .before .pre in entry-asks (p .0) (p .1) (p .2) (p .5) (c .before .side-of .ensures)
+    (c .index
     .ensures .0)
 
 -- src/heads.rt:170:5
 slice-write-s : tie.Need-slice-write-s
 slice-write-s c =
-    let p = c .before .before .before .before .pre in entry-inside (p .0) (p .1) (p .4) (c .before .before .side-of
+    let p = c .before .before .before .before .pre in entry-inside (p .0) (p .1) (p .2) (p .5)
+    (c .before .before .side-of
     .ensures) (c .entry-row .ensures) (c .before .index .ensures .0)
 
 -- src/heads.rt:171:5
 settle-requires : tie.Need-settle-requires
 settle-requires c κs =
-    let p = c .before .before .before .before .before .pre in settles-freed (p .0) (p .1) (p .4) (c .before .before
-    .before .side-of .ensures) (p .3) (c .before .entry-row .ensures) (c .before .before .index .ensures .0)
+    let p = c .before .before .before .before .before .pre in settles-freed (p .0) (p .1) (p .2) (p .5)
+    (c .before .before
+    .before .side-of .ensures) (p .4) (c .before .entry-row .ensures) (c .before .before .index .ensures .0)
 
 -- src/heads.rt:151:1
 same-length : tie.Need-same-length
@@ -50,9 +53,10 @@ same-length c =
 returns : tie.Need-returns
 returns c =
     let p = c .before .before .before .before .before .before .before .before .pre in steps-torn (p .0 .wired)
-    (range-of (p .0)) _ (is-router (p .0) (p .1)) _ (p .3) (side-is (p .0) (p .1) (p .4) (c .before .before .before
+    (range-of (p .0)) _ _ (is-router (p .0) (p .1), p .2) _ (p .4) (side-is (p .0) (p .1) (p .2) (p .5)
+    (c .before .before .before
     .before .before .before .side-of .ensures)) (entry-is _ _ _ _ _ _ (c .before .before .before .before .entry-row
-    .ensures)) (c .before .before .before .before .before .index .ensures .0) (slots-are _ _ _) (p .2) (c .before
+    .ensures)) (c .before .before .before .before .before .index .ensures .0) (slots-are _ _ _) (p .3) (c .before
     .before .settle .ensures)
 
 pub tear-down-spec : {M : Type 1} → statement M

@@ -24,6 +24,9 @@ base-of-requires c κs = let p = c .before .pre in base-asks (p .0) (p .1)
 add-queue-row : tie.Need-add-queue-row
 add-queue-row c = search needs
 
+add-queue-row-2 : tie.Need-add-queue-row-2
+add-queue-row-2 c = search needs
+
 -- src/heads.rt:192:9
 queue-row-requires : tie.Need-queue-row-requires
 queue-row-requires c κs = search needs
@@ -35,14 +38,19 @@ add-if1 c = search needs
 -- src/heads.rt:193:8
 slice-read-if1 : tie.Need-slice-read-if1
 slice-read-if1 c =
-    let p = c .before .before .before .before .pre in let q = unit-room (p .0) (p .1) (unit-at _ _ _ _ (c .before
-    .before .base-of .ensures .0) (c .before .queue-row .ensures)) (p .2) in omega arith
+    let p = c .before .before .before .before .pre in let q = unit-room (p .0) (p .1) (p .2) (unit-at _ _ _ _ _
+    (c .before
+    .before .base-of .ensures .0) (c .before .queue-row .ensures)) (p .3) in omega arith
 
 -- src/heads.rt:194:9
 returns : tie.Need-returns
 returns c =
-    let p = c .before .before .before .before .before .pre in steps-empty (p .0 .wired) (range-of (p .0)) _ (is-router
-    (p .0) (p .1)) (unit-at _ _ _ _ (c .before .before .before .base-of .ensures .0) (c .before .before .queue-row
+    let p = c .before .before .before .before .before .pre in steps-empty (p .0 .wired) (range-of (p .0)) _ _ (
+      is-router
+          (p .0) (p .1),
+      p .2,
+    )
+    (unit-at _ _ _ _ _ (c .before .before .before .base-of .ensures .0) (c .before .before .queue-row
     .ensures)) (c .if1 .taken)
 
 -- src/heads.rt:196:10
@@ -52,15 +60,17 @@ add-if2 c = search needs
 -- src/heads.rt:196:8
 slice-read-if2 : tie.Need-slice-read-if2
 slice-read-if2 c =
-    let p = c .before .before .before .before .before .before .pre in let q = unit-room (p .0) (p .1) (unit-at _ _ _ _
-    (c .before .before .before .before .base-of .ensures .0) (c .before .before .before .queue-row .ensures)) (p .2) in
+    let p = c .before .before .before .before .before .before .pre in let q = unit-room (p .0) (p .1) (p .2)
+    (unit-at _ _ _ _ _
+    (c .before .before .before .before .base-of .ensures .0) (c .before .before .before .queue-row .ensures)) (p .3) in
     omega arith
 
 -- src/heads.rt:197:9
 returns-2 : tie.Need-returns-2
 returns-2 c =
-    let p = c .before .before .before .before .before .before .before .pre in steps-marked (p .0 .wired) (range-of (p
-    .0)) _ (is-router (p .0) (p .1)) (unit-at _ _ _ _ (c .before .before .before .before .before .base-of .ensures .0)
+    let p = c .before .before .before .before .before .before .before .pre in steps-marked (p .0 .wired) (range-of
+    (p .0)) _ _ (is-router (p .0) (p .1), p .2) (unit-at _ _ _ _ _
+    (c .before .before .before .before .before .base-of .ensures .0)
     (c .before .before .before .before .queue-row .ensures)) (c .if2 .taken)
 
 -- src/heads.rt:199:32
@@ -71,8 +81,9 @@ add-packet-at c = search needs
 packet-at-requires : tie.Need-packet-at-requires
 packet-at-requires c κs =
     let p = c .before .before .before .before .before .before .before .before .pre in let q = unit-room (p .0) (p .1)
-    (unit-at _ _ _ _ (c .before .before .before .before .before .before .base-of .ensures .0) (c .before .before
-    .before .before .before .queue-row .ensures)) (p .2) in omega arith
+    (p .2)
+    (unit-at _ _ _ _ _ (c .before .before .before .before .before .before .base-of .ensures .0) (c .before .before
+    .before .before .before .queue-row .ensures)) (p .3) in omega arith
 
 -- src/heads.rt:202:67
 enum-told : tie.Need-enum-told
@@ -84,19 +95,20 @@ set-up-requires c κs =
     let p = c .before .before .before .before .before .before .before .before .before .before .before .before .pre in (
       p .0,
       p .1,
+      p .2,
       c .before .enum-told .given .1,
-      (unit-at _ _ _ _ (c .before .before .before .before .before .before
+      (unit-at _ _ _ _ _ (c .before .before .before .before .before .before
           .before .before .before .before .base-of .ensures .0) (c .before .before .before .before .before .before
           .before
           .before .before .queue-row .ensures)),
-      holds-by _ (heads-by (p .0 .wired) (range-of (p .0)) _ (is-router (p .0) (p
-          .1)) (unit-at _ _ _ _ (c .before .before .before .before .before .before .before .before .before .before
+      holds-by _ (heads-by (p .0 .wired) (range-of (p .0)) _ _ (is-router (p .0) (p .1), p .2) (unit-at _ _ _ _ _
+          (c .before .before .before .before .before .before .before .before .before .before
           .base-of
           .ensures .0) (c .before .before .before .before .before .before .before .before .before .queue-row .ensures))
           (c
           .before .before .before .before .before .before .before .if1 .left) (c .before .before .before .before
           .before .if2
-          .left) (c .before .before .before .packet-at .ensures)) (p .2),
+          .left) (c .before .before .before .packet-at .ensures)) (p .3),
     )
 
 -- src/heads.rt:203:70
@@ -109,19 +121,20 @@ tear-down-requires c κs =
     let p = c .before .before .before .before .before .before .before .before .before .before .before .before .pre in (
       p .0,
       p .1,
+      p .2,
       c .before .enum-told2 .given .1,
-      (unit-at _ _ _ _ (c .before .before .before .before .before .before
+      (unit-at _ _ _ _ _ (c .before .before .before .before .before .before
           .before .before .before .before .base-of .ensures .0) (c .before .before .before .before .before .before
           .before
           .before .before .queue-row .ensures)),
-      holds-by _ (heads-by (p .0 .wired) (range-of (p .0)) _ (is-router (p .0) (p
-          .1)) (unit-at _ _ _ _ (c .before .before .before .before .before .before .before .before .before .before
+      holds-by _ (heads-by (p .0 .wired) (range-of (p .0)) _ _ (is-router (p .0) (p .1), p .2) (unit-at _ _ _ _ _
+          (c .before .before .before .before .before .before .before .before .before .before
           .base-of
           .ensures .0) (c .before .before .before .before .before .before .before .before .before .queue-row .ensures))
           (c
           .before .before .before .before .before .before .before .if1 .left) (c .before .before .before .before
           .before .if2
-          .left) (c .before .before .before .packet-at .ensures)) (p .2),
+          .left) (c .before .before .before .packet-at .ensures)) (p .3),
     )
 
 enum-told-3 : tie.Need-enum-told-3
@@ -138,8 +151,9 @@ same-length c = search needs
 returns-3 : tie.Need-returns-3
 returns-3 c =
     let p = c .before .before .before .before .before .before .before .before .before .before .before .before .before
-    .before .before .pre in steps-by _ (heads-by (p .0 .wired) (range-of (p .0)) _ (is-router (p .0) (p .1)) (unit-at _
-    _ _ _ (c .before .before .before .before .before .before .before .before .before .before .before .before .before
+    .before .before .pre in steps-by _ (heads-by (p .0 .wired) (range-of (p .0)) _ _ (is-router (p .0) (p .1), p .2)
+    (unit-at _ _ _ _ _ (c .before .before .before .before .before .before .before .before .before .before .before
+    .before .before
     .base-of .ensures .0) (c .before .before .before .before .before .before .before .before .before .before .before
     .before .queue-row .ensures)) (c .before .before .before .before .before .before .before .before .before .before
     .if1 .left) (c .before .before .before .before .before .before .before .before .if2 .left) (c .before .before
@@ -153,8 +167,9 @@ same-length-2 c = search needs
 returns-4 : tie.Need-returns-4
 returns-4 c =
     let p = c .before .before .before .before .before .before .before .before .before .before .before .before .before
-    .before .before .pre in steps-by _ (heads-by (p .0 .wired) (range-of (p .0)) _ (is-router (p .0) (p .1)) (unit-at _
-    _ _ _ (c .before .before .before .before .before .before .before .before .before .before .before .before .before
+    .before .before .pre in steps-by _ (heads-by (p .0 .wired) (range-of (p .0)) _ _ (is-router (p .0) (p .1), p .2)
+    (unit-at _ _ _ _ _ (c .before .before .before .before .before .before .before .before .before .before .before
+    .before .before
     .base-of .ensures .0) (c .before .before .before .before .before .before .before .before .before .before .before
     .before .queue-row .ensures)) (c .before .before .before .before .before .before .before .before .before .before
     .if1 .left) (c .before .before .before .before .before .before .before .before .if2 .left) (c .before .before
@@ -168,11 +183,12 @@ same-length-3 c = search needs
 returns-5 : tie.Need-returns-5
 returns-5 c =
     let p = c .before .before .before .before .before .before .before .before .before .before .before .pre in steps-by
-    _ (heads-by (p .0 .wired) (range-of (p .0)) _ (is-router (p .0) (p .1)) (unit-at _ _ _ _ (c .before .before .before
+    _ (heads-by (p .0 .wired) (range-of (p .0)) _ _ (is-router (p .0) (p .1), p .2) (unit-at _ _ _ _ _
+    (c .before .before .before
     .before .before .before .before .before .before .base-of .ensures .0) (c .before .before .before .before .before
     .before .before .before .queue-row .ensures)) (c .before .before .before .before .before .before .if1 .left) (c
     .before .before .before .before .if2 .left) (c .before .before .packet-at .ensures)) (steps-ack (p .0 .wired)
-    (range-of (p .0)) _ (is-router (p .0) (p .1)) _ (c .enum-told3 .given .1))
+    (range-of (p .0)) _ _ (is-router (p .0) (p .1), p .2) _ (c .enum-told3 .given .1))
 
 -- src/heads.rt:185:1
 same-length-4 : tie.Need-same-length-4
@@ -182,11 +198,12 @@ same-length-4 c = search needs
 returns-6 : tie.Need-returns-6
 returns-6 c =
     let p = c .before .before .before .before .before .before .before .before .before .before .before .pre in steps-by
-    _ (heads-by (p .0 .wired) (range-of (p .0)) _ (is-router (p .0) (p .1)) (unit-at _ _ _ _ (c .before .before .before
+    _ (heads-by (p .0 .wired) (range-of (p .0)) _ _ (is-router (p .0) (p .1), p .2) (unit-at _ _ _ _ _
+    (c .before .before .before
     .before .before .before .before .before .before .base-of .ensures .0) (c .before .before .before .before .before
     .before .before .before .queue-row .ensures)) (c .before .before .before .before .before .before .if1 .left) (c
     .before .before .before .before .if2 .left) (c .before .before .packet-at .ensures)) (steps-nack (p .0 .wired)
-    (range-of (p .0)) _ (is-router (p .0) (p .1)) _ (c .enum-told4 .given .1))
+    (range-of (p .0)) _ _ (is-router (p .0) (p .1), p .2) _ (c .enum-told4 .given .1))
 
 pub unit-at-spec : {M : Type 1} → statement M
 unit-at-spec =
@@ -194,6 +211,7 @@ unit-at-spec =
     (tie.spec
     base-of-requires
     add-queue-row
+    add-queue-row-2
     queue-row-requires
     add-if1
     slice-read-if1

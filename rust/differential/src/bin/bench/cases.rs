@@ -1,4 +1,4 @@
-//! What is measured: every call on three plans, on an idle network and on a busy one.
+//! What is measured: every call on four plans, on an idle network and on a busy one.
 
 use compare::calls::Calls;
 use model::generate::{Draft, Random};
@@ -44,10 +44,11 @@ fn line_of_four() -> Draft {
 }
 
 /// The plans by name.
-pub fn plans() -> [(&'static str, Vec<u8>); 3] {
+pub fn plans() -> [(&'static str, Vec<u8>); 4] {
     [
         ("t", named::plan_t().encode()),
         ("line of four", line_of_four().encode()),
+        ("crossing row", named::crossing_row().encode()),
         ("largest", named::largest().encode()),
     ]
 }

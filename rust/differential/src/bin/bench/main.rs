@@ -1,6 +1,6 @@
 //! Time of the proved calls against those written for speed (`lean`), on the same bytes, turn about.
 //!
-//! Measured are Load on named and random plans, and every call on three plans, on an idle and on a
+//! Measured are Load on named and random plans, and every call on four plans, on an idle and on a
 //! busy network; a ratio is that of the shortest times over many short rounds. What copying the
 //! state back takes between two calls is taken off. Ends with an error where the proved call takes
 //! more than its limit times as long.
@@ -147,6 +147,7 @@ fn loads_pass() -> bool {
     let plans = [
         ("t", named::plan_t().encode(), SMALL),
         ("four routers", named::four_routers().encode(), SMALL),
+        ("crossing row", named::crossing_row().encode(), SMALL),
         ("largest", named::largest().encode(), LARGE),
     ];
     let mut passed = true;

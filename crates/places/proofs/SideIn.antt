@@ -3,7 +3,7 @@ use mathlib.Core.Path.{_≡_, refl, sym, ap, _∙_}
 use mathlib.Core.Logic.{_⊎_, inl, inr}
 use mathlib.Core.Bool.{Bool, true, false}
 use mathlib.Core.List.{List}
-use Prim.Native.Nat.{ℕ, _+_, _*_, _<_}
+use Prim.Native.Nat.{ℕ, _+_, _*_, _/_, _%_, _<_}
 use native.Mathlib.Omega.{arith}
 use lib.ListN.{getD}
 use Rattle.basis.specs.Choice.{not-both}
@@ -25,26 +25,38 @@ use Rattle.theory.proofs.Places.CameIn.{stands-inside, came-in}
 use Rattle.theory.proofs.Places.Indices.{index-stands}
 use Rattle.places.specs.declared.Trip.{Trip}
 use Rattle.places.specs.Asked.{Asked}
-use Rattle.places.specs.Look.{tripOf, comesBy, SideIn}
+use Rattle.places.specs.Look.{trackAt, tripOf, nextBy, comesBy, SideIn}
 use Rattle.places.proofs.OnTrack.{Trips}
 use Rattle.places.proofs.Fitting.{comes-by}
+use Rattle.places.proofs.Exits.{comes-here, comes-later}
 use Rattle.places.proofs.Law.{chart, pair, trips}
 
 -- ---- the loop: none of the sides below i
 abbrev pub NoneBelow : List ℕ → List (List ℕ) → List (List ℕ) → ℕ → ℕ → ℕ → ℕ → Type 0
 NoneBelow joints by up from d r i = (k : ℕ) → k < i → comesBy joints by up from d (4 * r + k) ≡ false
 
-module _ (joints : List ℕ) (by up : List (List ℕ)) (from d r i : ℕ) {t : Bool}
-    (e : t ≡ comesBy joints by up from d (4 * r + i)) where
-  pub none-more : NoneBelow joints by up from d r i → t ≡ false → NoneBelow joints by up from d r (i + 1)
-  none-more f g k l = at (below-suc {i = k} {n = i} (omega arith))
-    where
-      at : (k < i) ⊎ (k ≡ i) → comesBy joints by up from d (4 * r + k) ≡ false
-      at (inl h) = f k h
-      at (inr h) = rw h (sym e ∙ g)
+module _ (joints : List ℕ) (by up : List (List ℕ)) (from d r : ℕ) where
+  -- the walk begins at the router
+  pub by-start : from / 4 ≡ r → SideIn joints by up from d r (from % 4)
+  by-start e =
+      let at : from ≡ 4 * r + from % 4 = omega arith in
+      inl (omega arith, sym (comes-here joints by up from d (4 * r + from % 4) at))
 
-  pub by-side : i < 4 → t ≡ true → SideIn joints by up from d r i
-  by-side l g = inl (l, sym e ∙ g)
+  -- it begins elsewhere: what is looked up of side i
+  module _ (other : from / 4 ≡ r → ⊥) (i : ℕ) (l : i < 4) {t : Bool}
+      (e : t ≡ nextBy joints by (trackAt up (from / 4) d) d (4 * r + i)) where
+    comes : t ≡ comesBy joints by up from d (4 * r + i)
+    comes = comes-later joints by up from d (4 * r + i) (λ z. other (omega arith)) e
+
+    pub none-more : NoneBelow joints by up from d r i → t ≡ false → NoneBelow joints by up from d r (i + 1)
+    none-more f g k h = at (below-suc {i = k} {n = i} (omega arith))
+      where
+        at : (k < i) ⊎ (k ≡ i) → comesBy joints by up from d (4 * r + k) ≡ false
+        at (inl m) = f k m
+        at (inr m) = rw m (sym comes ∙ g)
+
+    pub by-side : t ≡ true → SideIn joints by up from d r i
+    by-side g = inl (l, sym comes ∙ g)
 
 -- ---- what it finds
 module _ {pl : Plan} {by : List (List ℕ)} {joints homes : List ℕ} (c : Charting pl by joints homes)

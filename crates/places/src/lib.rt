@@ -178,8 +178,11 @@ fn side_in(
     requires { ⌜ (from < 64) × (d < 32) × (r < 16) ⌝ }
     ensures { λ i. ⌜ SideIn (now (joints .entry)) (now (by .entry)) (now (up .entry)) from d r i ⌝ }
 {
+    if from / 4 == r {
+        return from % 4;
+    }
     for i in 0..4 {
-        if comes_by(joints, by, up, from, d, 4 * r + i) {
+        if next_by(joints, by, up[from / 4][d], d, 4 * r + i) {
             return i;
         }
     }

@@ -1,13 +1,16 @@
 -- Flags: along READ a raised flag's queue lacks a credit, and what the code stores is what the rule makes of the
 -- state.
-use mathlib.Core.Path.{_≡_, refl, sym, ap, _∙_}
+use mathlib.Core.Path.{_≡_, refl, sym, ap, subst, _∙_}
 use mathlib.Core.Logic.{_⊎_, inl, inr, _≢_}
 use mathlib.Core.Bool.{Bool, true, false}
 use mathlib.Core.List.{List}
-use Prim.Native.Nat.{ℕ, zero, suc, _+_, _*_, _≤_, _<_}
+use Prim.Native.Nat.{ℕ, zero, suc, _+_, _*_, _-_, _≤_, _<_}
 use native.Mathlib.Omega.{arith}
+use lib.Dec.{eqb}
 use lib.ListN.{length, getD, set}
-use Rattle.basis.specs.Choice.{test, not-both}
+use borrow.Author.Tests.{eqb-true}
+use Rattle.basis.specs.Choice.{also, also-true, test, not-both}
+use Rattle.basis.specs.Bounded.{lt-or-ge}
 use Rattle.basis.specs.Fold.{upTo, up-keeps}
 use Rattle.kinds.specs.declared.Credit.{Credit}
 use Rattle.packets.specs.Counters.{creditUp}
@@ -21,14 +24,14 @@ use Rattle.machine.specs.Valid.{bit, fed}
 use Rattle.machine.proofs.Numbers.{exists-at}
 use Rattle.theory.specs.Invariant.{Core, account}
 use Rattle.theory.proofs.Keeps.{settle-core}
-use Rattle.layout.specs.Offsets.{places, queueRow}
+use Rattle.layout.specs.Offsets.{size, places, queueRow}
 use Rattle.layout.specs.Codes.{flagOf}
 use Rattle.layout.specs.Encode.{encode}
 use Rattle.layout.specs.Decode.{creditAt, flagAt, capacity-most}
-use Rattle.layout.proofs.Readings.{credit-at, flag-at}
+use Rattle.layout.proofs.Readings.{length-bytes, credit-at, flag-at}
 use Rattle.layout.proofs.Updates.{put-credit, put-flag}
 use Rattle.acts.specs.Acts.{steps-none, steps-more, steps-done, holds-then}
-use Rattle.reading.specs.Reading.{settling, Owed, Flagged, Settles, Whole, SettlesTo}
+use Rattle.reading.specs.Reading.{settling, Owed, Flagged, Settles, Whole, SettlesTo, Down}
 use Rattle.reading.proofs.Offsets.{first, row-of, queue-within}
 
 -- ---- at every moment of READ a raised flag's queue lacks a credit
@@ -154,3 +157,68 @@ module _ {n : ℕ} {b c : List ℕ} (x : SettlesTo n b c) where
 pub settles-done : {i n : ℕ} {b c : List ℕ} → SettlesTo i b c → i ≡ n → SettlesTo n b c
 settles-done x e =
     record { steps = λ pl r w l. steps-done pl (settling pl) (x .steps pl r w (omega arith)) e }
+
+-- ---- no flag is up: nothing is done
+pub down-none : (b : List ℕ) → Down 0 b
+down-none b = record { down = λ k l. absurd (omega arith) }
+
+-- of four queues, by their flags' bytes
+pub four-of : (n : ℕ) (b : List ℕ) {at : ℕ} {x y v : Bool} → at ≡ 39 * n + 3
+    → x ≡ also (eqb (getD b at 0) 0) (eqb (getD b (at + 39) 0) 0)
+    → y ≡ also (eqb (getD b (at + 78) 0) 0) (eqb (getD b (at + 117) 0) 0)
+    → v ≡ also x y → v ≡ true → (k : ℕ) → k < 4 → getD b (39 * (n + k) + 3) 0 ≡ 0
+four-of n b {at} {x} {y} {v} e f g h t = by
+  where
+    z : (x ≡ true) × (y ≡ true)
+    z = also-true (sym h ∙ t)
+
+    near : (eqb (getD b at 0) 0 ≡ true) × (eqb (getD b (at + 39) 0) 0 ≡ true)
+    near = also-true (sym f ∙ z .0)
+
+    far : (eqb (getD b (at + 78) 0) 0 ≡ true) × (eqb (getD b (at + 117) 0) 0 ≡ true)
+    far = also-true (sym g ∙ z .1)
+
+    byte : (i j : ℕ) → j ≡ i → eqb (getD b i 0) 0 ≡ true → getD b j 0 ≡ 0
+    byte i j q u = ap (λ (m : ℕ). getD b m 0) q ∙ eqb-true (getD b i 0) 0 u
+
+    by : (k : ℕ) → k < 4 → getD b (39 * (n + k) + 3) 0 ≡ 0
+    by zero l = byte at (39 * (n + 0) + 3) (omega arith) (near .0)
+    by (suc zero) l = byte (at + 39) (39 * (n + 1) + 3) (omega arith) (near .1)
+    by (suc (suc zero)) l = byte (at + 78) (39 * (n + 2) + 3) (omega arith) (far .0)
+    by (suc (suc (suc zero))) l = byte (at + 117) (39 * (n + 3) + 3) (omega arith) (far .1)
+    by (suc (suc (suc (suc k)))) l = absurd (omega arith)
+
+-- four more, behind those below m or before
+pub down-four : {m n l : ℕ} {b : List ℕ} → Down m b → n ≤ m → l ≡ n + 4
+    → ((k : ℕ) → k < 4 → getD b (39 * (n + k) + 3) 0 ≡ 0) → Down l b
+down-four {m} {n} {l} {b} d few e f = record { down = λ j h. at j h (lt-or-ge j m) }
+  where
+    at : (j : ℕ) → j < l → (j < m) ⊎ (m ≤ j) → getD b (39 * j + 3) 0 ≡ 0
+    at j h (inl g) = d .down j g
+    at j h (inr g) =
+        let q : n + (j - n) ≡ j = omega arith in
+        subst (λ (i : ℕ). getD b (39 * i + 3) 0 ≡ 0) q (f (j - n) (omega arith))
+
+pub down-all : {k n : ℕ} {b : List ℕ} → n ≤ k → Down k b → Down n b
+down-all l d = record { down = λ j h. d .down j (omega arith) }
+
+pub settles-down : {n : ℕ} {b : List ℕ} → Down n b → SettlesTo n b b
+settles-down {n} {b} d = by n d
+  where
+    by : (n : ℕ) → Down n b → SettlesTo n b b
+    by zero d = settles-none b
+    by (suc n) d =
+        let e : 2 + 39 * n + 1 ≡ 39 * n + 3 = omega arith in
+        let z = ap (λ (i : ℕ). getD b i 0) e ∙ d .down n (omega arith) in
+        let r : n + 1 ≡ suc n = omega arith in
+        subst (λ (k : ℕ). SettlesTo k b b) r
+        (settles-more (by n (down-all (omega arith) d)) (settle-none n (2 + 39 * n) b refl z))
+
+-- the rows of a whole state lie inside
+pub whole-long : {n : ℕ} {b : List ℕ} → Whole n b → 2 + 39 * n ≤ length b
+unfolding size
+whole-long g =
+    let l = length-bytes (g .plan) (g .holds .state) (g .holds .rest) in
+    let k = ap length (g .holds .same) in
+    let m = g .has in
+    omega arith

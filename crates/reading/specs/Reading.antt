@@ -4,8 +4,8 @@ use mathlib.Core.Path.{_≡_}
 use mathlib.Core.Bool.{true}
 use mathlib.Core.List.{List}
 use mathlib.Core.Option.{some}
-use Prim.Native.Nat.{ℕ, _≤_, _<_}
-use lib.ListN.{length}
+use Prim.Native.Nat.{ℕ, _+_, _*_, _≤_, _<_}
+use lib.ListN.{length, getD}
 use Rattle.basis.specs.Fold.{upTo}
 use Rattle.packets.specs.declared.Packet.{Packet}
 use Rattle.packets.specs.declared.Wire.the-variants.{Full}
@@ -74,3 +74,7 @@ pub record Whole (n : ℕ) (b : List ℕ) : Type 0 where
 pub record SettlesTo (n : ℕ) (b c : List ℕ) : Type 0 where
   pub steps : (pl : Plan) → InRange (pl .head) → Wired pl → n ≤ queues pl
       → Steps pl (Core pl) (upTo (settling pl) n) b c
+
+-- the flags of the queues below n are down
+pub record Down (n : ℕ) (b : List ℕ) : Type 0 where
+  pub down : (k : ℕ) → k < n → getD b (39 * k + 3) 0 ≡ 0

@@ -16,7 +16,7 @@ use rows::push;
 use rows::put_wire;
 use rows::wire_at;
 ghost use mathlib.Core.Path.{_≡_};
-ghost use mathlib.Core.Bool.{not};
+ghost use mathlib.Core.Bool.{true, not};
 ghost use Prim.Native.Nat.{ℕ, _+_, _*_, _≤_, _<_};
 ghost use lib.Dec.{eqb};
 ghost use lib.ListN.{getD, length};
@@ -31,7 +31,7 @@ ghost use Rattle.acts.specs.Counts.{queueCount, outputCount};
 ghost use Rattle.moves.specs.Wiring.{Wiring};
 ghost use Rattle.moves.specs.Next.{baseOf};
 ghost use Rattle.reading.specs.Awaiting.{lacksAt, Only};
-ghost use Rattle.reading.specs.Reading.{delivery, Arriving, Flagged, Settles, Whole, SettlesTo};
+ghost use Rattle.reading.specs.Reading.{delivery, Arriving, Flagged, Settles, Whole, SettlesTo, Down};
 
 // The byte of the phase, and those of flag and length in a queue's row, behind the credit's.
 const PHASE_BYTE: usize = 0;
@@ -39,6 +39,9 @@ const PHASE_BYTE: usize = 0;
 const FLAG_BYTE: usize = 1;
 
 const LENGTH_BYTE: usize = 3;
+
+// The byte of the first queue's flag.
+const FIRST_FLAG: usize = 3;
 
 // The bytes of an output's row, and which of them is the wire's first.
 const OUTPUT_BYTES: usize = 7;
@@ -162,12 +165,44 @@ fn settle(s: &mut [u8], n: usize)
     s[i + FLAG_BYTE] = 0;
 }
 
+// Whether no flag of the four queues from number n on is up.
+fn four_down(s: &[u8], n: usize) -> bool
+    requires { ⌜ (n ≤ 512) × (2 + 39 * (n + 4) ≤ length (now s)) ⌝ }
+    ensures { λ r. ⌜ (r ≡ true → (k : ℕ) → k < 4 → getD (now (s .entry)) (39 * (n + k) + 3) 0 ≡ 0) ⌝ }
+{
+    let at = 39 * n + FIRST_FLAG;
+    let near = forms::join(s[at], s[at + 39]);
+    let far = forms::join(s[at + 78], s[at + 117]);
+    forms::join(near, far) == 0
+}
+
+// Whether no flag of the first n queues is up, four at a time and then the last four; of fewer than four it is not
+// told.
+fn all_down(s: &[u8], n: usize) -> bool
+    requires { ⌜ (n ≤ 512) × (2 + 39 * n ≤ length (now s)) ⌝ }
+    ensures { λ r. ⌜ (r ≡ true → Down n (now (s .entry))) ⌝ }
+{
+    if n < 4 {
+        return false;
+    }
+    let m = n / 4;
+    for g in 0..m {
+        if !four_down(s, 4 * g) {
+            return false;
+        }
+    }
+    four_down(s, n - 4)
+}
+
 // Every raised flag becomes a credit.
 fn settle_all(h: Head, s: &mut [u8])
     requires { ⌜ Counts h × Whole (queueCount h) (now s) ⌝ }
     ensures { λ _. ⌜ SettlesTo (queueCount h) (now (s .entry)) (now (s .exit)) ⌝ }
 {
     let count = queue_count(h);
+    if all_down(s, count) {
+        return;
+    }
     for n in 0..count {
         settle(s, n);
     }

@@ -29,6 +29,7 @@ use Rattle.machine.specs.Calls.{isPhase}
 use Rattle.machine.specs.Valid.{Belongs, Lined}
 use Rattle.machine.proofs.Numbers.{exists-at, at-number, sender-exists}
 use Rattle.machine.proofs.OutNumbers.{drives-at}
+use Rattle.theory.proofs.Places.Feeders.{sender-leaves}
 use Rattle.theory.proofs.Places.Lines.{head-leaves, belongs-exists}
 use Rattle.theory.proofs.Places.Makes.{next-belongs}
 use Rattle.valid.specs.Test.{linedTest, wireTest, mayTest, downTest}
@@ -51,7 +52,7 @@ use Rattle.choices.specs.Picks.{senderOf, mayLeaveAt, maySend}
 use Rattle.choices.proofs.Bytes.{also-false, also-right, flag-test, some-test, not-write, head-is, decode-phase}
 use Rattle.choices.proofs.Bytes.{outputs-are, output-row}
 use Rattle.choices.proofs.Named.{named, not-unnamed}
-use Rattle.choices.proofs.Senders.{sender-leaves, sender-number}
+use Rattle.choices.proofs.Senders.{sender-number}
 
 leaves-as : (k : Role) (done : Bool) → mayLeaveAs k done ≡ pick (isUnitAs k) done true
 leaves-as sending done = refl

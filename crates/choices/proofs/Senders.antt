@@ -14,37 +14,13 @@ use Rattle.plan.specs.declared.Head.{Head}
 use Rattle.plan.specs.Head.{destinations}
 use Rattle.plan.specs.Plan.{Plan}
 use Rattle.plan.specs.Tables.{tablePlan}
-use Rattle.feeding.specs.Queue.{Queue, U, K, number, senderAt}
-use Rattle.feeding.specs.Feeds.{Output, ofActive, ofPassive, ofSide, toUnit, fromUnit, outputOf}
-use Rattle.journeys.proofs.Places.{some-same, some-not-none}
+use Rattle.feeding.specs.Queue.{U, K, number, senderAt}
+use Rattle.feeding.specs.Feeds.{ofSide, toUnit, fromUnit}
 use Rattle.machine.specs.Outputs.{outputAt, routerOutput, senders}
 use Rattle.machine.specs.Write.{ofRank}
 use Rattle.acts.specs.Counts.{outputCount}
 use Rattle.moves.specs.Next.{noQueue, baseOf, numberOr}
 use Rattle.choices.specs.Picks.{senderIn, senderOf}
-
--- what an output sends leaves by it
-pub sender-leaves : (o : Output) (k : ℕ) (q : Queue) → ofRank (senders o) k ≡ some q → outputOf q ≡ some o
-sender-leaves (ofActive a) zero q e = rw (← some-same e)
-sender-leaves (ofActive a) (suc k) q e = absurd (some-not-none e)
-sender-leaves (ofPassive p) zero q e = rw (← some-same e)
-sender-leaves (ofPassive p) (suc k) q e = absurd (some-not-none e)
-sender-leaves (ofSide r o) zero q e = rw (← some-same e)
-sender-leaves (ofSide r o) (suc zero) q e = rw (← some-same e)
-sender-leaves (ofSide r o) (suc (suc zero)) q e = rw (← some-same e)
-sender-leaves (ofSide r o) (suc (suc (suc zero))) q e = rw (← some-same e)
-sender-leaves (ofSide r o) (suc (suc (suc (suc zero)))) q e = rw (← some-same e)
-sender-leaves (ofSide r o) (suc (suc (suc (suc (suc k))))) q e = absurd (some-not-none e)
-sender-leaves (toUnit r) zero q e = rw (← some-same e)
-sender-leaves (toUnit r) (suc zero) q e = rw (← some-same e)
-sender-leaves (toUnit r) (suc (suc zero)) q e = rw (← some-same e)
-sender-leaves (toUnit r) (suc (suc (suc zero))) q e = rw (← some-same e)
-sender-leaves (toUnit r) (suc (suc (suc (suc k)))) q e = absurd (some-not-none e)
-sender-leaves (fromUnit r) zero q e = rw (← some-same e)
-sender-leaves (fromUnit r) (suc zero) q e = rw (← some-same e)
-sender-leaves (fromUnit r) (suc (suc zero)) q e = rw (← some-same e)
-sender-leaves (fromUnit r) (suc (suc (suc zero))) q e = rw (← some-same e)
-sender-leaves (fromUnit r) (suc (suc (suc (suc k)))) q e = absurd (some-not-none e)
 
 module _ (h : Head) (routes : List (List ℕ)) (joints : List ℕ) where
   abbrev net : Plan

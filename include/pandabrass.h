@@ -121,6 +121,17 @@ uint32_t pandabrass_drop(const uint8_t *plan, size_t n, uint8_t *state, size_t l
 uint32_t pandabrass_entry(const uint8_t *plan, size_t n, const uint8_t *state, size_t l, uint32_t router, uint32_t side,
                           uint32_t slot, uint8_t out[8]);
 
+/* Remaining, in every phase: 0, or 1 to 7. How many packets are in queues and on wires, N, in out[0] to out[3], and how
+ * many rounds to wait before a wash, 256 x S x N, in out[4] to out[7], lowest byte first. Writes no byte of the state.
+ *
+ * Asked in READ it tells a round that can be relied on: if from then on no Launch and no Close is accepted, each
+ * passive that can reply in a WRITE does so in it, accepting or declining, and each active that can drop in a WRITE
+ * does so in it, then after so many whole rounds (an accepted Read, Execute and Write), and ever after, every queue and
+ * every wire is empty and the table is the accepted connections' own. This is proved of these calls, for every plan
+ * that loads and every state reached from pandabrass_start. Most networks are empty much sooner: ask again, 0 means
+ * empty. Within a round N may grow, when a declined set-up is torn down; the round that was told stays. */
+uint32_t pandabrass_remaining(const uint8_t *plan, size_t n, const uint8_t *state, size_t l, uint8_t out[8]);
+
 /* A packet, by name. */
 struct pandabrass_packet {
     uint8_t kind; /* enum pandabrass_kind */
@@ -140,6 +151,21 @@ static inline struct pandabrass_packet pandabrass_packet_of(const uint8_t out[8]
     packet.slot = out[3];
     packet.hub = out[4];
     return packet;
+}
+
+/* What is left, by name. */
+struct pandabrass_left {
+    uint32_t packets;
+    uint32_t rounds;
+};
+
+/* What an accepted pandabrass_remaining put into out. */
+static inline struct pandabrass_left pandabrass_left_of(const uint8_t out[8])
+{
+    struct pandabrass_left left;
+    left.packets = (uint32_t)out[0] | (uint32_t)out[1] << 8 | (uint32_t)out[2] << 16 | (uint32_t)out[3] << 24;
+    left.rounds = (uint32_t)out[4] | (uint32_t)out[5] << 8 | (uint32_t)out[6] << 16 | (uint32_t)out[7] << 24;
+    return left;
 }
 
 #ifdef __cplusplus

@@ -1,13 +1,17 @@
-// What Rust and C get of an answer: its number, and a packet or an entry as bytes.
+// What Rust and C get of an answer: its number, and a packet, an entry or what is left as bytes.
 use packets::Answer;
 use packets::Entry;
 use packets::Packet;
+use packets::Remaining;
 ghost use mathlib.Core.Path.{_≡_};
+ghost use mathlib.Core.List.{_++_};
+ghost use Prim.Native.Nat.{_%_};
 ghost use lib.ListN.{set};
 ghost use lib.Seq.{sets};
 ghost use Rattle.layout.specs.Places.{packetBytes};
+ghost use Rattle.layout.specs.Encode.{wordBytes};
 ghost use Rattle.packets.specs.Answers.{entryNumber};
-ghost use Rattle.answers.specs.Numbers.{answerNumber, shownBytes, entryByte};
+ghost use Rattle.answers.specs.Numbers.{answerNumber, shownBytes, entryByte, remainingBytes};
 
 // 0 for what is accepted, else the refusal's number.
 pub fn number_of(x: Answer) -> u32
@@ -18,6 +22,7 @@ pub fn number_of(x: Answer) -> u32
         Answer::Done => 0,
         Answer::Shows(_) => 0,
         Answer::Holds(_) => 0,
+        Answer::Remains(_) => 0,
     }
 }
 
@@ -42,6 +47,7 @@ pub fn put_shown(x: Answer, out: &mut [u8; 8])
         Answer::Done => {}
         Answer::Shows(p) => put_packet(p, out),
         Answer::Holds(_) => {}
+        Answer::Remains(_) => {}
     }
 }
 
@@ -71,5 +77,40 @@ pub fn put_entry(x: Answer, out: &mut [u8; 8])
         Answer::Done => {}
         Answer::Shows(_) => {}
         Answer::Holds(e) => put_side(e, out),
+        Answer::Remains(_) => {}
+    }
+}
+
+// The lowest byte of a word.
+fn lowest(w: u32) -> u8
+    ensures { λ v. ⌜ v ≡ w % 256 ⌝ }
+{
+    (w % 256) as u8
+}
+
+// Two words, the lowest byte of each first.
+fn put_words(x: Remaining, out: &mut [u8; 8])
+    ensures { λ _. ⌜ now (out .exit) ≡ sets (now (out .entry)) 0 (wordBytes (x .packets) ++ wordBytes (x .rounds)) ⌝ }
+{
+    out[0] = lowest(x.packets);
+    out[1] = lowest(x.packets / 256);
+    out[2] = lowest(x.packets / 65536);
+    out[3] = lowest(x.packets / 16777216);
+    out[4] = lowest(x.rounds);
+    out[5] = lowest(x.rounds / 256);
+    out[6] = lowest(x.rounds / 65536);
+    out[7] = lowest(x.rounds / 16777216);
+}
+
+// The bytes of what is left.
+pub fn put_remaining(x: Answer, out: &mut [u8; 8])
+    ensures { λ _. ⌜ now (out .exit) ≡ remainingBytes x (now (out .entry)) ⌝ }
+{
+    match x {
+        Answer::Refused(_) => {}
+        Answer::Done => {}
+        Answer::Shows(_) => {}
+        Answer::Holds(_) => {}
+        Answer::Remains(n) => put_words(n, out),
     }
 }

@@ -1,13 +1,13 @@
-// The calls of document 01, and Close, Look and Drop of document 02, on lent bytes: the plan's by `&`, the state's by
-// `&mut`, and by `&` for Look and Entry. Each loads the plan, checks the state, and then goes its own way. A refusal
-// alters no byte, and no byte past the state is written.
+// The calls of document 01, and Close, Look, Drop and Remaining of document 02, on lent bytes: the plan's by `&`, the
+// state's by `&mut`, and by `&` for Look, Entry and Remaining. Each loads the plan, checks the state, and then goes its
+// own way. A refusal alters no byte, and no byte past the state is written.
 use inspect::Checked;
 use kinds::Refusal;
 use load::Loaded;
 use packets::Answer;
 use routes::NO_SIDE;
 ghost use mathlib.Core.Path.{_≡_};
-ghost use Rattle.machine.specs.Calls.{read, execute, write, launch, reply, look, drop, close, entry};
+ghost use Rattle.machine.specs.Calls.{read, execute, write, launch, reply, look, drop, close, entry, remaining};
 ghost use Rattle.claims.specs.Calls.{given, startOn, callOn};
 
 pub mod opened;
@@ -284,4 +284,31 @@ pub fn entry(plan: &[u8], state: &[u8], router: usize, side: usize, slot: usize)
         return Answer::Refused(Refusal::NotState);
     };
     looking::entry(h, state, router, side, slot)
+}
+
+// Remaining: the packets in queues and on wires, and the rounds after which a program that waits finds none.
+pub fn remaining(plan: &[u8], state: &[u8]) -> Answer
+    ensures { λ r. ⌜ given r (now (state .entry)) ≡ callOn (now (plan .entry)) remaining (now (state .entry)) ⌝ }
+{
+    let mut routes = [[NO_SIDE; 32]; 16];
+    let mut joints = [0u8; 64];
+    let mut homes = [0u8; 32];
+    let mut lengths = [[0u8; 16]; 16];
+    let mut by = [[0u32; 4]; 16];
+    let l = load::fill(
+        plan,
+        &mut routes,
+        &mut joints,
+        &mut homes,
+        &mut lengths,
+        &mut by,
+    );
+    let Loaded::Accepted(h) = l else {
+        return Answer::Refused(opened::refusal(l));
+    };
+    let c = inspect::inspect(h, &routes, &joints, &homes, &lengths, &by, state);
+    let Checked::State = c else {
+        return Answer::Refused(Refusal::NotState);
+    };
+    counting::remaining(h, state)
 }

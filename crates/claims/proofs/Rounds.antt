@@ -15,7 +15,8 @@ use Rattle.machine.specs.Execute.{doExecute}
 use Rattle.machine.specs.Write.{doWrite}
 use Rattle.machine.specs.Visits.{launched, removed, closed}
 use Rattle.machine.specs.Calls.{Visit, Call, turn, Outcome, gives, phaseStep, call}
-use Rattle.theory.specs.Does.{Visited, launches, replies, looks, drops, closes, tells, Does, refuses, turns, visits}
+use Rattle.theory.specs.Does.{Visited, launches, replies, looks, drops, closes, tells, counts, Does, refuses, turns}
+use Rattle.theory.specs.Does.{visits}
 use Rattle.machine.specs.Progress.{turnsCall}
 use Rattle.machine.specs.Ruled.{ruledAfter, rounds}
 use Rattle.theory.proofs.Does.{call-does, refused-turns}
@@ -67,6 +68,7 @@ module _ (pl : Plan) (s : State) where
       noted-keeps pl x (removed a rest s) (λ t. t .clock .phase ≡ s .clock .phase) (λ e. refl) refl
   visit-phase v o (closes a p t m) = refl
   visit-phase v o (tells r q t m) = refl
+  visit-phase v o counts = refl
 
   does-turn : (c : Call) (o : Outcome) → Does pl s c o → TurnsBy c (s .clock .phase) o
   does-turn c o (refuses d w n) = rw (refused-turns Read d w, refused-turns Execute d w, refused-turns Write d w)

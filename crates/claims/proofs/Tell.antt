@@ -29,7 +29,8 @@ use Rattle.machine.specs.Capacity.{capacity}
 use Rattle.machine.specs.State.{State}
 use Rattle.machine.specs.Visits.{isEmpty, headUnmarked}
 use Rattle.machine.specs.Guards.{Guard, guard}
-use Rattle.machine.specs.Calls.{ofLaunch, ofReply, ofLook, ofDrop, ofClose, ofEntry, Call, turn, visit, isPhase}
+use Rattle.machine.specs.Calls.{ofLaunch, ofReply, ofLook, ofDrop, ofClose, ofEntry, ofRemaining, Call, turn, visit}
+use Rattle.machine.specs.Calls.{isPhase}
 use Rattle.machine.specs.Calls.{guards}
 use Rattle.machine.specs.Conditions.{QueueIsFull, UnmarkedHead, conditions}
 use Rattle.machine.proofs.Apart.{phase-of, phase-is}
@@ -184,6 +185,7 @@ module _ (pl : Plan) (wired : Wired pl) (s : State) where
     ),
   )
   calls-tell (visit (ofEntry r o t)) = (refl, not-three r o t (R pl) 4 (S pl), λ n. record {})
+  calls-tell (visit ofRemaining) = record {}
 
 -- ---- the tests of Load
 abbrev pub loadGuards : List ℕ → List Guard

@@ -1,6 +1,6 @@
 -- Demand 3, 'a single claim about the whole list': plan bytes that Load accepts, the state bytes that an accepted
--- Start left, and any list of the calls Read, Execute, Write, Launch, Reply, Look, Drop, Close and Entry, each on the
--- bytes as the last one left them.
+-- Start left, and any list of the calls Read, Execute, Write, Launch, Reply, Look, Drop, Close, Entry and Remaining,
+-- each on the bytes as the last one left them.
 use mathlib.Core.Path.{_≡_}
 use mathlib.Core.Logic.{_≢_}
 use mathlib.Core.Bool.{Bool, true}

@@ -10,7 +10,7 @@ use Rattle.load.specs.declared.Loaded.the-variants.{Accepted, Refused}
 use Rattle.load.specs.Load.{loadOf}
 use Rattle.acts.specs.Counts.{stateSize}
 use Rattle.claims.specs.Calls.{Given, given}
-use Rattle.answers.specs.Numbers.{answerNumber, shownBytes, entryByte}
+use Rattle.answers.specs.Numbers.{answerNumber, shownBytes, entryByte, remainingBytes}
 use Rattle.export.specs.Size.{sizeIn, sizeOf}
 
 module _ {x : Answer} {d : List ℕ} {g : Given} (e : given x d ≡ g) where
@@ -25,6 +25,9 @@ module _ {x : Answer} {d : List ℕ} {g : Given} (e : given x d ≡ g) where
 
   pub entry-told : (o : List ℕ) {u : List ℕ} → u ≡ entryByte x o → u ≡ entryByte (g .answer) o
   entry-told o f = f ∙ ap (λ (y : Given). entryByte (y .answer) o) e
+
+  pub remaining-told : (o : List ℕ) {u : List ℕ} → u ≡ remainingBytes x o → u ≡ remainingBytes (g .answer) o
+  remaining-told o f = f ∙ ap (λ (y : Given). remainingBytes (y .answer) o) e
 
 -- ---- the state's size
 module _ (p : List ℕ) {l : Loaded} (known : l ≡ loadOf p) where

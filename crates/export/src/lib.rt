@@ -3,9 +3,9 @@ use load::Loaded;
 ghost use mathlib.Core.Path.{_≡_};
 ghost use Rattle.load.specs.Load.{loadOf, loadNumber};
 ghost use Rattle.load.specs.Walk.{walkOf};
-ghost use Rattle.machine.specs.Calls.{read, execute, write, launch, reply, look, drop, close, entry};
+ghost use Rattle.machine.specs.Calls.{read, execute, write, launch, reply, look, drop, close, entry, remaining};
 ghost use Rattle.claims.specs.Calls.{startOn, callOn};
-ghost use Rattle.answers.specs.Numbers.{answerNumber, shownBytes, entryByte};
+ghost use Rattle.answers.specs.Numbers.{answerNumber, shownBytes, entryByte, remainingBytes};
 ghost use Rattle.export.specs.Size.{sizeOf};
 
 // Load: 0, or the number of the first refusal that applies, 1 to 6.
@@ -190,5 +190,17 @@ pub extern "C" fn pandabrass_entry(
 {
     let x = calls::entry(plan, state, router as usize, side as usize, slot as usize);
     answers::put_entry(x, out);
+    answers::number_of(x)
+}
+
+// Remaining: the packets and the rounds, four bytes each.
+#[no_mangle]
+pub extern "C" fn pandabrass_remaining(plan: &[u8], state: &[u8], out: &mut [u8; 8]) -> u32
+    ensures { λ r. ⌜ (r ≡ answerNumber (callOn (now (plan .entry)) remaining (now (state .entry)) .answer))
+        × (now (out .exit) ≡ remainingBytes (callOn (now (plan .entry)) remaining (now (state .entry)) .answer)
+        (now (out .entry))) ⌝ }
+{
+    let x = calls::remaining(plan, state);
+    answers::put_remaining(x, out);
     answers::number_of(x)
 }

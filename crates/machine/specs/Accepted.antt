@@ -7,12 +7,13 @@ use Rattle.packets.specs.declared.Kind.{Kind}
 use Rattle.packets.specs.declared.Kind.the-variants.{Setup, Tdown, Ack, Nack}
 use Rattle.packets.specs.declared.Packet.{Packet}
 use Rattle.packets.specs.declared.Answer.{Answer}
-use Rattle.packets.specs.declared.Answer.the-variants.{Refused, Done, Shows, Holds}
+use Rattle.packets.specs.declared.Answer.the-variants.{Refused, Done, Shows, Holds, Remains}
 use Rattle.plan.specs.Plan.{Plan}
 use Rattle.feeding.specs.Queue.{activeIn}
 use Rattle.machine.specs.Connections.{Connection, connection, connectionOf, without}
 use Rattle.machine.specs.State.{State}
-use Rattle.machine.specs.Calls.{Visit, ofLaunch, ofReply, ofLook, ofDrop, ofClose, ofEntry, Call, turn, visit}
+use Rattle.machine.specs.Calls.{Visit, ofLaunch, ofReply, ofLook, ofDrop, ofClose, ofEntry, ofRemaining, Call}
+use Rattle.machine.specs.Calls.{turn, visit}
 
 -- where a call answers only that it was accepted the first, else the second
 abbrev pub ifDone : {X : Type 0} → Answer → X → X → X
@@ -20,6 +21,7 @@ ifDone (Refused w) x y = y
 ifDone Done x y = x
 ifDone (Shows p) x y = y
 ifDone (Holds e) x y = y
+ifDone (Remains r) x y = y
 
 -- 'an ACK counts as accepted': of the packets, no other
 abbrev pub acceptKind : Plan → Kind → Packet → List Connection → List Connection
@@ -41,6 +43,7 @@ acceptVisit pl (ofDrop a) s x cs = ifDone x (acceptHead pl (s .lines .queue (act
 -- 'and the connection leaves the accepted ones'
 acceptVisit pl (ofClose a p t) s x cs = ifDone x (without (connection a p t) cs) cs
 acceptVisit pl (ofEntry r o t) s x cs = cs
+acceptVisit pl ofRemaining s x cs = cs
 
 -- one call on a state, and its answer: the connections accepted after it, and not closed since
 abbrev pub accept : Plan → Call → State → Answer → List Connection → List Connection

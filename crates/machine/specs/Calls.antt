@@ -12,7 +12,7 @@ use Rattle.packets.specs.declared.Packet.{Packet}
 use Rattle.packets.specs.declared.Phase.{Phase}
 use Rattle.packets.specs.declared.Phase.the-variants.{Read, Execute, Write}
 use Rattle.packets.specs.declared.Answer.{Answer}
-use Rattle.packets.specs.declared.Answer.the-variants.{Refused, Done, Shows, Holds}
+use Rattle.packets.specs.declared.Answer.the-variants.{Refused, Done, Shows, Holds, Remains}
 use Rattle.plan.specs.Plan.{Plan, R, A, P, S}
 use Rattle.paths.specs.Served.{served}
 use Rattle.feeding.specs.Queue.{activeOut, activeIn, passiveIn, passiveOut}
@@ -22,6 +22,7 @@ use Rattle.machine.specs.Execute.{doExecute, hasRoom}
 use Rattle.machine.specs.Write.{doWrite}
 use Rattle.machine.specs.Visits.{launched, replyKind, replied, dropped, closed}
 use Rattle.machine.specs.Visits.{isEmpty, headUnmarked}
+use Rattle.machine.specs.Remaining.{remainingIn}
 use Rattle.machine.specs.Guards.{Guard, guard, refusalOf}
 
 -- ---- which call
@@ -33,6 +34,7 @@ pub data Visit : Type 0 where
   ofDrop : ℕ → Visit
   ofClose : ℕ → ℕ → ℕ → Visit
   ofEntry : ℕ → ℕ → ℕ → Visit
+  ofRemaining : Visit
 
 -- 'the calls Read, Execute, Write', which turn the phase, and the others
 pub data Call : Type 0 where
@@ -71,6 +73,10 @@ close a p t = visit (ofClose a p t)
 -- Entry (router, side, slot)
 abbrev pub entry : ℕ → ℕ → ℕ → Call
 entry r o t = visit (ofEntry r o t)
+
+-- Remaining
+abbrev pub remaining : Call
+remaining = visit ofRemaining
 
 -- ---- what a call gives: its answer, and the state that it leaves
 pub record Outcome : Type 0 where
@@ -153,6 +159,8 @@ guards pl (visit (ofLook a)) s = lookGuards pl a s
 guards pl (visit (ofDrop a)) s = dropGuards pl a s
 guards pl (visit (ofClose a p t)) s = closeGuards pl a p t s
 guards pl (visit (ofEntry r o t)) s = entryGuards pl r o t
+-- Remaining has none of its own
+guards pl (visit ofRemaining) s = []
 
 -- ---- what each call gives where no refusal applies
 abbrev pub phaseStep : Plan → Phase → State → State
@@ -175,6 +183,8 @@ accepted pl (visit (ofLook a)) s = gives (shown (s .lines .queue (activeIn a))) 
 accepted pl (visit (ofDrop a)) s = gives Done (dropped pl a (s .lines .queue (activeIn a)) s)
 accepted pl (visit (ofClose a p t)) s = gives Done (closed pl a p t s)
 accepted pl (visit (ofEntry r o t)) s = gives (Holds (s .table r o t)) s
+-- N and 256 × S × N
+accepted pl (visit ofRemaining) s = gives (Remains (remainingIn pl s)) s
 
 -- ---- a call
 abbrev pub decided : Option Refusal → State → Outcome → Outcome

@@ -17,7 +17,8 @@ use Rattle.paths.specs.Served.{Served}
 use Rattle.feeding.specs.Queue.{Queue, activeOut, activeIn, passiveIn, passiveOut}
 use Rattle.machine.specs.Capacity.{capacity}
 use Rattle.machine.specs.State.{State}
-use Rattle.machine.specs.Calls.{ofLaunch, ofReply, ofLook, ofDrop, ofClose, ofEntry, Call, turn, visit}
+use Rattle.machine.specs.Calls.{ofLaunch, ofReply, ofLook, ofDrop, ofClose, ofEntry, ofRemaining, Call, turn}
+use Rattle.machine.specs.Calls.{visit}
 
 -- 'out-queue full'
 abbrev pub QueueIsFull : Plan → Queue → State → Type 0
@@ -73,3 +74,5 @@ conditions pl (visit (ofClose a p t)) s =
     ∷ []
 -- '**Entry** (router, side, slot): 9'
 conditions pl (visit (ofEntry r o t)) s = condition BadNumber ((R pl ≤ r) ⊎ (4 ≤ o) ⊎ (S pl ≤ t)) ∷ []
+-- Remaining, for document 02 (n): none of its own
+conditions pl (visit ofRemaining) s = []

@@ -7,11 +7,12 @@ pub mod Read
 pub mod Execute
 pub mod Write
 pub mod Visits
+pub mod Valid
+pub mod Remaining
 pub mod Guards
 pub mod Calls
 pub mod Conditions
 pub mod Accepted
-pub mod Valid
 pub mod Progress
 pub mod Ruled
 pub mod TurnAbout

@@ -12,7 +12,7 @@ use Rattle.packets.specs.declared.Wire.the-variants.{Empty, Full}
 use Rattle.packets.specs.declared.Phase.{Phase}
 use Rattle.packets.specs.declared.Phase.the-variants.{Read, Write}
 use Rattle.packets.specs.declared.Answer.{Answer}
-use Rattle.packets.specs.declared.Answer.the-variants.{Refused, Done, Shows, Holds}
+use Rattle.packets.specs.declared.Answer.the-variants.{Refused, Done, Shows, Holds, Remains}
 use Rattle.plan.specs.declared.Joint.the-variants.{Nothing}
 use Rattle.plan.specs.Plan.{Plan, R, A, P}
 use Rattle.feeding.specs.Queue.{Queue, passiveIn, Exists}
@@ -85,6 +85,7 @@ isDone (Refused w) = 0
 isDone Done = 1
 isDone (Shows x) = 0
 isDone (Holds e) = 0
+isDone (Remains x) = 0
 
 -- an accepted Read, Execute or Write of that phase
 abbrev pub turnsCall : Phase → Call → Answer → ℕ

@@ -15,7 +15,8 @@ use Rattle.plan.specs.Plan.{Plan, S}
 use Rattle.feeding.specs.Queue.{activeIn}
 use Rattle.machine.specs.Connections.{Connection, connectionOf, sameConnection, MadeBy}
 use Rattle.machine.specs.State.{State, start, hasConnection}
-use Rattle.machine.specs.Calls.{Visit, ofLaunch, ofReply, ofLook, ofDrop, ofClose, ofEntry, Call, turn, visit}
+use Rattle.machine.specs.Calls.{Visit, ofLaunch, ofReply, ofLook, ofDrop, ofClose, ofEntry, ofRemaining, Call}
+use Rattle.machine.specs.Calls.{turn, visit}
 use Rattle.machine.specs.Calls.{call}
 use Rattle.machine.specs.Accepted.{ifDone, accept}
 use Rattle.machine.specs.Valid.{Valid, Bounded}
@@ -44,6 +45,7 @@ launchesVisit d (ofLook a) x = 0
 launchesVisit d (ofDrop a) x = 0
 launchesVisit d (ofClose a q t) x = 0
 launchesVisit d (ofEntry r o t) x = 0
+launchesVisit d ofRemaining x = 0
 
 abbrev pub launchesCall : Connection → Call → Answer → ℕ
 launchesCall d (turn x) a = 0
@@ -71,6 +73,7 @@ acceptsVisit pl d (ofLook a) s x = 0
 acceptsVisit pl d (ofDrop a) s x = ifDone x (acceptsHead pl d (s .lines .queue (activeIn a))) 0
 acceptsVisit pl d (ofClose a q t) s x = 0
 acceptsVisit pl d (ofEntry r o t) s x = 0
+acceptsVisit pl d ofRemaining s x = 0
 
 abbrev pub acceptsCall : Plan → Connection → Call → State → Answer → ℕ
 acceptsCall pl d (turn x) s a = 0

@@ -17,3 +17,4 @@ pub mod Closed
 pub mod Looking
 pub mod Crossing
 pub mod BothEnds
+pub mod Waited

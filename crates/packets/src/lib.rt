@@ -43,12 +43,21 @@ pub enum Entry {
     Booked(u8),
 }
 
-// What a call answers: its refusal, only that it was accepted, the packet that a Look shows, or the entry.
+// What is left in the network: the packets in queues and on wires, and the rounds after which a program that waits
+// finds it empty.
+pub struct Remaining {
+    pub packets: u32,
+    pub rounds: u32,
+}
+
+// What a call answers: its refusal, only that it was accepted, the packet that a Look shows, the entry, or what is
+// left.
 pub enum Answer {
     Refused(Refusal),
     Done,
     Shows(Packet),
     Holds(Entry),
+    Remains(Remaining),
 }
 
 // The slot after t, of s slots.

@@ -1,5 +1,5 @@
-// Document 01's 'Runs to compare' and two of document 02, done by the calls on byte arrays: every call is written with
-// its answer, and after each run whether the answers are those of the document.
+// Document 01's 'Runs to compare' and three of document 02, done by the calls on byte arrays: every call is written
+// with its answer, and after each run whether the answers are those of the document.
 use kinds::Hub;
 use kinds::Refusal;
 use kinds::Slot;
@@ -18,6 +18,7 @@ mod closed;
 mod crossing;
 mod rounds;
 mod told;
+mod waited;
 
 // The number of plan T's queue F[1] of set-ups.
 const T_SIDE_ONE: usize = 15;
@@ -369,6 +370,18 @@ fn crosses(plan: &[u8], clockwise: &[u8]) {
     );
 }
 
+// 'Before a wash the arm program .. waits': a declined set-up on plan T.
+fn washed(plan: &[u8]) {
+    say(b"\nPlan T before a wash: a set-up is declined, and all is waited out\n");
+    let mut s = room();
+    let ran = waited::waited_out(plan, &mut s);
+    verdict_of(
+        ran,
+        b"02 (n)",
+        b"empty after at most 256 x S x N rounds, 512 here; it takes 11, with the tear-down.",
+    );
+}
+
 // All runs, in the documents' order, on plan T and three others.
 fn all(t: &[u8], two: &[u8], crossed: &[u8], clockwise: &[u8]) {
     loads();
@@ -379,6 +392,7 @@ fn all(t: &[u8], two: &[u8], crossed: &[u8], clockwise: &[u8]) {
     allowance_spent(t);
     closed_again(t);
     crosses(crossed, clockwise);
+    washed(t);
 }
 
 // Runs all on plan T, the plan of two routers, the one in which set-ups cross, and the one in which they go round.

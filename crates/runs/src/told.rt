@@ -88,6 +88,12 @@ pub fn entry(plan: &[u8], s: &[u8], r: usize, o: usize, t: usize, want: Entry) -
     answered(calls::entry(plan, s, r, o, t), Answer::Holds(want))
 }
 
+// Remaining.
+pub fn remaining(plan: &[u8], s: &[u8], want: Answer) -> bool {
+    say(b" Remaining:");
+    answered(calls::remaining(plan, s), want)
+}
+
 // The first packet of queue n, read from the state's bytes by their layout.
 fn first_in(s: &[u8], n: usize) -> Wire {
     if 400 <= n {

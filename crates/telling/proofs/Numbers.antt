@@ -1,4 +1,4 @@
--- A refusal is known by its number, a kind by its code, a packet by its fields.
+-- A refusal is known by its number, a kind by its code, a packet and what is left by their fields.
 use mathlib.Core.Path.{_≡_, refl, sym, ap, _∙_}
 use mathlib.Core.List.{List, [], _∷_}
 use Prim.Native.Nat.{ℕ}
@@ -10,6 +10,7 @@ use Rattle.kinds.specs.declared.Refusal.the-variants.{QueueFull, QueueEmpty, Fl
 use Rattle.kinds.specs.Refusals.{refusalNumber}
 use Rattle.packets.specs.declared.Kind.{Kind}
 use Rattle.packets.specs.declared.Packet.{Packet}
+use Rattle.packets.specs.declared.Remaining.{Remaining}
 use Rattle.layout.specs.Codes.{kindCode, kindOf, kind-code}
 
 -- the refusals in the order of their numbers, from 1 on
@@ -49,3 +50,7 @@ pub same-fields : (x y : Packet) → x .kind ≡ y .kind → x .active ≡ y .ac
     → x .slot .0 ≡ y .slot .0 → x .hub .0 ≡ y .hub .0 → x ≡ y
 same-fields x y k a p t h =
     λ i. record { kind = k i; active = a i; passive = p i; slot = record { 0 = t i }; hub = record { 0 = h i } }
+
+-- and of what is left
+pub same-left : {x y : Remaining} → x .packets ≡ y .packets → x .rounds ≡ y .rounds → x ≡ y
+same-left n m = λ i. record { packets = n i; rounds = m i }

@@ -4,9 +4,10 @@ use packets::Answer;
 use packets::Entry;
 use packets::Kind;
 use packets::Packet;
+use packets::Remaining;
 ghost use mathlib.Core.Path.{_≡_};
 ghost use mathlib.Core.Bool.{true};
-ghost use Rattle.packets.specs.declared.Answer.the-variants.{Refused, Done, Shows, Holds};
+ghost use Rattle.packets.specs.declared.Answer.the-variants.{Refused, Done, Shows, Holds, Remains};
 ghost use Rattle.packets.specs.declared.Entry.the-variants.{Free, Booked};
 
 // Whether two kinds are the same.
@@ -107,6 +108,26 @@ fn is_held(x: Answer, e: Entry) -> bool
     same_entry(y, e)
 }
 
+// Whether as much is left.
+fn same_remaining(x: Remaining, y: Remaining) -> bool
+    ensures { λ r. ⌜ (r ≡ true → x ≡ y) ⌝ }
+{
+    if x.packets != y.packets {
+        return false;
+    }
+    x.rounds == y.rounds
+}
+
+// Whether an answer is what is left.
+fn is_left(x: Answer, n: Remaining) -> bool
+    ensures { λ r. ⌜ (r ≡ true → x ≡ Remains n) ⌝ }
+{
+    let Answer::Remains(y) = x else {
+        return false;
+    };
+    same_remaining(y, n)
+}
+
 // Whether two answers are the same.
 pub fn same(x: Answer, y: Answer) -> bool
     ensures { λ r. ⌜ (r ≡ true → x ≡ y) ⌝ }
@@ -116,5 +137,6 @@ pub fn same(x: Answer, y: Answer) -> bool
         Answer::Refused(w) => is_refused(x, w),
         Answer::Shows(p) => is_shown(x, p),
         Answer::Holds(e) => is_held(x, e),
+        Answer::Remains(n) => is_left(x, n),
     }
 }

@@ -4,6 +4,7 @@ use packets::Answer;
 use packets::Entry;
 use packets::Kind;
 use packets::Packet;
+use packets::Remaining;
 
 // Writes a text.
 pub fn say(text: &[u8]) {
@@ -92,6 +93,12 @@ fn say_refusal(w: Refusal) {
     say_reason(w);
 }
 
+// Writes what is left.
+fn say_remaining(x: Remaining) {
+    say_number(b" packets ", x.packets as usize);
+    say_number(b", rounds ", x.rounds as usize);
+}
+
 // Writes an answer.
 pub fn say_answer(x: Answer) {
     match x {
@@ -102,6 +109,7 @@ pub fn say_answer(x: Answer) {
             say_packet(p);
         }
         Answer::Holds(e) => say_entry(e),
+        Answer::Remains(n) => say_remaining(n),
     }
     say(b".");
 }

@@ -24,11 +24,12 @@ use Rattle.journeys.proofs.Places.{some-not-none}
 use Rattle.machine.specs.State.{State}
 use Rattle.machine.specs.Visits.{removed, noted, dropped, closed, isEmpty, headUnmarked}
 use Rattle.machine.specs.Guards.{Guard, refusalOf, Passed}
-use Rattle.machine.specs.Calls.{Visit, ofLaunch, ofReply, ofLook, ofDrop, ofClose, ofEntry, Call, turn, visit, drop}
+use Rattle.machine.specs.Calls.{Visit, ofLaunch, ofReply, ofLook, ofDrop, ofClose, ofEntry, ofRemaining, Call, turn}
+use Rattle.machine.specs.Calls.{visit, drop}
 use Rattle.machine.specs.Calls.{close, Outcome, isPhase, launchGuards, replyGuards, lookGuards, dropGuards, closeGuards}
 use Rattle.machine.specs.Calls.{entryGuards, guards, accepted, decided, call}
 use Rattle.theory.specs.Does.{MayLaunch, MayDrop, MayClose, MayTell, Visited, launches, replies, looks, drops}
-use Rattle.theory.specs.Does.{closes, tells, Does, refuses, turns, visits}
+use Rattle.theory.specs.Does.{closes, tells, counts, Does, refuses, turns, visits}
 use Rattle.machine.specs.Progress.{turnsCall}
 use Rattle.machine.proofs.Apart.{phase-of}
 
@@ -145,6 +146,7 @@ module _ (pl : Plan) (s : State) where
   accepted-visits (ofDrop a) g = drops-from a (drop-found a (s .lines .queue (activeIn a)) refl g)
   accepted-visits (ofClose a p t) g = closes a p t (may-close a p t g)
   accepted-visits (ofEntry r o t) g = tells r o t (may-tell r o t g)
+  accepted-visits ofRemaining g = counts
 
   accepted-does : (c : Call) → Passed (guards pl c s) → Does pl s c (accepted pl c s)
   accepted-does (turn x) (e, n) = turns x (phase-of (s .clock .phase) x e)
@@ -158,6 +160,7 @@ module _ (pl : Plan) (s : State) where
   never-7 (visit (ofDrop a)) = refl
   never-7 (visit (ofClose a p t)) = refl
   never-7 (visit (ofEntry r o t)) = refl
+  never-7 (visit ofRemaining) = refl
 
   -- Every call is refused or accepted so.
   pub call-does : (c : Call) → Does pl s c (call pl c s)
@@ -184,6 +187,7 @@ module _ {pl : Plan} {s : State} where
   visit-not-refused (drops a x rest m) e = done-not e
   visit-not-refused (closes a p t m) e = done-not e
   visit-not-refused (tells r q t m) e = let z : _≡_ {A = ℕ} 0 1 = cc in omega arith
+  visit-not-refused counts e = let z : _≡_ {A = ℕ} 0 1 = cc in omega arith
 
   -- a refused call leaves the state, and is not refused 7
   pub refused-leaves : {c : Call} {o : Outcome} → Does pl s c o → {w : Refusal} → o .answer ≡ Refused w
@@ -218,7 +222,7 @@ module _ (pl : Plan) (c : Call) (s : State) (e : refusalOf (guards pl c s) ≡ n
 -- ---- a call that is done
 module _ (pl : Plan) (s : State) where
   -- passed its guards, and gives what the rule gives
-  done-accepted : (c : Call) → call pl c s .answer ≡ Done → Passed (guards pl c s) × (call pl c s ≡ accepted pl c s)
+  pub done-accepted : (c : Call) → call pl c s .answer ≡ Done → Passed (guards pl c s) × (call pl c s ≡ accepted pl c s)
   unfolding call
   done-accepted c f = by (refusalOf (guards pl c s)) refl f
     where

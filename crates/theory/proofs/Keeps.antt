@@ -29,8 +29,8 @@ use Rattle.machine.specs.Execute.{unit, choose, undo, doExecute}
 use Rattle.machine.specs.Write.{send, doWrite}
 use Rattle.machine.specs.Visits.{launched, replyKind, replied, removed, noted, closed}
 use Rattle.machine.specs.Calls.{Visit, Call, Outcome, phaseStep, call}
-use Rattle.theory.specs.Does.{Visited, launches, replies, looks, drops, closes, tells, Does, refuses, turns}
-use Rattle.theory.specs.Does.{visits}
+use Rattle.theory.specs.Does.{Visited, launches, replies, looks, drops, closes, tells, counts, Does, refuses}
+use Rattle.theory.specs.Does.{turns, visits}
 use Rattle.machine.specs.Valid.{Belongs, Drives, Ties, Valid}
 use Rattle.machine.specs.Ruled.{Good}
 use Rattle.theory.proofs.Does.{call-does}
@@ -223,6 +223,7 @@ module _ {pl : Plan} (wired : Wired pl) (range : InRange (pl .head)) where
         turns = turns-alike pl s (closed pl a p t s) refl (i .turns);
       }
   visit-inv v o s (tells r q t m) i = i
+  visit-inv v o s counts i = i
 
   does-inv : (c : Call) (o : Outcome) (s : State) → Does pl s c o → Inv pl s → Inv pl (o .state)
   does-inv c o s (refuses d w n) i = i

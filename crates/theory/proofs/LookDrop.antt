@@ -30,8 +30,8 @@ use Rattle.machine.specs.Calls.{decided, call}
 use Rattle.machine.specs.Ruled.{ruledAfter}
 use Rattle.machine.specs.LookDrop.{WithinPhase, NoDrop, Removes, LookBeforeDrop, LookStays}
 use Rattle.machine.proofs.Apart.{read-execute, read-write, execute-write}
-use Rattle.theory.specs.Does.{Visited, launches, replies, looks, drops, closes, tells, Does, refuses, turns}
-use Rattle.theory.specs.Does.{visits}
+use Rattle.theory.specs.Does.{Visited, launches, replies, looks, drops, closes, tells, counts, Does, refuses}
+use Rattle.theory.specs.Does.{turns, visits}
 use Rattle.theory.proofs.Ground.Cells.{queue-or, queue-here, queue-away}
 use Rattle.theory.proofs.Cases.{noted-keeps}
 use Rattle.theory.proofs.Does.{call-does, drop-done}
@@ -97,6 +97,7 @@ module _ (pl : Plan) (a : ℕ) (s : State) where
           inl (noted-keeps pl x (removed b rest s) (Unmoved a s) (λ k. away) away)
   visit-after v o (closes b p t m) = inl (refl, refl)
   visit-after v o (tells r i t m) = inl (refl, refl)
+  visit-after v o counts = inl (refl, refl)
 
   -- an accepted Read, Execute or Write turns the phase
   turned : (x : Phase) → s .clock .phase ≡ x → phaseStep pl x s .clock .phase ≡ s .clock .phase → ⊥

@@ -13,7 +13,7 @@ use Rattle.packets.specs.declared.Wire.the-variants.{Empty}
 use Rattle.packets.specs.declared.Phase.{Phase}
 use Rattle.packets.specs.declared.Phase.the-variants.{Read, Execute, Write}
 use Rattle.packets.specs.declared.Answer.{Answer}
-use Rattle.packets.specs.declared.Answer.the-variants.{Refused, Done, Shows, Holds}
+use Rattle.packets.specs.declared.Answer.the-variants.{Refused, Done, Shows, Holds, Remains}
 use Rattle.packets.specs.Counters.{slotNext}
 use Rattle.plan.specs.Head.{InRange}
 use Rattle.plan.specs.Plan.{Plan, R, A, S}
@@ -25,10 +25,11 @@ use Rattle.machine.specs.Read.{deliver, settle, doRead}
 use Rattle.machine.specs.Execute.{unit, choose, undo, doExecute}
 use Rattle.machine.specs.Write.{send, doWrite}
 use Rattle.machine.specs.Visits.{launched, replyKind, replied, removed}
-use Rattle.machine.specs.Calls.{Visit, ofLaunch, ofReply, ofLook, ofDrop, ofClose, ofEntry, Call, turn, visit, reply}
-use Rattle.machine.specs.Calls.{look, entry, Outcome, gives, phaseStep, call}
-use Rattle.theory.specs.Does.{Visited, launches, replies, looks, drops, closes, tells, Does, refuses, turns}
-use Rattle.theory.specs.Does.{visits}
+use Rattle.machine.specs.Calls.{Visit, ofLaunch, ofReply, ofLook, ofDrop, ofClose, ofEntry, ofRemaining, Call, turn}
+use Rattle.machine.specs.Calls.{visit, reply, look, entry, remaining, Outcome, gives, phaseStep, call}
+use Rattle.machine.specs.Remaining.{remainingIn}
+use Rattle.theory.specs.Does.{Visited, launches, replies, looks, drops, closes, tells, counts, Does, refuses}
+use Rattle.theory.specs.Does.{turns, visits}
 use Rattle.machine.specs.Connections.{Connection, connection}
 use Rattle.machine.specs.Accepted.{accept}
 use Rattle.machine.specs.Valid.{Drives}
@@ -197,6 +198,7 @@ module _ {pl : Plan} (wired : Wired pl) (range : InRange (pl .head)) where
       none-accepted (visit (ofDrop a)) w = refl
       none-accepted (visit (ofClose a p t)) w = refl
       none-accepted (visit (ofEntry r o t)) w = refl
+      none-accepted (visit ofRemaining) w = refl
 
       none-counted : (c : Call) (w : Refusal) (d : Connection) → acceptsCall pl d c s (Refused w) ≡ 0
       none-counted (turn x) w d = refl
@@ -206,6 +208,7 @@ module _ {pl : Plan} (wired : Wired pl) (range : InRange (pl .head)) where
       none-counted (visit (ofDrop a)) w d = refl
       none-counted (visit (ofClose a p t)) w d = refl
       none-counted (visit (ofEntry r o t)) w d = refl
+      none-counted (visit ofRemaining) w d = refl
 
       turn-mid-at : (x : Phase) → s .clock .phase ≡ x → M (phaseStep pl x s)
       turn-mid-at Read e = read-mid s mid
@@ -264,6 +267,9 @@ module _ {pl : Plan} (wired : Wired pl) (range : InRange (pl .head)) where
           }
       visit-told v o (tells r i t g) =
           as-before (entry r i t) (gives (Holds (s .table r i t)) s) refl (λ d. refl) (k .owned) (k .remembers)
+          (k .counted)
+      visit-told v o counts =
+          as-before remaining (gives (Remains (remainingIn pl s)) s) refl (λ d. refl) (k .owned) (k .remembers)
           (k .counted)
 
       told : (c : Call) (o : Outcome) → Does pl s c o → Told c o

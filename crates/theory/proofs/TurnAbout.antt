@@ -34,8 +34,8 @@ use Rattle.machine.specs.TurnAbout.{candidateOf, waits, isOther, goesBefore, St
 use Rattle.machine.specs.TurnAbout.{StaysAlong, TurnAbout}
 use Rattle.machine.proofs.OutNumbers.{output-at, output-below}
 use Rattle.theory.specs.Invariant.{Inv, NoChoices}
-use Rattle.theory.specs.Does.{Visited, launches, replies, looks, drops, closes, tells, Does, refuses, turns}
-use Rattle.theory.specs.Does.{visits}
+use Rattle.theory.specs.Does.{Visited, launches, replies, looks, drops, closes, tells, counts, Does, refuses}
+use Rattle.theory.specs.Does.{turns, visits}
 use Rattle.theory.proofs.Ground.Cells.{queue-away, output-here, output-away}
 use Rattle.theory.proofs.Cases.{noted-keeps}
 use Rattle.theory.proofs.Does.{call-does, refused-turns}
@@ -179,6 +179,7 @@ module _ (pl : Plan) (o : Output) where
       noted-keeps pl x (removed a rest s) (λ (t : State). turnOf o t ≡ turnOf o s) (λ e. refl) refl
   visit-turn v r s (closes a p t m) = refl
   visit-turn v r s (tells i q t m) = refl
+  visit-turn v r s counts = refl
 
 -- ---- EXECUTE
 module _ (pl : Plan) (s : State) where

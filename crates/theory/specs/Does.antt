@@ -10,15 +10,16 @@ use Rattle.kinds.specs.declared.Refusal.the-variants.{NotState}
 use Rattle.packets.specs.declared.Packet.{Packet}
 use Rattle.packets.specs.declared.Phase.{Phase}
 use Rattle.packets.specs.declared.Phase.the-variants.{Read, Write}
-use Rattle.packets.specs.declared.Answer.the-variants.{Refused, Done, Shows, Holds}
+use Rattle.packets.specs.declared.Answer.the-variants.{Refused, Done, Shows, Holds, Remains}
 use Rattle.plan.specs.Plan.{Plan, R, A, P, S}
 use Rattle.paths.specs.Served.{served}
 use Rattle.feeding.specs.Queue.{activeOut, activeIn, passiveIn, passiveOut}
 use Rattle.machine.specs.State.{State}
 use Rattle.machine.specs.Execute.{hasRoom, unmarked}
 use Rattle.machine.specs.Visits.{launched, replyKind, replied, removed, noted, closed}
-use Rattle.machine.specs.Calls.{Visit, ofLaunch, ofReply, ofLook, ofDrop, ofClose, ofEntry, Call, turn, visit}
-use Rattle.machine.specs.Calls.{Outcome, gives, phaseStep}
+use Rattle.machine.specs.Calls.{Visit, ofLaunch, ofReply, ofLook, ofDrop, ofClose, ofEntry, ofRemaining, Call, turn}
+use Rattle.machine.specs.Calls.{visit, Outcome, gives, phaseStep}
+use Rattle.machine.specs.Remaining.{remainingIn}
 
 -- ---- what an accepted visit found
 pub record MayLaunch (pl : Plan) (s : State) (a p t : ℕ) : Type 0 where
@@ -74,6 +75,7 @@ pub data Visited (pl : Plan) (s : State) : Visit → Outcome → Type 0 where
       → Visited pl s (ofDrop a) (gives Done (noted pl x (removed a rest s)))
   closes : (a p t : ℕ) → MayClose pl s a p t → Visited pl s (ofClose a p t) (gives Done (closed pl a p t s))
   tells : (r o t : ℕ) → MayTell pl r o t → Visited pl s (ofEntry r o t) (gives (Holds (s .table r o t)) s)
+  counts : Visited pl s ofRemaining (gives (Remains (remainingIn pl s)) s)
 
 -- ---- a call: refused (7 is asked before it), a phase turned, a visit
 pub data Does (pl : Plan) (s : State) : Call → Outcome → Type 0 where

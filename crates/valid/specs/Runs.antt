@@ -16,7 +16,7 @@ use Rattle.packets.specs.declared.Wire.the-variants.{Full}
 use Rattle.packets.specs.declared.Phase.the-variants.{Execute, Write}
 use Rattle.packets.specs.declared.Entry.the-variants.{Booked}
 use Rattle.packets.specs.declared.Answer.{Answer}
-use Rattle.packets.specs.declared.Answer.the-variants.{Refused, Done, Shows, Holds}
+use Rattle.packets.specs.declared.Answer.the-variants.{Refused, Done, Shows, Holds, Remains}
 use Rattle.plan.specs.Head.{capacityAt, headOf}
 use Rattle.plan.specs.Plan.{Plan, jointIn, planOf}
 use Rattle.plan.specs.Rules.{portsOf, home}
@@ -55,6 +55,7 @@ isAccepted (Refused w) = false
 isAccepted Done = true
 isAccepted (Shows x) = true
 isAccepted (Holds e) = true
+isAccepted (Remains x) = true
 
 -- each of the calls is accepted, and the test passes before each and after the last
 unfoldable pub allValid : Plan → List Call → State → Bool

@@ -5,6 +5,9 @@ use model::machine::Call;
 /// Eight bytes for what a call returns.
 pub type Out = [u8; 8];
 
+/// Entry: plan, state, router, side, slot, and what is returned.
+pub type Entry = fn(&[u8], &[u8], u32, u32, u32, &mut Out) -> u32;
+
 /// One function for each call. An answer is 0 for accepted, else the refusal's number.
 #[derive(Clone, Copy, Debug)]
 pub struct Calls {
@@ -31,7 +34,9 @@ pub struct Calls {
     /// Drop: active.
     pub drop: fn(&[u8], &mut [u8], u32) -> u32,
     /// Entry: router, side, slot.
-    pub entry: fn(&[u8], &[u8], u32, u32, u32, &mut Out) -> u32,
+    pub entry: Entry,
+    /// Remaining.
+    pub remaining: fn(&[u8], &[u8], &mut Out) -> u32,
 }
 
 impl Calls {
@@ -54,6 +59,7 @@ impl Calls {
             Call::Entry { router, side, slot } => {
                 (self.entry)(plan, state, n(router), n(side), n(slot), out)
             }
+            Call::Remaining => (self.remaining)(plan, state, out),
         }
     }
 }
@@ -62,7 +68,7 @@ impl Calls {
 pub fn narrow(call: Call) -> Call {
     let n = |number: usize| number as u32 as usize;
     match call {
-        Call::Read | Call::Execute | Call::Write => call,
+        Call::Read | Call::Execute | Call::Write | Call::Remaining => call,
         Call::Launch { active, passive, slot } => {
             Call::Launch { active: n(active), passive: n(passive), slot: n(slot) }
         }

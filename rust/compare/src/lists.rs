@@ -4,7 +4,7 @@ use model::generate::calls::{stray, Caller};
 use model::generate::states::{jam, scramble};
 use model::generate::{crossing, damage, good, rings, Random};
 use model::machine::bytes::packet_bytes;
-use model::machine::{Answer, Call, Connection, Link, Network, Phase, State};
+use model::machine::{Answer, Call, Connection, Link, Network, Phase, Remaining, State};
 use model::refusal::NOT_A_STATE;
 use model::{named, Plan, Queue, SIDES};
 
@@ -181,6 +181,7 @@ impl<'c> List<'c> {
             self.with_damaged_plan(random, call, tally);
         }
         let together = self.units_with_several_heads();
+        let phase = self.state.phase;
         let expected = self.network.call(&mut self.state, call);
         let mut bytes = match expected {
             Ok(_) => self.network.encode(&self.state),
@@ -192,6 +193,9 @@ impl<'c> List<'c> {
         tally.crossed += usize::from(self.is_crossing);
         tally.packets = tally.packets.max(self.network.packets(&self.state).count());
         tally.accepted = tally.accepted.max(self.state.marks.len());
+        if call == Call::Remaining && expected.is_ok() {
+            tally.remaining[phase as usize] += 1;
+        }
         if call == Call::Execute && expected.is_ok() {
             tally.together += together;
             self.note_picks(tally);
@@ -260,6 +264,7 @@ impl<'c> List<'c> {
                 close(random, &self.network, state)
             }
             Some(state) if random.chance(1, 8) => look(random, &self.network, state),
+            _ if random.chance(1, 16) => Call::Remaining,
             _ => self.next_call(random),
         };
         let mut after = bytes.clone();
@@ -342,6 +347,10 @@ fn returned(before: Out, answer: Result<Answer, u32>) -> Out {
     match answer {
         Ok(Answer::Packet(packet)) => out[..5].copy_from_slice(&packet_bytes(&packet)),
         Ok(Answer::Entry(entry)) => out[0] = entry as u8,
+        Ok(Answer::Remaining(Remaining { packets, rounds })) => {
+            out[..4].copy_from_slice(&(packets as u32).to_le_bytes());
+            out[4..].copy_from_slice(&(rounds as u32).to_le_bytes());
+        }
         Ok(Answer::Done) | Err(_) => {}
     }
     out

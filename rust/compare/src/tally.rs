@@ -5,12 +5,24 @@ use std::fmt;
 use model::machine::Call;
 
 /// The calls by name; Start stands before those on a state.
-const NAMES: [&str; 10] =
-    ["Start", "Read", "Execute", "Write", "Launch", "Reply", "Look", "Drop", "Entry", "Close"];
+const NAMES: [&str; 11] = [
+    "Start",
+    "Read",
+    "Execute",
+    "Write",
+    "Launch",
+    "Reply",
+    "Look",
+    "Drop",
+    "Entry",
+    "Close",
+    "Remaining",
+];
 /// The rows of Look and of Drop, each with its own refusals in their order.
 const OF_AN_ACTIVE: [(usize, &[usize]); 2] = [(LOOK, &[9, 13]), (DROP, &[8, 9, 14, 13, 15])];
 const LOOK: usize = 6;
 const DROP: usize = 7;
+const REMAINING: usize = 10;
 /// Accepted, and the refusals 1 to 16.
 const ANSWERS: usize = 17;
 
@@ -42,6 +54,8 @@ pub struct Tally {
     pub contested_back: usize,
     /// How many times a unit handled heads of several sides in one Execute.
     pub together: usize,
+    /// Remainings in lists that were accepted, by phase.
+    pub remaining: [usize; 3],
     /// How many sides picked nobody, being booked, while several senders were candidates.
     pub skipped: usize,
 }
@@ -64,6 +78,7 @@ impl Tally {
             Call::Drop { .. } => DROP,
             Call::Entry { .. } => 8,
             Call::Close { .. } => 9,
+            Call::Remaining => REMAINING,
         };
         self.answers[row][answer as usize] += 1;
     }
@@ -91,6 +106,7 @@ impl Tally {
         self.contested_back += other.contested_back;
         self.together += other.together;
         self.skipped += other.skipped;
+        self.remaining.iter_mut().zip(other.remaining).for_each(|(count, more)| *count += more);
     }
 
     /// The refusals, 1 to 16, that were met less often than that.
@@ -106,13 +122,18 @@ impl Tally {
         });
         each.collect()
     }
+
+    /// How often Remaining was accepted in lists, and how often it said 7.
+    pub fn remainings(&self) -> [usize; 2] {
+        [self.remaining.iter().sum(), self.answers[REMAINING][7]]
+    }
 }
 
 impl fmt::Display for Tally {
     fn fmt(&self, f: &mut fmt::Formatter) -> fmt::Result {
         let Tally { plans, listed, changed, states, packets, accepted, .. } = self;
         let Tally { contested, turned, skipped, .. } = self;
-        let Tally { crossing, crossed, contested_back, together, .. } = self;
+        let Tally { crossing, crossed, contested_back, together, remaining, .. } = self;
         writeln!(f, "{plans} plans, {listed} calls in lists, {changed} on changed bytes")?;
         writeln!(f, "{crossing} plans crossing, {crossed} calls in lists on these")?;
         writeln!(f, "{states} changed bytes were a state's")?;
@@ -124,13 +145,16 @@ impl fmt::Display for Tally {
         writeln!(f, "{skipped} times several waited at a booked side")?;
         write!(f, "{together} times a unit handled heads of several sides in one Execute, ")?;
         writeln!(f, "{contested_back} picks among several on the way back from a unit")?;
-        write!(f, "{:>8}", "answer")?;
+        let [read, execute, write] = remaining;
+        write!(f, "Remaining accepted in lists: {read} times in READ, {execute} in EXECUTE, ")?;
+        writeln!(f, "{write} in WRITE")?;
+        write!(f, "{:>9}", "answer")?;
         (0..ANSWERS).try_for_each(|answer| write!(f, " {answer:>7}"))?;
         for (name, row) in NAMES.iter().zip(&self.answers) {
-            write!(f, "\n{name:>8}")?;
+            write!(f, "\n{name:>9}")?;
             row.iter().try_for_each(|count| write!(f, " {count:>7}"))?;
         }
-        write!(f, "\n{:>8}", "in all")?;
+        write!(f, "\n{:>9}", "in all")?;
         (0..ANSWERS).try_for_each(|answer| write!(f, " {:>7}", self.met(answer)))
     }
 }

@@ -19,6 +19,7 @@ pub const PROVED: Calls = Calls {
     look: bytes::look,
     drop: bytes::drop,
     entry: bytes::entry,
+    remaining: bytes::remaining,
 };
 
 /// The calls written for speed.
@@ -35,6 +36,7 @@ pub const LEAN: Calls = Calls {
     look: lean::look,
     drop: lean::drop,
     entry: lean::entry,
+    remaining: lean::remaining,
 };
 
 /// How often each of Load's answers, 0 to 6, was met, and how many walks were compared.

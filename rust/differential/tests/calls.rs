@@ -17,6 +17,9 @@ const TURNED: usize = 5_000;
 /// on its way back.
 const TOGETHER: usize = 500;
 const BACK: usize = 2_000;
+/// How often at least Remaining is accepted in lists, of these in each phase, and says 7.
+const REMAININGS: usize = 20_000;
+const IN_A_PHASE: usize = 5_000;
 /// A seed for each thread.
 const SEEDS: [u64; 2] = [2028, 2029];
 
@@ -39,4 +42,7 @@ fn lists_and_changed_bytes() {
     assert!(tally.turned >= TURNED, "{tally}");
     assert!(tally.crossing * 2 >= tally.plans, "{tally}");
     assert!(tally.together >= TOGETHER && tally.contested_back >= BACK, "{tally}");
+    let [accepted, not_a_state] = tally.remainings();
+    assert!(accepted >= REMAININGS && not_a_state >= LEAST, "{tally}");
+    assert!(tally.remaining.iter().all(|&count| count >= IN_A_PHASE), "{tally}");
 }

@@ -146,3 +146,9 @@ pub fn entry(
     open!(plan, state, None, net, found, to: NO_ROWS);
     visits::entry(&net, &state[..net.size()], router, side, slot, out)
 }
+
+/// Remaining: 1 to 7, or 0 with the packets under way and the rounds in `out`, lowest byte first.
+pub fn remaining(plan: &[u8], state: &[u8], out: &mut [u8; 8]) -> u32 {
+    open!(plan, state, None, net, found, to: NO_ROWS);
+    visits::remaining(&net, &state[..net.size()], &found, out)
+}

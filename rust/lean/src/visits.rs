@@ -1,5 +1,6 @@
-//! Start, what Launch, Close, Reply and Drop do to a state, and what Look and Entry see.
+//! Start, what Launch, Close, Reply and Drop do to a state, and what Look, Entry and Remaining see.
 
+use crate::check::Found;
 use crate::layout::*;
 use crate::load::Net;
 
@@ -176,4 +177,47 @@ pub fn entry(net: &Net, state: &[u8], router: u32, side: u32, slot: u32, out: &m
     let entry = state[net.table_at() + 256 * r + 64 * o + 2 * t];
     out[0] = if entry == 0 { 4 } else { entry - 1 };
     0
+}
+
+/// Remaining: the packets in queues and on wires, and 256 * S rounds for each. A queue with a packet is
+/// not idle, and in READ an output that has something has a full wire.
+#[inline(always)]
+pub fn remaining(net: &Net, state: &[u8], found: &Found, out: &mut [u8; 8]) -> u32 {
+    let (mut packets, wires) = (0, state[0] == READ);
+    for x in 0..net.r {
+        packets += queued(net, state, x, found.queues[x & 15]);
+        if wires {
+            packets += members(found.outputs[x & 15]);
+        }
+    }
+    for group in ACTIVE_OUT..GROUPS {
+        packets += queued(net, state, group, found.queues[group]);
+    }
+    if wires {
+        packets += members(found.outputs[ACTIVE_OUT]) + members(found.outputs[PASSIVE_OUT]);
+    }
+    let rounds = 256 * net.s as u32 * packets;
+    *out = (packets as u64 | (rounds as u64) << 32).to_le_bytes();
+    0
+}
+
+/// The packets in some queues of a group.
+#[inline(always)]
+fn queued(net: &Net, state: &[u8], group: usize, set: u32) -> u32 {
+    let (mut left, mut packets) = (set, 0);
+    while left != 0 {
+        packets += state[net.group_at(group) + ROW * take(&mut left) + 3] as u32;
+    }
+    packets
+}
+
+/// How many members a set has; mostly few.
+#[inline(always)]
+fn members(set: u32) -> u32 {
+    let (mut left, mut count) = (set, 0);
+    while left != 0 {
+        take(&mut left);
+        count += 1;
+    }
+    count
 }

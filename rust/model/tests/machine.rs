@@ -20,6 +20,9 @@ struct Met {
     replies: usize,
     /// Looks that gave a packet, by phase.
     looked: [usize; 3],
+    /// Remainings, by phase, and the most packets that one told.
+    asked: [usize; 3],
+    most_told: usize,
     refusals: [usize; 17],
     /// Of Look and of Drop.
     look_refusals: [usize; 17],
@@ -97,6 +100,10 @@ impl Met {
                 assert!(packet.is_answer());
                 self.looked[before.phase as usize] += 1;
             }
+            (Call::Remaining, Ok(Answer::Remaining(told))) => {
+                self.asked[before.phase as usize] += 1;
+                self.most_told = self.most_told.max(told.packets);
+            }
             (Call::Drop { active }, Ok(_)) => {
                 let packet = network.head(before, active).expect("something was dropped");
                 match packet.kind {
@@ -157,9 +164,10 @@ fn random_lists_on_random_plans() {
     assert!(met.accepted > 2_000 && met.declined > 10_000 && met.torn_down > 10_000, "{met:?}");
     assert!(met.closed > 2_000 && met.reopened > 300, "{met:?}");
     assert!(met.tables_compared > 1_000, "{met:?}");
-    // Looks in every phase, and each refusal of Look and of Drop.
+    // Looks and Remainings in every phase, and each refusal of Look and of Drop.
     assert!(met.looked.iter().all(|&count| count > 5_000), "{met:?}");
     assert!([9, 13].iter().all(|&refusal| met.look_refusals[refusal] > 1_000), "{met:?}");
+    assert!(met.asked.iter().all(|&count| count > 2_000) && met.most_told > 50, "{met:?}");
     let drop_refusals = [8, 9, 13, 14, 15].map(|refusal| met.drop_refusals[refusal]);
     assert!(drop_refusals.iter().all(|&count| count > 1_000), "{met:?}");
     // A Look gives the same over every other call of a phase, and the next head after a Drop.
@@ -259,16 +267,16 @@ fn students_rules_of_units_are_found() {
 /// A Look changes nothing, and a connection is accepted by the Drop of its own ACK.
 #[test]
 fn students_rules_of_looking_are_found() {
+    let changed = "a Look changed the state";
     let fault = fault_by(|rules| rules.look_raises_the_flag = true).expect("found");
-    assert!(fault.starts_with("a Look changed the state"), "{fault}");
+    assert!(fault.starts_with(changed), "{fault}");
+    // By which call it is found, a Look or a Drop without one, is by chance.
+    let allowance = "not a state: allowance + SETUPs";
     let fault = fault_by(|rules| rules.allowance_at_the_look = true).expect("found");
-    assert!(fault.starts_with("not a state: allowance + SETUPs"), "{fault}");
-    for set in [
-        |rules: &mut Rules| rules.next_head_accepted = true,
-        |rules: &mut Rules| rules.accepted_at_the_look = true,
-    ] {
-        let fault = fault_by(set).expect("found");
-        let others = "the state keeps other connections than the calls tell";
-        assert!(fault.starts_with(others), "{fault}");
-    }
+    assert!(fault.starts_with(allowance) || fault.starts_with(changed), "{fault}");
+    let others = "the state keeps other connections than the calls tell";
+    let fault = fault_by(|rules| rules.accepted_at_the_look = true).expect("found");
+    assert!(fault.starts_with(others) || fault.starts_with(changed), "{fault}");
+    let fault = fault_by(|rules| rules.next_head_accepted = true).expect("found");
+    assert!(fault.starts_with(others), "{fault}");
 }

@@ -52,6 +52,7 @@ fn refused(phases: usize, fault: &str, change: impl Fn(&Network, &mut State)) {
         Call::Look { active: 9 },
         Call::Drop { active: 9 },
         Call::Entry { router: 0, side: 9, slot: 0 },
+        Call::Remaining,
     ] {
         assert_eq!(network.call(&mut state, call), Err(7));
         assert_eq!(state, before);

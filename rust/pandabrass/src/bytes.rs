@@ -57,6 +57,13 @@ extern "C" {
         slot: u32,
         out: *mut u8,
     ) -> u32;
+    fn pandabrass_remaining(
+        plan: *const u8,
+        n: usize,
+        state: *const u8,
+        l: usize,
+        out: *mut u8,
+    ) -> u32;
 }
 
 /// Eight bytes for what a call returns.
@@ -152,4 +159,14 @@ pub fn entry(plan: &[u8], state: &[u8], router: u32, side: u32, slot: u32, out: 
     let out = out.as_mut_ptr();
     // SAFETY: as for `look`; any three numbers are allowed.
     unsafe { pandabrass_entry(plan.as_ptr(), n, state.as_ptr(), l, router, side, slot, out) }
+}
+
+/// Remaining, in every phase: 0, or 1 to 7. The packets in queues and on wires are put into `out[..4]`,
+/// and into `out[4..]` the most rounds that a program which waits needs until there is none, both
+/// lowest byte first.
+pub fn remaining(plan: &[u8], state: &[u8], out: &mut Out) -> u32 {
+    let (n, l) = (plan.len(), state.len());
+    let out = out.as_mut_ptr();
+    // SAFETY: as for `look`.
+    unsafe { pandabrass_remaining(plan.as_ptr(), n, state.as_ptr(), l, out) }
 }

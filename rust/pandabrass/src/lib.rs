@@ -46,6 +46,9 @@
 //! # Ok::<(), Refusal>(())
 //! ```
 //!
+//! Before a wash a program stops launching and closing and waits: [`State::remaining`] tells, in every
+//! phase, how many packets are under way and after how many rounds there is none.
+//!
 //! [`bytes`] has the same calls on slices, with numbers for answers.
 
 pub mod bytes;
@@ -56,4 +59,4 @@ mod state;
 pub use bytes::{load, walk};
 pub use plan::Plan;
 pub use refusal::Refusal;
-pub use state::{Choice, Entry, Kind, Packet, State};
+pub use state::{Choice, Entry, Kind, Packet, Remaining, State};

@@ -48,6 +48,17 @@ pub enum Entry {
     Booked(u8),
 }
 
+/// What is under way, and how long a program that waits may have to wait for it.
+#[derive(Clone, Copy, Debug, PartialEq, Eq, Hash)]
+pub struct Remaining {
+    /// The packets in queues and on wires.
+    pub packets: u32,
+    /// 256 rounds for each slot and packet: after so many the network is empty, if from a READ on
+    /// nothing is launched or closed, and in every WRITE each passive replies that can and each active
+    /// drops that can.
+    pub rounds: u32,
+}
+
 /// What a passive replies.
 #[derive(Clone, Copy, Debug, PartialEq, Eq, Hash)]
 pub enum Choice {
@@ -141,11 +152,53 @@ impl<'p> State<'p> {
         Refusal::result(bytes::entry(plan, &self.bytes, router, side, slot, &mut out))?;
         Ok(if out[0] == 4 { Entry::Free } else { Entry::Booked(out[0]) })
     }
+
+    /// Remaining, in every phase: what is under way, and by which round it is gone. Nothing changes.
+    ///
+    /// Before a wash a program stops launching and closing, and waits. On plan T a set-up is under
+    /// way; with two slots the network is empty after at most 512 rounds, here after eight.
+    ///
+    /// ```
+    /// use pandabrass::{Choice, Entry, Plan, Refusal, Remaining};
+    ///
+    /// let plan = Plan::load(&[0x08, 0x42, 0x11, 0x24, 0x92, 0x4C, 0x06, 0x00, 0x00, 0x00, 0x20])?;
+    /// let mut state = plan.start();
+    /// state.launch(0, 0, 0)?;
+    /// let promised = state.remaining()?;
+    /// assert_eq!(promised, Remaining { packets: 1, rounds: 512 });
+    /// let mut rounds = 0;
+    /// while state.remaining()?.packets > 0 {
+    ///     state.read()?;
+    ///     state.execute()?;
+    ///     // Whoever can, does; where nothing waits the call is refused, and alters nothing.
+    ///     let _ = state.reply(0, Choice::Accept);
+    ///     let _ = state.drop(0);
+    ///     state.write()?;
+    ///     rounds += 1;
+    /// }
+    /// assert!(rounds == 8 && rounds <= promised.rounds);
+    /// // The table is the accepted connection's own.
+    /// assert_eq!(state.entry(0, 1, 0)?, Entry::Booked(0));
+    /// # Ok::<(), Refusal>(())
+    /// ```
+    pub fn remaining(&self) -> Result<Remaining, Refusal> {
+        let mut out = [0; 8];
+        Refusal::result(bytes::remaining(self.plan.bytes(), &self.bytes, &mut out))?;
+        Ok(Remaining::from(out))
+    }
 }
 
 impl AsRef<[u8]> for State<'_> {
     fn as_ref(&self) -> &[u8] {
         &self.bytes
+    }
+}
+
+impl From<bytes::Out> for Remaining {
+    /// What an accepted `bytes::remaining` has put into its eight bytes.
+    fn from(out: bytes::Out) -> Remaining {
+        let both = u64::from_le_bytes(out);
+        Remaining { packets: both as u32, rounds: (both >> 32) as u32 }
     }
 }
 

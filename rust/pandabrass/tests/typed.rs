@@ -1,6 +1,6 @@
 //! The typed calls on runs of documents 01 and 02.
 
-use pandabrass::{Choice, Entry, Kind, Packet, Plan, Refusal, State};
+use pandabrass::{bytes, Choice, Entry, Kind, Packet, Plan, Refusal, Remaining, State};
 
 /// Plan T of document 01.
 const T: [u8; 11] = [0x08, 0x42, 0x11, 0x24, 0x92, 0x4C, 0x06, 0x00, 0x00, 0x00, 0x20];
@@ -176,6 +176,65 @@ fn refusals_alter_no_byte() -> Result<(), Refusal> {
     assert_eq!(state.look(0), Err(Refusal::QueueEmpty));
     assert_eq!(state.look(1), Err(Refusal::BadNumber));
     assert_eq!(state.entry(0, 4, 0), Err(Refusal::BadNumber));
+    assert_eq!(state.remaining(), Ok(Remaining { packets: 0, rounds: 0 }));
     assert_eq!(state, before);
     Ok(())
+}
+
+/// What is under way is told in every phase, and by the promised round there is nothing: also where
+/// the set-up is declined and a tear-down follows.
+#[test]
+fn waited_for_before_a_wash() -> Result<(), Refusal> {
+    let plan = Plan::load(&T)?;
+    for (choice, expected) in [(Choice::Accept, 8), (Choice::Decline, 11)] {
+        let mut state = plan.start();
+        state.launch(0, 0, 0)?;
+        let promised = state.remaining()?;
+        assert_eq!(promised, Remaining { packets: 1, rounds: 256 * 2 });
+        let mut rounds = 0;
+        while state.remaining()?.packets > 0 {
+            state.read()?;
+            assert_eq!(state.remaining()?, promised);
+            state.execute()?;
+            let acts = [state.reply(0, choice), state.drop(0)];
+            assert!(acts.iter().all(|act| matches!(act, Ok(()) | Err(Refusal::QueueEmpty))));
+            state.write()?;
+            rounds += 1;
+        }
+        assert_eq!(rounds, expected);
+        let entry = if choice == Choice::Accept { Entry::Booked(0) } else { Entry::Free };
+        assert_eq!(state.entry(0, 1, 0)?, entry);
+    }
+    Ok(())
+}
+
+/// A passive that does not reply keeps its set-up under way, whatever was promised to those who do.
+#[test]
+fn waited_for_in_vain() -> Result<(), Refusal> {
+    let plan = Plan::load(&T)?;
+    let mut state = plan.start();
+    state.launch(0, 0, 0)?;
+    for _ in 0..state.remaining()?.rounds {
+        state.read()?;
+        state.execute()?;
+        state.write()?;
+    }
+    assert_eq!(state.remaining()?.packets, 1);
+    Ok(())
+}
+
+#[test]
+fn remaining_on_slices() {
+    let mut state = [0; 1700];
+    assert_eq!(bytes::start(&T, &mut state), 0);
+    assert_eq!(bytes::launch(&T, &mut state, 0, 0, 1), 0);
+    let mut out = [9; 8];
+    assert_eq!(bytes::remaining(&T, &state, &mut out), 0);
+    assert_eq!(out, [1, 0, 0, 0, 0, 2, 0, 0]);
+    out = [9; 8];
+    assert_eq!(bytes::remaining(&T[..5], &state, &mut out), 1);
+    assert_eq!(bytes::remaining(&T, &state[..1634], &mut out), 7);
+    state[1] = 2;
+    assert_eq!(bytes::remaining(&T, &state, &mut out), 7);
+    assert_eq!(out, [9; 8]);
 }

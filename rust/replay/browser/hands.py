@@ -26,6 +26,7 @@ def test(browser, pages, tally):
     heads(browser, pages, tally)
     queues_of_a_router(browser, pages, tally)
     looking(browser, pages, tally)
+    waiting(browser, pages, tally)
     phone(browser, pages, tally)
     browser.size(1280, 800)
 
@@ -323,6 +324,21 @@ def looking(browser, pages, tally):
     tally.check("one Drop a round", "refused 14: left has taken one in this round, its flag is up" in text, text)
     row = 'document.querySelector(\'[data-call="44"] span:last-child\').textContent'
     tally.equal("the Drop in the list", browser.run(row), "Drop left: A is accepted")
+
+
+def waiting(browser, pages, tally):
+    """Before a wash: what is under way in each phase, one more while a tear-down is made, and nothing at the end."""
+    browser.open(pages / "waited.html", "18")
+    text = browser.run(NOW)
+    supposed = "in every WRITE each passive replies and each active drops that can, the network is empty after at most"
+    tally.check("Remaining in READ", "2 packets under way: wait at most 2048 rounds" in text and supposed in text, text)
+    for position, told in [(44, "1 packet under way: wait at most 1024 rounds"), (48, "2 packets under way"),
+                           (69, "nothing under way"), (69, "Every queue and wire is empty.")]:
+        browser.run(f"showPosition({position})")
+        tally.check(f"Remaining after {position} calls", told in browser.run(NOW), browser.run(NOW))
+    browser.run("showPosition(18)")
+    row = 'document.querySelector(\'[data-call="17"] span:last-child\').textContent'
+    tally.equal("Remaining in the list", browser.run(row), "Remaining: 2 packets under way: wait at most 2048 rounds")
 
 
 def phone(browser, pages, tally):

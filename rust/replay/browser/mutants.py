@@ -32,6 +32,9 @@ DATA = [
     ("a Look that raises the flag", "H0=A,0,0,1,1 170969c3", "H0=A,0,0,1,1 170969c3 ^w"),
     ("a Look that accepts", "H0=A,0,0,1,1 170969c3", "H0=A,0,0,1,1 170969c3 c0,1"),
     ("a Drop that accepts the next head", " og,0,a a0,3 c0,1", " og,0,a a0,3 c1,1"),
+    ("a Remaining that leaves a packet out", "N=2,2048 618acc77", "N=1,1024 618acc77"),
+    ("a Remaining with other rounds", "N=2,2048 618acc77", "N=2,1024 618acc77"),
+    ("a Remaining that changes something", "N=2,2048 4a9f1f42", "N=2,2048 4a9f1f42 p1"),
 ]
 
 # Changes of the page's scripts and styles.
@@ -97,6 +100,8 @@ BASE = {
     "accepted connections that are shared": "closed", "what is closed drawn as declined": "closed",
     "a Look that shows another packet": "looked", "a Look that raises the flag": "looked",
     "a Look that accepts": "looked", "a Drop that accepts the next head": "looked",
+    "a Remaining that leaves a packet out": "waited", "a Remaining with other rounds": "waited",
+    "a Remaining that changes something": "waited",
     "closings left out": "closed", "turns always from the first in order": "turns",
     "names over one another": "mesh", "a question about all that is booked": "mesh", "letters too small": "largest",
 }

@@ -1,6 +1,6 @@
-"""The page's own test on eleven runs, on a wide and on a narrow page, and on random plans."""
+"""The page's own test on twelve runs, on a wide and on a narrow page, and on random plans."""
 
-RUNS = ["t", "declined", "closed", "turns", "heads", "looked", "arm", "crossing", "mesh", "star", "largest"]
+RUNS = ["t", "declined", "closed", "turns", "heads", "looked", "waited", "arm", "crossing", "mesh", "star", "largest"]
 SIZES = {"wide": (1280, 800, False), "phone": (390, 844, True)}
 REPORT = 'document.getElementById("selftest")?.textContent ?? "no report"'
 

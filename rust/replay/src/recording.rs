@@ -1,7 +1,7 @@
 //! A recording: the lines of a run's calls, and all that the page must know beside them.
 
 use trace::run::letter;
-use trace::{Answer, Call, Connection, Entry, Kind, Packet, Plan, Run, Step};
+use trace::{Answer, Call, Connection, Entry, Kind, Packet, Plan, Remaining, Run, Step};
 
 use crate::changes;
 use crate::check;
@@ -80,11 +80,15 @@ fn call_text(step: &Step) -> String {
         Call::Look { active } => format!("H{active}"),
         Call::Drop { active } => format!("D{active}"),
         Call::Entry { router, side, slot } => format!("E{router},{side},{slot}"),
+        Call::Remaining => "N".to_string(),
     };
     match step.answer {
         Err(refusal) => format!("{call}!{}", refusal.number()),
         Ok(Answer::Done) => call,
         Ok(Answer::Entry(entry)) => format!("{call}={}", entry_number(entry)),
+        Ok(Answer::Remaining(Remaining { packets, rounds })) => {
+            format!("{call}={packets},{rounds}")
+        }
         Ok(Answer::Packet(Packet { kind, active, passive, slot, hub })) => {
             format!("{call}={},{active},{passive},{slot},{hub}", kind_letter(kind))
         }

@@ -59,6 +59,7 @@ fn same(call: model::machine::Call) -> Call {
         Model::Entry { router, side, slot } => {
             Call::Entry { router: n(router), side: n(side), slot: n(slot) }
         }
+        Model::Remaining => Call::Remaining,
     }
 }
 
@@ -100,7 +101,7 @@ fn a_run_on_the_largest_plan_is_recorded_alike() {
 }
 
 /// A line without its check sum.
-fn told(line: &String) -> String {
+fn told(line: &str) -> String {
     let parts: Vec<&str> = line.split(' ').collect();
     [&parts[..1], &parts[2..]].concat().join(" ")
 }
@@ -114,9 +115,9 @@ fn lines_of_the_first_run() {
     list.push(Call::Launch { active: 0, passive: 0, slot: 1 });
     list.extend(round.repeat(3));
     list.extend([Call::Entry { router: 0, side: 1, slot: 0 }, Call::Drop { active: 0 }]);
-    list.extend([Call::Look { active: 0 }, Call::Look { active: 1 }]);
+    list.extend([Call::Look { active: 0 }, Call::Look { active: 1 }, Call::Remaining]);
     let (lines, _) = record(&plan, &proved, &list);
-    let told: Vec<String> = lines.iter().map(told).collect();
+    let told: Vec<String> = lines.iter().map(|line| told(line)).collect();
     let wanted = [
         "L0,0,0 +0,S,0,0,0,0,0,0 a0,0",
         "L0,0,1!11",
@@ -133,6 +134,7 @@ fn lines_of_the_first_run() {
         "D0!8",
         "H0!13",
         "H1!9",
+        "N=1,512",
     ];
     assert_eq!(told, wanted);
 }
@@ -154,7 +156,7 @@ fn opened() -> Vec<Call> {
 fn lines_of_a_dropped_answer() {
     let plan = plan(&named::T);
     let (lines, _) = record(&plan, &Proved::new(&plan), &opened());
-    let told: Vec<String> = lines.iter().map(told).collect();
+    let told: Vec<String> = lines.iter().map(|line| told(line)).collect();
     let wanted = [
         "R p1 >0,u _",
         "H0=A,0,0,1,1",
@@ -178,7 +180,7 @@ fn lines_of_a_closed_connection() {
     list.extend([close, close]);
     list.extend([Call::Read, Call::Execute, Call::Write].repeat(3));
     let (lines, _) = record(&plan, &Proved::new(&plan), &list);
-    let told: Vec<String> = lines.iter().map(told).collect();
+    let told: Vec<String> = lines.iter().map(|line| told(line)).collect();
     let wanted = [
         "K0,0,0 +1,T,0,0,0,1,0,0,0 o2,0,c c0,0",
         "K0,0,0!16",

@@ -1,7 +1,7 @@
 //! The calls as values, and who answers them.
 
 use model::machine::{self, Network, Rules};
-use pandabrass::{bytes, Entry, Packet, Refusal};
+use pandabrass::{bytes, Entry, Packet, Refusal, Remaining};
 
 use crate::net;
 use crate::plan::Plan;
@@ -59,6 +59,8 @@ pub enum Call {
         /// The slot.
         slot: u32,
     },
+    /// Remaining.
+    Remaining,
 }
 
 /// What an accepted call returns.
@@ -70,6 +72,8 @@ pub enum Answer {
     Packet(Packet),
     /// The entry that was asked for.
     Entry(Entry),
+    /// What is under way, and for how many rounds at most.
+    Remaining(Remaining),
 }
 
 /// Somebody who answers the calls on one plan.
@@ -117,6 +121,7 @@ impl Calls for Proved {
             Call::Entry { router, side, slot } => {
                 bytes::entry(plan, state, router, side, slot, &mut out)
             }
+            Call::Remaining => bytes::remaining(plan, state, &mut out),
         };
         if let Some(refusal) = Refusal::of(answer) {
             return Err(refusal);
@@ -126,6 +131,7 @@ impl Calls for Proved {
                 Answer::Packet(net::packet(&out[..5]).expect("the library returns a packet"))
             }
             Call::Entry { .. } => Answer::Entry(entry(out[0].into())),
+            Call::Remaining => Answer::Remaining(Remaining::from(out)),
             _ => Answer::Done,
         })
     }
@@ -161,6 +167,9 @@ impl Calls for Modelled {
                 net::packet(&machine::bytes::packet_bytes(&packet)).expect("a kind is a kind"),
             ),
             machine::Answer::Entry(number) => Answer::Entry(entry(number)),
+            machine::Answer::Remaining(machine::Remaining { packets, rounds }) => {
+                Answer::Remaining(Remaining { packets: packets as u32, rounds: rounds as u32 })
+            }
         })
     }
 }
@@ -195,5 +204,6 @@ fn modelled(call: Call) -> machine::Call {
         Call::Entry { router, side, slot } => {
             machine::Call::Entry { router: n(router), side: n(side), slot: n(slot) }
         }
+        Call::Remaining => machine::Call::Remaining,
     }
 }

@@ -34,7 +34,7 @@ pub mod words;
 pub use calls::{Answer, Call, Calls, Modelled, Proved};
 pub use names::Names;
 pub use net::Net;
-pub use pandabrass::{Choice, Entry, Kind, Packet, Refusal};
+pub use pandabrass::{Choice, Entry, Kind, Packet, Refusal, Remaining};
 pub use place::{Heading, Output, Place, Port, Queue};
 pub use plan::{Fault, Fields, Hop, Joint, Pair, Plan, Served};
 pub use run::{Connection, Event, Hold, Id, Owner, Run, Step};

@@ -33,6 +33,7 @@ fn call(call: machine::Call) -> Call {
         machine::Call::Entry { router, side, slot } => {
             Call::Entry { router: n(router), side: n(side), slot: n(slot) }
         }
+        machine::Call::Remaining => Call::Remaining,
     }
 }
 

@@ -44,6 +44,9 @@ const WORDS: &[&str] = &[
     "look",
     "drop",
     "entry",
+    "remaining",
+    "wait",
+    "empty",
     "read",
     "execute",
     "write",
@@ -236,7 +239,7 @@ fn try_script(text: &str, tally: &mut Tally, plans: &[(String, String)]) {
 fn is_short(script: &Script) -> bool {
     let rounds = script.statements.iter().map(|statement| match &statement.deed {
         Deed::Rounds(rounds) | Deed::UntilRound(rounds) => *rounds,
-        Deed::UntilQuiet(_) => 30,
+        Deed::UntilQuiet(_) | Deed::Wait => 30,
         Deed::AnyOrder(block) => block.gaps.0 * block.items.len(),
         _ => 1,
     });

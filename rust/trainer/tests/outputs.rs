@@ -50,6 +50,7 @@ fn cases() -> Vec<(String, Vec<String>)> {
         add(&stem("brief", &file), &["run", &file, "--brief"]);
     }
     add("run-json", &["run", "scripts/declined.run", "--json"]);
+    add("run-wash-json", &["run", "scripts/wash.run", "--json"]);
     add("run-order", &["run", "scripts/orders.run", "--order", "CBA", "--brief"]);
     add("run-order-gaps", &["run", "scripts/replies.run", "--order", "B2A+ba", "--brief"]);
     add("run-order-wrong", &["run", "scripts/orders.run", "--order", "CBB"]);
@@ -62,8 +63,8 @@ fn cases() -> Vec<(String, Vec<String>)> {
     add("orders-number", &["orders", "scripts/orders.run", "--samples", "many"]);
     add("lessons", &["lesson"]);
     add("lesson-json", &["lesson", "3", "--json"]);
-    add("lesson-12", &["lesson", "12"]);
-    for lesson in 1..=11 {
+    add("lesson-13", &["lesson", "13"]);
+    for lesson in 1..=12 {
         add(&format!("lesson-{lesson}-question"), &["lesson", &lesson.to_string()]);
         add(&format!("lesson-{lesson}-answer"), &["lesson", &lesson.to_string(), "--answers"]);
     }

@@ -72,6 +72,22 @@ fn every_wrong_rule_is_seen() {
     }
 }
 
+/// A student's program is another one than the script's, and something is then not as expected.
+#[test]
+fn every_wrong_program_is_seen() {
+    let mut programs = 0;
+    for lesson in &LESSONS {
+        let Mistake::Program(name, statement) = lesson.mistake else { continue };
+        let script = lesson::instead(lesson, statement);
+        let proved = Proved::new(&script.plan);
+        let mut player = Player::new(&script, &proved);
+        player.play(&[], &mut Silent).unwrap();
+        assert!(player.failed > 0, "{}: nobody sees that they {name}", lesson.file);
+        programs += 1;
+    }
+    assert_eq!(programs, 1);
+}
+
 /// A rule that students write instead, in words and as it is set.
 type Wrong = (&'static str, fn(&mut Rules));
 

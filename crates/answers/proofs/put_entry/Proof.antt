@@ -21,6 +21,9 @@ enum-known-x c = search needs
 put-side-requires : tie.Need-put-side-requires
 put-side-requires c κs = search needs
 
+enum-told-4 : tie.Need-enum-told-4
+enum-told-4 c = search needs
+
 returns : tie.Need-returns
 returns c = search needs
 
@@ -33,6 +36,9 @@ returns-3 c = search needs
 returns-4 : tie.Need-returns-4
 returns-4 c = entry-some _ (c .before .before .before .x .given .1) (c .put-side .ensures)
 
+returns-5 : tie.Need-returns-5
+returns-5 c = search needs
+
 pub put-entry-spec : {M : Type 1} → statement M
 put-entry-spec =
     tie.close
@@ -42,7 +48,9 @@ put-entry-spec =
     enum-told-3
     enum-known-x
     put-side-requires
+    enum-told-4
     returns
     returns-2
     returns-3
-    returns-4)
+    returns-4
+    returns-5)

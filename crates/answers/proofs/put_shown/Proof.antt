@@ -21,6 +21,9 @@ put-packet-requires c κs = search needs
 enum-told-3 : tie.Need-enum-told-3
 enum-told-3 c = search needs
 
+enum-told-4 : tie.Need-enum-told-4
+enum-told-4 c = search needs
+
 returns : tie.Need-returns
 returns c = search needs
 
@@ -33,6 +36,9 @@ returns-3 c = shown-some _ (c .before .before .before .x .given .1) (c .put-pack
 returns-4 : tie.Need-returns-4
 returns-4 c = search needs
 
+returns-5 : tie.Need-returns-5
+returns-5 c = search needs
+
 pub put-shown-spec : {M : Type 1} → statement M
 put-shown-spec =
     tie.close
@@ -42,7 +48,9 @@ put-shown-spec =
     enum-known-x
     put-packet-requires
     enum-told-3
+    enum-told-4
     returns
     returns-2
     returns-3
-    returns-4)
+    returns-4
+    returns-5)

@@ -24,8 +24,8 @@ use Rattle.machine.specs.State.{State, isFull, join}
 use Rattle.machine.specs.Read.{deliver, settle, lower, doRead}
 use Rattle.machine.specs.Visits.{setupOf, launched, closingOf, closed}
 use Rattle.machine.specs.Calls.{Visit, Call, turn, visit, read, execute, write, Outcome, call}
-use Rattle.theory.specs.Does.{Visited, launches, replies, looks, drops, closes, tells, Does, refuses, turns}
-use Rattle.theory.specs.Does.{visits}
+use Rattle.theory.specs.Does.{Visited, launches, replies, looks, drops, closes, tells, counts, Does, refuses}
+use Rattle.theory.specs.Does.{turns, visits}
 use Rattle.machine.specs.Valid.{Drives}
 use Rattle.machine.specs.Progress.{isInQueue, UnderWay, Waits, endsRound}
 use Rattle.machine.specs.Ruled.{rounds, Moves, Good}
@@ -100,6 +100,7 @@ module _ (pl : Plan) (s : State) (e : s .clock .phase ≡ Read) where
       by v r (drops a x rest m) = absurd (read-write (sym e ∙ m .phase))
       by v r (closes a q t m) = (closed-before pl a q t s, refl)
       by v r (tells i q t m) = (unchanged s, refl)
+      by v r counts = (unchanged s, refl)
 
   only-read : (c : Call) → c ≢ read → Before s (call pl c s .state) × (endsRound c (call pl c s .answer) ≡ 0)
   only-read c = only c (call pl c s) (call-does pl s c)

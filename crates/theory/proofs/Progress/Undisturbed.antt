@@ -13,8 +13,8 @@ use Rattle.plan.specs.Plan.{Plan}
 use Rattle.machine.specs.State.{State, join}
 use Rattle.machine.specs.Visits.{launched, replyKind, removed, noted, closed}
 use Rattle.machine.specs.Calls.{Visit, Call, turn, visit, execute, Outcome, gives, isPhase, phaseStep, call}
-use Rattle.theory.specs.Does.{Visited, launches, replies, looks, drops, closes, tells, Does, refuses, turns}
-use Rattle.theory.specs.Does.{visits}
+use Rattle.theory.specs.Does.{Visited, launches, replies, looks, drops, closes, tells, counts, Does, refuses}
+use Rattle.theory.specs.Does.{turns, visits}
 use Rattle.machine.specs.Progress.{isTimed, endsRound}
 use Rattle.machine.proofs.Apart.{phase-of, phase-is, read-execute, execute-write}
 use Rattle.theory.proofs.Does.{call-does, refused-turns}
@@ -66,6 +66,7 @@ module _ (pl : Plan) (p s : State) (k : Same pl p s) where
   visits-undisturbed v o (closes a q t m) =
       record { same = close-same pl p s a q t k; slot = refl; phase = refl; choice = refl }
   visits-undisturbed v o (tells r i t m) = still
+  visits-undisturbed v o counts = still
 
   untimed : (c : Call) (o : Outcome) → Does pl s c o → isTimed c ≡ false → Undisturbed pl p s (o .state)
   untimed c o (refuses d w n) f = still
@@ -89,6 +90,7 @@ module _ (pl : Plan) (s : State) (e : s .clock .phase ≡ Execute) where
       by v r (drops a x rest m) = absurd (execute-write (sym e ∙ m .phase))
       by v r (closes a q t m) = absurd (read-execute (sym (m .phase) ∙ e))
       by v r (tells i q t m) = (refl, refl)
+      by v r counts = (refl, refl)
 
   pub only-execute : (c : Call) → c ≢ execute → (call pl c s .state ≡ s) × (endsRound c (call pl c s .answer) ≡ 0)
   only-execute c = only c (call pl c s) (call-does pl s c)

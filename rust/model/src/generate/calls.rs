@@ -1,5 +1,5 @@
 //! Random lists of calls that keep a network busy: real rounds with launches, closes, replies and
-//! drops, looks in every phase, and stray calls in any phase with any arguments.
+//! drops, looks and Remainings in every phase, and stray calls in any phase with any arguments.
 
 use super::Random;
 use crate::feeding::Queue;
@@ -55,6 +55,9 @@ impl Caller {
         self.left -= 1;
         if random.chance(self.mood.stray, 160) {
             return stray(random, network);
+        }
+        if random.chance(1, 32) {
+            return Call::Remaining;
         }
         let looks = random.chance(self.mood.look, 32);
         let look = if looks { look(random, network, state) } else { None };
@@ -173,7 +176,7 @@ pub fn stray(random: &mut Random, network: &Network) -> Call {
     let (active, passive) = (number(plan.actives()), number(plan.passives()));
     let (router, side, slot) = (number(plan.routers()), number(SIDES), number(network.slots()));
     let choice = number(2);
-    match random.below(9) {
+    match random.below(10) {
         0 => Call::Read,
         1 => Call::Execute,
         2 => Call::Write,
@@ -182,6 +185,7 @@ pub fn stray(random: &mut Random, network: &Network) -> Call {
         5 => Call::Look { active },
         6 => Call::Drop { active },
         7 => Call::Close { active, passive, slot },
+        8 => Call::Remaining,
         _ => Call::Entry { router, side, slot },
     }
 }

@@ -201,7 +201,7 @@ impl Network {
     }
 
     /// 7 not a state, where the rules are the documents' own.
-    fn ensure_state(&self, state: &State) -> Result<(), u32> {
+    pub(super) fn ensure_state(&self, state: &State) -> Result<(), u32> {
         ensure(!self.rules().are_the_documents() || self.is_state(state), NOT_A_STATE)
     }
 

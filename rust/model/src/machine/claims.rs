@@ -1,4 +1,4 @@
-//! Demand 3 and what the documents say of every list, watched call by call.
+//! Demand 3 and what the documents say of every list, watched call by call; request (n) by [`Deadline`].
 
 use std::collections::{BTreeSet, HashMap};
 
@@ -8,6 +8,7 @@ use super::network::{Link, Network};
 use super::packet::{Kind, Slot};
 use super::places::Place;
 use super::state::{Phase, State, Table};
+use super::waiting::Deadline;
 use crate::feeding::Queue;
 use crate::fields::SIDES;
 
@@ -22,6 +23,8 @@ pub struct Claims<'n> {
     accepted: BTreeSet<Connection>,
     /// Whole rounds without a move since a state in READ from which a move is claimed.
     still: Option<usize>,
+    /// Request (n): by which round the network is to be empty.
+    pub deadline: Deadline,
     /// By link and rank: how many others have gone before a head that stayed a candidate.
     passed_by: Vec<Vec<usize>>,
     /// How many outputs picked while several senders were candidates.
@@ -57,6 +60,7 @@ impl<'n> Claims<'n> {
             acceptances: HashMap::new(),
             accepted: BTreeSet::new(),
             still: None,
+            deadline: Deadline::default(),
             passed_by: network.links().iter().map(|&l| vec![0; network.senders(l).len()]).collect(),
             contested: 0,
             turned: 0,
@@ -110,6 +114,7 @@ impl<'n> Claims<'n> {
             return Err(format!("{call:?} was refused and altered the state"));
         }
         self.look_tells_the_head(call, answer, before, state)?;
+        self.deadline.after(self.network, (call, answer), [before, state])?;
         if let Some(fault) = self.network.core_fault(state) {
             return Err(format!("not a state: {fault}"));
         }

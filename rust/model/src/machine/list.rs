@@ -3,6 +3,7 @@
 use super::network::Network;
 use super::packet::Packet;
 use super::state::State;
+use super::waiting::Remaining;
 
 /// A call on a state.
 #[derive(Clone, Copy, Debug, PartialEq, Eq)]
@@ -57,6 +58,8 @@ pub enum Call {
         /// The slot.
         slot: usize,
     },
+    /// Remaining.
+    Remaining,
 }
 
 /// What an accepted call says.
@@ -68,6 +71,8 @@ pub enum Answer {
     Packet(Packet),
     /// The entry, 4 for free.
     Entry(u32),
+    /// What Remaining returns.
+    Remaining(Remaining),
 }
 
 impl Network {
@@ -95,6 +100,7 @@ impl Network {
             Call::Entry { router, side, slot } => {
                 self.entry(state, router, side, slot).map(Answer::Entry)
             }
+            Call::Remaining => self.remaining(state).map(Answer::Remaining),
         }
     }
 }

@@ -8,6 +8,7 @@
 //! * [`phases`]: what READ, EXECUTE and WRITE do. [`calls`]: the calls with their refusals.
 //! * [`valid`]: what is a state (refusal 7), and [`places`], where a packet of a pair can be.
 //! * [`bytes`]: a state's bytes, by docs/STATE.md. [`rules`]: what students write instead.
+//! * [`waiting`]: what is under way, and by which round a program that waits finds the network empty.
 //! * [`list`]: calls as values. [`claims`]: demand 3, watched from outside by the calls, their answers
 //!   and the states between them.
 
@@ -23,6 +24,7 @@ pub mod places;
 pub mod rules;
 pub mod state;
 pub mod valid;
+pub mod waiting;
 
 pub use connection::{Connection, OwnEntry};
 pub use list::{Answer, Call};
@@ -30,3 +32,4 @@ pub use network::{Journey, Link, Network};
 pub use packet::{Hub, Kind, Packet, Slot};
 pub use rules::Rules;
 pub use state::{Credit, Phase, State, Table};
+pub use waiting::Remaining;

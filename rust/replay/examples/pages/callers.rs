@@ -1,8 +1,9 @@
-//! The calls of the pages: six lists, and a caller that keeps a network busy.
+//! The calls of the pages: six lists, a caller that keeps a network busy, and one that waits until it is
+//! empty.
 
 use model::generate::Random;
 use trace::net::Phase;
-use trace::{Call, Connection, Queue, Run};
+use trace::{Call, Connection, Kind, Queue, Run};
 
 /// A number of whole rounds.
 fn rounds(count: usize) -> Vec<Call> {
@@ -104,6 +105,61 @@ pub fn looked() -> Vec<Call> {
     calls.extend([look, Call::Read, look, Call::Execute, look, drop, look, Call::Write]);
     calls.extend(rounds(3));
     calls
+}
+
+/// Waits before a wash: after some calls it asks Remaining in each phase, replies and drops where it can,
+/// and ends when the network is empty.
+#[derive(Clone, Debug)]
+pub struct Waiter {
+    before: std::vec::IntoIter<Call>,
+    asked: Option<Phase>,
+}
+
+impl Waiter {
+    /// Two set-ups under way, of which the second router declines one.
+    pub fn new() -> Waiter {
+        let launch = |active, slot| Call::Launch { active, passive: 0, slot };
+        let before = [vec![launch(1, 0), launch(0, 3)], rounds(5)].concat();
+        Waiter { before: before.into_iter(), asked: None }
+    }
+
+    /// The next call; none when it has told that nothing is under way.
+    pub fn next(&mut self, run: &Run) -> Option<Call> {
+        let phase = run.net().phase;
+        if let Some(call) = self.before.next() {
+            return Some(call);
+        }
+        if self.asked != Some(phase) {
+            self.asked = Some(phase);
+            return Some(Call::Remaining);
+        }
+        match phase {
+            Phase::Read => (!run.net().is_empty()).then_some(Call::Read),
+            Phase::Execute => Some(Call::Execute),
+            Phase::Write => Some(act(run).unwrap_or(Call::Write)),
+        }
+    }
+}
+
+/// A Reply or a Drop that is not refused.
+fn act(run: &Run) -> Option<Call> {
+    let (plan, net) = (run.plan(), run.net());
+    let head = |queue| {
+        let row = net.row(plan, queue);
+        row.packets.first().filter(|_| !row.flag)
+    };
+    let may_reply = |&passive: &usize| {
+        let out = Queue::PassiveOut(passive);
+        let room = net.row(plan, out).packets.len() < plan.capacity(out);
+        head(Queue::PassiveIn(passive)).is_some() && room
+    };
+    let may_drop = |&active: &usize| {
+        head(Queue::ActiveIn(active)).is_some_and(|head| head.kind != Kind::Nack || head.hub == 0)
+    };
+    let reply = (0..plan.passives()).find(may_reply);
+    let reply = reply.map(|passive| Call::Reply { passive: passive as u32, choice: 1 });
+    let drop = (0..plan.actives()).find(may_drop);
+    reply.or(drop.map(|active| Call::Drop { active: active as u32 }))
 }
 
 /// Makes calls that keep a network busy, a few refused ones among them.

@@ -1,4 +1,4 @@
-//! Writes the pages that the browser tests open into a folder: eleven runs and some on random plans
+//! Writes the pages that the browser tests open into a folder: twelve runs and some on random plans
 //! for the self-test, and one of 5,000 calls on the largest plan for the times.
 //!
 //!     cargo run --release -p replay --example pages -- FOLDER
@@ -12,7 +12,7 @@ use std::process::ExitCode;
 use replay::Recording;
 use trace::{Call, Plan, Proved, Run};
 
-use callers::Caller;
+use callers::{Caller, Waiter};
 
 /// Records calls on a plan and writes the page.
 fn write(folder: &Path, file: &str, title: &str, note: &str, plan: &Plan, calls: &mut dyn Calls) {
@@ -50,24 +50,36 @@ impl Calls for (Caller, usize) {
     }
 }
 
+/// The same, with a Remaining now and then.
+struct Asking((Caller, usize));
+
+impl Calls for Asking {
+    fn next(&mut self, run: &Run) -> Option<Call> {
+        let asks = self.0 .1 % 10 == 5;
+        let call = self.0.next(run)?;
+        Some(if asks { Call::Remaining } else { call })
+    }
+}
+
+/// One that waits until the network is empty.
+impl Calls for Waiter {
+    fn next(&mut self, run: &Run) -> Option<Call> {
+        Waiter::next(self, run)
+    }
+}
+
 /// Short runs on random plans.
 fn random(folder: &Path) {
     for (number, plan) in plans::random(10).iter().enumerate() {
         let file = format!("random-{number}");
-        let mut calls = (Caller::new(number as u64, 10), 120);
+        let mut calls = Asking((Caller::new(number as u64, 10), 120));
         write(folder, &file, &file, "A random plan.", plan, &mut calls);
     }
 }
 
-fn main() -> ExitCode {
-    let Some(folder) = std::env::args().nth(1) else {
-        eprintln!("pages: name a folder to write the pages to");
-        return ExitCode::from(2);
-    };
-    let folder = Path::new(&folder);
-    std::fs::create_dir_all(folder).expect("the folder can be made");
+/// Seven runs that show one thing each.
+fn scripted_runs(folder: &Path) {
     let scripted = |calls: Vec<Call>| calls.into_iter();
-    let busy = |seed, calls| (Caller::new(seed, 10), calls);
     let note = "Document 01's first run: a set-up is accepted and stays booked.";
     write(folder, "t", "First run on plan T", note, &plans::t(), &mut scripted(callers::first()));
     let note = "The second router declines; the tear-down frees one router only.";
@@ -82,6 +94,19 @@ fn main() -> ExitCode {
     write(folder, "heads", "Heads of a unit", note, &one, &mut scripted(callers::heads()));
     let note = "Answers are looked at in every phase, and then dropped.";
     write(folder, "looked", "Look before dropping", note, &one, &mut scripted(callers::looked()));
+    let note = "Before a wash: how much is under way, and for how long?";
+    write(folder, "waited", "Empty by a known round", note, &two, &mut Waiter::new());
+}
+
+fn main() -> ExitCode {
+    let Some(folder) = std::env::args().nth(1) else {
+        eprintln!("pages: name a folder to write the pages to");
+        return ExitCode::from(2);
+    };
+    let folder = Path::new(&folder);
+    std::fs::create_dir_all(folder).expect("the folder can be made");
+    let busy = |seed, calls| (Caller::new(seed, 10), calls);
+    scripted_runs(folder);
     let note = "Three sensors, two drives, any calls.";
     write(folder, "arm", "An arm of three routers", note, &plans::arm(), &mut busy(3, 420));
     let note = "Sensors and drives on each end of the line: set-ups cross.";

@@ -18,6 +18,7 @@ const CALLS = {
   D: { name: "Drop", phase: 2, args: ["active"], text: ([active]) => `Drop ${nameOf.active(active)}` },
   E: { name: "Entry", args: ["router", "side", "slot"],
     text: ([router, side, slot]) => `Entry ${nameOf.router(router)}, side ${side}, slot ${slot}`, answer: entryAnswer },
+  N: { name: "Remaining", args: [], text: () => "Remaining", answer: remainingAnswer },
 };
 
 /** An answer that is a packet: kind, active, passive, slot, hub. */
@@ -29,6 +30,12 @@ function packetAnswer(answer) {
 /** An answer that is an entry. */
 function entryAnswer(answer) {
   return Number(answer) === FREE ? "free" : `booked, came in by side ${answer}`;
+}
+
+/** An answer that tells what is under way: the packets, and the most rounds that one waits for them. */
+function remainingAnswer(answer) {
+  const [packets, rounds] = answer.split(",").map(Number);
+  return packets === 0 ? "nothing under way" : `${count(packets, "packet")} under way: wait at most ${rounds} rounds`;
 }
 
 /** The interface that a call is about, by name. */

@@ -25,6 +25,7 @@ function explain(call, events, before, after) {
   if (call.letter === "X") sentences.push(...executeSentences(after, sentences.length));
   if (call.letter === "R" || call.letter === "W") sentences.push(...moveSentences(call, events));
   if (call.letter === "H") sentences.push(lookSentence(call, after));
+  if (call.letter === "N") sentences.push(remainingSentence(after));
   return sentences;
 }
 
@@ -141,6 +142,13 @@ function lookSentence({ args: [active] }, state) {
   const then = packet.kind === "A" ? "The connection is accepted when it is dropped." :
     packet.hub > 0 ? "Its tear-down is not in the out-queue yet: it cannot be dropped." : "It is marked.";
   return { html: `${head} ${then} A Look changes nothing.` };
+}
+
+/** What Remaining tells of, and what is supposed. */
+function remainingSentence(state) {
+  if (state.packets.size === 0) return { html: "Every queue and wire is empty. Remaining changes nothing." };
+  return { html: "If nobody launches or closes from a READ on, and in every WRITE each passive replies and each active " +
+    "drops that can, the network is empty after at most so many rounds. Remaining changes nothing." };
 }
 
 /** A packet ends: a tear-down at its last router, an answer that is dropped. */

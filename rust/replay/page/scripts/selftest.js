@@ -53,6 +53,7 @@ function checkCall(position) {
   const tokens = run.lines[position - 1].split(" ").length - 2;
   must(!refusal || tokens === 0, position, "a refused call changed something");
   if (letter === "H") checkLook(position, tokens);
+  if (letter === "N") checkRemaining(position, tokens);
   const needed = { R: 0, X: 1, W: 2, L: 0, K: 0, P: 2, D: 2 }[letter];
   const fits = needed === undefined || (needed !== phase) === (refusal === 8);
   must(fits, position, `the call ${letter} does not fit the phase before it`);
@@ -67,6 +68,15 @@ function checkLook(position, tokens) {
   const { kind, passive, slot, hub } = head ?? {};
   const told = head ? [kind, active, passive, slot, hub].join() : "13";
   must(told === (answer || String(refusal)), position, `a Look gave ${answer || refusal}, at the head is ${told}`);
+}
+
+/** Remaining changed nothing, and gave the packets that are there, with 256 rounds for each and each slot. */
+function checkRemaining(position, tokens) {
+  const { answer } = run.calls[position - 1];
+  must(tokens === 0, position, "Remaining changed something");
+  const packets = shown.state.packets.size;
+  const told = [packets, 256 * run.plan.slots * packets].join();
+  must(answer === told, position, `Remaining gave ${answer}, there are ${told}`);
 }
 
 /** Jumps give the same states as single steps. */

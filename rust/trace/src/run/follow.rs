@@ -27,7 +27,7 @@ impl Run<'_> {
             Call::Reply { passive, choice } => vec![self.follow_reply(n(passive), choice == 1)],
             Call::Look { active } => vec![self.follow_look(before, n(active))],
             Call::Drop { active } => vec![self.follow_drop(before, n(active))],
-            Call::Entry { .. } => Vec::new(),
+            Call::Entry { .. } | Call::Remaining => Vec::new(),
         }
     }
 

@@ -2,10 +2,11 @@
 
 mod telling;
 
-use pandabrass::{Kind, Packet, Refusal};
+use pandabrass::{Kind, Packet, Refusal, Remaining};
 
 use crate::calls::Call;
 use crate::names::Names;
+use crate::plan::count;
 use crate::run::{letter, Cell, Connection, Event, Hold, Owner, Run, Step, Wait};
 use telling::Telling;
 
@@ -46,6 +47,17 @@ pub fn hold(hold: Hold) -> &'static str {
     }
 }
 
+/// What is under way: "3 packets under way: wait at most 3072 rounds".
+pub fn remaining(remaining: Remaining) -> String {
+    let Remaining { packets, rounds } = remaining;
+    match packets {
+        0 => "nothing under way".to_string(),
+        _ => {
+            format!("{} under way: wait at most {rounds} rounds", count(packets as usize, "packet"))
+        }
+    }
+}
+
 /// An entry by name: "r0.1 slot 3".
 pub fn cell(names: &Names, cell: Cell) -> String {
     format!("{} slot {}", names.port(cell.port), cell.slot)
@@ -75,6 +87,7 @@ pub fn call(names: &Names, call: Call) -> String {
         Call::Entry { router, side, slot } => {
             format!("entry {}.{side} {slot}", names.router(router as usize))
         }
+        Call::Remaining => "remaining".to_string(),
     }
 }
 
@@ -93,7 +106,7 @@ pub fn is_notable(step: &Step) -> bool {
         Event::Waits { wait, .. } => !matches!(wait, Wait::Booked(_)),
         _ => false,
     };
-    let asks = matches!(step.call, Call::Entry { .. });
+    let asks = matches!(step.call, Call::Entry { .. } | Call::Remaining);
     step.answer.is_err() || asks || !step.events.iter().all(moves)
 }
 

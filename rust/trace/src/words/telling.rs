@@ -2,7 +2,7 @@
 
 use pandabrass::{Entry, Kind, Packet};
 
-use super::{cell, hold, owner_letter, packet, sign};
+use super::{cell, hold, owner_letter, packet, remaining, sign};
 use crate::calls::{Answer, Call};
 use crate::names::Names;
 use crate::net::Phase;
@@ -31,6 +31,9 @@ impl<'r, 'a> Telling<'r, 'a> {
         if let (Call::Entry { router, side, slot }, Answer::Entry(entry)) = (step.call, answer) {
             let port = Port { router: router as usize, side: side as usize };
             return self.entry(Cell { port, slot: slot as usize }, entry);
+        }
+        if let Answer::Remaining(told) = answer {
+            return remaining(told);
         }
         let picked = self.picked(step);
         let told = step.events.iter().filter_map(|event| self.event(event));

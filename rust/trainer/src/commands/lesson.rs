@@ -14,7 +14,8 @@ pub const LESSON: Command = Command {
     help: "\
 Without N the lessons are listed. A lesson asks its question first; the answer comes on the Enter
 key, or at once with --answers. Its script (scripts/lessons) is played twice: by the proved library,
-and by the model with the rule that students write instead, up to where the two part, and on.
+and by the model with the rule that students write instead, up to where the two part, and on. Where
+students think of another order or of another program, both are played by the proved library.
 ",
     flags: &["--answers", "--json"],
     options: &[],

@@ -5,7 +5,7 @@ use trace::{words, Proved, Run, Step};
 
 use super::orders::dealt;
 use super::{Args, Command, Done, FINE, REFUSED, UNREAD};
-use crate::play::{Player, Teller};
+use crate::play::{Player, Teller, Waited};
 use crate::print::lines::Lines;
 use crate::print::{wrap, Colour, Json, Paint};
 use crate::script::{self, Broken, Script, Statement};
@@ -21,18 +21,25 @@ A script names its plan first, then what is to be done, a statement a line (or w
   plan FILE | plan bytes HEX..            the plan's file is looked for beside the script
   launch ACTIVE PASSIVE SLOT              reply PASSIVE accept|decline
   look ACTIVE                             the head of its in-queue, in any phase; nothing changes
+  remaining                               what is under way, in any phase; nothing changes
   drop ACTIVE                             removes it; the Drop of an ACK accepts the connection
   close ACTIVE PASSIVE SLOT               an accepted connection, by the slot of its launch
   entry ROUTER.SIDE SLOT                  read    execute    write
   round [N]                               N whole rounds
   until round N    until quiet [within N] to READ|EXECUTE|WRITE
+  wait                                    whole rounds until the network is empty: asks Remaining,
+                                          then every passive replies (as it stands, else it accepts)
+                                          and every active drops; at most the rounds promised
   passive NAME|all accepts|declines|waits standing, from here on, in each WRITE of a whole round
   active NAME|all drops|waits             the same
   any order [spaced N[..N]] { launch ..; reply .. }
                                           as written; pandabrass orders tries all orders and gaps
   show table    show where
-  expect ok | refused N | ack|nack slot N hub N | free | side N         of the last call
+  expect ok | refused N | ack|nack slot N hub N | free | side N | remaining N      of the last call
   expect quiet | round N | entry ROUTER.SIDE SLOT free|side N | allowance ACTIVE N
+  expect empty within N                   as 'wait' from here on would find it, tried on a copy, a
+                                          round that has begun counts; right after 'wait': from
+                                          where that began
   expect [not] accepted ACTIVE PASSIVE SLOT                             accepted, not closed since
   expect at r0.F1set|drive.in|.. setup|tdown|ack|nack slot N hub N
   expect last r0.U0|r0.Q0|r0.F1set|r0.F1ans|r0.K01|..                   its output served it last
@@ -191,6 +198,17 @@ impl Teller for JsonLines {
             ])
         });
         self.push(vec![("where", packets)]);
+    }
+
+    fn waited(&mut self, _: &Script, statement: &Statement, waited: &Waited) {
+        self.push(vec![
+            ("wait", Json::text(waited.words())),
+            ("line", Json::Number(statement.at.line)),
+            ("packets", Json::Number(waited.promised.packets as usize)),
+            ("promised", Json::Number(waited.promised.rounds as usize)),
+            ("rounds", Json::Number(waited.rounds)),
+            ("empty", Json::Bool(waited.left.is_none())),
+        ]);
     }
 
     fn note(&mut self, text: &str) {

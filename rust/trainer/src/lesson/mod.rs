@@ -36,10 +36,12 @@ pub enum Mistake {
     Rule(&'static str, fn(&mut Rules)),
     /// They check one order.
     OneOrder,
+    /// They write another program, which has this name: this statement where the script waits.
+    Program(&'static str, &'static str),
 }
 
 /// All lessons.
-pub const LESSONS: [Lesson; 11] = [
+pub const LESSONS: [Lesson; 12] = [
     Lesson {
         title: "A declined set-up leaves nothing behind?",
         file: "1-declined.run",
@@ -211,11 +213,43 @@ pub const LESSONS: [Lesson; 11] = [
                  them, side 1 waits as long as side 0 brings new heads: left's fourth set-up comes a \
                  round after right's third, is handled before it and takes the entry.",
     },
+    Lesson {
+        title: "Before a wash, S rounds are enough?",
+        file: "12-wash.run",
+        script: include_str!("../../../../scripts/lessons/12-wash.run"),
+        question: "The wash is due. The program launches and closes nothing more and waits. Two set-ups \
+                   are under way, S is 4, and demand 3 says that in S rounds at least one packet moves. \
+                   For how many rounds must it wait to be sure that every queue and wire is empty? What \
+                   must the drive, camera and force do meanwhile? And what is booked if the wash begins \
+                   after 4 rounds?",
+        mistake: Mistake::Program("wait for S rounds", "round 4"),
+        answer: "In S rounds one packet moves, not all of them, and each has a long way: the set-up there, \
+                 its NACK back, its tear-down there again. What is promised is 256 x S x N rounds for N \
+                 packets, here 2048, if from a READ on nobody launches or closes and in every WRITE each \
+                 passive replies and each active drops that can: Remaining tells both numbers, in every \
+                 phase. Here 12 rounds are enough, on other plans it takes more, and nobody counts them: \
+                 one asks Remaining until it says 0. Then the table is the accepted connections' own. \
+                 After 4 rounds force has no answer yet, and r0.1 slot 3 is booked for a set-up that will \
+                 be declined. And a passive that does not answer keeps its set-up for ever: the promise \
+                 is for those who do.",
+    },
 ];
 
-/// The script of a lesson; its plan is one of those in the repository.
+/// The script of a lesson.
 pub fn script(lesson: &Lesson) -> Script {
-    let source = Source { name: lesson.file.to_string(), text: lesson.script.to_string() };
+    of_text(lesson, lesson.script.to_string())
+}
+
+/// The same with another statement where it waits.
+pub fn instead(lesson: &Lesson, statement: &str) -> Script {
+    let lines = lesson.script.lines();
+    let lines = lines.map(|line| if line.starts_with("wait") { statement } else { line });
+    of_text(lesson, lines.collect::<Vec<_>>().join("\n"))
+}
+
+/// A lesson's plan is one of those in the repository.
+fn of_text(lesson: &Lesson, text: String) -> Script {
+    let source = Source { name: lesson.file.to_string(), text };
     let plan = |file: &str| match script::short(file).as_str() {
         "two.plan" => PlanFile::of_text("two.plan", include_str!("../../../../plans/two.plan")),
         "three.plan" => {
@@ -244,6 +278,14 @@ pub fn play(lesson: &Lesson, paint: Paint) -> String {
             let right = notes::take(&script, &proved, &[]);
             let wrong = notes::take(&script, &modelled, &[]);
             let headings = ["the proved rule".to_string(), format!("a student's: {name}")];
+            sides::text(&right, &wrong, headings, paint)
+        }
+        Mistake::Program(name, statement) => {
+            let other = instead(lesson, statement);
+            let other_proved = Proved::new(&other.plan);
+            let right = notes::take(&script, &proved, &[]);
+            let wrong = notes::take(&other, &other_proved, &[]);
+            let headings = ["the script: wait".to_string(), format!("a student's: {name}")];
             sides::text(&right, &wrong, headings, paint)
         }
         Mistake::OneOrder => {

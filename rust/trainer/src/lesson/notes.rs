@@ -3,7 +3,7 @@
 use trace::place::SIDES;
 use trace::{words, Calls, Event, Hold, Net, Port, Run, Step};
 
-use crate::play::{Deal, Player, Teller};
+use crate::play::{Deal, Player, Teller, Waited};
 use crate::print::lines;
 use crate::print::Paint;
 use crate::script::{Script, Statement};
@@ -74,6 +74,10 @@ impl Teller for Taker {
     fn expected(&mut self, _: &Script, statement: &Statement, found: Option<&str>) {
         let what = statement.text.trim_start_matches("expect ").to_string();
         self.expected.push((what, found.map(str::to_string)));
+    }
+
+    fn waited(&mut self, _: &Script, _: &Statement, waited: &Waited) {
+        self.said.push(waited.words());
     }
 
     fn note(&mut self, text: &str) {

@@ -4,7 +4,7 @@ use std::collections::HashMap;
 
 use trace::place::SIDES;
 use trace::run::{letter, Cell};
-use trace::{words, Answer, Connection, Entry, Port, Run, Step};
+use trace::{words, Answer, Connection, Entry, Kind, Packet, Port, Run, Step};
 
 use super::entry_words;
 use crate::script::Expected;
@@ -14,9 +14,11 @@ pub fn find(run: &Run, last: Option<&Step>, expected: &Expected) -> Option<Strin
     let differs = |same: bool, found: String| (!same).then_some(found);
     let (plan, net) = (run.plan(), run.net());
     match expected {
-        Expected::Accepted | Expected::Refused(_) | Expected::Packet(..) | Expected::Entry(_) => {
-            of_last(last, expected)
-        }
+        Expected::Accepted
+        | Expected::Refused(_)
+        | Expected::Packet(..)
+        | Expected::Entry(_)
+        | Expected::Remaining(_) => of_last(last, expected),
         Expected::Quiet => {
             let packets = trace::plan::count(net.packets(plan).count(), "packet");
             differs(net.is_empty(), format!("{packets} under way"))
@@ -36,15 +38,11 @@ pub fn find(run: &Run, last: Option<&Step>, expected: &Expected) -> Option<Strin
             differs(accepted == *wanted, found.to_string())
         }
         Expected::At(queue, kind, slot, hub) => {
-            let packets = &net.row(plan, *queue).packets;
-            let wanted = (*kind, *slot, *hub);
-            let there = packets.iter().any(|p| (p.kind, p.slot.into(), p.hub.into()) == wanted);
-            let found: Vec<String> = packets.iter().map(words::packet).collect();
-            let found =
-                if found.is_empty() { "nothing there".to_string() } else { found.join(", ") };
-            differs(there, found)
+            at(&net.row(plan, *queue).packets, (*kind, *slot, *hub))
         }
         Expected::TableOf(connections) => table(run, connections),
+        // Looked at by the player, who tries it out.
+        Expected::EmptyWithin(_) => None,
         Expected::Last(queue) => {
             let output = plan.output_of(*queue)?;
             let last = net.last_served(plan, output)?;
@@ -52,6 +50,14 @@ pub fn find(run: &Run, last: Option<&Step>, expected: &Expected) -> Option<Strin
             differs(last == *queue, format!("{last_name} went last by {output}"))
         }
     }
+}
+
+/// What is in a queue, if a packet of this kind, slot and hub is not.
+fn at(packets: &[Packet], wanted: (Kind, u32, u32)) -> Option<String> {
+    let there = packets.iter().any(|p| (p.kind, p.slot.into(), p.hub.into()) == wanted);
+    let found: Vec<String> = packets.iter().map(words::packet).collect();
+    let found = if found.is_empty() { "nothing there".to_string() } else { found.join(", ") };
+    (!there).then_some(found)
 }
 
 /// What is expected of the last call.
@@ -64,6 +70,7 @@ fn of_last(last: Option<&Step>, expected: &Expected) -> Option<String> {
             (packet.kind, packet.slot.into(), packet.hub.into()) == (*kind, *slot, *hub)
         }
         (Expected::Entry(side), Ok(Answer::Entry(entry))) => number(entry) == *side,
+        (Expected::Remaining(packets), Ok(Answer::Remaining(told))) => told.packets == *packets,
         _ => false,
     };
     let found = match step.answer {
@@ -71,6 +78,7 @@ fn of_last(last: Option<&Step>, expected: &Expected) -> Option<String> {
         Ok(Answer::Done) => "ok".to_string(),
         Ok(Answer::Packet(packet)) => words::packet(&packet),
         Ok(Answer::Entry(entry)) => entry_words(entry),
+        Ok(Answer::Remaining(told)) => words::remaining(told),
     };
     (!same).then_some(found)
 }

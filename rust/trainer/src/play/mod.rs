@@ -5,9 +5,11 @@ pub mod deals;
 mod expect;
 mod standing;
 mod teller;
+mod waiting;
 
 pub use block::{Deal, Outcome, Result as Played, Stopper};
 pub use teller::{Silent, Teller};
+pub use waiting::Waited;
 
 use trace::net::Phase;
 use trace::{Call, Calls, Entry, Run, Step};
@@ -36,6 +38,8 @@ pub struct Player<'s> {
     pub surprises: usize,
     /// Rounds in a row in which nobody moved or acted.
     still: usize,
+    /// Where a wait began, if no call was made since it ended.
+    waited_from: Option<Run<'s>>,
 }
 
 impl<'s> Player<'s> {
@@ -54,6 +58,7 @@ impl<'s> Player<'s> {
             failed: 0,
             surprises: 0,
             still: 0,
+            waited_from: None,
         }
     }
 
@@ -104,6 +109,7 @@ impl<'s> Player<'s> {
             }
             Deed::UntilRound(round) => self.until_round(statement, *round, teller)?,
             Deed::UntilQuiet(rounds) => self.until_quiet(*rounds, teller),
+            Deed::Wait => self.wait(statement, teller)?,
             Deed::ToPhase(phase) => {
                 while self.run.net().phase != *phase {
                     self.next_phase(teller);
@@ -115,7 +121,10 @@ impl<'s> Player<'s> {
             Deed::ShowTable => teller.table(&self.run),
             Deed::ShowWhere => teller.whereabouts(&self.run),
             Deed::Expect(expected) => {
-                let found = expect::find(&self.run, self.last.as_ref(), expected);
+                let found = match expected {
+                    Expected::EmptyWithin(rounds) => self.not_empty_within(*rounds),
+                    _ => expect::find(&self.run, self.last.as_ref(), expected),
+                };
                 self.checked += 1;
                 self.failed += usize::from(found.is_some());
                 teller.expected(self.script, statement, found.as_deref());
@@ -134,6 +143,7 @@ impl<'s> Player<'s> {
                     | Expected::Refused(_)
                     | Expected::Packet(..)
                     | Expected::Entry(_)
+                    | Expected::Remaining(_)
             ))
         );
         if let (Err(refusal), false) = (step.answer, looked_at) {
@@ -144,6 +154,7 @@ impl<'s> Player<'s> {
 
     fn call(&mut self, call: Call, teller: &mut dyn Teller) -> Step {
         let step = self.run.call(call);
+        self.waited_from = None;
         teller.step(&self.run, &step);
         let turns = matches!(call, Call::Read | Call::Execute | Call::Write);
         if step.answer.is_ok() && (!turns || step.events.iter().any(moves)) {

@@ -2,6 +2,7 @@
 
 use trace::{Refusal, Run, Step};
 
+use super::Waited;
 use crate::script::{Script, Statement};
 
 /// Who is told what happens.
@@ -16,6 +17,8 @@ pub trait Teller {
     fn table(&mut self, _run: &Run) {}
     /// Where everything is is to be shown.
     fn whereabouts(&mut self, _run: &Run) {}
+    /// A wait has ended.
+    fn waited(&mut self, _script: &Script, _statement: &Statement, _waited: &Waited) {}
     /// Something to be said of the run.
     fn note(&mut self, _text: &str) {}
 }

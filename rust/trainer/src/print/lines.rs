@@ -3,7 +3,7 @@
 use trace::{words, Refusal, Run, Step};
 
 use super::{table, whereabouts, wrap, Colour, Paint};
-use crate::play::Teller;
+use crate::play::{Teller, Waited};
 use crate::script::{Script, Statement};
 
 /// The column at which a call's answer begins.
@@ -111,6 +111,16 @@ impl Teller for Lines {
     fn whereabouts(&mut self, run: &Run) {
         self.flush();
         self.text += &whereabouts::text(run, self.paint);
+    }
+
+    fn waited(&mut self, script: &Script, statement: &Statement, waited: &Waited) {
+        if waited.left.is_none() {
+            return self.note(&waited.words());
+        }
+        self.flush();
+        let place = format!("  {}:{}: ", script.source.name, statement.at);
+        let text = wrap(&waited.words(), 6, place.chars().count());
+        self.text += &format!("{}\n", self.paint.text(Colour::Red, &format!("{place}{text}")));
     }
 
     fn note(&mut self, text: &str) {

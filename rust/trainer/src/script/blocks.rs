@@ -27,9 +27,7 @@ impl Parser<'_, '_> {
             }
             let word = self.cursor.take();
             if !matches!(word.text, "launch" | "reply") {
-                let message =
-                    format!("expected 'launch', 'reply' or '}}', found {}", quoted(word.text));
-                return Err(Mistake::new(word.at, message));
+                return Err(stranger(word.at, word.text));
             }
             items.push((self.call(word.text)?, word.at));
         }
@@ -52,5 +50,16 @@ impl Parser<'_, '_> {
                 format!("expected rounds between, as in 3 or 0..3, found {}", quoted(word.text)),
             )),
         }
+    }
+}
+
+/// A statement that does not stand in a block.
+fn stranger(at: At, text: &str) -> Mistake {
+    let message = format!("expected 'launch', 'reply' or '}}', found {}", quoted(text));
+    match text {
+        "wait" => Mistake::new(at, message).note(
+            "a block launches, and who waits launches nothing: write 'wait' behind the block",
+        ),
+        _ => Mistake::new(at, message),
     }
 }

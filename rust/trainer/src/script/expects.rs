@@ -8,8 +8,8 @@ use crate::plan::text::port;
 use crate::text::{quoted, At, Mistake};
 
 /// What can be expected.
-const WHAT: &str = "ok, refused, ack, nack, free, side, quiet, round, entry, allowance, accepted, \
-                    not accepted, at, last, table";
+const WHAT: &str = "ok, refused, ack, nack, free, side, remaining, quiet, empty within, round, \
+                    entry, allowance, accepted, not accepted, at, last, table";
 
 /// The queues that share an output.
 const SHARED: &str =
@@ -26,7 +26,12 @@ pub fn parse(parser: &mut Parser) -> Result<Expected, Mistake> {
         "nack" => packet(parser, Kind::Nack)?,
         "free" => Expected::Entry(None),
         "side" => Expected::Entry(Some(parser.cursor.number("a side")?)),
+        "remaining" => Expected::Remaining(parser.cursor.number("a number of packets")?),
         "quiet" => Expected::Quiet,
+        "empty" => {
+            parser.cursor.keyword("within")?;
+            Expected::EmptyWithin(parser.rounds()?)
+        }
         "round" => Expected::Round(parser.cursor.number("a round")? as usize),
         "entry" => entry(parser)?,
         "allowance" => {

@@ -49,6 +49,8 @@ pub enum Deed {
     UntilRound(usize),
     /// Up to an empty network, at most so many rounds.
     UntilQuiet(usize),
+    /// Up to an empty network, everybody replying and dropping, no more rounds than are promised.
+    Wait,
     /// Up to that phase.
     ToPhase(trace::net::Phase),
     /// From here on the passive (all, if none) does this in each WRITE.
@@ -85,8 +87,12 @@ pub enum Expected {
     Packet(Kind, u32, u32),
     /// The last call returned an entry; none for free.
     Entry(Option<u32>),
+    /// The last call told so many packets under way.
+    Remaining(u32),
     /// Every queue and wire is empty.
     Quiet,
+    /// They are after at most so many rounds in which everybody acts.
+    EmptyWithin(usize),
     /// It is this round.
     Round(usize),
     /// An entry of the table; none for free.

@@ -14,8 +14,8 @@ const ROUNDS: u32 = 100_000;
 const QUIET: usize = 1_000;
 
 /// The statements.
-const STATEMENTS: &str = "launch, close, reply, look, drop, entry, read, execute, write, round, \
-                          until, to, passive, active, any, show, expect";
+const STATEMENTS: &str = "launch, close, reply, look, drop, entry, remaining, read, execute, \
+                          write, round, until, wait, to, passive, active, any, show, expect";
 
 /// What stands for `consume ACTIVE` and for `active NAME consumes`.
 const LOOK_AND_DROP: &str = "'look ACTIVE' shows the answer, 'drop ACTIVE' removes it";
@@ -61,13 +61,14 @@ impl Parser<'_, '_> {
     fn statement(&mut self) -> Result<Deed, Mistake> {
         let word = self.cursor.take();
         Ok(match word.text {
-            "launch" | "close" | "reply" | "look" | "drop" | "entry" | "read" | "execute"
-            | "write" => Deed::Call(self.call(word.text)?),
+            "launch" | "close" | "reply" | "look" | "drop" | "entry" | "remaining" | "read"
+            | "execute" | "write" => Deed::Call(self.call(word.text)?),
             "round" => {
                 let rounds = if self.cursor.ends() { 1 } else { self.rounds()? };
                 Deed::Rounds(rounds)
             }
             "until" => self.until()?,
+            "wait" => Deed::Wait,
             "to" => self.phase()?,
             "passive" => {
                 let who = self.who("a passive", &self.names.passives)?;
@@ -103,6 +104,7 @@ impl Parser<'_, '_> {
             "read" => Call::Read,
             "execute" => Call::Execute,
             "write" => Call::Write,
+            "remaining" => Call::Remaining,
             "launch" => {
                 let (active, passive, slot) = self.connection()?;
                 Call::Launch { active, passive, slot }
@@ -165,7 +167,7 @@ impl Parser<'_, '_> {
         found.ok_or_else(|| unknown(&word, "a side, as in r0.1", routers))
     }
 
-    fn rounds(&mut self) -> Result<usize, Mistake> {
+    pub(super) fn rounds(&mut self) -> Result<usize, Mistake> {
         let at = self.cursor.peek().at;
         let rounds = self.cursor.number("a number of rounds")?;
         if rounds > ROUNDS {

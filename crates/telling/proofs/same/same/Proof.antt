@@ -27,6 +27,12 @@ enum-known-y-3 c = search needs
 is-held-requires : tie.Need-is-held-requires
 is-held-requires c κs = search needs
 
+enum-known-y-4 : tie.Need-enum-known-y-4
+enum-known-y-4 c = search needs
+
+is-left-requires : tie.Need-is-left-requires
+is-left-requires c κs = search needs
+
 returns : tie.Need-returns
 returns c = λ e. c .is-done .ensures e ∙ sym (c .before .enum-told .given .1)
 
@@ -38,6 +44,9 @@ returns-3 c = λ e. c .is-shown .ensures e ∙ sym (c .before .before .y2 .given
 
 returns-4 : tie.Need-returns-4
 returns-4 c = λ e. c .is-held .ensures e ∙ sym (c .before .before .y3 .given .1)
+
+returns-5 : tie.Need-returns-5
+returns-5 c = λ e. c .is-left .ensures e ∙ sym (c .before .before .y4 .given .1)
 
 pub same-spec : {M : Type 1} → statement M
 same-spec =
@@ -51,7 +60,10 @@ same-spec =
     is-shown-requires
     enum-known-y-3
     is-held-requires
+    enum-known-y-4
+    is-left-requires
     returns
     returns-2
     returns-3
-    returns-4)
+    returns-4
+    returns-5)

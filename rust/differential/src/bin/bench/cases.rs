@@ -12,7 +12,7 @@ const ACCEPTING: usize = 200;
 /// For how many rounds a connection stays accepted, on an average.
 const CLOSED_AFTER: usize = 500;
 /// The calls on a state.
-const CALLS: usize = 9;
+const CALLS: usize = 10;
 
 /// A call on a state.
 pub struct Case {
@@ -103,7 +103,8 @@ impl<'c> Run<'c> {
         let launch = Call::Launch { active: 0, passive: 0, slot: 0 };
         let close = Call::Close { active: 0, passive: 0, slot: 0 };
         let entry = Call::Entry { router: 0, side: 1, slot: 0 };
-        cases.extend([launch, close, entry, Call::Read].map(|call| self.case(Some(call), false)));
+        let in_read = [launch, close, entry, Call::Remaining, Call::Read];
+        cases.extend(in_read.map(|call| self.case(Some(call), false)));
         assert!(self.does(Call::Read));
         cases.push(self.case(Some(Call::Execute), false));
         assert!(self.does(Call::Execute));
@@ -122,6 +123,7 @@ impl<'c> Run<'c> {
             self.closes(&mut best);
             self.launches(&mut best);
             self.keep(&mut best[1], Call::Entry { router: 0, side: 1, slot: 0 });
+            self.keep(&mut best[9], Call::Remaining);
             self.keep(&mut best[2], Call::Read);
             assert!(self.does(Call::Read));
             self.keep(&mut best[3], Call::Execute);

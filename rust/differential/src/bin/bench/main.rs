@@ -68,8 +68,9 @@ fn answer(case: &Case) -> u32 {
 
 /// The times of a call on a case's state.
 fn measure(case: &Case) -> Times {
-    // A refused call, Look and Entry leave the state as it is.
-    let only_sees = matches!(case.call, None | Some(Call::Look { .. } | Call::Entry { .. }));
+    // A refused call, Look, Entry and Remaining leave the state as it is.
+    let sees = |call| matches!(call, Call::Look { .. } | Call::Entry { .. } | Call::Remaining);
+    let only_sees = case.call.is_none_or(sees);
     let keeps = answer(case) != 0 || only_sees;
     let one = |calls: Calls| {
         let (mut state, mut out) = (case.state.clone(), [0; 8]);
@@ -124,7 +125,7 @@ fn says(what: [&str; 3], held: [usize; 2], answer: u32, times: Times, limit: f64
     let [proved, lean] = times;
     let passes = ratio(times) <= limit;
     let mark = if passes { "" } else { "  above" };
-    print!("{plan:<14}{state:<6}{packets:>7}{accepted:>9}  {call:<8}{answer:>6}");
+    print!("{plan:<14}{state:<6}{packets:>7}{accepted:>9}  {call:<10}{answer:>6}");
     println!("{proved:>9.0}{lean:>9.0}{:>7.2}{mark}", ratio(times));
     passes
 }
@@ -183,7 +184,7 @@ fn calls_pass() -> bool {
 fn main() -> ExitCode {
     println!("nanoseconds; a call's ratio is at most {IDLE} idle, {BUSY} busy, Load's {SMALL} to {WORST}");
     println!(
-        "{:<14}{:<6}{:>7}{:>9}  {:<8}{:>6}{:>9}{:>9}{:>7}",
+        "{:<14}{:<6}{:>7}{:>9}  {:<10}{:>6}{:>9}{:>9}{:>7}",
         "plan", "state", "packets", "accepted", "call", "answer", "proved", "lean", "ratio"
     );
     let loads = loads_pass();

@@ -1,0 +1,17 @@
+pub mod Ground
+pub mod Ways
+pub mod Falling
+pub mod Steps
+pub mod Phases
+pub mod Lists
+pub mod Views
+pub mod Turns
+pub mod Write
+pub mod Along
+pub mod AtTheEnd
+pub mod Calls
+pub mod Round
+pub mod Sum
+pub mod Empty
+pub mod Program
+pub mod TwoViews

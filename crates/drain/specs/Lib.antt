@@ -1,0 +1,5 @@
+pub mod Left
+pub mod Waits
+pub mod AtTheEnd
+pub mod EmptyBy
+pub mod Program

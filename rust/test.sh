@@ -3,13 +3,16 @@
 cd "$(dirname "$0")" || exit 2
 unset CARGO_TARGET_DIR
 log=$(mktemp) || exit 2
-tally=target/tmp/calls.txt
-rm -f "$tally"
+tallies='target/tmp/calls.txt target/tmp/drains.txt'
+rm -f $tallies
 cargo test --release --workspace --no-fail-fast >"$log" 2>&1
 status=$?
 cat "$log"
-# How often each answer was met when the proved calls were compared with the model.
-[ -f "$tally" ] && cat "$tally"
+# How often each answer was met when the proved calls were compared with the model, and the most rounds that a network
+# needed to be empty.
+for tally in $tallies; do
+  [ -f "$tally" ] && cat "$tally"
+done
 # A run that ends before its tests counts as one failure.
 awk -v status="$status" '
   /^test result:/ { passed += $4; failed += $6 }

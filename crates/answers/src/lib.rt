@@ -5,7 +5,6 @@ use packets::Packet;
 use packets::Remaining;
 ghost use mathlib.Core.Path.{_≡_};
 ghost use mathlib.Core.List.{_++_};
-ghost use Prim.Native.Nat.{_%_};
 ghost use lib.ListN.{set};
 ghost use lib.Seq.{sets};
 ghost use Rattle.layout.specs.Places.{packetBytes};
@@ -81,25 +80,12 @@ pub fn put_entry(x: Answer, out: &mut [u8; 8])
     }
 }
 
-// The lowest byte of a word.
-fn lowest(w: u32) -> u8
-    ensures { λ v. ⌜ v ≡ w % 256 ⌝ }
-{
-    (w % 256) as u8
-}
-
 // Two words, the lowest byte of each first.
 fn put_words(x: Remaining, out: &mut [u8; 8])
     ensures { λ _. ⌜ now (out .exit) ≡ sets (now (out .entry)) 0 (wordBytes (x .packets) ++ wordBytes (x .rounds)) ⌝ }
 {
-    out[0] = lowest(x.packets);
-    out[1] = lowest(x.packets / 256);
-    out[2] = lowest(x.packets / 65536);
-    out[3] = lowest(x.packets / 16777216);
-    out[4] = lowest(x.rounds);
-    out[5] = lowest(x.rounds / 256);
-    out[6] = lowest(x.rounds / 65536);
-    out[7] = lowest(x.rounds / 16777216);
+    rows::starts::put_word(out, 0, x.packets);
+    rows::starts::put_word(out, 4, x.rounds);
 }
 
 // The bytes of what is left.

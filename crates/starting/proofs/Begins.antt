@@ -2,11 +2,11 @@
 -- Start's state.
 use mathlib.Core.Path.{_≡_, refl, sym, ap, ap₂, _∙_, subst}
 use mathlib.Core.List.{List, [], _∷_, _++_, append-assoc}
-use Prim.Native.Nat.{ℕ, suc, _+_, _*_, _≤_}
-use native.Mathlib.Nat.{one-mul, zero-add}
+use Prim.Native.Nat.{ℕ, suc, _+_, _*_, _≤_, _<_}
+use native.Mathlib.Nat.{zero-add}
 use native.Mathlib.Omega.{arith}
 use lib.ListN.{length, getD, set, length-append}
-use Rattle.basis.specs.Fold.{upTo, up-same}
+use Rattle.basis.specs.Fold.{upTo}
 use Rattle.sets.specs.Sets.{those}
 use Rattle.plan.specs.declared.Head.{Head}
 use Rattle.plan.specs.Head.{InRange, Counts, destinations}
@@ -18,17 +18,15 @@ use Rattle.layout.specs.Rows.{rows, rows-same, rows-length, past}
 use Rattle.layout.specs.Offsets.{size, entries, pairs, allowancesAt, turnsAt}
 use Rattle.layout.specs.Places.{placeBytes}
 use Rattle.layout.specs.Encode.{queueBytes, outputBytes, startsBytes, connectionPart, turnPart, encode}
+use Rattle.layout.proofs.Lines.{set-behind}
 use Rattle.acts.specs.Counts.{queueCount, allowancesFrom, tableFrom, connectionsFrom, turnsFrom, stateSize}
 use Rattle.acts.specs.Counts.{queues-by, size-by, allowances-at, turns-at}
-use Rattle.starting.specs.Starting.{Started, zeros, cleared, laid, repeated, credits, freeEntries, freed}
-use Rattle.starting.specs.Starting.{noStarts, noConnections, routerTurns, interfaceTurns, turned, sixteen}
-use Rattle.starting.specs.Starting.{routerCredits, innerCredits, creditOf, credited, allowanceOf}
-use Rattle.starting.proofs.Zeros.{length-zeros, zeros-split, zeros-rows, repeated-zero}
-use Rattle.starting.proofs.Fills.{filled}
-use Rattle.starting.proofs.Credits.{sixteen-at, free-at, no-starts-at, credit-of, active-out-credit}
-use Rattle.starting.proofs.Credits.{passive-out-credit}
-use Rattle.starting.proofs.Credits.{active-in-credit, passive-in-credit, credited-none, credited-more}
-use Rattle.starting.proofs.Credits.{credited-inner}
+use Rattle.starting.specs.Starting.{Started, copies, filled, laid, credits, routerTurns, innerTurns, turned}
+use Rattle.starting.specs.Starting.{innerCredits, creditOf, credited, allowanceOf}
+use Rattle.starting.proofs.Fills.{length-copies, copies-at, copies-split, copies-rows, laid-copies, zeros}
+use Rattle.starting.proofs.Fills.{cleared, cleared-none, cleared-more, rows-made}
+use Rattle.starting.proofs.Credits.{credit-of, active-out-credit, passive-out-credit, router-part}
+use Rattle.starting.proofs.Credits.{active-in-credit, passive-in-credit, inner-at, credits-as, credited-more}
 use Rattle.starting.proofs.Turns.{turned-start}
 
 module _ (pl : Plan) (rest : List ℕ) where
@@ -48,33 +46,36 @@ module _ (pl : Plan) (rest : List ℕ) where
 
   -- ---- all zero before what outputs remember
   cleared-parts : zeros (turnsAt pl) ++ turns ≡ parts (λ j. 0 ∷ zeros 38) (λ j. 0 ∷ [])
-  unfolding zeros
+  unfolding copies
   cleared-parts =
       let last : ℕ = 256 * R pl + 64 * A pl in
       let e : turnsAt pl ≡ 2 + (39 * queues pl + (7 * outputs pl + (1 * A pl + last))) = omega arith in
       ap (λ (n : ℕ). zeros n ++ turns) e
-      ∙ zeros-split 2 (39 * queues pl + (7 * outputs pl + (1 * A pl + last))) turns
+      ∙ copies-split 2 (39 * queues pl + (7 * outputs pl + (1 * A pl + last))) 0 turns
       ∙ ap (λ (x : List ℕ). zeros 2 ++ x)
-      (zeros-split (39 * queues pl) (7 * outputs pl + (1 * A pl + last)) turns
+      (copies-split (39 * queues pl) (7 * outputs pl + (1 * A pl + last)) 0 turns
       ∙ ap (λ (x : List ℕ). zeros (39 * queues pl) ++ x)
-      (zeros-split (7 * outputs pl) (1 * A pl + last) turns
+      (copies-split (7 * outputs pl) (1 * A pl + last) 0 turns
       ∙ ap (λ (x : List ℕ). zeros (7 * outputs pl) ++ x)
-      (zeros-split (1 * A pl) last turns
-      ∙ ap (λ (x : List ℕ). zeros (1 * A pl) ++ x) (zeros-split (256 * R pl) (64 * A pl) turns)
-      ∙ sym (zeros-rows 1 0 (A pl) tail))
-      ∙ sym (zeros-rows 7 0 (outputs pl) (rows 0 (A pl) (λ j. zeros 1) ++ tail)))
-      ∙ sym (zeros-rows 39 0 (queues pl) (wires ++ (rows 0 (A pl) (λ j. zeros 1) ++ tail))))
+      (copies-split (1 * A pl) last 0 turns
+      ∙ ap (λ (x : List ℕ). zeros (1 * A pl) ++ x) (copies-split (256 * R pl) (64 * A pl) 0 turns)
+      ∙ sym (copies-rows 1 0 (A pl) 0 tail))
+      ∙ sym (copies-rows 7 0 (outputs pl) 0 (rows 0 (A pl) (λ j. zeros 1) ++ tail)))
+      ∙ sym (copies-rows 39 0 (queues pl) 0 (wires ++ (rows 0 (A pl) (λ j. zeros 1) ++ tail))))
 
   -- ---- the credits
   abbrev credit : ℕ → List ℕ
   credit n = creditOf (pl .head) n ∷ zeros 38
 
-  credited-parts : credited (pl .head) (queues pl) (parts (λ j. 0 ∷ zeros 38) (λ j. 0 ∷ []))
+  credited-parts : credited (pl .head) 0 (queues pl) (parts (λ j. 0 ∷ zeros 38) (λ j. 0 ∷ []))
       ≡ parts credit (λ j. 0 ∷ [])
   unfolding credited
   credited-parts =
-      filled 39 (zeros 38) (ap suc (length-zeros 38)) (creditOf (pl .head)) 2 (zeros 2)
-      (sym (length-zeros 2)) (queues pl) (wires ++ (rows 0 (A pl) (λ j. 0 ∷ []) ++ tail))
+      rows-made 39 2 (0 ∷ zeros 38) credit (λ j. ap suc (length-copies 38 0))
+      (λ n c. set c (2 + 39 * (0 + n)) (creditOf (pl .head) (0 + n)))
+      (λ j l r o. set-behind l (0 ∷ (zeros 38 ++ r)) (2 + 39 * (0 + j)) 0 (creditOf (pl .head) (0 + j)) (omega arith)
+      ∙ ap (λ (n : ℕ). l ++ (creditOf (pl .head) n ∷ (zeros 38 ++ r))) (zero-add j))
+      (zeros 2) (sym (length-copies 2 0)) (queues pl) (wires ++ (rows 0 (A pl) (λ j. 0 ∷ []) ++ tail))
 
   -- ---- the allowances
   abbrev allowance : ℕ → List ℕ
@@ -95,30 +96,27 @@ module _ (pl : Plan) (rest : List ℕ) where
       rw (
         length-append (zeros 2) (rows 0 (queues pl) credit ++ wires),
         length-append (rows 0 (queues pl) credit) wires,
-        rows-length 39 0 (queues pl) credit (λ j. ap suc (length-zeros 38)),
-        rows-length 7 0 (outputs pl) (λ j. zeros 7) (λ j. length-zeros 7),
-        length-zeros 2,
+        rows-length 39 0 (queues pl) credit (λ j. ap suc (length-copies 38 0)),
+        rows-length 7 0 (outputs pl) (λ j. zeros 7) (λ j. length-copies 7 0),
+        length-copies 2 0,
       )
       (omega arith)
 
-  allowed-parts : A pl ≤ 16
-      → laid (allowancesAt pl) (sixteen (startAllowance pl)) (A pl) (parts credit (λ j. 0 ∷ []))
+  allowed-parts : filled (allowancesAt pl) (A pl) (startAllowance pl) (parts credit (λ j. 0 ∷ []))
       ≡ parts credit allowance
-  unfolding laid
-  allowed-parts few =
-      let n : ℕ = allowancesAt pl in
+  unfolding filled
+  allowed-parts =
+      let at : ℕ = allowancesAt pl in
       let v : ℕ = startAllowance pl in
-      up-same (λ i c. set c (n + i) (getD (sixteen v) i 0)) (λ i c. set c (n + 1 * i) v) (A pl)
-      (parts credit (λ j. 0 ∷ []))
-      (λ i c l. ap₂ (λ (k x : ℕ). set c (n + k) x) (sym (one-mul i)) (sixteen-at v i (omega arith)))
-      ∙ ap (upTo (λ i c. set c (n + 1 * i) v) (A pl)) (group (rows 0 (A pl) (λ j. 0 ∷ []) ++ tail))
-      ∙ filled 1 [] refl (λ i. v) n before before-long (A pl) tail
+      ap (filled at (A pl) v) (group (rows 0 (A pl) (λ j. 0 ∷ []) ++ tail))
+      ∙ rows-made 1 at (0 ∷ []) allowance (λ j. refl) (λ i c. set c (at + i) v)
+      (λ j l r o. set-behind l (0 ∷ r) (at + j) 0 v (omega arith)) before before-long (A pl) tail
       ∙ sym (group (rows 0 (A pl) allowance ++ tail))
 
   -- ---- Start's state
   -- no connection is accepted
   no-starts : (n : ℕ) → startsBytes (start pl) n ≡ zeros 4
-  unfolding start blank those zeros
+  unfolding start blank those copies
   no-starts n = refl
 
   start-connections : connectionPart pl (start pl) ++ turns ≡ zeros (64 * A pl) ++ turns
@@ -126,16 +124,16 @@ module _ (pl : Plan) (rest : List ℕ) where
       let e : 4 * pairs pl ≡ 64 * A pl = omega arith in
       ap (λ (x : List ℕ). x ++ turns) (rows-same 0 (pairs pl) (startsBytes (start pl)) (λ j. zeros 4)
       (λ j a b. no-starts j))
-      ∙ zeros-rows 4 0 (pairs pl) turns ∙ ap (λ (n : ℕ). zeros n ++ turns) e
+      ∙ copies-rows 4 0 (pairs pl) 0 turns ∙ ap (λ (n : ℕ). zeros n ++ turns) e
 
   start-parts : encode pl (start pl) rest ≡ parts credit allowance
-  unfolding encode queueBytes outputBytes placeBytes start blank zeros
+  unfolding encode queueBytes outputBytes placeBytes start blank copies
   start-parts =
       let more : List ℕ = connectionPart pl (start pl) ++ turns in
       ap₂ (λ (x y : List ℕ). zeros 2 ++ (x ++ (wires ++ (rows 0 (A pl) allowance ++ y))))
       (rows-same 0 (queues pl) (λ n. queueBytes (start pl) (queueAt pl n)) credit
       (λ j a b. ap (λ (x : ℕ). x ∷ zeros 38) (sym (credit-of pl j))))
-      (zeros-rows 2 0 (entries pl) more
+      (copies-rows 2 0 (entries pl) 0 more
       ∙ (let e : 2 * entries pl ≡ 256 * R pl = omega arith in ap (λ (n : ℕ). zeros n ++ more) e)
       ∙ ap (λ (x : List ℕ). zeros (256 * R pl) ++ x) start-connections)
 
@@ -144,114 +142,116 @@ module _ (pl : Plan) (rest : List ℕ) where
 pub few-counts : {h : Head} → InRange h → Counts h
 few-counts range = (range .routers .1, range .actives .1, range .passives .1)
 
-module _ (pl : Plan) (few : Counts (pl .head)) (b : List ℕ) (long : stateSize (pl .head) ≤ length b) where
-  begun : laid (allowancesFrom (pl .head)) (sixteen (allowanceOf (pl .head))) (A pl)
-      (credited (pl .head) (queueCount (pl .head)) (turned (pl .head) (cleared (turnsFrom (pl .head)) b)))
+module _ (pl : Plan) (b : List ℕ) (long : stateSize (pl .head) ≤ length b) where
+  begun : filled (allowancesFrom (pl .head)) (A pl) (allowanceOf (pl .head))
+      (credited (pl .head) 0 (queueCount (pl .head)) (turned (pl .head) (cleared (turnsFrom (pl .head)) b)))
       ≡ encode pl (start pl) (past (size pl) b)
   begun =
       let rest : List ℕ = past (size pl) b in
-      ap₂ (λ (n : ℕ) (x : List ℕ). laid n (sixteen (startAllowance pl)) (A pl) x) (sym (allowances-at pl))
-      (ap₂ (λ (n : ℕ) (x : List ℕ). credited (pl .head) n x) (sym (queues-by pl))
-      (turned-start pl few b long
+      ap₂ (λ (n : ℕ) (x : List ℕ). filled n (A pl) (startAllowance pl) x) (sym (allowances-at pl))
+      (ap₂ (λ (n : ℕ) (x : List ℕ). credited (pl .head) 0 n x) (sym (queues-by pl))
+      (turned-start pl b long
       ∙ ap₂ (λ (n m : ℕ). zeros n ++ (turnPart pl (start pl) ++ past m b)) (sym (turns-at pl)) (sym (size-by pl))
       ∙ cleared-parts pl rest)
       ∙ credited-parts pl rest)
-      ∙ allowed-parts pl rest (few .1) ∙ sym (start-parts pl rest)
+      ∙ allowed-parts pl rest ∙ sym (start-parts pl rest)
 
-pub started : {h : Head} {b d : List ℕ} → InRange h → stateSize h ≤ length b
-    → d ≡ laid (allowancesFrom h) (sixteen (allowanceOf h)) (h .actives)
-    (credited h (queueCount h) (turned h (cleared (turnsFrom h) b)))
+pub started : {h : Head} {b d : List ℕ} → stateSize h ≤ length b
+    → d ≡ filled (allowancesFrom h) (h .actives) (allowanceOf h)
+    (credited h 0 (queueCount h) (turned h (cleared (turnsFrom h) b)))
     → Started h b d
-started {h} {b} {d} range long made =
+started {h} {b} {d} long made =
     record {
       starts = λ pl e.
           subst
-          (λ (x : Head). d ≡ laid (allowancesFrom x) (sixteen (allowanceOf x)) (x .actives)
-          (credited x (queueCount x) (turned x (cleared (turnsFrom x) b))))
+          (λ (x : Head). d ≡ filled (allowancesFrom x) (x .actives) (allowanceOf x)
+          (credited x 0 (queueCount x) (turned x (cleared (turnsFrom x) b))))
           (sym e) made
-          ∙ begun pl (subst Counts (sym e) (few-counts range)) b
-          (subst (λ (x : Head). stateSize x ≤ length b) (sym e) long);
+          ∙ begun pl b (subst (λ (x : Head). stateSize x ≤ length b) (sym e) long);
     }
 
 -- ---- the code's steps put together
--- what is laid by values that the code computed
-pub laid-as : (n : ℕ) (b : List ℕ) {at from : ℕ} {t u d : List ℕ} → at ≡ from → t ≡ u → d ≡ laid at t n b
-    → d ≡ laid from u n b
-laid-as n b e f g = g ∙ ap₂ (λ (i : ℕ) (x : List ℕ). laid i x n b) e f
+-- equal bytes by values that the code computed; and by an array of them
+pub filled-as : (n : ℕ) (b : List ℕ) {at to v w : ℕ} {d : List ℕ} → at ≡ to → v ≡ w → d ≡ filled at n v b
+    → d ≡ filled to n w b
+filled-as n b e f g = g ∙ ap₂ (λ (i x : ℕ). filled i n x b) e f
 
--- an array one after the other
-pub repeated-as : (w n : ℕ) (b : List ℕ) {at from i : ℕ} {t u d : List ℕ} → at ≡ from → t ≡ u
-    → d ≡ upTo (λ r x. laid (at + w * r) t w x) i b → i ≡ n → d ≡ repeated w u from n b
-unfolding repeated
-repeated-as w n b {at} {from} {i} {t} e f g q =
-    g ∙ ap (λ (k : ℕ). upTo (λ r x. laid (at + w * r) t w x) k b) q
-    ∙ ap₂ (λ (a : ℕ) (u : List ℕ). upTo (λ r x. laid (a + w * r) u w x) n b) e f
+pub laid-as : (n m v : ℕ) (b : List ℕ) {at to : ℕ} {t d : List ℕ} → n ≤ m → at ≡ to → t ≡ copies m v
+    → d ≡ laid at t n b → d ≡ filled to n v b
+laid-as n m v b {at} {to} l e f g =
+    g ∙ ap₂ (λ (i : ℕ) (x : List ℕ). laid i x n b) e f ∙ laid-copies to n m v b l
 
--- and the credits of their queues
-pub inner-as : (h : Head) (n : ℕ) (b : List ℕ) {i : ℕ} {t d : List ℕ} → t ≡ routerCredits h
-    → d ≡ upTo (λ r x. credits (destinations h + 28 * r) t 28 x) i b → i ≡ n → d ≡ innerCredits h n b
-unfolding innerCredits
-inner-as h n b {i} {t} f g q =
-    g ∙ ap (λ (k : ℕ). upTo (λ r x. credits (destinations h + 28 * r) t 28 x) k b) q
-    ∙ ap (λ (u : List ℕ). upTo (λ r x. credits (destinations h + 28 * r) u 28 x) n b) f
-
--- two groups of queues, one after the other
-pub two-groups : (m k n l : ℕ) (b : List ℕ) {t u v w c d : List ℕ} → t ≡ v → c ≡ credits m t k b → u ≡ w
-    → d ≡ credits n u l c → d ≡ credits n w l (credits m v k b)
-two-groups m k n l b e f g i =
-    i ∙ ap₂ (λ (x y : List ℕ). credits n x l y) g (f ∙ ap (λ (x : List ℕ). credits m x k b) e)
+-- the credits of the routers' queues by an array
+pub routers-as : (h : Head) (m : ℕ) (b : List ℕ) {n : ℕ} {t u d : List ℕ} → 28 * h .routers ≤ m
+    → t ≡ copies m (h .k .0) → u ≡ innerCredits h (h .routers) t → d ≡ credits (destinations h) u n b
+    → n ≡ 28 * h .routers → d ≡ credited h (destinations h) (28 * h .routers) b
+routers-as h m b {n} {t} {u} l e f g q =
+    g ∙ ap (λ (k : ℕ). credits (destinations h) u k b) q
+    ∙ credits-as h b (destinations h) (28 * h .routers) u
+    (λ i k. ap (λ (x : List ℕ). getD x i 0) (f ∙ ap (innerCredits h (h .routers)) e)
+    ∙ inner-at h (h .routers) m l i k ∙ sym (router-part h i k))
 
 -- out-queues, routers' queues, in-queues
-pub all-groups : (h : Head) → Counts h → (b : List ℕ) {c d e : List ℕ}
-    → c ≡ credits (h .actives) (sixteen (h .pout .0)) (h .passives)
-    (credits 0 (sixteen (h .aout .0)) (h .actives) b)
-    → d ≡ innerCredits h (h .routers) c
-    → e ≡ credits (destinations h + 28 * h .routers + h .actives) (sixteen (h .pin .0)) (h .passives)
-    (credits (destinations h + 28 * h .routers) (sixteen (h .ain .0)) (h .actives) d)
-    → e ≡ credited h (queueCount h) b
-all-groups h few b {c} p r i =
+pub all-groups : (h : Head) → Counts h → (b : List ℕ) {c d e f g : List ℕ}
+    → c ≡ credits 0 (copies 16 (h .aout .0)) (h .actives) b
+    → d ≡ credits (h .actives) (copies 16 (h .pout .0)) (h .passives) c
+    → e ≡ credited h (destinations h) (28 * h .routers) d
+    → f ≡ credits (destinations h + 28 * h .routers) (copies 16 (h .ain .0)) (h .actives) e
+    → g ≡ credits (destinations h + 28 * h .routers + h .actives) (copies 16 (h .pin .0)) (h .passives) f
+    → g ≡ credited h 0 (queueCount h) b
+all-groups h few b {c} {d} {e} {f} p q r i j =
     let fa = few .1 in
     let fp = few .2 in
-    let one = credited-more h b 0 (h .actives) (sixteen (h .aout .0))
-    (λ i l. sixteen-at (h .aout .0) i (omega arith) ∙ sym (active-out-credit h i l)) (credited-none h b) refl in
-    let two = credited-more h b (0 + h .actives) (h .passives) (sixteen (h .pout .0))
-    (λ i l. sixteen-at (h .pout .0) i (omega arith)
-    ∙ sym (passive-out-credit h i l) ∙ ap (λ (n : ℕ). creditOf h (n + i)) (sym (zero-add (h .actives)))) one
-    (p ∙ ap (λ (n : ℕ). credits n (sixteen (h .pout .0)) (h .passives)
-    (credits 0 (sixteen (h .aout .0)) (h .actives) b)) (sym (zero-add (h .actives)))) in
-    let known : c ≡ credited h (destinations h) b =
-    two ∙ ap (λ (n : ℕ). credited h (n + h .passives) b) (zero-add (h .actives)) in
-    let three = credited-inner h b (h .routers) (omega arith) known r in
-    let four = credited-more h b (destinations h + 28 * h .routers) (h .actives) (sixteen (h .ain .0))
-    (λ i l. sixteen-at (h .ain .0) i (omega arith) ∙ sym (active-in-credit h i l)) three refl in
-    let five = credited-more h b (destinations h + 28 * h .routers + h .actives) (h .passives) (sixteen (h .pin .0))
-    (λ i l. sixteen-at (h .pin .0) i (omega arith) ∙ sym (passive-in-credit h i l)) four i in
-    let count : destinations h + 28 * h .routers + h .actives + h .passives ≡ queueCount h = omega arith in
-    five ∙ ap (λ (n : ℕ). credited h n b) count
+    let m : ℕ = destinations h + 28 * h .routers in
+    let same : (v k : ℕ) → k < 16 → getD (copies 16 v) k 0 ≡ v = copies-at 16 in
+    let count : m + h .actives + h .passives ≡ queueCount h = omega arith in
+    let one : c ≡ credited h 0 (h .actives) b =
+    p ∙ credits-as h b 0 (h .actives) (copies 16 (h .aout .0))
+    (λ k l. same (h .aout .0) k (omega arith) ∙ sym (active-out-credit h k l)) in
+    let two = credited-more h b (h .actives) (h .passives) one
+    (q ∙ credits-as h c (h .actives) (h .passives) (copies 16 (h .pout .0))
+    (λ k l. same (h .pout .0) k (omega arith) ∙ sym (passive-out-credit h k l))) in
+    let three = credited-more h b (destinations h) (28 * h .routers) two r in
+    let four = credited-more h b m (h .actives) three
+    (i ∙ credits-as h e m (h .actives) (copies 16 (h .ain .0))
+    (λ k l. same (h .ain .0) k (omega arith) ∙ sym (active-in-credit h k l))) in
+    credited-more h b (m + h .actives) (h .passives) four
+    (j ∙ credits-as h f (m + h .actives) (h .passives) (copies 16 (h .pin .0))
+    (λ k l. same (h .pin .0) k (omega arith) ∙ sym (passive-in-credit h k l)))
+    ∙ ap (λ (n : ℕ). credited h 0 n b) count
+
+-- what the routers' outputs remember
+pub inner-turns-as : (n : ℕ) (b : List ℕ) {at to r : ℕ} {d : List ℕ} → at ≡ to → r ≡ n
+    → d ≡ upTo (λ k x. routerTurns (at + 6 * k) x) r b → d ≡ innerTurns to n b
+unfolding innerTurns
+inner-turns-as n b e q g = g ∙ ap₂ (λ (i k : ℕ). innerTurns i k b) e q
 
 -- what the interfaces' outputs remember, and the routers'
-pub both-turns : (h : Head) (b : List ℕ) {c d : List ℕ} → c ≡ laid (turnsFrom h) interfaceTurns (destinations h) b
-    → d ≡ repeated 6 routerTurns (turnsFrom h + destinations h) (h .routers) c → d ≡ turned h b
+pub both-turns : (h : Head) (b : List ℕ) {at : ℕ} {c d : List ℕ} → at ≡ turnsFrom h
+    → c ≡ filled at (destinations h) 0 b → d ≡ innerTurns (turnsFrom h + destinations h) (h .routers) c → d ≡ turned h b
 unfolding turned
-both-turns h b e f = f ∙ ap (repeated 6 routerTurns (turnsFrom h + destinations h) (h .routers)) e
+both-turns h b e f g =
+    g ∙ ap (innerTurns (turnsFrom h + destinations h) (h .routers))
+    (f ∙ ap (λ (i : ℕ). filled i (destinations h) 0 b) e)
 
 -- all of Start
-pub start-made : {h : Head} → InRange h → {at : ℕ} {b c d m w e f : List ℕ} → stateSize h ≤ length b
-    → at ≡ tableFrom h → c ≡ cleared at b → d ≡ freed (tableFrom h) (h .routers) c
-    → m ≡ noConnections (connectionsFrom h) (h .actives) d → w ≡ turned h m → e ≡ credited h (queueCount h) w
-    → f ≡ laid (allowancesFrom h) (sixteen (allowanceOf h)) (h .actives) e → Started h b f
-start-made {h} range {at} {b} {c} {d} {m} long i p q none last r s =
-    let zero-table : freed (tableFrom h) (h .routers) (cleared (tableFrom h) b) ≡ cleared (connectionsFrom h) b =
-    repeated-zero 256 freeEntries (tableFrom h) (h .routers) b free-at (omega arith) in
-    let zero-starts : noConnections (connectionsFrom h) (h .actives) (cleared (connectionsFrom h) b)
-    ≡ cleared (turnsFrom h) b =
-    repeated-zero 64 noStarts (connectionsFrom h) (h .actives) b no-starts-at (omega arith) in
+pub start-made : {h : Head} {at to : ℕ} {b c d m w e f : List ℕ} → stateSize h ≤ length b
+    → at ≡ tableFrom h → c ≡ filled 0 at 0 b → d ≡ filled (tableFrom h) (256 * h .routers) 0 c
+    → to ≡ connectionsFrom h → m ≡ filled to (64 * h .actives) 0 d → w ≡ turned h m
+    → e ≡ credited h 0 (queueCount h) w → f ≡ filled (allowancesFrom h) (h .actives) (allowanceOf h) e → Started h b f
+start-made {h} {at} {to} {b} {c} {d} {m} long i p q j none last r s =
+    let first : c ≡ cleared (tableFrom h) b =
+    p ∙ ap₂ (λ (n : ℕ) (x : List ℕ). filled 0 n 0 x) i (cleared-none b) ∙ cleared-more 0 (tableFrom h) b (omega arith)
+    ∙ ap (λ (n : ℕ). cleared n b) (zero-add (tableFrom h)) in
     let table : d ≡ cleared (connectionsFrom h) b =
-    q ∙ ap (freed (tableFrom h) (h .routers)) (p ∙ ap (λ (n : ℕ). cleared n b) i) ∙ zero-table in
-    started range long
-    (s ∙ ap (laid (allowancesFrom h) (sixteen (allowanceOf h)) (h .actives))
-    (r ∙ ap (credited h (queueCount h))
-    (last ∙ ap (turned h) (none ∙ ap (noConnections (connectionsFrom h) (h .actives)) table ∙ zero-starts))))
+    q ∙ ap (filled (tableFrom h) (256 * h .routers) 0) first
+    ∙ cleared-more (tableFrom h) (256 * h .routers) b (omega arith) in
+    let starts : m ≡ cleared (turnsFrom h) b =
+    none ∙ ap₂ (λ (n : ℕ) (x : List ℕ). filled n (64 * h .actives) 0 x) j table
+    ∙ cleared-more (connectionsFrom h) (64 * h .actives) b (omega arith) in
+    started long
+    (s ∙ ap (filled (allowancesFrom h) (h .actives) (allowanceOf h))
+    (r ∙ ap (credited h 0 (queueCount h)) (last ∙ ap (turned h) starts)))
 
 -- what the steps ask: a length that stays
 pub long-still : {n : ℕ} {m k : ℕ} → n ≤ k → m ≡ k → n ≤ m

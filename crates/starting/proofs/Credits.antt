@@ -1,52 +1,24 @@
 -- The credit of each queue by its number is its capacity; and the arrays that are stored hold these credits.
 use mathlib.Core.Path.{_≡_, refl, sym, ap, ap₂, _∙_}
-use mathlib.Core.List.{List}
+use mathlib.Core.List.{List, [], _++_, append-nil}
 use Prim.Native.Nat.{ℕ, zero, suc, _+_, _*_, _-_, _/_, _%_, _≤_, _<_}
-use native.Mathlib.Nat.{add-zero, add-suc}
+use native.Mathlib.Nat.{zero-add, add-zero, add-suc}
 use native.Mathlib.Omega.{arith}
-use lib.Dec.{eqb, ltb}
-use lib.ListN.{length, getD, set, replicate, length-replicate}
-use borrow.Author.Tests.{lt-ltb, le-ltb, ne-eqb}
+use lib.Dec.{ltb}
+use lib.ListN.{length, getD, set}
+use borrow.Author.Tests.{lt-ltb, le-ltb}
 use Rattle.basis.specs.Choice.{pick, pick-out}
-use Rattle.basis.specs.Fold.{upTo, up-keeps-at, fill-at, length-fill}
+use Rattle.basis.specs.Fold.{upTo, up-same, fill, fill-at, length-fill}
 use Rattle.plan.specs.declared.Head.{Head}
 use Rattle.plan.specs.Head.{destinations}
 use Rattle.plan.specs.Plan.{Plan, A}
 use Rattle.feeding.specs.Queue.{Queue, activeOut, activeIn, passiveIn, passiveOut, U, Q, outs, inBase, senderAt}
 use Rattle.feeding.specs.Queue.{inRouter, queueAt}
 use Rattle.machine.specs.Capacity.{capacity}
-use Rattle.starting.specs.Starting.{credits, freeEntries, noStarts, sixteen, routerCredit, routerCredits}
-use Rattle.starting.specs.Starting.{innerCredits, creditOf, credited}
-
--- ---- equal bytes
-pub same-at : (n : ℕ) (v i : ℕ) → i < n → getD (replicate n v) i 0 ≡ v
-same-at zero v i l = absurd (omega arith)
-same-at (suc n) v zero l = refl
-same-at (suc n) v (suc i) l = same-at n v i (omega arith)
-
-pub sixteen-at : (v i : ℕ) → i < 16 → getD (sixteen v) i 0 ≡ v
-unfolding sixteen
-sixteen-at v i l = same-at 16 v i l
-
-pub length-sixteen : (v : ℕ) → length (sixteen v) ≡ 16
-unfolding sixteen
-length-sixteen v = length-replicate 16 v
-
-pub free-at : (i : ℕ) → i < 256 → getD freeEntries i 0 ≡ 0
-unfolding freeEntries
-free-at i l = same-at 256 0 i l
-
-pub length-free : length freeEntries ≡ 256
-unfolding freeEntries
-length-free = length-replicate {A = ℕ} 256 0
-
-pub no-starts-at : (i : ℕ) → i < 64 → getD noStarts i 0 ≡ 0
-unfolding noStarts
-no-starts-at i l = same-at 64 0 i l
-
-pub length-no-starts : length noStarts ≡ 64
-unfolding noStarts
-length-no-starts = length-replicate {A = ℕ} 64 0
+use Rattle.layout.specs.Rows.{rows, RowStands, stands-row, stands-get}
+use Rattle.starting.specs.Starting.{copies, filled, credits, routerCredit, routerCredits, innerCredits}
+use Rattle.starting.specs.Starting.{creditOf, credited}
+use Rattle.starting.proofs.Fills.{length-copies, copies-split, copies-rows, filled-second, rows-made}
 
 -- ---- capacities by number
 module _ (h : Head) where
@@ -93,11 +65,11 @@ module _ (h : Head) (i : ℕ) where
   passive-out-credit l =
       rw (le-ltb (h .actives + i) (h .actives) (omega arith), lt-ltb (h .actives + i) (destinations h) (omega arith))
 
-  pub router-part : (r : ℕ) → r < h .routers → i < 28 → creditOf h (destinations h + 28 * r + i) ≡ routerCredit h i
+  pub router-part : i < 28 * h .routers → creditOf h (destinations h + i) ≡ routerCredit h (i % 28)
   unfolding creditOf
-  router-part r g l =
-      let n : ℕ = destinations h + 28 * r + i in
-      let e : (n - destinations h) % 28 ≡ i = omega arith in
+  router-part l =
+      let n : ℕ = destinations h + i in
+      let e : n - destinations h ≡ i = omega arith in
       rw (
         le-ltb n (h .actives) (omega arith),
         le-ltb n (destinations h) (omega arith),
@@ -128,47 +100,93 @@ module _ (h : Head) (i : ℕ) where
         le-ltb n (destinations h + 28 * h .routers + h .actives) (omega arith),
       )
 
--- the array of a router's credits
-pub router-credits-at : (h : Head) (i : ℕ) → i < 28 → getD (routerCredits h) i 0 ≡ routerCredit h i
-unfolding routerCredits
-router-credits-at h i l =
-    fill-at (routerCredit h) 28 (replicate 28 (h .k .0)) i 0 l (rw length-replicate (omega arith))
+-- ---- the array of all routers' credits
+module _ (h : Head) where
+  -- a router's
+  routerRow : List ℕ
+  routerRow = upTo (fill (routerCredit h)) 28 (copies 28 (h .k .0))
 
-pub length-router-credits : (h : Head) → length (routerCredits h) ≡ 28
-unfolding routerCredits
-length-router-credits h =
-    length-fill (routerCredit h) 28 (replicate 28 (h .k .0)) ∙ length-replicate 28 (h .k .0)
+  length-row : length routerRow ≡ 28
+  unfolding routerRow
+  length-row = length-fill (routerCredit h) 28 (copies 28 (h .k .0)) ∙ length-copies 28 (h .k .0)
+
+  row-at : (i : ℕ) → i < 28 → getD routerRow i 0 ≡ routerCredit h i
+  unfolding routerRow
+  row-at i l =
+      fill-at (routerCredit h) 28 (copies 28 (h .k .0)) i 0 l
+      (let e = length-copies 28 (h .k .0) in omega arith)
+
+  -- put in by the code
+  pub router-made : (at : ℕ) (t : List ℕ) {a b c d e f : List ℕ} → a ≡ filled at 4 (h .u .0) t
+      → b ≡ filled (at + 4) 4 (h .q .0) a → c ≡ filled (at + 8) 2 (h .f .0) b → d ≡ filled (at + 13) 2 (h .f .0) c
+      → e ≡ filled (at + 18) 2 (h .f .0) d → f ≡ filled (at + 23) 2 (h .f .0) e → f ≡ routerCredits h at t
+  unfolding routerCredits
+  router-made at t p q r s i j = rw (j, i, s, r, q, p)
+
+  -- at its offset
+  row-behind : (l m : List ℕ) (at : ℕ) → at ≡ length l → routerCredits h at (l ++ m) ≡ l ++ routerCredits h 0 m
+  unfolding routerCredits
+  row-behind l m at e =
+      let u : ℕ = h .u .0 in
+      let q : ℕ = h .q .0 in
+      let f : ℕ = h .f .0 in
+      let us = filled-second l m at 0 4 u (omega arith) in
+      let qs = ap (filled (at + 4) 4 q) us ∙ filled-second l _ (at + 4) 4 4 q (omega arith) in
+      let a = ap (filled (at + 8) 2 f) qs ∙ filled-second l _ (at + 8) 8 2 f (omega arith) in
+      let b = ap (filled (at + 13) 2 f) a ∙ filled-second l _ (at + 13) 13 2 f (omega arith) in
+      let c = ap (filled (at + 18) 2 f) b ∙ filled-second l _ (at + 18) 18 2 f (omega arith) in
+      ap (filled (at + 23) 2 f) c ∙ filled-second l _ (at + 23) 23 2 f (omega arith)
+
+  row-first : (r : List ℕ) → routerCredits h 0 (copies 28 (h .k .0) ++ r) ≡ routerRow ++ r
+  unfolding routerRow routerCredits filled upTo copies
+  row-first r = refl
+
+  -- those of n routers, in an array that is long enough
+  module _ (n m : ℕ) (long : 28 * n ≤ m) where
+    inner-rows : innerCredits h n (copies m (h .k .0))
+        ≡ rows 0 n (λ j. routerRow) ++ (copies (m - 28 * n) (h .k .0) ++ [])
+    unfolding innerCredits
+    inner-rows =
+        let k : ℕ = h .k .0 in
+        let more : List ℕ = copies (m - 28 * n) k ++ [] in
+        let e : m ≡ 28 * n + (m - 28 * n) = omega arith in
+        ap (innerCredits h n)
+        (sym (append-nil (copies m k)) ∙ ap (λ (i : ℕ). copies i k ++ []) e ∙ copies-split (28 * n) (m - 28 * n) k []
+        ∙ sym (copies-rows 28 0 n k more))
+        ∙ rows-made 28 0 (copies 28 k) (λ j. routerRow) (λ j. length-row) (λ r c. routerCredits h (28 * r) c)
+        (λ j l r o. row-behind l (copies 28 k ++ r) (28 * j) (omega arith)
+        ∙ ap (λ (x : List ℕ). l ++ x) (row-first r)) [] refl n more
+
+    pub inner-at : (i : ℕ) → i < 28 * n → getD (innerCredits h n (copies m (h .k .0))) i 0 ≡ routerCredit h (i % 28)
+    inner-at i l =
+        let b : List ℕ = innerCredits h n (copies m (h .k .0)) in
+        let e : i ≡ 0 + 28 * (i / 28) + i % 28 = omega arith in
+        let all : RowStands 0 (rows 0 n (λ j. routerRow)) b =
+        record { before = []; after = copies (m - 28 * n) (h .k .0) ++ []; same = inner-rows; offset = refl } in
+        let one = stands-row 28 n 0 (λ j. routerRow) b (λ j. length-row) all (i / 28) (omega arith) in
+        ap (λ (j : ℕ). getD b j 0) e
+        ∙ stands-get (0 + 28 * (i / 28)) routerRow b one (i % 28) (let w = length-row in omega arith)
+        ∙ row-at (i % 28) (omega arith)
 
 -- ---- stored
 module _ (h : Head) (b : List ℕ) where
-  pub credited-none : b ≡ credited h 0 b
+  -- by an array that holds the credits
+  pub credits-as : (from n : ℕ) (t : List ℕ) → ((i : ℕ) → i < n → getD t i 0 ≡ creditOf h (from + i))
+      → credits from t n b ≡ credited h from n b
+  unfolding credits credited
+  credits-as from n t same =
+      up-same (λ i c. set c (2 + 39 * (from + i)) (getD t i 0))
+      (λ i c. set c (2 + 39 * (from + i)) (creditOf h (from + i))) n b
+      (λ i c l. ap (set c (2 + 39 * (from + i))) (same i l))
+
+  -- those of n queues behind those of the first k
+  more : (k n : ℕ) → credited h k n (credited h 0 k b) ≡ credited h 0 (k + n) b
   unfolding credited upTo
-  credited-none = refl
+  more k zero = ap (λ (m : ℕ). credited h 0 m b) (sym (add-zero k))
+  more k (suc n) =
+      ap₂ (λ (c : List ℕ) (m : ℕ). set c (2 + 39 * m) (creditOf h m)) (more k n) (sym (zero-add (k + n)))
+      ∙ ap (λ (m : ℕ). credited h 0 m b) (sym (add-suc k n))
 
-  -- the queues from m on, k of them, by an array that holds their credits
-  more : (m k : ℕ) (t : List ℕ) → ((i : ℕ) → i < k → getD t i 0 ≡ creditOf h (m + i))
-      → credits m t k (credited h m b) ≡ credited h (m + k) b
-  unfolding credits credited upTo
-  more m zero t same = ap (λ (n : ℕ). credited h n b) (sym (add-zero m))
-  more m (suc k) t same =
-      ap₂ (λ (c : List ℕ) (x : ℕ). set c (2 + 39 * (m + k)) x) (more m k t (λ i l. same i (omega arith)))
-      (same k (omega arith))
-      ∙ ap (λ (n : ℕ). credited h n b) (sym (add-suc m k))
-
-  pub credited-more : (m k : ℕ) (t : List ℕ) {c d : List ℕ} → ((i : ℕ) → i < k → getD t i 0 ≡ creditOf h (m + i))
-      → c ≡ credited h m b → d ≡ credits m t k c → d ≡ credited h (m + k) b
-  credited-more m k t same e f = f ∙ ap (credits m t k) e ∙ more m k t same
-
-  -- the queues of n routers, behind the out-queues
-  pub credited-inner : (n : ℕ) → n ≤ h .routers → {c d : List ℕ} → c ≡ credited h (destinations h) b
-      → d ≡ innerCredits h n c → d ≡ credited h (destinations h + 28 * n) b
-  unfolding innerCredits
-  credited-inner n few {c} e f =
-      f ∙ up-keeps-at (λ r x. x ≡ credited h (destinations h + 28 * r) b)
-      (λ r x. credits (destinations h + 28 * r) (routerCredits h) 28 x) n c
-      (λ r x l q.
-      let k : destinations h + 28 * r + 28 ≡ destinations h + 28 * suc r = omega arith in
-      credited-more (destinations h + 28 * r) 28 (routerCredits h)
-      (λ i g. router-credits-at h i g ∙ sym (router-part h i r (omega arith) g)) q refl
-      ∙ ap (λ (m : ℕ). credited h m b) k)
-      (e ∙ ap (λ (m : ℕ). credited h m b) (sym (add-zero (destinations h))))
+  pub credited-more : (k n : ℕ) {c d : List ℕ} → c ≡ credited h 0 k b → d ≡ credited h k n c
+      → d ≡ credited h 0 (k + n) b
+  credited-more k n e f = f ∙ ap (credited h k n) e ∙ more k n

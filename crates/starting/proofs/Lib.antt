@@ -1,4 +1,3 @@
-pub mod Zeros
 pub mod Fills
 pub mod Credits
 pub mod Turns

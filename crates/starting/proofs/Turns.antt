@@ -1,77 +1,31 @@
--- What outputs remember after Start, 'the last in order': the bytes that are laid, and that they are the state's.
+-- What outputs remember after Start, 'the last in order': the bytes that are stored, and that they are the state's.
 use mathlib.Core.Path.{_≡_, refl, sym, ap, ap₂, _∙_}
 use mathlib.Core.Logic.{_⊎_, inl, inr}
 use mathlib.Core.List.{List, [], _∷_, _++_, append-assoc}
 use Prim.Native.Nat.{ℕ, zero, suc, _+_, _*_, _-_, _≤_, _<_}
-use native.Mathlib.Nat.{zero-add, suc-add, add-zero, add-suc, mul-zero, mul-suc, mul-le-mul-left}
+use native.Mathlib.Nat.{zero-add, suc-add, add-zero, mul-zero, mul-suc}
 use native.Mathlib.Omega.{arith}
-use lib.ListN.{length, getD, set, take, drop, length-append, length-replicate}
-use lib.Seq.{drop-cons, take-suc, take-all, length-take-le}
+use lib.ListN.{length, length-append}
 use Rattle.basis.specs.Bounded.{lt-or-ge}
-use Rattle.basis.specs.Fold.{upTo, up-keeps-at}
+use Rattle.basis.specs.Fold.{up-keeps-at}
 use Rattle.plan.specs.declared.Head.{Head}
-use Rattle.plan.specs.Head.{Counts, destinations}
+use Rattle.plan.specs.Head.{destinations}
 use Rattle.plan.specs.Plan.{Plan, R, A, P}
 use Rattle.feeding.specs.Feeds.{Output, ofActive, ofPassive, ofSide, toUnit, fromUnit}
-use Rattle.machine.specs.Outputs.{lastInOrder, outputs, outputAt, outputNumber}
+use Rattle.machine.specs.Outputs.{lastInOrder, outputAt, outputNumber}
 use Rattle.machine.specs.State.{blank, start}
 use Rattle.machine.specs.Valid.{Drives}
 use Rattle.machine.proofs.OutNumbers.{output-at}
-use Rattle.layout.specs.Rows.{rows, rows-same, rows-length, front, past}
+use Rattle.layout.specs.Rows.{rows, rows-same, rows-length, past}
 use Rattle.layout.specs.Encode.{turnBytes, turnPart}
-use Rattle.layout.proofs.Lines.{set-behind}
 use Rattle.acts.specs.Counts.{turnsFrom, stateSize}
-use Rattle.starting.specs.Starting.{zeros, cleared, laid, repeated, interfaceTurns, routerTurns, turned}
-use Rattle.starting.proofs.Zeros.{length-zeros, zeros-split, zeros-rows, laid-zero}
-use Rattle.starting.proofs.Fills.{rows-last}
-use Rattle.starting.proofs.Credits.{same-at}
+use Rattle.starting.specs.Starting.{copies, filled, routerTurns, innerTurns, turned}
+use Rattle.starting.proofs.Fills.{length-copies, copies-split, copies-rows, filled-behind, zeros, cleared}
+use Rattle.starting.proofs.Fills.{cleared-more, rows-last}
 
--- ---- an array laid over what stands behind a list
-module _ (pre t b : List ℕ) (at : ℕ) (offset : at ≡ length pre) where
-  -- its first n bytes
-  some-laid : (n : ℕ) → n ≤ length t → at + n ≤ length b
-      → laid at t n (pre ++ past at b) ≡ pre ++ (front n t ++ past (at + n) b)
-  unfolding laid upTo front past
-  some-laid zero l m = ap (λ (k : ℕ). pre ++ drop k b) (sym (add-zero at))
-  some-laid (suc n) l m =
-      let v : ℕ = getD t n 0 in
-      let f : List ℕ = take n t in
-      let e : n ≡ length f + 0 = omega (arith, length-take-le n t (omega arith)) in
-      ap (λ (c : List ℕ). set c (at + n) v) (some-laid n (omega arith) (omega arith))
-      ∙ set-behind pre (f ++ drop (at + n) b) (at + n) n v (ap (λ (k : ℕ). k + n) offset)
-      ∙ ap (λ (x : List ℕ). pre ++ x) (set-behind f (drop (at + n) b) n 0 v e)
-      ∙ ap (λ (x : List ℕ). pre ++ (f ++ set x 0 v)) (drop-cons b (at + n) 0 (omega arith))
-      ∙ ap (λ (x : List ℕ). pre ++ x) (sym (append-assoc f (v ∷ []) (drop (suc (at + n)) b)))
-      ∙ ap₂ (λ (x : List ℕ) (k : ℕ). pre ++ (x ++ drop k b)) (sym (take-suc t n 0 (omega arith)))
-      (sym (add-suc at n))
-
-  -- all of it
-  whole-laid : (w : ℕ) → length t ≡ w → at + w ≤ length b
-      → laid at t w (pre ++ past at b) ≡ pre ++ (t ++ past (at + w) b)
-  unfolding front
-  whole-laid w e m =
-      some-laid w (omega arith) m
-      ∙ ap (λ (x : List ℕ). pre ++ (x ++ past (at + w) b)) (take-all w t (omega arith))
-
--- and again and again
-repeated-behind : (w : ℕ) (t : List ℕ) (at n : ℕ) (pre b : List ℕ) → length t ≡ w → at ≡ length pre
-    → at + w * n ≤ length b
-    → repeated w t at n (pre ++ past at b) ≡ pre ++ (rows 0 n (λ j. t) ++ past (at + w * n) b)
-unfolding repeated rows
-repeated-behind w t at n pre b wide offset long =
-    up-keeps-at (λ r x. x ≡ pre ++ (rows 0 r (λ j. t) ++ past (at + w * r) b))
-    (λ r x. laid (at + w * r) t w x) n (pre ++ past at b)
-    (λ r x g q.
-    let k : at + w * r + w ≡ at + w * suc r = omega (arith, mul-suc w r) in
-    let m = mul-le-mul-left w g in
-    let l : length (rows 0 r (λ j. t)) ≡ w * r = rows-length w 0 r (λ j. t) (λ j. wide) in
-    let o : at + w * r ≡ length (pre ++ rows 0 r (λ j. t)) = omega (arith, length-append pre (rows 0 r (λ j. t))) in
-    ap (laid (at + w * r) t w) (q ∙ sym (append-assoc pre (rows 0 r (λ j. t)) (past (at + w * r) b)))
-    ∙ whole-laid (pre ++ rows 0 r (λ j. t)) t b (at + w * r) o w wide (omega arith)
-    ∙ append-assoc pre (rows 0 r (λ j. t)) (t ++ past (at + w * r + w) b)
-    ∙ ap (λ (y : List ℕ). pre ++ y) (sym (rows-last r (λ j. t) (past (at + w * r + w) b)))
-    ∙ ap (λ (i : ℕ). pre ++ (rows 0 (suc r) (λ j. t) ++ past i b)) k)
-    (ap (λ (i : ℕ). pre ++ past i b) (let e : at ≡ at + w * 0 = omega (arith, mul-zero w) in e))
+-- of a router's outputs: the four sides, to the unit, on the way back
+turnsRow : List ℕ
+turnsRow = 4 ∷ 4 ∷ 4 ∷ 4 ∷ 3 ∷ 3 ∷ []
 
 -- ---- rows in two parts
 rows-split : (i a b : ℕ) (g : ℕ → List ℕ) → rows i (a + b) g ≡ rows i a g ++ rows (i + a) b g
@@ -109,7 +63,7 @@ module _ (pl : Plan) where
 
   -- an interface's output
   interface-turn : (n : ℕ) → n < A pl + P pl → turnBytes (start pl) (outputAt pl n) ≡ zeros 1
-  unfolding zeros outputNumber
+  unfolding copies outputNumber
   interface-turn n l = by (lt-or-ge n (A pl))
     where
       by : (n < A pl) ⊎ (A pl ≤ n) → turnBytes (start pl) (outputAt pl n) ≡ zeros 1
@@ -118,8 +72,8 @@ module _ (pl : Plan) where
 
   -- a router's outputs
   router-turn : (r : ℕ) → r < R pl
-      → rows (A pl + P pl + 6 * r) 6 (λ n. turnBytes (start pl) (outputAt pl n)) ≡ routerTurns
-  unfolding rows routerTurns outputNumber
+      → rows (A pl + P pl + 6 * r) 6 (λ n. turnBytes (start pl) (outputAt pl n)) ≡ turnsRow
+  unfolding rows turnsRow outputNumber
   router-turn r l =
       let m : ℕ = A pl + P pl + 6 * r in
       let side : (k : ℕ) → k < 4 → (n : ℕ) → n ≡ m + k → turnBytes (start pl) (outputAt pl n) ≡ 4 ∷ [] =
@@ -134,7 +88,7 @@ module _ (pl : Plan) where
 
   -- all of them
   start-turns : (rest : List ℕ)
-      → turnPart pl (start pl) ++ rest ≡ zeros (A pl + P pl) ++ (rows 0 (R pl) (λ j. routerTurns) ++ rest)
+      → turnPart pl (start pl) ++ rest ≡ zeros (A pl + P pl) ++ (rows 0 (R pl) (λ j. turnsRow) ++ rest)
   start-turns rest =
       let g : ℕ → List ℕ = λ n. turnBytes (start pl) (outputAt pl n) in
       let m : ℕ = A pl + P pl in
@@ -142,48 +96,63 @@ module _ (pl : Plan) where
       ∙ append-assoc (rows 0 m g) (rows (0 + m) (6 * R pl) g) rest
       ∙ ap₂ (λ (x y : List ℕ). x ++ (y ++ rest))
       (rows-same 0 m g (λ j. zeros 1) (λ j a b. interface-turn j (omega arith)))
-      (ap (λ (i : ℕ). rows i (6 * R pl) g) (zero-add m) ∙ rows-groups 6 g routerTurns (R pl) m 0 router-turn)
-      ∙ zeros-rows 1 0 m (rows 0 (R pl) (λ j. routerTurns) ++ rest)
+      (ap (λ (i : ℕ). rows i (6 * R pl) g) (zero-add m) ∙ rows-groups 6 g turnsRow (R pl) m 0 router-turn)
+      ∙ copies-rows 1 0 m 0 (rows 0 (R pl) (λ j. turnsRow) ++ rest)
       ∙ (let e : 1 * m ≡ m = omega arith in
-      ap (λ (n : ℕ). zeros n ++ (rows 0 (R pl) (λ j. routerTurns) ++ rest)) e)
+      ap (λ (n : ℕ). zeros n ++ (rows 0 (R pl) (λ j. turnsRow) ++ rest)) e)
 
--- ---- the arrays
-pub interface-turns-at : (i : ℕ) → i < 32 → getD interfaceTurns i 0 ≡ 0
-unfolding interfaceTurns
-interface-turns-at i l = same-at 32 0 i l
+-- ---- stored behind a list
+-- of one router, from an offset on
+module _ (pre b : List ℕ) (at : ℕ) (offset : at ≡ length pre) (long : at + 6 ≤ length b) where
+  router-behind : routerTurns at (pre ++ past at b) ≡ pre ++ (turnsRow ++ past (at + 6) b)
+  unfolding copies turnsRow
+  router-behind =
+      let o : at + 4 ≡ length (pre ++ copies 4 4) = omega (arith, length-append pre (copies 4 4), length-copies 4 4) in
+      let e : at + 4 + 2 ≡ at + 6 = omega arith in
+      ap (filled (at + 4) 2 3) (filled-behind pre at 4 4 b offset (omega arith)
+      ∙ sym (append-assoc pre (copies 4 4) (past (at + 4) b)))
+      ∙ filled-behind (pre ++ copies 4 4) (at + 4) 2 3 b o (omega arith)
+      ∙ append-assoc pre (copies 4 4) (copies 2 3 ++ past (at + 4 + 2) b)
+      ∙ ap (λ (k : ℕ). pre ++ (turnsRow ++ past k b)) e
 
-pub length-interface-turns : length interfaceTurns ≡ 32
-unfolding interfaceTurns
-length-interface-turns = length-replicate {A = ℕ} 32 0
+-- of n routers
+inner-behind : (at n : ℕ) (pre b : List ℕ) → at ≡ length pre → at + 6 * n ≤ length b
+    → innerTurns at n (pre ++ past at b) ≡ pre ++ (rows 0 n (λ j. turnsRow) ++ past (at + 6 * n) b)
+unfolding innerTurns rows turnsRow
+inner-behind at n pre b offset long =
+    up-keeps-at (λ r x. x ≡ pre ++ (rows 0 r (λ j. turnsRow) ++ past (at + 6 * r) b))
+    (λ r x. routerTurns (at + 6 * r) x) n (pre ++ past at b)
+    (λ r x g q.
+    let t : List ℕ = rows 0 r (λ j. turnsRow) in
+    let k : at + 6 * r + 6 ≡ at + 6 * suc r = omega arith in
+    let l : length t ≡ 6 * r = rows-length 6 0 r (λ j. turnsRow) (λ j. refl) in
+    let o : at + 6 * r ≡ length (pre ++ t) = omega (arith, length-append pre t) in
+    ap (routerTurns (at + 6 * r))
+    (q ∙ sym (append-assoc pre t (past (at + 6 * r) b)))
+    ∙ router-behind (pre ++ t) b (at + 6 * r) o (omega arith)
+    ∙ append-assoc pre t (turnsRow ++ past (at + 6 * r + 6) b)
+    ∙ ap (λ (y : List ℕ). pre ++ y) (sym (rows-last r (λ j. turnsRow) (past (at + 6 * r + 6) b)))
+    ∙ ap (λ (i : ℕ). pre ++ (rows 0 (suc r) (λ j. turnsRow) ++ past i b)) k)
+    (ap (λ (i : ℕ). pre ++ past i b) (let e : at ≡ at + 6 * 0 = omega arith in e))
 
-pub length-router-turns : length routerTurns ≡ 6
-unfolding routerTurns
-length-router-turns = refl
-
--- ---- laid behind zero bytes
-module _ (h : Head) (few : Counts h) (b : List ℕ) (long : stateSize h ≤ length b) where
-  turned-behind : turned h (cleared (turnsFrom h) b)
-      ≡ zeros (turnsFrom h) ++ (zeros (destinations h) ++ (rows 0 (h .routers) (λ j. routerTurns)
-      ++ past (stateSize h) b))
-  unfolding turned cleared
-  turned-behind =
-      let at : ℕ = turnsFrom h + destinations h in
-      let fa = few .1 in
-      let fp = few .2 in
-      let e : at + 6 * h .routers ≡ stateSize h = omega arith in
-      let more : List ℕ = rows 0 (h .routers) (λ j. routerTurns) ++ past (stateSize h) b in
-      ap (repeated 6 routerTurns at (h .routers))
-      (laid-zero (turnsFrom h) interfaceTurns (destinations h) b
-      (λ i l. interface-turns-at i (omega arith)) (omega arith))
-      ∙ repeated-behind 6 routerTurns at (h .routers) (zeros at) b length-router-turns (sym (length-zeros at))
-      (omega arith)
-      ∙ ap (λ (n : ℕ). zeros at ++ (rows 0 (h .routers) (λ j. routerTurns) ++ past n b)) e
-      ∙ zeros-split (turnsFrom h) (destinations h) more
+-- of all outputs, behind zero bytes
+turned-behind : (h : Head) (b : List ℕ) → stateSize h ≤ length b → turned h (cleared (turnsFrom h) b)
+    ≡ zeros (turnsFrom h) ++ (zeros (destinations h) ++ (rows 0 (h .routers) (λ j. turnsRow)
+    ++ past (stateSize h) b))
+unfolding turned
+turned-behind h b long =
+    let at : ℕ = turnsFrom h + destinations h in
+    let e : at + 6 * h .routers ≡ stateSize h = omega arith in
+    let more : List ℕ = rows 0 (h .routers) (λ j. turnsRow) ++ past (stateSize h) b in
+    ap (innerTurns at (h .routers)) (cleared-more (turnsFrom h) (destinations h) b (omega arith))
+    ∙ inner-behind at (h .routers) (zeros at) b (sym (length-copies at 0)) (omega arith)
+    ∙ ap (λ (n : ℕ). zeros at ++ (rows 0 (h .routers) (λ j. turnsRow) ++ past n b)) e
+    ∙ copies-split (turnsFrom h) (destinations h) 0 more
 
 -- so what Start's state has there
-pub turned-start : (pl : Plan) → Counts (pl .head) → (b : List ℕ) → stateSize (pl .head) ≤ length b
+pub turned-start : (pl : Plan) (b : List ℕ) → stateSize (pl .head) ≤ length b
     → turned (pl .head) (cleared (turnsFrom (pl .head)) b)
     ≡ zeros (turnsFrom (pl .head)) ++ (turnPart pl (start pl) ++ past (stateSize (pl .head)) b)
-turned-start pl few b long =
-    turned-behind (pl .head) few b long
+turned-start pl b long =
+    turned-behind (pl .head) b long
     ∙ ap (λ (x : List ℕ). zeros (turnsFrom (pl .head)) ++ x) (sym (start-turns pl (past (stateSize (pl .head)) b)))

@@ -1,12 +1,12 @@
--- Start on bytes: zero bytes, then arrays for the table, for the accepted connections, for what outputs remember and
--- for the credits, which are stored queue by queue, and the allowances.
+-- Start on bytes: equal bytes, an array for the table, what outputs remember, arrays for the credits, which are stored
+-- queue by queue, and the allowances.
 use mathlib.Core.Path.{_≡_}
-use mathlib.Core.List.{List, [], _∷_, _++_}
+use mathlib.Core.List.{List}
 use Prim.Native.Nat.{ℕ, _+_, _*_, _-_, _%_, min}
-use lib.Dec.{eqb, ltb}
+use lib.Dec.{ltb}
 use lib.ListN.{getD, set, replicate}
 use Rattle.basis.specs.Choice.{pick}
-use Rattle.basis.specs.Fold.{upTo, fill}
+use Rattle.basis.specs.Fold.{upTo}
 use Rattle.plan.specs.declared.Head.{Head}
 use Rattle.plan.specs.Head.{destinations}
 use Rattle.plan.specs.Plan.{Plan}
@@ -20,13 +20,12 @@ use Rattle.acts.specs.Counts.{turnsFrom}
 pub record Started (h : Head) (b d : List ℕ) : Type 0 where
   pub starts : (pl : Plan) → pl .head ≡ h → d ≡ encode pl (start pl) (past (size pl) b)
 
--- ---- zero bytes
-unfoldable pub zeros : ℕ → List ℕ
-zeros n = replicate n 0
+-- ---- equal bytes: n of them, and stored from an offset on
+unfoldable pub copies : ℕ → ℕ → List ℕ
+copies n v = replicate n v
 
--- the first n bytes are zero, the others as they were
-unfoldable pub cleared : ℕ → List ℕ → List ℕ
-cleared n b = zeros n ++ past n b
+unfoldable pub filled : ℕ → ℕ → ℕ → List ℕ → List ℕ
+filled at n v b = upTo (λ i c. set c (at + i) v) n b
 
 -- ---- bytes of an array, stored one after another from an offset on
 unfoldable pub laid : ℕ → List ℕ → ℕ → List ℕ → List ℕ
@@ -36,56 +35,36 @@ laid at t n b = upTo (λ i c. set c (at + i) (getD t i 0)) n b
 unfoldable pub credits : ℕ → List ℕ → ℕ → List ℕ → List ℕ
 credits from t n b = upTo (λ i c. set c (2 + 39 * (from + i)) (getD t i 0)) n b
 
--- ---- an array of w bytes, n times one after another from an offset on
-unfoldable pub repeated : ℕ → List ℕ → ℕ → ℕ → List ℕ → List ℕ
-repeated w t at n b = upTo (λ r c. laid (at + w * r) t w c) n b
+-- ---- 'the last in order' by its rank
+-- of a router's outputs from an offset on: the four sides have five senders each, the ways to the unit and back have
+-- four; and of n routers'
+abbrev pub routerTurns : ℕ → List ℕ → List ℕ
+routerTurns at b = filled (at + 4) 2 3 (filled at 4 4 b)
 
--- ---- the arrays
--- 'table empty': two bytes for each of 32 slots on four sides of a router; and for each of n routers from an offset on
-unfoldable pub freeEntries : List ℕ
-freeEntries = replicate 256 0
+unfoldable pub innerTurns : ℕ → ℕ → List ℕ → List ℕ
+innerTurns at n b = upTo (λ r c. routerTurns (at + 6 * r) c) n b
 
-abbrev pub freed : ℕ → ℕ → List ℕ → List ℕ
-freed at n b = repeated 256 freeEntries at n b
-
--- no connection is accepted: four bytes for each of an active's 16 pairs; and for each of n actives from an offset on
-unfoldable pub noStarts : List ℕ
-noStarts = replicate 64 0
-
-abbrev pub noConnections : ℕ → ℕ → List ℕ → List ℕ
-noConnections at n b = repeated 64 noStarts at n b
-
--- 'the last in order' by its rank: an interface's output has one sender, and there are at most 32; of a router's, the
--- four sides and the way to the unit have four, the way back one
-unfoldable pub interfaceTurns : List ℕ
-interfaceTurns = replicate 32 0
-
-unfoldable pub routerTurns : List ℕ
-routerTurns = 4 ∷ 4 ∷ 4 ∷ 4 ∷ 3 ∷ 3 ∷ []
-
--- of all outputs
+-- of all outputs: those of the interfaces have one sender
 unfoldable pub turned : Head → List ℕ → List ℕ
-turned h b =
-    repeated 6 routerTurns (turnsFrom h + destinations h) (h .routers)
-    (laid (turnsFrom h) interfaceTurns (destinations h) b)
+turned h b = innerTurns (turnsFrom h + destinations h) (h .routers) (filled (turnsFrom h) (destinations h) 0 b)
 
--- one value for each of 16 interfaces
-unfoldable pub sixteen : ℕ → List ℕ
-sixteen v = replicate 16 v
-
--- 'credit of each queue fed by a wire = its capacity': of a router's k-th queue
+-- ---- 'credit of each queue fed by a wire = its capacity'
+-- of a router's k-th queue
 abbrev pub routerCredit : Head → ℕ → ℕ
 routerCredit h k =
     pick (ltb k 4) (h .u .0) (pick (ltb k 8) (h .q .0) (pick (ltb ((k - 8) % 5) 2) (h .f .0) (h .k .0)))
 
--- of a router's queues; and stored for each of n routers
-unfoldable pub routerCredits : Head → List ℕ
-routerCredits h = upTo (fill (routerCredit h)) 28 (replicate 28 (h .k .0))
+-- an array of K's credits in which the others are put: those of a router, from its first queue on; and of n routers
+unfoldable pub routerCredits : Head → ℕ → List ℕ → List ℕ
+routerCredits h at t =
+    filled (at + 23) 2 (h .f .0) (filled (at + 18) 2 (h .f .0)
+    (filled (at + 13) 2 (h .f .0) (filled (at + 8) 2 (h .f .0)
+    (filled (at + 4) 4 (h .q .0) (filled at 4 (h .u .0) t)))))
 
 unfoldable pub innerCredits : Head → ℕ → List ℕ → List ℕ
-innerCredits h n b = upTo (λ r c. credits (destinations h + 28 * r) (routerCredits h) 28 c) n b
+innerCredits h n t = upTo (λ r c. routerCredits h (28 * r) c) n t
 
--- and of every queue by its number
+-- of every queue by its number
 unfoldable pub creditOf : Head → ℕ → ℕ
 creditOf h n =
     pick (ltb n (h .actives)) (h .aout .0)
@@ -93,10 +72,10 @@ creditOf h n =
     (pick (ltb n (destinations h + 28 * h .routers)) (routerCredit h ((n - destinations h) % 28))
     (pick (ltb n (destinations h + 28 * h .routers + h .actives)) (h .ain .0) (h .pin .0))))
 
--- the credits of the queues below m are stored
-unfoldable pub credited : Head → ℕ → List ℕ → List ℕ
-credited h m b = upTo (λ n c. set c (2 + 39 * n) (creditOf h n)) m b
+-- and stored for k queues from a number on
+unfoldable pub credited : Head → ℕ → ℕ → List ℕ → List ℕ
+credited h from k b = upTo (λ i c. set c (2 + 39 * (from + i)) (creditOf h (from + i))) k b
 
--- 'each active's allowance = the smaller of its two capacities'
+-- ---- 'each active's allowance = the smaller of its two capacities'
 abbrev pub allowanceOf : Head → ℕ
 allowanceOf h = min (h .aout .0) (h .ain .0)

@@ -1,8 +1,6 @@
 use native.Mathlib.Omega.{arith}
 use Rattle.starting.proofs.smaller.Statement.{statement}
 use Rattle.starting.proofs.smaller.Tie as tie
-use Rattle.starting.proofs.smaller.Reads as reads
-use Rattle.starting.proofs.smaller.Lts as lts
 
 returns : tie.Need-returns
 returns c = omega arith

@@ -1,106 +1,79 @@
 use mathlib.Core.Path.{_∙_}
-use native.Mathlib.Omega.{arith}
 use Rattle.starting.proofs.Begins.{few-counts, long-still, start-made}
+use borrow.Author.Needs.{needs}
 use Rattle.starting.proofs.start.Statement.{statement}
 use Rattle.starting.proofs.start.Tie as tie
-use Rattle.starting.proofs.start.Reads as reads
-use Rattle.starting.proofs.start.Lts as lts
-use Rattle.acts.proofs.table_row.Reads as table-row-reads
-use Rattle.starting.proofs.all_credits.Reads as all-credits-reads
-use Rattle.starting.proofs.allow.Reads as allow-reads
-use Rattle.starting.proofs.clear.Reads as clear-reads
-use Rattle.starting.proofs.free_table.Reads as free-table-reads
-use Rattle.starting.proofs.no_connections.Reads as no-connections-reads
 
 table-row-requires : tie.Need-table-row-requires
-table-row-requires c κs = few-counts (c .before .before .pre .0)
+table-row-requires c κs = search needs
 
-clear-requires : tie.Need-clear-requires
-clear-requires c κs = let m = c .before .before .before .pre .1 in let at = c .table-row .ensures in omega arith
+fill-requires : tie.Need-fill-requires
+fill-requires c κs = search needs
 
 free-table-requires : tie.Need-free-table-requires
-free-table-requires c κs =
-    let c5 = c .before .before .before .before .before in (
-      few-counts (c5 .before .before .pre .0),
-      long-still (c5 .before .before .pre .1) (c .before .before .before .clear .kept .0),
-    )
+free-table-requires c κs = search needs
 
-no-connections-requires : tie.Need-no-connections-requires
-no-connections-requires c κs =
-    let c5 = c .before .before .before .before .before in
-    let c10 = c5 .before .before .before .before .before in (
-      few-counts (c10 .before .pre .0),
-      long-still (c10 .before .pre .1)
-          (c .before .before .before .free-table .kept .1 .0 ∙ c5 .before .before .clear .kept .0),
-    )
+connections-row-requires : tie.Need-connections-row-requires
+connections-row-requires c κs = search needs
+
+mul-fill : tie.Need-mul-fill
+mul-fill c = search needs
+
+fill-requires-2 : tie.Need-fill-requires-2
+fill-requires-2 c κs = search needs
 
 last-turns-requires : tie.Need-last-turns-requires
-last-turns-requires c κs =
-    let c5 = c .before .before .before .before .before in
-    let c10 = c5 .before .before .before .before .before in
-    let c15 = c10 .before .before .before .before .before in (
-      few-counts (c15 .pre .0),
-      long-still (c15 .pre .1)
-          (c .before .before .before .no-connections .kept .1 .0 ∙ c5 .before .before .free-table .kept .1 .0
-          ∙ c10 .before .clear .kept .0),
-    )
+last-turns-requires c κs = search needs
 
 all-credits-requires : tie.Need-all-credits-requires
 all-credits-requires c κs =
-    let c5 = c .before .before .before .before .before in
-    let c10 = c5 .before .before .before .before .before in
-    let c15 = c10 .before .before .before .before .before in
-    let first = c15 .before .before .before .before in (
+    let c7 = c .before .before .before .before .before .before .before in
+    let c13 = c7 .before .before .before .before .before .before in
+    let c17 = c13 .before .before .before .before in
+    let first = c17 .before .before .before .before in (
       few-counts (first .pre .0),
       long-still (first .pre .1)
-          (c .before .before .before .last-turns .kept .1 .0 ∙ c5 .before .before .no-connections .kept .1 .0
-          ∙ c10 .before .free-table .kept .1 .0 ∙ c15 .clear .kept .0),
+          (c .before .before .before .last-turns .kept .1 .0 ∙ c7 .fill2 .kept .0 ∙ c13 .free-table .kept .1 .0
+          ∙ c17 .fill .kept .0),
     )
 
 allow-requires : tie.Need-allow-requires
 allow-requires c κs =
-    let c5 = c .before .before .before .before .before in
-    let c10 = c5 .before .before .before .before .before in
-    let c15 = c10 .before .before .before .before .before in
-    let c19 = c15 .before .before .before .before in
-    let first = c19 .before .before .before .before in (
+    let c7 = c .before .before .before .before .before .before .before in
+    let c11 = c7 .before .before .before .before in
+    let c17 = c11 .before .before .before .before .before .before in
+    let c21 = c17 .before .before .before .before in
+    let first = c21 .before .before .before .before in (
       few-counts (first .pre .0),
       long-still (first .pre .1)
-          (c .before .before .before .all-credits .kept .1 .0 ∙ c5 .before .before .last-turns .kept .1 .0
-          ∙ c10 .before .no-connections .kept .1 .0 ∙ c15 .free-table .kept .1 .0 ∙ c19 .clear .kept .0),
+          (c .before .before .before .all-credits .kept .1 .0 ∙ c7 .last-turns .kept .1 .0 ∙ c11 .fill2 .kept .0
+          ∙ c17 .free-table .kept .1 .0 ∙ c21 .fill .kept .0),
     )
 
 same-length : tie.Need-same-length
-same-length c =
-    let c5 = c .before .before .before .before .before in
-    let c10 = c5 .before .before .before .before .before in
-    let c14 = c10 .before .before .before .before in
-    let c18 = c14 .before .before .before .before in
-    c .before .before .allow .kept .1 .0 ∙ c5 .before .all-credits .kept .1 .0 ∙ c10 .last-turns .kept .1 .0
-    ∙ c14 .no-connections .kept .1 .0 ∙ c18 .free-table .kept .1 .0
-    ∙ c18 .before .before .before .before .clear .kept .0
+same-length c = search needs
 
 returns : tie.Need-returns
 returns c =
-    let c5 = c .before .before .before .before .before in
-    let c10 = c5 .before .before .before .before .before in
+    let c6 = c .before .before .before .before .before .before in
+    let c10 = c6 .before .before .before .before in
     let c14 = c10 .before .before .before .before in
-    let c18 = c14 .before .before .before .before in
-    let c22 = c18 .before .before .before .before in
-    let row = c22 .before in
-    let first = row .before .before .before in
-    start-made (first .pre .0) (first .pre .1) (row .table-row .ensures) (c22 .clear .ensures)
-    (c18 .free-table .ensures) (c14 .no-connections .ensures) (c10 .last-turns .ensures)
-    (c5 .before .all-credits .ensures) (c .before .before .allow .ensures)
+    let c20 = c14 .before .before .before .before .before .before in
+    let c24 = c20 .before .before .before .before in
+    start-made (c24 .before .before .before .before .pre .1) (c24 .before .table-row .ensures) (c24 .fill .ensures)
+    (c20 .free-table .ensures) (c14 .before .before .connections-row .ensures) (c14 .fill2 .ensures)
+    (c10 .last-turns .ensures) (c6 .all-credits .ensures) (c .before .before .allow .ensures)
 
 pub start-spec : {M : Type 1} → statement M
 start-spec =
     tie.close
     (tie.spec
     table-row-requires
-    clear-requires
+    fill-requires
     free-table-requires
-    no-connections-requires
+    connections-row-requires
+    mul-fill
+    fill-requires-2
     last-turns-requires
     all-credits-requires
     allow-requires

@@ -14,7 +14,7 @@ use Rattle.arrivals.specs.Pairs.{lengthsOf}
 use Rattle.load.specs.declared.Loaded.{Loaded}
 use Rattle.load.specs.declared.Loaded.the-variants.{Accepted, Refused}
 use Rattle.load.specs.Load.{Filled}
-use Rattle.load.proofs.Right.{lent-right, lent-plan, lent-tables, lent-ports}
+use Rattle.load.proofs.Right.{lent-right, lent-plan, lent-tables, lent-ports, lent-past}
 use Rattle.claims.proofs.Exact.{accepted-range}
 use Rattle.layout.specs.Offsets.{size}
 use Rattle.acts.specs.Counts.{stateSize, size-by}
@@ -48,7 +48,7 @@ module _ {b : List ℕ} {h : Head} {l : Loaded} {routes : List (List ℕ)} {join
         tables = lent-tables f told;
         sizes = lengths-are;
         ports = lent-ports f told;
-        past = f .sided .past h told;
+        past = lent-past f told;
       }
 
   pub tables-wired : Wiring h routes joints homes

@@ -11,8 +11,7 @@ use Rattle.paths.specs.Drawn.{Sides, Arrivals, Serves}
 use Rattle.wiring.specs.Wired.{Wired}
 
 -- destinations by router and side, joints by port, the homes' ports by active, the destinations that are reached from
--- each
--- router, the passives that each active is served with
+-- each router, the passives that each active is served with
 pub record Told (pl : Plan) (h : Head) (by : List (List ℕ)) (joints homes arrive serve : List ℕ) : Type 0 where
   pub same : pl .head ≡ h
   pub wired : Wired pl

@@ -6,7 +6,7 @@ use mathlib.Core.Bool.{Bool, true, false, _&&_}
 use mathlib.Core.List.{List, []}
 use Prim.Native.Nat.{ℕ, zero, suc, _+_, _*_, _/_, _≤_, _<_}
 use native.Mathlib.Omega.{arith}
-use lib.Dec.{eqb, ltb}
+use lib.Dec.{ltb}
 use lib.ListN.{length, getD, replicate, length-replicate}
 use borrow.Author.Tests.{lt-ltb, le-ltb, eq-eqb, ne-eqb, eqb-true}
 use Rattle.basis.specs.Choice.{pick, pick-same}
@@ -21,7 +21,9 @@ use Rattle.plan.specs.Head.{InRange, headOf, headOk, destinations, routesAt, bi
 use Rattle.plan.specs.Plan.{Plan, noSide, routeAt, planOf}
 use Rattle.plan.specs.Rules.{fillOk, fieldsOk, namedOk, interfacesOk, portsOf}
 use Rattle.plan.specs.Tables.{tablePlan, homesOf, rowOf, routesOf, jointsOf, jointBytesOk, routesOk}
+use Rattle.routes.specs.Sides.{sidesOf}
 use Rattle.routes.specs.Marks.{Routes}
+use Rattle.routes.proofs.Routing.{sides-has}
 use Rattle.plan.specs.Head.{Counts}
 use Rattle.circles.specs.RingTest.{hasRing}
 use Rattle.wiring.proofs.Heads.{head-ok, and-both}
@@ -32,8 +34,7 @@ use Rattle.wiring.proofs.Tables.{tables-ok, table-plan, named-alike, interfaces
 use Rattle.load.specs.declared.Loaded.{Loaded}
 use Rattle.load.specs.declared.Loaded.the-variants.{Accepted, Refused}
 use Rattle.load.specs.Load.{lengthOk, jointsOk, loadOf, loadRoutes, loadJoints, loadHomes, loadLengths}
-use Rattle.load.specs.Load.{Blank, Filled, noRoutes, noWalks, noDestinations, LentSides}
-use Rattle.paths.specs.Drawn.{Sides}
+use Rattle.load.specs.Load.{loadSides, Blank, Filled, noRoutes, noWalks, noDestinations}
 use Rattle.arrivals.specs.Tables.{PortsIn}
 use Rattle.arrivals.specs.Pairs.{pairWalk, lengthsOf, Tables, Walks}
 use Rattle.circles.specs.Told.{Told}
@@ -141,19 +142,18 @@ module _ (b : List ℕ) (h : Head) (rt : List (List ℕ)) (jt ht : List ℕ) (by
 
   pub tables-of : h ≡ headOf b → InRange h → tablePlan h rt jt ≡ planOf b → Wired (planOf b) → rt ≡ routesOf b h
       → ht ≡ homesOf (tablePlan h rt jt)
-      → ((r o d : ℕ) → o < 4 → has (getD (getD by r []) o 0) d
-      ≡ (ltb d (destinations h) && eqb (getD (getD rt r []) d noSide) o))
-      → Tables h rt jt ht by
+      → by ≡ sidesOf (tablePlan h rt jt) → Tables h rt jt ht by
   unfolding tablePlan planOf
-  tables-of read range same wires routed homed sides = record {
+  tables-of read range same wires routed homed sided = record {
     chart = record {
       wired = subst Wired (sym same) wires;
       routers = range .routers .1;
       few = few;
       joined = λ r o l. rw (lt-ltb o 4 l);
       ports = λ d l. ap (λ (x : List ℕ). getD x d 0) homed ∙ homes-at (tablePlan h rt jt) d few l;
-      sides = sides;
-      past = λ r d l. route r d ∙ rw (le-ltb r (headOf b .routers) (rw (← read) l));
+      sides = λ r o d l. ap (λ (x : List (List ℕ)). has (getD (getD x r []) o 0) d) sided
+          ∙ sides-has (tablePlan h rt jt) (range .routers .1) beyond r o d l;
+      past = beyond;
     };
     rows = row-long range routed;
     past = λ r d l. route r d
@@ -167,6 +167,9 @@ module _ (b : List ℕ) (h : Head) (rt : List (List ℕ)) (jt ht : List ℕ) (by
           ≡ pick (ltb r (headOf b .routers))
           (pick (ltb d (destinations (headOf b))) (fieldOf b (routeAt (headOf b) r d) 3) noSide) noSide
       route r d = ap (λ (pl : Plan). pl .route r d) same
+
+      beyond : (r d : ℕ) → h .routers ≤ r → getD (getD rt r []) d noSide ≡ noSide
+      beyond r d l = route r d ∙ rw (le-ltb r (headOf b .routers) (rw (← read) l))
 
 -- so walks can be swept
 pub sweeps-ready : (h : Head) (rt : List (List ℕ)) (jt ht : List ℕ) (by : List (List ℕ)) → Counts h
@@ -187,12 +190,6 @@ ring-told h rt jt ht by few homed told walked search =
     search (tablePlan h rt jt) (tables-told h rt jt few (told .chart .wired) homed (told .chart .sides) (w .0) (w .1))
 
 -- ---- Load's returns
-refused-not : {h : Head} {w : Refusal} → Refused w ≡ Accepted h → ⊥
-refused-not e = let z : _≡_ {A = ℕ} 0 1 = cc in omega arith
-
-same-head : {h k : Head} → Accepted h ≡ Accepted k → h ≡ k
-same-head e = cc
-
 module _ (b : List ℕ) where
   -- nothing is said of the tables after a refusal
   abbrev Refuses : Refusal → Type 0
@@ -206,7 +203,7 @@ module _ (b : List ℕ) where
     joined = ap (loadJoints b j) e;
     homed = ap (loadHomes b o) e;
     sized = ap (loadLengths b u) e;
-    sided = record { sides = λ h q. absurd (refused-not q); past = λ h q. absurd (refused-not q) };
+    sided = ap (loadSides b sides) e;
   }
 
   pub too-short : length b < 6 → Refuses TooShort
@@ -253,7 +250,7 @@ module _ (b : List ℕ) where
               let passed = and-both (matched ∙ five) in
               tables-of b h rt jt ht by read inside plan
               (wired b (fields-ok b (fitted ∙ four)) (passed .0) (passed .1)) routed
-              (homed ∙ homes-alike h [] rt jt) (read-in .sides)
+              (homed ∙ homes-alike h [] rt jt) (read-in .sides jt)
 
           pub bad-joint : named ≡ false → Refuses BadJoint
           unfolding loadOf
@@ -306,12 +303,8 @@ module _ (b : List ℕ) where
                   homed = same ∙ ap (loadHomes b ht) e;
                   sized = walked told .2 ∙ ap lengthsOf (plan-same b read inside joined routed)
                       ∙ ap (loadLengths b ways) e;
-                  sided = record {
-                    sides = λ k q. subst (λ (pl : Plan). Sides pl by) (plan-same b read inside joined routed)
-                        (told .chart .sides);
-                    past = λ k q r d n m. sweeps-ready h rt jt ht by (range-counts h inside) told .2 r d n
-                        (rw (same-head q) m);
-                  };
+                  sided = read-in .sides jt ∙ ap sidesOf (plan-same b read inside joined routed)
+                      ∙ ap (loadSides b by) e;
                 }
 
 -- ---- what is lent: an accepted plan's tables, else blank ones
@@ -320,7 +313,7 @@ module _ (b : List ℕ) where
   Lends l routes joints homes lengths sides =
       (l ≡ loadOf b) × (routes ≡ loadRoutes b noRoutes (loadOf b)) × (joints ≡ loadJoints b (replicate 64 0) (loadOf b))
       × (homes ≡ loadHomes b (replicate 32 0) (loadOf b)) × (lengths ≡ loadLengths b noWalks (loadOf b))
-      × LentSides b l sides × ((w : Refusal) → l ≡ Refused w → sides ≡ noDestinations)
+      × (sides ≡ loadSides b noDestinations (loadOf b))
 
   pub lent-accepted : {h : Head} {l : Loaded} {routes : List (List ℕ)} {joints homes : List ℕ}
       {lengths sides : List (List ℕ)} → l ≡ Accepted h → Filled b l routes joints homes lengths sides
@@ -332,8 +325,7 @@ module _ (b : List ℕ) where
         f .joined ∙ rw e,
         f .homed ∙ rw e,
         f .sized ∙ rw e,
-        f .sided,
-        λ w q. absurd (refused-not (sym q ∙ a)),
+        f .sided ∙ rw e,
       )
 
   pub lent-refused : {w : Refusal} {l : Loaded} {routes : List (List ℕ)} {joints homes : List ℕ}
@@ -346,11 +338,7 @@ module _ (b : List ℕ) where
         n .1 ∙ sym (ap (loadJoints b (replicate 64 0)) e),
         n .2 ∙ sym (ap (loadHomes b (replicate 32 0)) e),
         n .3 ∙ sym (ap (loadLengths b noWalks) e),
-        record {
-          sides = λ h q. absurd (refused-not (sym a ∙ q));
-          past = λ h q. absurd (refused-not (sym a ∙ q));
-        },
-        λ _ _. n .0 .1,
+        n .0 .1 ∙ sym (ap (loadSides b noDestinations) e),
       )
 
 -- ---- Walk's returns

@@ -3,23 +3,20 @@
 -- 4 a later field outside its range; 5 a router joint not named back, a joint to the same router, or an interface
 -- without exactly one joint; 6 a ring.'
 use mathlib.Core.Path.{_≡_}
-use mathlib.Core.Bool.{Bool, false, not, _&&_}
-use mathlib.Core.List.{List, []}
-use Prim.Native.Nat.{ℕ, _≤_, _<_}
+use mathlib.Core.Bool.{Bool, not, _&&_}
+use mathlib.Core.List.{List}
+use Prim.Native.Nat.{ℕ}
 use lib.Dec.{eqb, ltb}
-use lib.ListN.{getD, length, replicate}
+use lib.ListN.{length, replicate}
 use Rattle.basis.specs.Choice.{pick}
-use Rattle.kinds.specs.declared.Refusal.{Refusal}
 use Rattle.kinds.specs.declared.Refusal.the-variants.{TooShort, OutOfRange, WrongLength, BadField, BadJoint, HasRing}
 use Rattle.kinds.specs.Refusals.{refusalNumber}
-use Rattle.plan.specs.declared.Head.{Head}
 use Rattle.plan.specs.Head.{headOf, headOk, bitCount, byteCount}
 use Rattle.plan.specs.Plan.{noSide, planOf}
 use Rattle.plan.specs.Rules.{fillOk, fieldsOk, namedOk, interfacesOk}
 use Rattle.plan.specs.Tables.{routesOf, jointsOf, homesOf}
+use Rattle.routes.specs.Sides.{sidesOf}
 use Rattle.routes.specs.Marks.{NoRoutes}
-use Rattle.sets.specs.Sets.{has}
-use Rattle.paths.specs.Drawn.{Sides}
 use Rattle.circles.specs.RingTest.{hasRing}
 use Rattle.arrivals.specs.Pairs.{lengthsOf}
 use Rattle.load.specs.declared.Loaded.{Loaded}
@@ -82,11 +79,10 @@ abbrev pub loadLengths : List ℕ → List (List ℕ) → Loaded → List (List 
 loadLengths b t (Accepted h) = lengthsOf (planOf b)
 loadLengths b t (Refused w) = t
 
--- the sets of destinations by router and side: an accepted plan's, and none at the routers that it has not
-pub record LentSides (b : List ℕ) (l : Loaded) (by : List (List ℕ)) : Type 0 where
-  pub sides : (h : Head) → l ≡ Accepted h → Sides (planOf b) by
-  pub past : (h : Head) → l ≡ Accepted h → (r o d : ℕ) → h .routers ≤ r → o < 4
-      → has (getD (getD by r []) o 0) d ≡ false
+-- the sets of destinations by router and side
+abbrev pub loadSides : List ℕ → List (List ℕ) → Loaded → List (List ℕ)
+loadSides b t (Accepted h) = sidesOf (planOf b)
+loadSides b t (Refused w) = t
 
 -- what Load leaves in tables that were blank: its answer, and an accepted plan's tables; after a refusal nothing is
 -- said of them
@@ -97,4 +93,4 @@ pub record Filled (b : List ℕ) (l : Loaded) (routes : List (List ℕ)) (joints
   pub joined : joints ≡ loadJoints b joints (loadOf b)
   pub homed : homes ≡ loadHomes b homes (loadOf b)
   pub sized : lengths ≡ loadLengths b lengths (loadOf b)
-  pub sided : LentSides b l by
+  pub sided : by ≡ loadSides b by (loadOf b)

@@ -18,6 +18,7 @@ use Rattle.circles.specs.RingTest.{handEdge, hasRing}
 use Rattle.load.specs.Load.{lengthOk, jointsOk, loadOf, loadNumber}
 use Rattle.plan.specs.Samples.{planT, twoRouters, widerT, narrowThere, narrowBack, allSides, longWayBack, fourRouters}
 use Rattle.plan.specs.Samples.{narrowUnit, twoToOne, crossing, widerCrossing, lineOfThree, drivesAround, clockwise}
+use Rattle.plan.specs.Samples.{roomyCrossing, narrowSide}
 
 -- Load's number, computed from the bytes
 unfoldable pub loads : List ℕ → ℕ
@@ -96,6 +97,15 @@ line-of-three-loads = refl
 pub drives-around-loads : loads drivesAround ≡ 0
 unfolding loads
 drives-around-loads = refl
+
+-- and of the runs of what is passed over
+pub roomy-crossing-loads : loads roomyCrossing ≡ 0
+unfolding loads
+roomy-crossing-loads = refl
+
+pub narrow-side-loads : loads narrowSide ≡ 0
+unfolding loads
+narrow-side-loads = refl
 
 -- 'Two routers, each with an active and a passive, set-ups crossing both ways: 6' was document 01's last run. Document
 -- 02 (i) changes it: 'the crossing two-router plan loads'

@@ -7,13 +7,10 @@ ghost use mathlib.Core.Path.{_≡_};
 ghost use mathlib.Core.List.{[]};
 ghost use Prim.Native.Nat.{_<_};
 ghost use lib.ListN.{getD, replicate};
-ghost use Rattle.kinds.specs.declared.Refusal.{Refusal as Why};
 ghost use Rattle.kinds.specs.Refusals.{refusalNumber};
 ghost use Rattle.plan.specs.Head.{headOf, InRange};
 ghost use Rattle.load.specs.Load.{lengthOk, loadOf, loadNumber, loadRoutes, loadJoints, loadHomes, loadLengths};
-ghost use Rattle.load.specs.Load.{LentSides};
-ghost use Rattle.load.specs.Load.{Blank, Filled, noRoutes, noWalks, noDestinations};
-ghost use Rattle.load.specs.declared.Loaded.the-variants.{Refused as Unloaded};
+ghost use Rattle.load.specs.Load.{loadSides, Blank, Filled, noRoutes, noWalks, noDestinations};
 ghost use Rattle.load.specs.Walk.{walkOf};
 
 // The fewest bytes in which counts and capacities fit.
@@ -112,8 +109,7 @@ pub fn load(
         × (now (joints .exit) ≡ loadJoints (now (plan .entry)) (replicate 64 0) (loadOf (now (plan .entry))))
         × (now (homes .exit) ≡ loadHomes (now (plan .entry)) (replicate 32 0) (loadOf (now (plan .entry))))
         × (now (lengths .exit) ≡ loadLengths (now (plan .entry)) noWalks (loadOf (now (plan .entry))))
-        × LentSides (now (plan .entry)) l (now (by .exit))
-        × ((w : Why) → l ≡ Unloaded w → now (by .exit) ≡ noDestinations) ⌝ }
+        × (now (by .exit) ≡ loadSides (now (plan .entry)) noDestinations (loadOf (now (plan .entry)))) ⌝ }
 {
     clear(routes, joints, homes, lengths, by);
     let l = fill(plan, routes, joints, homes, lengths, by);

@@ -1,6 +1,5 @@
 -- What goes lies on no ring, what is left has a chain as long as there were sweeps; so the sweeps find a ring exactly
--- if
--- there is one.
+-- if there is one.
 use mathlib.Core.Path.{_≡_, refl, sym, ap, _∙_}
 use mathlib.Core.Logic.{_⊎_, inl, inr, _≢_}
 use mathlib.Core.Bool.{Bool, true, false, not, true≢false, false≢true, and-eq-true-iff}

@@ -61,8 +61,7 @@ fourRouters =
     ∷ 0 ∷ 128 ∷ []
 
 -- two routers, joined by their sides 2, each with an active on side 0 and a passive on side 1, S=4, capacities 1.
--- Routes:
--- the shortest. The set-ups of active 0 to passive 1 and of active 1 to passive 0 cross.
+-- Routes: the shortest. The set-ups of active 0 to passive 1 and of active 1 to passive 0 cross.
 -- 10 84 21 24 92 4C 06 02 30 04 26 22 10 00 45 20 88
 abbrev pub crossing : List ℕ
 crossing = 16 ∷ 132 ∷ 33 ∷ 36 ∷ 146 ∷ 76 ∷ 6 ∷ 2 ∷ 48 ∷ 4 ∷ 38 ∷ 34 ∷ 16 ∷ 0 ∷ 69 ∷ 32 ∷ 136 ∷ []
@@ -75,8 +74,7 @@ clockwise =
     ∷ 18 ∷ 32 ∷ []
 
 -- one router, S=4: side 0 to active 0, side 1 to active 1, side 2 to passive 0. Capacities: active out 3, in 3, U 2, Q
--- 2,
--- all others 1.
+-- 2, all others 1.
 -- 08 82 23 69 12 4C 04 26 00 00 28
 abbrev pub twoToOne : List ℕ
 twoToOne = 8 ∷ 130 ∷ 35 ∷ 105 ∷ 18 ∷ 76 ∷ 4 ∷ 38 ∷ 0 ∷ 0 ∷ 40 ∷ []
@@ -87,10 +85,9 @@ abbrev pub widerCrossing : List ℕ
 widerCrossing = 16 ∷ 132 ∷ 34 ∷ 68 ∷ 146 ∷ 76 ∷ 6 ∷ 2 ∷ 48 ∷ 4 ∷ 38 ∷ 34 ∷ 16 ∷ 0 ∷ 69 ∷ 32 ∷ 136 ∷ []
 
 -- a line of three routers with sensors and drives on each end, S=8. Router 0 is in the middle: side 0 to active 0, side
--- 1
--- to active 1, side 2 to side 0 of router 1, side 3 to side 0 of router 2. Router 1: side 1 to active 2, side 2 to
--- passive 0. Router 2: side 1 to active 3, side 2 to passive 1. Routes: the shortest. Capacities: active out 2, in 2,
--- U 2, passive in 2, all others 1.
+-- 1 to active 1, side 2 to side 0 of router 1, side 3 to side 0 of router 2. Router 1: side 1 to active 2, side 2 to
+-- passive 0. Router 2: side 1 to active 3, side 2 to passive 1. Routes: the shortest. Capacities: active out 2, in 2, U
+-- 2, passive in 2, all others 1.
 -- 19 04 42 48 92 8C 04 22 22 42 14 46 00 02 1C 66 20 00 29 A6 01 08 00 08 40
 abbrev pub lineOfThree : List ℕ
 lineOfThree =
@@ -98,11 +95,20 @@ lineOfThree =
     ∷ 64 ∷ []
 
 -- three routers, S=8. Router 0: side 0 to passive 0, side 1 to passive 1, side 2 to side 0 of router 2, side 3 to side
--- 0
--- of router 1. Router 1: side 1 to active 0, side 2 to passive 2. Router 2: side 1 to active 1, side 2 to passive 3.
+-- 0 of router 1. Router 1: side 1 to active 0, side 2 to passive 2. Router 2: side 1 to active 1, side 2 to passive 3.
 -- Routes: the shortest. Capacities: active out 4, in 4, passive out 1, all others 2.
 -- 18 88 44 89 24 8E 06 22 42 22 1C 06 40 02 14 26 60 03 40 B4 40 08 02 00 40
 abbrev pub drivesAround : List ℕ
 drivesAround =
     24 ∷ 136 ∷ 68 ∷ 137 ∷ 36 ∷ 142 ∷ 6 ∷ 34 ∷ 66 ∷ 34 ∷ 28 ∷ 6 ∷ 64 ∷ 2 ∷ 20 ∷ 38 ∷ 96 ∷ 3 ∷ 64 ∷ 180 ∷ 64 ∷ 8 ∷ 2
     ∷ 0 ∷ 64 ∷ []
+
+-- the crossing plan with S=8, active out 4, active in 4
+-- 10 84 44 84 92 4C 06 02 30 04 26 22 10 00 45 20 88
+abbrev pub roomyCrossing : List ℕ
+roomyCrossing = 16 ∷ 132 ∷ 68 ∷ 132 ∷ 146 ∷ 76 ∷ 6 ∷ 2 ∷ 48 ∷ 4 ∷ 38 ∷ 34 ∷ 16 ∷ 0 ∷ 69 ∷ 32 ∷ 136 ∷ []
+
+-- the router of narrowThere with F 1
+-- 08 C2 86 F1 9A 66 04 04 24 41 4C 00
+abbrev pub narrowSide : List ℕ
+narrowSide = 8 ∷ 194 ∷ 134 ∷ 241 ∷ 154 ∷ 102 ∷ 4 ∷ 4 ∷ 36 ∷ 65 ∷ 76 ∷ 0 ∷ []

@@ -8,26 +8,29 @@ use Prim.Native.Nat.{ℕ, zero, suc, _+_, _-_, _*_, _/_, _%_, _^_, _≤_, _<_}
 use native.Mathlib.Nat.{mod-lt, add-zero, zero-add, add-assoc, mul-mod-left}
 use native.Mathlib.Omega.{arith}
 use lib.Dec.{eqb, ltb}
-use lib.ListN.{getD, set, length}
-use lib.Pow.{pow-pos, shl-shr, shr-shr}
+use lib.ListN.{getD, set, length, replicate}
+use lib.Seq.{ext-getD}
+use lib.Pow.{pow-pos, pow-mono, shl-shr, shr-shr}
 use lib.Bits.{or-zero-l}
 use borrow.Author.Tests.{eqb-true, eq-eqb, ne-eqb, lt-ltb, le-ltb, ltb-true}
 use Rattle.basis.specs.Choice.{same-test, refuted, affirmed}
 use Rattle.basis.specs.Bounded.{allBelow, all-none, all-at, all-of, lt-or-ge}
-use Rattle.basis.specs.Fold.{fill, up-none, up-more}
-use Rattle.sets.specs.Sets.{has, single, either}
-use Rattle.sets.specs.Laws.{has-either, has-single, has-cut, has-past, none-has, no-member}
+use Rattle.basis.specs.Fold.{upTo, fill, up-none, up-more, up-same, fill-at, length-fill}
+use Rattle.sets.specs.Sets.{has, single, either, those}
+use Rattle.sets.specs.Laws.{has-either, has-single, has-cut, has-past, none-has, no-member, same-set, either-lt}
+use Rattle.sets.specs.Laws.{those-below, has-those}
 use Rattle.fields.specs.Bits.{fieldOf}
 use Rattle.fields.specs.Laws.{field-lt}
 use Rattle.plan.specs.Rules.{routeOk}
-use Rattle.routes.specs.Marks.{sideAt, Side, Put, PutIf, Group, laneOf, Laid, fitsOf, Empty, Row}
+use Rattle.routes.specs.Sides.{sideSet, sidesIn}
+use Rattle.routes.specs.Marks.{sideAt, Put, PutIf, Group, laneOf, Laid, fitsOf, Row}
 
 -- ---- truth
 or-none : (b : Bool) → (b || false) ≡ b
 or-none true = refl
 or-none false = refl
 
-pub same-or-not : (r x : ℕ) → (r ≡ x) ⊎ (r ≡ x → ⊥)
+same-or-not : (r x : ℕ) → (r ≡ x) ⊎ (r ≡ x → ⊥)
 same-or-not r x = by (lt-or-ge r x) (lt-or-ge x r)
   where
     by : (r < x) ⊎ (x ≤ r) → (x < r) ⊎ (r ≤ x) → (r ≡ x) ⊎ (r ≡ x → ⊥)
@@ -36,7 +39,7 @@ same-or-not r x = by (lt-or-ge r x) (lt-or-ge x r)
     by (inr l) (inr m) = inl (omega arith)
 
 -- two tests below bounds that move together
-pub ltb-alike : (i k j m : ℕ) → (i < k → j < m) → (j < m → i < k) → ltb i k ≡ ltb j m
+ltb-alike : (i k j m : ℕ) → (i < k → j < m) → (j < m → i < k) → ltb i k ≡ ltb j m
 ltb-alike i k j m f g =
     same-test (ltb i k) (ltb j m) (λ e. lt-ltb j m (f (ltb-true i k e))) (λ e. lt-ltb i k (g (ltb-true j m e)))
 
@@ -62,6 +65,43 @@ lead-ends at =
     let e : at + 3 * (5 * (at % 8) % 8) ≡ 8 * (at / 8 + 2 * (at % 8) - 3 * (5 * (at % 8) / 8)) = omega arith in
     omega arith
 
+-- ---- the sets by side
+module _ (side : ℕ → ℕ) (n : ℕ) where
+  set-lt : (o : ℕ) → n ≤ 32 → sideSet side n o < 2 ^ 32
+  set-lt o l =
+      let a = those-below n (λ d. eqb (side d) o) in let b = pow-mono {i = n} {j = 32} l in omega arith
+
+  pub set-has : (o d : ℕ) → has (sideSet side n o) d ≡ (ltb d n && eqb (side d) o)
+  set-has o d = by (lt-or-ge d n)
+    where
+      by : (d < n) ⊎ (n ≤ d) → has (sideSet side n o) d ≡ (ltb d n && eqb (side d) o)
+      by (inl l) = has-those n (λ i. eqb (side i) o) d l ∙ rw (lt-ltb d n l)
+      by (inr l) = has-past n (sideSet side n o) d (those-below n (λ i. eqb (side i) o)) l ∙ rw (le-ltb d n l)
+
+  pub side-at : (o : ℕ) → o < 4 → getD (sidesIn side n) o 0 ≡ sideSet side n o
+  unfolding sidesIn
+  side-at o l = fill-at (sideSet side n) 4 (replicate 4 0) o 0 l (omega arith)
+
+  sides-are : {sides : List ℕ} → length sides ≡ 4 → ((o : ℕ) → o < 4 → getD sides o 0 ≡ sideSet side n o)
+      → sides ≡ sidesIn side n
+  unfolding sidesIn
+  sides-are {sides} four at =
+      ext-getD 0 sides (sidesIn side n) (four ∙ sym (length-fill (sideSet side n) 4 (replicate 4 0)))
+      (λ o l. at o (omega arith) ∙ sym (side-at o (omega arith)))
+
+-- routers that give the same sides have the same sets
+pub sides-same : (side other : ℕ → ℕ) (n : ℕ) → ((d : ℕ) → d < n → side d ≡ other d)
+    → sidesIn side n ≡ sidesIn other n
+unfolding sidesIn
+sides-same side other n e =
+    up-same (fill (sideSet side n)) (fill (sideSet other n)) 4 (replicate 4 0) (λ o t l. ap (set t o) (same o))
+  where
+    same : (o : ℕ) → sideSet side n o ≡ sideSet other n o
+    same o =
+        same-set n (sideSet side n o) (sideSet other n o) (those-below n (λ d. eqb (side d) o))
+        (those-below n (λ d. eqb (other d) o))
+        (λ d l. set-has side n o d ∙ rw (e d l) (sym (set-has other n o d)))
+
 -- ---- members of a set that is shifted
 has-down : (s k i : ℕ) → has (s / 2 ^ k) i ≡ has s (k + i)
 unfolding has
@@ -73,7 +113,12 @@ has-up s d i = sym (has-down (s * 2 ^ d) d i) ∙ ap (λ (x : ℕ). has x i) (sh
 has-under : (s d i : ℕ) → i < d → has (s * 2 ^ d) i ≡ false
 has-under s d i l = sym (has-cut d (s * 2 ^ d) i l) ∙ ap (λ (x : ℕ). has x i) (mul-mod-left s (2 ^ d)) ∙ none-has i
 
--- a lane's members are columns from d on
+-- a lane is a set of columns below 32
+lane-lt : (s o d : ℕ) → laneOf s o d < 2 ^ 32
+unfolding laneOf
+lane-lt s o d = mod-lt (s / 2 ^ (8 * o) % 2 ^ 8 * 2 ^ d % 2 ^ 64) (pow-pos 32)
+
+-- its members are columns from d on
 module _ (s o d : ℕ) (few : d ≤ 32) where
   abbrev members : ℕ
   members = s / 2 ^ (8 * o) % 2 ^ 8
@@ -81,10 +126,6 @@ module _ (s o d : ℕ) (few : d ≤ 32) where
   cut : (i : ℕ) → i < 32 → has (laneOf s o d) i ≡ has (members * 2 ^ d) i
   unfolding laneOf
   cut i l = has-cut 32 (members * 2 ^ d % 2 ^ 64) i l ∙ has-cut 64 (members * 2 ^ d) i (omega arith)
-
-  lane-past : (i : ℕ) → 32 ≤ i → has (laneOf s o d) i ≡ false
-  unfolding laneOf
-  lane-past i l = has-past 32 (laneOf s o d) i (mod-lt (members * 2 ^ d % 2 ^ 64) (pow-pos 32)) l
 
   lane-under : (i : ℕ) → i < d → has (laneOf s o d) i ≡ false
   lane-under i l = cut i (omega arith) ∙ has-under members d i l
@@ -196,24 +237,26 @@ module _ (g : ℕ → ℕ) where
 
   -- ---- a group is laid to the row
   module _ (small : (i : ℕ) → g i < 8) (d m : ℕ) (room : d + m ≤ 32) (eight : m ≤ 8) where
-    side-more : (o u s : ℕ) → ((k : ℕ) → k < 8 → has s (8 * o + k) ≡ (ltb k m && eqb (g (d + k)) o)) → Side g d o u
-        → Side g (d + m) o (either u (laneOf s o d))
-    side-more o u s lanes side i =
-        has-either u (laneOf s o d) i ∙ rw (side i) (by (lt-or-ge i d) (lt-or-ge i 32) (lt-or-ge (i - d) 8))
+    side-more : (o s : ℕ) → ((k : ℕ) → k < 8 → has s (8 * o + k) ≡ (ltb k m && eqb (g (d + k)) o))
+        → either (sideSet g d o) (laneOf s o d) ≡ sideSet g (d + m) o
+    side-more o s lanes =
+        same-set 32 (either (sideSet g d o) (laneOf s o d)) (sideSet g (d + m) o)
+        (either-lt 32 (sideSet g d o) (laneOf s o d) (set-lt g d o (omega arith)) (lane-lt s o d))
+        (set-lt g (d + m) o room)
+        (λ i l. has-either (sideSet g d o) (laneOf s o d) i
+        ∙ rw (set-has g d o i, set-has g (d + m) o i) (by i l (lt-or-ge i d) (lt-or-ge (i - d) 8)))
       where
-        by : (i < d) ⊎ (d ≤ i) → (i < 32) ⊎ (32 ≤ i) → (i - d < 8) ⊎ (8 ≤ i - d)
+        by : (i : ℕ) → i < 32 → (i < d) ⊎ (d ≤ i) → (i - d < 8) ⊎ (8 ≤ i - d)
             → ((ltb i d && eqb (g i) o) || has (laneOf s o d) i) ≡ (ltb i (d + m) && eqb (g i) o)
-        by (inl a) b c =
+        by i b (inl a) c =
             rw (lt-ltb i d a, lane-under s o d (omega arith) i a, lt-ltb i (d + m) (omega arith))
             (or-none (eqb (g i) o))
-        by (inr a) (inr b) c =
-            rw (le-ltb i d a, lane-past s o d (omega arith) i b, le-ltb i (d + m) (omega arith))
-        by (inr a) (inl b) (inl c) =
+        by i b (inr a) (inl c) =
             let here : d + (i - d) ≡ i = omega arith in
             let at : has (laneOf s o d) i ≡ (ltb (i - d) m && eqb (g i) o) =
             rw here at (lane-has s o d (omega arith) (i - d) c (omega arith) ∙ lanes (i - d) c) in
             rw (le-ltb i d a, at, ltb-alike (i - d) m i (d + m) (λ t. omega arith) (λ t. omega arith))
-        by (inr a) (inl b) (inr c) =
+        by i b (inr a) (inr c) =
             let here : d + (i - d) ≡ i = omega arith in
             let at : has (laneOf s o d) i ≡ false =
             rw here at (lane-over s o d (omega arith) (i - d) c (omega arith)) in
@@ -273,26 +316,26 @@ module _ (g : ℕ → ℕ) where
 
       pub row-more : {sides′ : List ℕ} → Laid s d sides sides′ → Row g (d + m) first row′ sides′ (fitsOf (either a s))
       row-more laid = record {
-        four = laid .four;
         filled = new .filled first (w .filled);
-        sets = λ o l i.
-            ap (λ (x : ℕ). has x i) (laid .sets o l)
-            ∙ side-more o (getD sides o 0) s (λ k r. new .lanes o k r) (w .sets o l) i;
+        sets = sides-are g (d + m) (laid .four)
+            (λ o l. laid .sets o l
+            ∙ ap (λ (x : List ℕ). either (getD x o 0) (laneOf s o d)) (w .sets)
+            ∙ ap (λ (x : ℕ). either x (laneOf s o d)) (side-at g d o l)
+            ∙ side-more o s (λ k r. new .lanes o k r));
         fit = same-test (fitsOf (either a s)) (allBelow (d + m) ok) to from;
       }
 
   -- the first group of a row
-  pub row-first : ((i : ℕ) → g i < 8) → (m : ℕ) {row row′ sides sides′ : List ℕ} {s : ℕ} → m ≤ 8 → Empty sides
+  pub row-first : ((i : ℕ) → g i < 8) → (m : ℕ) {row row′ sides sides′ : List ℕ} {s : ℕ} → m ≤ 8 → sides ≡ replicate 4 0
       → Group g 0 m row row′ s → Laid s 0 sides sides′ → Row g m row row′ sides′ (fitsOf s)
-  unfolding either
+  unfolding either upTo those sidesIn
   row-first small m {row} {row′} {sides} {sides′} {s} l w new laid =
       rw (zero-add m, or-zero-l s) at (row-more small 0 m (omega arith) l 0 before new laid)
     where
       before : Row g 0 row row sides (fitsOf 0)
       before = record {
-        four = w .four;
         filled = up-none (fill g) row;
-        sets = λ o r i. w .none o i r ∙ rw (le-ltb i 0 (omega arith));
+        sets = w;
         fit = none-fits 0 (λ j r. none-has (32 + j)) ∙ sym (all-none (λ i. routeOk (g i)));
       }
 

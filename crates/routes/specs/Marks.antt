@@ -1,7 +1,7 @@
 -- How the code reads routes: row by row, into the table and into sets of columns by side.
 use mathlib.Core.Path.{_≡_}
-use mathlib.Core.Bool.{Bool, false, _&&_}
-use mathlib.Core.List.{List, []}
+use mathlib.Core.Bool.{Bool, _&&_}
+use mathlib.Core.List.{List}
 use Prim.Native.Nat.{ℕ, _+_, _*_, _/_, _%_, _^_, _≤_, _<_}
 use lib.Dec.{eqb, ltb}
 use lib.ListN.{getD, set, length, replicate}
@@ -10,18 +10,14 @@ use Rattle.basis.specs.Fold.{upTo, fill}
 use Rattle.sets.specs.Sets.{has, single, either}
 use Rattle.fields.specs.Bits.{fieldOf}
 use Rattle.plan.specs.declared.Head.{Head}
-use Rattle.plan.specs.Head.{destinations}
 use Rattle.plan.specs.Plan.{noSide}
 use Rattle.plan.specs.Rules.{routeOk}
-use Rattle.plan.specs.Tables.{routesOf, routesOk}
+use Rattle.plan.specs.Tables.{tablePlan, routesOf, routesOk}
+use Rattle.routes.specs.Sides.{sidesIn, sidesOf}
 
 -- the side that a row, whose bits start at a position, gives for a column
 unfoldable pub sideAt : List ℕ → ℕ → ℕ → ℕ
 sideAt b at d = fieldOf b (at + 3 * d) 3
-
--- the columns below k whose side is o
-abbrev pub Side : (ℕ → ℕ) → ℕ → ℕ → ℕ → Type 0
-Side g k o s = (i : ℕ) → has s i ≡ (ltb i k && eqb (g i) o)
 
 -- ---- up to eight columns at a time, in one word
 -- a column's side is put into a row at d + k, and into a word as member k of the side's lane
@@ -53,16 +49,10 @@ unfoldable pub fitsOf : ℕ → Bool
 fitsOf s = eqb (s / 2 ^ 32 % 2 ^ 24) 0
 
 -- ---- a row
--- four sets without members
-pub record Empty (sides : List ℕ) : Type 0 where
-  pub four : length sides ≡ 4
-  pub none : (o i : ℕ) → o < 4 → has (getD sides o 0) i ≡ false
-
 -- a row of n columns, its sets by side, and whether each column has a side or none
 pub record Row (g : ℕ → ℕ) (n : ℕ) (row row′ sides : List ℕ) (ok : Bool) : Type 0 where
-  pub four : length sides ≡ 4
   pub filled : row′ ≡ upTo (fill g) n row
-  pub sets : (o : ℕ) → o < 4 → Side g n o (getD sides o 0)
+  pub sets : sides ≡ sidesIn g n
   pub fit : ok ≡ allBelow n (λ i. routeOk (g i))
 
 -- ---- all routers
@@ -70,9 +60,9 @@ pub record Row (g : ℕ → ℕ) (n : ℕ) (row row′ sides : List ℕ) (ok : B
 abbrev pub NoRoutes : List (List ℕ) → List (List ℕ) → Type 0
 NoRoutes t by = (t ≡ replicate 16 (replicate 32 noSide)) × (by ≡ replicate 16 (replicate 4 0))
 
--- the route table, the destinations by router and side, and refusal 4's test of routes
+-- the route table; the destinations by router and side, of a plan with these routes and any joints; and refusal 4's
+-- test of routes
 pub record Routes (b : List ℕ) (h : Head) (t by : List (List ℕ)) (ok : Bool) : Type 0 where
   pub table : t ≡ routesOf b h
-  pub sides : (r o d : ℕ) → o < 4
-      → has (getD (getD by r []) o 0) d ≡ (ltb d (destinations h) && eqb (getD (getD t r []) d noSide) o)
+  pub sides : (joints : List ℕ) → by ≡ sidesOf (tablePlan h t joints)
   pub fit : ok ≡ routesOk h t

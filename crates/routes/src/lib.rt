@@ -10,11 +10,11 @@ use sets::long;
 use sets::long::with;
 ghost use mathlib.Core.Path.{_≡_};
 ghost use Prim.Native.Nat.{_≤_, _<_, _+_, _*_, _%_};
-ghost use lib.ListN.{length};
+ghost use lib.ListN.{length, replicate};
 ghost use Rattle.fields.specs.Bits.{fieldOf};
 ghost use Rattle.sets.specs.Sets.{either};
 ghost use Rattle.plan.specs.Head.{Counts, bitCount};
-ghost use Rattle.routes.specs.Marks.{sideAt, fitsOf, laneOf, Put, PutIf, Group, Laid, Empty, Row, NoRoutes};
+ghost use Rattle.routes.specs.Marks.{sideAt, fitsOf, laneOf, Put, PutIf, Group, Laid, Row, NoRoutes};
 ghost use Rattle.routes.specs.Marks.{Routes};
 
 // What the table holds where the plan gives no side.
@@ -147,7 +147,7 @@ fn fits(s: u64) -> bool
 
 // A row of any number of columns, eight at a time where they begin at a byte's first bit.
 fn long_row(plan: &[u8], n: usize, at: usize, row: &mut [u8; 32], sides: &mut [u32; 4]) -> bool
-    requires { ⌜ (n ≤ 32) × (at < 100000) × (at + 3 * n ≤ 8 * length (now plan)) × Empty (now sides) ⌝ }
+    requires { ⌜ (n ≤ 32) × (at < 100000) × (at + 3 * n ≤ 8 * length (now plan)) × (now sides ≡ replicate 4 0) ⌝ }
     ensures { λ ok. ⌜ Row (sideAt (now (plan .entry)) at) n (now (row .entry)) (now (row .exit)) (now (sides .exit))
         ok ⌝ }
 {
@@ -168,7 +168,7 @@ fn long_row(plan: &[u8], n: usize, at: usize, row: &mut [u8; 32], sides: &mut [u
 
 // A row of at most eight columns.
 fn short_row(plan: &[u8], n: usize, at: usize, row: &mut [u8; 32], sides: &mut [u32; 4]) -> bool
-    requires { ⌜ (n ≤ 8) × (at < 100000) × (at + 3 * n ≤ 8 * length (now plan)) × Empty (now sides) ⌝ }
+    requires { ⌜ (n ≤ 8) × (at < 100000) × (at + 3 * n ≤ 8 * length (now plan)) × (now sides ≡ replicate 4 0) ⌝ }
     ensures { λ ok. ⌜ Row (sideAt (now (plan .entry)) at) n (now (row .entry)) (now (row .exit))
         (now (sides .exit)) ok ⌝ }
 {
@@ -180,7 +180,7 @@ fn short_row(plan: &[u8], n: usize, at: usize, row: &mut [u8; 32], sides: &mut [
 // The routes of one router, n of them, whose bits start at a position, into its row and into sets of columns by side,
 // which are empty before; answers whether each is a side or none.
 fn read_row(plan: &[u8], n: usize, at: usize, row: &mut [u8; 32], sides: &mut [u32; 4]) -> bool
-    requires { ⌜ (n ≤ 32) × (at < 100000) × (at + 3 * n ≤ 8 * length (now plan)) × Empty (now sides) ⌝ }
+    requires { ⌜ (n ≤ 32) × (at < 100000) × (at + 3 * n ≤ 8 * length (now plan)) × (now sides ≡ replicate 4 0) ⌝ }
     ensures { λ ok. ⌜ Row (sideAt (now (plan .entry)) at) n (now (row .entry)) (now (row .exit))
         (now (sides .exit)) ok ⌝ }
 {

@@ -38,7 +38,7 @@ some-requires c κs = (omega arith, omega arith, omega arith, omega arith)
 
 -- src/lib.rt:147:5
 lay-requires : tie.Need-lay-requires Inv-loop μ-loop
-lay-requires c κs = (omega arith, c .before .before .before .before .before .pre .3 .four)
+lay-requires c κs = search needs
 
 -- src/lib.rt:148:14
 sub-g : tie.Need-sub-g Inv-loop μ-loop

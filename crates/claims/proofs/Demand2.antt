@@ -74,6 +74,8 @@ module _ (p : List ℕ) (c : Call) (b : List ℕ) (accepts : (w : Refusal) → c
         let rule = call-accepted (planOf p) c (decode (planOf p) b) none-applies in
         record {
           found = record { state = decode (planOf p) b; rest = past (size (planOf p)) b; good = g .0; same = g .1 };
+          decoded = refl;
+          past-it = refl;
           answer = ap (λ (x : Given). x .answer) stores ∙ rw rule;
           bytes = ap (λ (x : Given). x .bytes) stores ∙ rw rule;
         }

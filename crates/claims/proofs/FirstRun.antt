@@ -77,7 +77,7 @@ along p b all k before (c ∷ cs) e =
     (ap (answersIn p cs) (sym (bytes-more p before c b)) ∙ more
     ∙ ap (ruledAnswers (planOf p) cs) (ruled-more (planOf p) before c (start (planOf p))))
 
--- ---- plan T loads, and has 1,362 bytes
+-- ---- plan T loads, and has 1,635 bytes
 some-number : (w : Refusal) → 1 ≤ refusalNumber w
 some-number TooShort = omega arith
 some-number OutOfRange = omega arith

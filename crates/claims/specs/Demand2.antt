@@ -18,13 +18,16 @@ use Rattle.machine.specs.Calls.{Call, accepted}
 use Rattle.layout.specs.Rows.{past}
 use Rattle.layout.specs.Offsets.{size}
 use Rattle.layout.specs.Encode.{encode}
+use Rattle.layout.specs.Decode.{decode}
 use Rattle.claims.specs.Calls.{startOn, callOn}
 use Rattle.claims.specs.Conditions.{StateBytes}
 
--- the call found the bytes of a state, and has left those of the state that the rule gives of it, with the rule's
--- answer
+-- the call found the bytes of a state, the one that `decode` gives of them, and has left those of the state that the
+-- rule gives of it, with the rule's answer; the bytes past the state are as they were
 pub record Follows (p : List ℕ) (c : Call) (b : List ℕ) : Type 0 where
   pub found : StateBytes (planOf p) b
+  pub decoded : found .state ≡ decode (planOf p) b
+  pub past-it : found .rest ≡ past (size (planOf p)) b
   pub answer : callOn p c b .answer ≡ accepted (planOf p) c (found .state) .answer
   pub bytes : callOn p c b .bytes ≡ encode (planOf p) (accepted (planOf p) c (found .state) .state) (found .rest)
 

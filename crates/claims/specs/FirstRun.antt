@@ -1,5 +1,5 @@
 -- Demand 3 used: document 01's first starred run on plan T, 'Launch (0,0,0) in round 0 .. consumed in round 7 with
--- slot 1, hub 1' (looked at and dropped, from document 02 (c) on), by the calls on 1,362 bytes that an accepted Start
+-- slot 1, hub 1' (looked at and dropped, from document 02 (c) on), by the calls on 1,635 bytes that an accepted Start
 -- left, and then an Entry for each entry of the table.
 use mathlib.Core.Path.{_≡_}
 use mathlib.Core.List.{List, [], _∷_, _++_}

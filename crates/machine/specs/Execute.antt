@@ -28,8 +28,7 @@ use Rattle.machine.specs.State.{State, Choice, nobody, sender, withPhase
 use Rattle.machine.specs.State.{withChoice, withEntry, join, isFree}
 
 -- ---- (1) 'Each unit handles Q's head once, if not yet handled, and no second head in that round'; by document 02 (i)
--- 'A
--- unit handles each queue's unhandled head once in a round, side 0 first'
+-- 'A unit handles each queue's unhandled head once in a round, side 0 first'
 -- 'the packet becomes a NACK, slot and hub kept'
 abbrev pub declined : Packet → Packet
 declined x = record { kind = Nack; active = x .active; passive = x .passive; slot = x .slot; hub = x .hub }

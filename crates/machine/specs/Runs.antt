@@ -18,3 +18,7 @@ pub mod Looking
 pub mod Crossing
 pub mod BothEnds
 pub mod Waited
+pub mod Queues
+pub mod NoCredit
+pub mod Spoilt
+pub mod Reached

@@ -1,3 +1,4 @@
 pub mod Ties
 pub mod Test
 pub mod Runs
+pub mod Clauses

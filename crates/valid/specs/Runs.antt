@@ -41,7 +41,9 @@ use Rattle.valid.specs.Test.{meetsTest, aheadTest, returnsTest, backTest
 use Rattle.valid.specs.Test.{slotTest, entriesTest, capacitiesTest, placesTest, wiresTest, wiresEmptyTest}
 use Rattle.valid.specs.Test.{choicesTest, flagsDownTest, pickedDownTest, outFlagsTest, marksTest, freeEntryTest}
 use Rattle.valid.specs.Test.{creditsTest, outCreditsTest, allowancesTest, turnsTest, validTest}
-use Rattle.plan.specs.Samples.{planT as bytesT, allSides}
+use Rattle.plan.specs.Samples.{planT as bytesT, allSides, twoToOne, narrowBack}
+use Rattle.machine.specs.Runs.BothEnds.{withU0Remembered}
+use Rattle.machine.specs.Runs.Spoilt.{anothersEntry, otherStored, bookedBehind}
 
 -- plan T of document 01
 abbrev planT : Plan
@@ -301,3 +303,18 @@ passesThen pl c s = validTest pl s ∷ isAccepted (call pl c s .answer) ∷ vali
 pub valid-then-not : passesThen planT (drop 0) (answered (start planT)) ≡ true ∷ true ∷ false ∷ []
 unfolding passesThen
 valid-then-not = refl
+
+-- ---- the states at which runs of `machine` begin that begin at another state than Start's
+unfoldable pub isValid : Plan → State → Bool
+unfolding valid
+isValid pl s = validTest pl s
+
+pub spoilt-states :
+    isValid planT (anothersEntry planT)
+    ∷ isValid (planOf narrowBack) (otherStored (planOf narrowBack))
+    ∷ isValid (planOf narrowBack) (bookedBehind (planOf narrowBack))
+    ∷ isValid (planOf twoToOne) (withU0Remembered (planOf twoToOne))
+    ∷ []
+    ≡ true ∷ true ∷ true ∷ true ∷ []
+unfolding isValid
+spoilt-states = refl

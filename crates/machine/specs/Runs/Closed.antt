@@ -18,9 +18,9 @@ use Rattle.packets.specs.Answers.{refused, done, shows}
 use Rattle.machine.specs.Runs.Capacities.{out-queue-full}
 use Rattle.machine.specs.Runs.Watch.{once}
 
--- ---- two routers, S=4. Active 1, at the second router, is connected from slot 0 on; active 0, at the first, from slot
--- 2
--- calls up to the WRITE in which active 1 has dropped its ACK: round 7
+-- ---- two routers, S=4. Active 1, at the second router, is connected from slot 0 on; active 0, at the first, from
+-- slot 2.
+-- The calls up to the WRITE in which active 1 has dropped its ACK: round 7
 abbrev pub otherConnects : List Call
 otherConnects =
     launch 1 0 0 ∷ manyRounds 4 ++ inWrite (reply 0 1) ++ write ∷ manyRounds 2 ++ inWrite (drop 1)

@@ -6,7 +6,7 @@ use Rattle.packets.specs.declared.Kind.the-variants.{Setup, Nack}
 use Rattle.packets.specs.declared.Packet.{Packet}
 use Rattle.feeding.specs.Queue.{activeOut, activeIn, Q}
 use Rattle.machine.specs.Calls.{Call, read, execute, write, launch, look, drop}
-use Rattle.machine.specs.Runs.Watch.{round, packet, after, steady, watch}
+use Rattle.machine.specs.Runs.Watch.{round, manyRounds, packet, after, steady, moments, watch}
 use Rattle.machine.specs.Runs.FirstBookings.{side1, free, bookedSide, launchedSetup, setup, ack, launchInRound0}
 use Rattle.plan.specs.Samples.{planT}
 use Rattle.packets.specs.Answers.{done, shows}
@@ -78,3 +78,12 @@ pub last-free-entry : watch planT side1 (activeOut 0 ∷ Q 0 0 ∷ activeIn 0 �
     ++ after (shows nack) bookedSide (inIn nack) ∷ after done bookedSide quiet ∷ after done bookedSide quiet ∷ []
 unfolding watch
 last-free-entry = once flag-before-mark refl
+
+-- ---- 'the only free entry of o': with slot 0 free too, slot 1 is not the only one
+abbrev pub slot1First : List Call
+slot1First = launch 0 0 1 ∷ manyRounds 2 ++ read ∷ execute ∷ []
+
+pub slot-0-is-left : moments planT side1 (Q 0 0 ∷ []) (slot1First ∷ [])
+    ≡ after done (4 ∷ 0 ∷ []) ((packet Setup 0 0 0 1 ∷ []) ∷ []) ∷ []
+unfolding moments
+slot-0-is-left = once last-free-entry refl

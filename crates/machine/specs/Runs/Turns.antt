@@ -27,17 +27,23 @@ lastToUnit s = s .lastSender (toUnit 0) ∷ []
 
 -- ---- two senders at side 1: answer F[1], of rank 1, with NACKs of the unit, and K[0,1], of rank 2, with ACKs of
 -- passive 0. The last in order has rank 4: an output starts as if it had sent
-abbrev pub twoSenders : List (List Call)
-twoSenders =
+abbrev pub bothWait : List (List Call)
+bothWait =
     -- round 0: two set-ups, then three for an entry that is booked; round 4: the passive accepts
     (each (launch 0 0) (8 ∷ 10 ∷ 8 ∷ 8 ∷ 8 ∷ []) ++ manyRounds 4 ++ inWrite (reply 0 1))
     -- round 5: a NACK waits; it accepts again
     ∷ (write ∷ read ∷ [])
     ∷ (execute ∷ reply 0 1 ∷ write ∷ [])
-    -- round 6: after READ, EXECUTE and WRITE; then after READ and WRITE of rounds 7 to 9
+    -- round 6: after READ and EXECUTE
     ∷ (read ∷ [])
     ∷ (execute ∷ [])
-    ∷ (write ∷ [])
+    ∷ []
+
+abbrev pub twoSenders : List (List Call)
+twoSenders =
+    bothWait
+    -- round 6: after WRITE; then after READ and WRITE of rounds 7 to 9
+    ++ (write ∷ [])
     ∷ (read ∷ [])
     ∷ (execute ∷ write ∷ [])
     ∷ (read ∷ [])

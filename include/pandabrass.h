@@ -9,9 +9,13 @@
  *   asked for. The calls may be used from several threads at once on different states.
  * - A pointer is not null, also where its count is 0. State and `out` do not overlap each other or the plan.
  * - An answer is 0 (PANDABRASS_ACCEPTED) or the number of the first refusal that applies. A refusal alters no byte.
- * - Every call but pandabrass_walk and pandabrass_size answers Load's refusals, 1 to 6, first. Every call on a state
- *   answers 7 for bytes that are not a state of the plan: any bytes may be handed in.
- * - Bytes past the state are never written. `out` is written only by an accepted call.
+ * - Every call but pandabrass_walk and pandabrass_size answers Load's refusals, 1 to 6, first; these two answer 0 then.
+ *   Every call on a state but Start answers 7 for bytes that are not a state of the plan: any bytes may be handed in.
+ * - Numbers count from 0. What the plan does not have is answered 9: an active, a passive, a router, a side from 4 on,
+ *   a slot from S on. pandabrass_walk answers 0 then.
+ * - Bytes past the state are never written; the buffer may be longer than the state.
+ * - `out` has eight bytes. Only an accepted call writes there, and only the bytes that its answer fills: of Look
+ *   out[0] to out[4], of Entry out[0], of Remaining all eight. The others stay as they were.
  */
 #ifndef PANDABRASS_H
 #define PANDABRASS_H
@@ -37,7 +41,7 @@ enum pandabrass_answer {
     /* of the state and the call */
     PANDABRASS_NOT_STATE = 7,     /* not a state; of Start: state buffer too short */
     PANDABRASS_WRONG_PHASE = 8,   /* another phase */
-    PANDABRASS_BAD_NUMBER = 9,    /* a number out of range */
+    PANDABRASS_BAD_NUMBER = 9,    /* a number or a choice out of range */
     PANDABRASS_NOT_SERVED = 10,   /* pair not served */
     PANDABRASS_NO_ALLOWANCE = 11, /* allowance 0 */
     PANDABRASS_QUEUE_FULL = 12,   /* out-queue full */
@@ -55,7 +59,7 @@ enum pandabrass_kind {
     PANDABRASS_NACK = 3 /* with hub 0 it is marked */
 };
 
-/* What pandabrass_reply takes. */
+/* What pandabrass_reply takes; 2 and more are answered 9. */
 enum pandabrass_choice { PANDABRASS_DECLINE = 0, PANDABRASS_ACCEPT = 1 };
 
 /* out[0] of pandabrass_entry where the entry is free. */
@@ -75,7 +79,8 @@ uint32_t pandabrass_load(const uint8_t *plan, size_t n);
  * pair is not served. */
 uint32_t pandabrass_walk(const uint8_t *plan, size_t n, uint32_t active, uint32_t passive);
 
-/* Start: 0, or 1 to 7. Looks at nothing in the state buffer but its length l, which is at least pandabrass_size. */
+/* Start: 0, or 1 to 7. 7 means that the state buffer is too short for the plan: its length l is below pandabrass_size.
+ * What the buffer holds does not matter; an accepted Start writes its first pandabrass_size bytes, all of them. */
 uint32_t pandabrass_start(const uint8_t *plan, size_t n, uint8_t *state, size_t l);
 
 /* Read: 0, or 1 to 8. Each wire's packet joins its queue, each raised flag becomes a credit. */
@@ -88,7 +93,7 @@ uint32_t pandabrass_execute(const uint8_t *plan, size_t n, uint8_t *state, size_
  * one. */
 uint32_t pandabrass_write(const uint8_t *plan, size_t n, uint8_t *state, size_t l);
 
-/* Launch, in READ: 0, or 1 to 12. A SETUP joins the active's out-queue. */
+/* Launch, in READ: 0, or 1 to 12. A SETUP joins the active's out-queue, and the active's allowance falls by one. */
 uint32_t pandabrass_launch(const uint8_t *plan, size_t n, uint8_t *state, size_t l, uint32_t active, uint32_t passive,
                            uint32_t slot);
 
@@ -100,8 +105,8 @@ uint32_t pandabrass_launch(const uint8_t *plan, size_t n, uint8_t *state, size_t
 uint32_t pandabrass_close(const uint8_t *plan, size_t n, uint8_t *state, size_t l, uint32_t active, uint32_t passive,
                           uint32_t slot);
 
-/* Reply, in WRITE: 0, or 1 to 9, 14, 13, 12. The head of the passive's in-queue becomes an ACK or a NACK in its
- * out-queue. */
+/* Reply, in WRITE: 0, or 1 to 9, 14, 13, 12. The head of the passive's in-queue becomes an ACK (choice 1) or a NACK
+ * (choice 0) in its out-queue; a choice of 2 or more is answered 9. One packet a round: a second Reply answers 14. */
 uint32_t pandabrass_reply(const uint8_t *plan, size_t n, uint8_t *state, size_t l, uint32_t passive, uint32_t choice);
 
 /* Look, in every phase: 0, or 1 to 7, 9, 13. Shows the head of the active's in-queue, which stays there: kind, active,

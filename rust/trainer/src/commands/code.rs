@@ -3,7 +3,7 @@
 use super::check::told;
 use super::{Args, Command, Done, FINE, REFUSED, UNREAD};
 use crate::plan::{decode, faults, PlanFile};
-use crate::print::{Json, Paint};
+use crate::print::{output, Json, Paint};
 
 /// Text to bytes.
 pub const ENCODE: Command = Command {
@@ -104,8 +104,8 @@ fn open(args: &Args) -> Result<PlanFile, Done> {
 /// Puts the output into the file that -o names.
 pub fn keep(args: &Args, done: Done) -> Done {
     let Some(file) = args.value("-o") else { return done };
-    match std::fs::write(file, &done.out) {
+    match output::file(file, &done.out) {
         Ok(()) => Done { out: Vec::new(), ..done },
-        Err(error) => Done::error(format!("{file}: cannot be written: {error}\n"), UNREAD),
+        Err(unwritten) => unwritten.into(),
     }
 }

@@ -17,7 +17,7 @@ usage: pandabrass [COMMAND] ..          without a command: the first run of docu
     text += "
 pandabrass COMMAND --help tells more. Every answer and every state that is shown comes from the
 proved library. Exit status: 0; 1 if an expectation failed or something was refused; 2 if
-something cannot be read. Colour is used on a terminal only, and not if NO_COLOR is set.
+something cannot be read or written. Colour is used on a terminal only, and not if NO_COLOR is set.
 ";
     text
 }

@@ -1,10 +1,10 @@
 //! `lesson`: the points that students get wrong, by the proved rule and by the student's.
 
-use std::io::{IsTerminal, Write};
+use std::io::IsTerminal;
 
 use super::{Args, Command, Done, FINE, UNREAD};
 use crate::lesson::{self, Lesson, LESSONS};
-use crate::print::{map, wrap, Colour, Json, Paint};
+use crate::print::{map, output, wrap, Colour, Json, Paint};
 
 /// The command.
 pub const LESSON: Command = Command {
@@ -52,8 +52,10 @@ fn run(args: &Args) -> Done {
     if !(std::io::stdin().is_terminal() && std::io::stdout().is_terminal()) {
         return Done::text(question + "The answer: --answers\n", FINE);
     }
-    print!("{question}{}", paint.text(Colour::Dim, "Enter shows the answer .. "));
-    let _ = std::io::stdout().flush();
+    let asked = question + &paint.text(Colour::Dim, "Enter shows the answer .. ");
+    if let Err(unwritten) = output::out(asked.as_bytes()) {
+        return unwritten.into();
+    }
     let _ = std::io::stdin().read_line(&mut String::new());
     Done::text(answer(lesson, paint), FINE)
 }

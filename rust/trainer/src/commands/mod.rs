@@ -12,12 +12,17 @@ mod show;
 
 pub use args::Args;
 
+use crate::print::{output, Unwritten};
+
 /// All is well.
 pub const FINE: u8 = 0;
 /// An expectation failed, or something was refused.
 pub const REFUSED: u8 = 1;
-/// Something cannot be read.
+/// Something cannot be read or written.
 pub const UNREAD: u8 = 2;
+/// The reader of the output has gone away, as `head` does: the status that a shell gives to a program
+/// which a closed pipe ends, 128 + 13 (SIGPIPE).
+pub const GONE: u8 = 141;
 
 /// What a command leaves.
 #[derive(Clone, Debug, Default)]
@@ -39,6 +44,26 @@ impl Done {
     /// A message for the standard error.
     pub fn error(message: impl Into<String>, status: u8) -> Done {
         Done { out: Vec::new(), err: message.into(), status }
+    }
+
+    /// Writes it all and gives the exit status; what cannot be written is told last.
+    pub fn deliver(self) -> u8 {
+        let out = output::out(&self.out);
+        let err = output::err(&self.err);
+        let Err(unwritten) = out.and(err) else { return self.status };
+        let failed = Done::from(unwritten);
+        // Where this cannot be told either, the status tells it.
+        let _ = output::err(&failed.err);
+        failed.status
+    }
+}
+
+impl From<Unwritten> for Done {
+    fn from(unwritten: Unwritten) -> Done {
+        match unwritten {
+            Unwritten::Gone => Done::error("", GONE),
+            Unwritten::Failed(message) => Done::error(message, UNREAD),
+        }
     }
 }
 

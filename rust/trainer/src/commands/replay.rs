@@ -7,7 +7,7 @@ use super::orders::dealt;
 use super::run::unplayed;
 use super::{Args, Command, Done, FINE, REFUSED, UNREAD};
 use crate::play::{Player, Teller};
-use crate::print::grouped;
+use crate::print::{grouped, output};
 use crate::script::{self, Script};
 
 /// The command.
@@ -46,8 +46,8 @@ fn run(args: &Args) -> Done {
         return Done::error(mistake.show(&script.source), UNREAD);
     }
     let page = replay::page(&recorder.0);
-    if let Err(error) = std::fs::write(file, &page) {
-        return Done::error(format!("{file}: cannot be written: {error}\n"), UNREAD);
+    if let Err(unwritten) = output::file(file, page.as_bytes()) {
+        return unwritten.into();
     }
     let calls = trace::plan::count(player.run.calls_made(), "call");
     let told = format!("{file}: {calls}, {} bytes; open it in a browser\n", grouped(page.len()));

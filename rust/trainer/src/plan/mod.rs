@@ -14,7 +14,7 @@ use trace::plan::Interface;
 use trace::{Fields, Joint, Names, Plan, Port};
 
 pub use crate::text::Unread;
-use crate::text::{Mistake, Source};
+use crate::text::{behind_mark, Mistake, Source};
 use text::{Destination, Draft};
 
 /// Plan T of document 01.
@@ -67,12 +67,13 @@ impl PlanFile {
         PlanFile::of_contents(name, read(name)?)
     }
 
-    /// The plan of a file's contents: hex digits, text or bytes.
+    /// The plan of a file's contents: hex digits, text or bytes. The mark before a text is passed over;
+    /// bytes stay as they are. No plan that loads begins with that mark: it would have 29 routers.
     pub fn of_contents(name: &str, contents: Vec<u8>) -> Result<PlanFile, Unread> {
-        if !is_text(&contents) {
+        if !is_text(behind_mark(&contents)) {
             return Ok(PlanFile::of_bytes(name, contents));
         }
-        let text = crate::text::of_bytes(name, contents)?;
+        let text = crate::text::of_bytes(name, &contents)?;
         match hex_digits(&text) {
             Some(bytes) => Ok(PlanFile::of_bytes(name, bytes)),
             None => PlanFile::of_text(name, &text),

@@ -1,14 +1,16 @@
-//! What is printed: lines of calls, slot tables, maps, colour, JSON, progress.
+//! What is printed: lines of calls, slot tables, maps, colour, JSON, progress; and how it is written.
 
 pub mod json;
 pub mod lines;
 pub mod map;
+pub mod output;
 pub mod paint;
 pub mod progress;
 pub mod table;
 pub mod whereabouts;
 
 pub use json::Json;
+pub use output::Unwritten;
 pub use paint::{Colour, Paint};
 
 /// The widest line.

@@ -1,7 +1,9 @@
 //! A progress bar on the standard error, on a terminal only.
 
-use std::io::{IsTerminal, Write};
+use std::io::IsTerminal;
 use std::time::{Duration, Instant};
+
+use super::output;
 
 /// How long nothing is shown, and how often it is renewed.
 const QUIET: Duration = Duration::from_millis(300);
@@ -40,15 +42,19 @@ impl Progress {
         let left = self.began.elapsed().as_secs_f64() * (self.total - self.done) as f64
             / self.done.max(1) as f64;
         let bar = format!("[{}{}]", "#".repeat(full), ".".repeat(WIDTH - full));
-        eprint!("\r{bar} {} of {}, {left:.0} s left  ", self.done, self.total);
-        let _ = std::io::stderr().flush();
+        show(&format!("\r{bar} {} of {}, {left:.0} s left  ", self.done, self.total));
     }
 }
 
 impl Drop for Progress {
     fn drop(&mut self) {
         if self.shown.is_some() {
-            eprint!("\r{:78}\r", "");
+            show(&format!("\r{:78}\r", ""));
         }
     }
+}
+
+/// A bar that cannot be shown is left out: it is no part of what was asked for.
+fn show(text: &str) {
+    let _ = output::err(text);
 }

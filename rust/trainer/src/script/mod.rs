@@ -126,7 +126,7 @@ impl From<Unread> for Broken {
 
 /// Reads a script and loads its plan; a plan's file is looked for beside the script.
 pub fn open(name: &str) -> Result<Script, Broken> {
-    let text = crate::text::of_bytes(name, crate::plan::read(name)?)?;
+    let text = crate::text::of_bytes(name, &crate::plan::read(name)?)?;
     let folder = Path::new(name).parent().map(Path::to_path_buf).unwrap_or_default();
     let source = Source { name: name.to_string(), text };
     of_text(source, &|file| open_plan(&folder, file))

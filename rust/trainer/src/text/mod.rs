@@ -90,9 +90,17 @@ impl Mistake {
     }
 }
 
+/// The sign that some editors put before a text (the byte order mark), as bytes.
+const MARK: &[u8] = &[0xEF, 0xBB, 0xBF];
+
+/// The contents behind the mark that a text may begin with. It has no line and no column.
+pub fn behind_mark(contents: &[u8]) -> &[u8] {
+    contents.strip_prefix(MARK).unwrap_or(contents)
+}
+
 /// The text of a file's contents; where they are none, the place of the first wrong byte.
-pub fn of_bytes(name: &str, contents: Vec<u8>) -> Result<String, Unread> {
-    String::from_utf8(contents).map_err(|error| {
+pub fn of_bytes(name: &str, contents: &[u8]) -> Result<String, Unread> {
+    String::from_utf8(behind_mark(contents).to_vec()).map_err(|error| {
         let valid = error.utf8_error().valid_up_to();
         let text = String::from_utf8_lossy(error.as_bytes()).to_string();
         let before = &text[..valid];

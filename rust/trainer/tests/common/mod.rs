@@ -2,8 +2,9 @@
 
 #![allow(dead_code)]
 
+use std::io::Write;
 use std::path::{Path, PathBuf};
-use std::process::{Command, Stdio};
+use std::process::{Command, Output, Stdio};
 
 /// The repository.
 pub fn root() -> PathBuf {
@@ -27,14 +28,28 @@ pub fn text(file: &str) -> String {
     std::fs::read_to_string(root().join(file)).expect("a text")
 }
 
-/// What the program says in the repository's folder: output, errors, exit status.
+/// The program in the repository's folder, with nothing on its standard input.
+pub fn program(args: &[&str]) -> Command {
+    let mut program = Command::new(env!("CARGO_BIN_EXE_pandabrass"));
+    program.args(args).current_dir(root()).stdin(Stdio::null());
+    program
+}
+
+/// What the program says: output, errors, exit status.
 pub fn run(args: &[&str]) -> (String, String, i32) {
-    let done = Command::new(env!("CARGO_BIN_EXE_pandabrass"))
-        .args(args)
-        .current_dir(root())
-        .stdin(Stdio::null())
-        .output()
-        .expect("the program runs");
+    said(program(args).output().expect("the program runs"))
+}
+
+/// The same with these bytes on its standard input.
+pub fn run_on(input: &[u8], args: &[&str]) -> (String, String, i32) {
+    let mut program = program(args);
+    program.stdin(Stdio::piped()).stdout(Stdio::piped()).stderr(Stdio::piped());
+    let mut child = program.spawn().expect("the program runs");
+    child.stdin.take().expect("a pipe").write_all(input).expect("the program reads");
+    said(child.wait_with_output().expect("the program ends"))
+}
+
+fn said(done: Output) -> (String, String, i32) {
     let text = |bytes: Vec<u8>| String::from_utf8_lossy(&bytes).to_string();
     (text(done.stdout), text(done.stderr), done.status.code().unwrap_or(-1))
 }

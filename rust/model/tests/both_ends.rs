@@ -3,6 +3,7 @@
 
 mod common;
 
+use common::lists::five_wait;
 use common::queues::{answers, k, q, set_ups, u};
 use common::watch::{
     calls, done, in_write, launch, lengths, moments, numbers, reply, rounds, watching, After,
@@ -92,6 +93,7 @@ fn side_of_the_walk() {
     // Active 1's set-up is on that wire, and the way to the unit is made to remember U[0].
     let to_unit = run.network.link_index(Link::Unit(0));
     run.state.last[to_unit] = 0;
+    assert_eq!(run.network.fault(&run.state), None);
     let last = |run: &Run| vec![run.last(Link::Unit(0))];
     let seen = watching(&mut run, last, &[q(0, 0), q(0, 1)], &[vec![Read], vec![Execute]]);
     let expected =
@@ -206,28 +208,8 @@ fn four_in_turn() {
 #[test]
 fn fifth_sees_four() {
     let list = [
-        calls(&[
-            // Round 0: active 0 to passives 3, 1 and 0; round 2: active 1 to passive 0; round 6: active
-            // 0 for the same entry.
-            &[launch(0, 3, 2), launch(0, 1, 0), launch(0, 0, 6)],
-            &rounds(2),
-            &[launch(1, 0, 5)],
-            &rounds(4),
-            &[launch(0, 0, 5)],
-            &ROUND,
-            // Rounds 7 and 9: active 1 to passive 2.
-            &[launch(1, 2, 3)],
-            &rounds(2),
-            &[launch(1, 2, 2)],
-            &ROUND,
-            // Round 10: passive 3 accepts; round 11: passives 0 and 1; round 12; round 13: after Read.
-            &in_write(reply(3, 1)),
-            &[Write],
-            &in_write(reply(0, 1)),
-            &[reply(1, 1), Write],
-            &ROUND,
-            &[Read],
-        ]),
+        // Rounds 0 to 12; round 13: after Read.
+        five_wait(),
         // Rounds 13 to 16: after Write; round 17: after Read and Write; round 18: after Write.
         vec![Execute, Write],
         rounds(1),

@@ -155,6 +155,25 @@ fn look_shows_an_unmarked_nack() {
     assert_eq!((counters(&run), run.accepted()), ((1, true, 2), vec![]));
 }
 
+/// `Looking.marked-between`: Execute marks the NACK between a Look and the Drop, so what was looked at in
+/// another phase is not what is dropped.
+#[test]
+fn marked_between() {
+    let mut run = Run::new(&named::T);
+    assert_eq!(run.launch(0, 0, 0), Ok(()));
+    run.up_to(4);
+    run.run_to_write();
+    assert_eq!(run.reply(0, 0), Ok(()));
+    run.end();
+    // Round 7: after Read, Execute, and the Drop.
+    run.read_of(7);
+    let [came, marked] = [1, 0].map(|hub| packet(Kind::Nack, 1, hub));
+    assert_eq!((look(&mut run), run.queue(WITHIN)), (Ok(came), vec![came]));
+    run.execute();
+    assert_eq!((look(&mut run), run.queue(WITHIN)), (Ok(marked), vec![marked]));
+    assert_eq!((run.drop(0), run.queue(WITHIN)), (Ok(()), vec![]));
+}
+
 /// 14 stands before 15, and a Look sees the unmarked NACK behind the dropped one.
 #[test]
 fn look_shows_an_unmarked_nack_with_the_flag_up() {

@@ -103,6 +103,17 @@ fn last_free_entry_is_declined() {
     assert_eq!((run.entry(0, 1, 0), run.entry(0, 1, 1)), (0, 4));
 }
 
+/// `LastFree.slot-0-is-left`: slot 1 of side 1 is booked, for with slot 0 free too it is not "the only
+/// free entry of o".
+#[test]
+fn slot_0_is_left() {
+    // Round 2: after Execute.
+    let list = [calls(&[&[launch(0, 0, 1)], &rounds(2), &[Read, Execute]])];
+    let side_1 = |run: &Run| numbers(&run.side(0, 1));
+    let seen = moments(&named::T, side_1, &[q(0, 0)], &list);
+    assert_eq!(seen, [done(&[4, 0], &[&[set_up(0, 0, 0, 1)]])]);
+}
+
 /// `Declined.second-declines`, looked at after each call: "S=4, two routers, start 3, second declines:
 /// NACK slot 0 hub 1, TDOWN slot 3 hub 1; the second router keeps its entry".
 #[test]
@@ -248,6 +259,8 @@ fn plans_of_the_proved_runs() {
         (plans::wider_crossing(), "10842244924C0602300426221000452088"),
         (plans::line_of_three(), "19044248928C04222242144600021C66200029A60108000840"),
         (plans::drives_around(), "18884489248E062242221C0640021426600340B44008020040"),
+        (plans::roomy_crossing(), "10844484924C0602300426221000452088"),
+        (plans::narrow_side(), "08C286F19A66040424414C00"),
     ];
     for (draft, told) in plans {
         let hex: String = draft.encode().iter().map(|byte| format!("{byte:02X}")).collect();

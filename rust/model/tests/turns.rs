@@ -3,6 +3,7 @@
 
 mod common;
 
+use common::lists::both_wait;
 use common::watch::{
     calls, done, in_write, launch, launches, moments, reply, rounds, Execute, Read, Write, ROUND,
 };
@@ -150,23 +151,9 @@ fn last_at_side_1(run: &Run) -> Vec<usize> {
 /// rank 2, has ACKs of passive 0.
 #[test]
 fn two_in_turn_from_start() {
-    let list = [
-        // Round 0: two set-ups, then three for an entry that is booked; round 4: the passive accepts.
-        calls(&[&launches(0, 0, &[8, 10, 8, 8, 8]), &rounds(4), &in_write(reply(0, 1))]),
-        // Round 5: a NACK waits; it accepts again.
-        vec![Write, Read],
-        vec![Execute, reply(0, 1), Write],
-        // Round 6: after Read, Execute and Write; then after Read and Write of rounds 7 to 9.
-        vec![Read],
-        vec![Execute],
-        vec![Write],
-        vec![Read],
-        vec![Execute, Write],
-        vec![Read],
-        vec![Execute, Write],
-        vec![Read],
-        vec![Execute, Write],
-    ];
+    // Round 6: after Write; then after Read and Write of rounds 7 to 9.
+    let [seven, eight, nine] = [(); 3].map(|()| vec![vec![Read], vec![Execute, Write]]);
+    let list = [both_wait(), vec![vec![Write]], seven, eight, nine].concat();
     let queues = [queues::answers(0, 1), queues::k(0, 0, 1)];
     let seen = moments(&named::narrow_back().encode(), last_at_side_1, &queues, &list);
     let nack = nack(0, 0, 8, 0);

@@ -8,6 +8,7 @@ use model::machine::{
 };
 use model::Queue;
 
+pub mod lists;
 pub mod plans;
 pub mod queues;
 pub mod watch;

@@ -55,3 +55,18 @@ pub fn drives_around() -> Draft {
     draft.active(1, 1).passive(1, 2).active(2, 1).passive(2, 2).shortest_routes();
     draft
 }
+
+/// The crossing plan with S=8 and room for four at an active.
+pub fn roomy_crossing() -> Draft {
+    let mut draft = named::crossing_four_slots();
+    draft.fields_mut().slots = 8;
+    draft.capacities([4, 4, 1, 1, 1, 1, 1, 1]);
+    draft
+}
+
+/// The router of `narrow_there` with room for one in each F.
+pub fn narrow_side() -> Draft {
+    let mut draft = named::narrow_there();
+    draft.capacities([6, 7, 4, 3, 1, 5, 1, 4]);
+    draft
+}

@@ -118,7 +118,7 @@ holding q xs n s =
     withQueue q xs
     (withCredit q (record { 0 = creditFor around q xs }) (withAllowance 0 (startAllowance around - n) s))
 
--- one packet, a tear-down or not
+-- one packet that counts against the allowance; a tear-down, which does not
 abbrev one : Queue → Packet → State → State
 one q x s = holding q (x ∷ []) 1 s
 

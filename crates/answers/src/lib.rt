@@ -1,4 +1,6 @@
 // What Rust and C get of an answer: its number, and a packet, an entry or what is left as bytes.
+#![tactic(auto)]
+
 ghost use Rattle.std.specs.Prelude.{◌≡◌, ◌++◌, set};
 ghost use Rattle.std.proofs.lemmas.List.Edits.{sets};
 ghost use Rattle.bytes_layout.specs.Places.{packet_bytes};

@@ -1,4 +1,6 @@
 // One row of a state's bytes: the bytes of its values, packets and wires, and what joins and leaves a queue, in place.
+#![tactic(auto)]
+
 // The start slots of a pair's accepted connections.
 pub mod starts;
 

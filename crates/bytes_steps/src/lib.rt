@@ -1,4 +1,6 @@
 // Where the parts of a state stand in its bytes, by the plan's head.
+#![tactic(auto)]
+
 ghost use Rattle.std.specs.Prelude.{◌≡◌, ◌+◌, ◌*◌, ◌≤◌, ◌<◌};
 ghost use Rattle.plan.specs.Head.{Counts};
 ghost use Rattle.bytes_steps.specs.Counts.{queue_count, output_count, outputs_from, allowances_from, table_from};

@@ -1,5 +1,7 @@
 // Close on the bytes of a good state: its refusals one after another in document 02's order, and then its step. A
 // refusal writes nothing.
+#![tactic(auto)]
+
 ghost use Rattle.std.specs.Prelude.{◌≡◌, ◌+◌, ◌≤◌, ◌<◌, length};
 ghost use Rattle.plan.specs.Head.{InRange};
 ghost use Rattle.rules.specs.Calls.{of_close};

@@ -1,5 +1,7 @@
 // What Launch, Reply, Look, Drop, Close and Entry share on the bytes of a good state: the rows of the interfaces'
 // queues, what is read of them, the head that leaves a queue, and the walks' lengths.
+#![tactic(auto)]
+
 ghost use Rattle.std.specs.Prelude.{◌≡◌, ◌+◌, ◌≤◌, ◌<◌, [], get_or, length};
 ghost use Rattle.plan.specs.Head.{Counts};
 ghost use Rattle.bytes_layout.specs.Decode.{flag_at, length_at};

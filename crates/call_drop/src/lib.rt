@@ -1,5 +1,7 @@
 // Drop on the bytes of a good state: its refusals one after another in the documents' order, and then its step. A
 // refusal writes nothing. An ACK's connection is accepted.
+#![tactic(auto)]
+
 ghost use Rattle.std.specs.Prelude.{◌≡◌, ◌+◌, ◌≤◌, ◌<◌, get_or, length};
 ghost use Rattle.plan.specs.Head.{InRange};
 ghost use Rattle.rules.specs.Execute.{unmarked};

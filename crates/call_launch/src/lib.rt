@@ -1,5 +1,7 @@
 // Launch on the bytes of a good state: its refusals one after another in document 01's order, and then its step. A
 // refusal writes nothing.
+#![tactic(auto)]
+
 ghost use Rattle.std.specs.Prelude.{◌≡◌, ◌+◌, ◌≤◌, ◌<◌, get_or, length};
 ghost use Rattle.plan.specs.Head.{InRange};
 ghost use Rattle.rules.specs.Visits.{setup_of};

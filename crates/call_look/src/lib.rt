@@ -1,5 +1,7 @@
 // Look and Entry, the calls that change nothing, on the bytes of a good state: the head of an active's in-queue, and
 // what the table holds for a router, a side and a slot.
+#![tactic(auto)]
+
 ghost use Rattle.plan.specs.Head.{InRange};
 ghost use Rattle.rules.specs.Calls.{of_look, of_entry};
 ghost use Rattle.call_common.specs.Visits.{Ready, Visits};

@@ -1,5 +1,7 @@
 // Remaining, for document 02 (n), on the bytes of a good state: the packets in queues and on wires, and the rounds
 // after which a program that waits finds the network empty.
+#![tactic(auto)]
+
 ghost use Rattle.std.specs.Prelude.{◌≡◌, ℕ, ◌+◌, ◌*◌, ◌≤◌, ◌<◌, length};
 ghost use Rattle.plan.specs.Head.{InRange};
 ghost use Rattle.rules.specs.Calls.{of_remaining};

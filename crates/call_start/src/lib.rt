@@ -1,4 +1,6 @@
 // Start: the bytes of a new state. All is zero but the credits, the allowances and what routers' outputs remember.
+#![tactic(auto)]
+
 ghost use Rattle.std.specs.Prelude.{◌≡◌, ◌+◌, ◌*◌, ◌≤◌, min, length};
 ghost use Rattle.plan.specs.Head.{InRange, Counts, destinations};
 ghost use Rattle.bytes_steps.specs.Counts.{queue_count, allowances_from, table_from, turns_from, state_size};

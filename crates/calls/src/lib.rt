@@ -1,6 +1,8 @@
 // The calls of document 01, and Close, Look, Drop and Remaining of document 02, on lent bytes: the plan's by `&`, the
 // state's by `&mut`, and by `&` for Look, Entry and Remaining. Each loads the plan, checks the state, and then goes its
 // own way. A refusal alters no byte, and no byte past the state is written.
+#![tactic(auto)]
+
 ghost use Rattle.std.specs.Prelude.{◌≡◌};
 ghost use Rattle.rules.specs.Calls.{read, execute, write, launch, reply, look, drop, close, entry, remaining};
 ghost use Rattle.claims.specs.Calls.{given, start_on, call_on};

@@ -1,5 +1,7 @@
 // Whom an output picked: one of its senders that has a head which may leave, whose next queue has credit and whose
 // flag is down.
+#![tactic(auto)]
+
 ghost use Rattle.std.specs.Prelude.{◌≡◌, true, ◌+◌, ◌*◌, ◌≤◌, ◌<◌, length};
 ghost use Rattle.std.proofs.Math.Option.{some};
 ghost use Rattle.plan.specs.Head.{Counts};

@@ -1,5 +1,7 @@
 // Refusal 7's check of the accepted connections: 'a mark for an unserved pair, one lacking any of its entries, or two
 // that share an entry'. They are looked at one after another; each claims its entries.
+#![tactic(auto)]
+
 ghost use Rattle.std.specs.Prelude.{◌≡◌, List, ℕ, ◌+◌, ◌*◌, ◌/◌, ◌%◌, ◌≤◌, ◌<◌, eqb, length};
 ghost use Rattle.sets.specs.Sets.{below, less};
 ghost use Rattle.plan.specs.Plan.{route_to};

@@ -1,4 +1,6 @@
 // A queue's first four bytes, and what a queue is by its number.
+#![tactic(auto)]
+
 ghost use Rattle.std.specs.Prelude.{◌≡◌, Bool, ℕ, ◌+◌, ◌*◌, ◌≤◌, ◌<◌};
 ghost use Rattle.plan.specs.Head.{Counts, destinations};
 ghost use Rattle.rules.specs.Valid.{spends_kind};

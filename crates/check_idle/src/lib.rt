@@ -1,4 +1,6 @@
 // Tests of stretches of a state's bytes: rows without a packet, a table's sides, allowances.
+#![tactic(auto)]
+
 ghost use Rattle.std.specs.Prelude.{◌≡◌, true, ◌+◌, ◌*◌, ◌≤◌, ◌<◌, leb, eqb, length};
 ghost use Rattle.basis.specs.Choice.{pick, also};
 ghost use Rattle.plan.specs.Head.{InRange, destinations};

@@ -1,4 +1,6 @@
 // What outputs remember: the rank of the last sender that each served.
+#![tactic(auto)]
+
 ghost use Rattle.std.specs.Prelude.{◌≡◌, ◌+◌, ◌*◌, ◌≤◌, ◌<◌, eqb, length};
 ghost use Rattle.basis.specs.Choice.{pick};
 ghost use Rattle.plan.specs.Head.{InRange};

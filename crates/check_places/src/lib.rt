@@ -1,5 +1,7 @@
 // May a packet stand in a queue? Looked up in tables: which routers each walk meets and how many, what joins each
 // port.
+#![tactic(auto)]
+
 ghost use Rattle.std.specs.Prelude.{◌≡◌, true, List, [], ℕ, ◌+◌, ◌*◌, ◌/◌, ◌≤◌, ◌<◌, get_or};
 ghost use Rattle.sets.specs.Sets.{has};
 ghost use Rattle.plan.specs.declared.Head.{Head};
@@ -19,7 +21,7 @@ use packets::{Kind, Packet};
 use sets::has;
 
 // A pair's walk: the active's port, the passive's column, and how many routers it has.
-#[derive(Drop)]
+#[derive(Clone, Copy)]
 pub struct Trip {
     pub home: usize,
     pub column: usize,
@@ -28,7 +30,7 @@ pub struct Trip {
 
 // A router on a walk: how many routers come before it, and how many from it on; none from it on where it is off
 // the walk.
-#[derive(Drop)]
+#[derive(Clone, Copy)]
 pub struct Standing {
     pub behind: usize,
     pub ahead: usize,

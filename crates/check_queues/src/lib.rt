@@ -1,5 +1,7 @@
 // The queues' rows of a state: whether credit, flag, mark and length fit and every packet belongs where it is, and
 // what each active has spent.
+#![tactic(auto)]
+
 ghost use Rattle.std.specs.Prelude.{◌≡◌, Bool, true, List, [], ℕ, ◌+◌, ◌*◌, ◌≤◌, ◌<◌, get_or, length, eqb};
 ghost use Rattle.basis.specs.Choice.{also};
 ghost use Rattle.plan.specs.Head.{Counts, InRange, destinations};

@@ -1,4 +1,6 @@
 // Refusal 7: whether bytes are those of a state of the plan, in one pass.
+#![tactic(auto)]
+
 ghost use Rattle.std.specs.Prelude.{◌≡◌, Bool, true, List, [], ℕ, ◌+◌, ◌*◌, ◌≤◌, ◌<◌, min, get_or, length};
 ghost use Rattle.plan.specs.Head.{InRange};
 ghost use Rattle.plan.specs.Tables.{table_plan};
@@ -10,7 +12,7 @@ ghost use Rattle.check_state.specs.Inspect.{header_fits, Passed, checked_of, who
 use plan::Head;
 
 // Whether bytes are a state's.
-#[derive(Drop)]
+#[derive(Clone, Copy)]
 pub enum Checked {
     State,
     NotState,

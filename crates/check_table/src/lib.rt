@@ -1,4 +1,6 @@
 // A table's sides and the allowances.
+#![tactic(auto)]
+
 ghost use Rattle.std.specs.Prelude.{◌≡◌, true, not, ◌+◌, ◌*◌, ◌≤◌, ◌<◌, ltb, eqb, length};
 ghost use Rattle.basis.specs.Choice.{pick, also};
 ghost use Rattle.check_rule.specs.Forms.{zeros};

@@ -1,5 +1,7 @@
 // The outputs' rows of a state: whether each wire's packet belongs where it goes, how many packets are on the way to
 // each queue, and what the packets on wires have spent. Whom each output picked is looked at in `choices`.
+#![tactic(auto)]
+
 ghost use Rattle.std.specs.Prelude.{◌≡◌, true, false, List, ℕ, ◌+◌, ◌*◌, ◌≤◌, ◌<◌, get_or, length};
 ghost use Rattle.plan.specs.Head.{Counts};
 ghost use Rattle.plan.specs.Plan.{Plan};

@@ -1,4 +1,6 @@
 // The calls for Rust and C. Plan bytes are a pointer and a length; an answer is a number.
+#![tactic(auto)]
+
 ghost use Rattle.std.specs.Prelude.{◌≡◌};
 ghost use Rattle.load.specs.Load.{load_of, load_number};
 ghost use Rattle.load.specs.Walk.{walk_of};

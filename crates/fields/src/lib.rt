@@ -1,5 +1,7 @@
 // A field of 1 to 6 bits of the plan's bytes, most significant bit first, read directly from the one or two bytes
 // that hold it.
+#![tactic(auto)]
+
 ghost use Rattle.std.specs.Prelude.{◌≡◌, ◌≤◌, ◌*◌, ◌+◌, length};
 ghost use Rattle.fields.specs.Bits.{field_of};
 

@@ -1,5 +1,7 @@
 // What goes on from router to router: by[r][o] is the set of what leaves router r by side o, and a table of sets by
 // router, what is where at first, grows until it has all that comes to each router.
+#![tactic(auto)]
+
 ghost use Rattle.std.specs.Prelude.{◌≡◌, true, false, List, ℕ, ◌+◌, ◌*◌, ◌≤◌, ◌<◌, get_or, length};
 ghost use Rattle.sets.specs.Sets.{has};
 ghost use Rattle.graph_flow.specs.Carried.{partner_of, Pushed, Passed, Stepped, Round, Spread};

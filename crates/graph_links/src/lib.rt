@@ -1,4 +1,6 @@
 // What leaves by each side, and the cells that lead from crossing to crossing (crate peel).
+#![tactic(auto)]
+
 // What is where at first, and what comes to each router.
 pub mod starts;
 

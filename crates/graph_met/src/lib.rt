@@ -1,5 +1,7 @@
 // The routers that walks meet, by router and destination: their set in the low 16 digits, and 65536 times their number.
 // The words are made as the walks are found, from their ends, in a table that has a row for each router.
+#![tactic(auto)]
+
 ghost use Rattle.std.specs.Prelude.{◌≡◌, true, List, [], ℕ, ◌+◌, ◌*◌, ◌≤◌, ◌<◌, get_or, length};
 ghost use Rattle.sets.specs.Sets.{has};
 ghost use Rattle.graph_reach.specs.Reach.{sweep_at, change_of, up_of, down_of, Closed, Reached, Inside, Idle};

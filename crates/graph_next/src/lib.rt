@@ -1,5 +1,7 @@
 // What leads on, as sets in words (crate peel, words): by router the routers that what it has goes on to, by side the
 // sides that some of the same leave by next. `nexts` and `links` answer which lead to some.
+#![tactic(auto)]
+
 ghost use Rattle.std.specs.Prelude.{◌≡◌, ◌+◌, ◌*◌, ◌≤◌, ◌<◌, replicate};
 ghost use Rattle.graph_ring.specs.Words.{some_of, first_of};
 ghost use Rattle.graph_next.specs.Words.{four_of, toward_of, next_of, nexts_of, onto_of, link_of, links_of};

@@ -1,6 +1,8 @@
 // All walks at once, from their ends: which destinations are reached from each router, and in how many routers.
 // by[r][o] is the set of destinations whose side at router r is o; next[4r+o] is the router beyond that side, or 16;
 // a table of sets by router starts as the destinations one step away.
+#![tactic(auto)]
+
 ghost use Rattle.std.specs.Prelude.{◌≡◌, List, [], ℕ, ◌+◌, ◌*◌, ◌≤◌, ◌<◌, get_or, length};
 ghost use Rattle.graph_reach.specs.Reach.{through_of, pull_of, sweep_at, change_of, up_of, down_of, common_of, Closed};
 ghost use Rattle.graph_reach.specs.Reach.{Reached, Inside, Idle};
@@ -11,7 +13,7 @@ use sets::{both, either, less};
 pub mod sizes;
 
 // What is swept: so many routers, all destinations, and those whose walks are sized: from the column on.
-#[derive(Drop)]
+#[derive(Clone, Copy)]
 pub struct Span {
     pub routers: usize,
     pub all: u32,

@@ -1,6 +1,8 @@
 // Whether a relation between nodes has a ring. The nodes stand in groups of four, node 4g + o in group g, and each
 // leads to nodes of one group only: its cell is 16 times that group plus the set of them.
 // Nodes that lead to none that is left are taken away, group by group, until none is left or none goes.
+#![tactic(auto)]
+
 // Relations between at most 64 nodes, each with the set of those that it leads to.
 pub mod words;
 

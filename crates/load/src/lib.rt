@@ -1,4 +1,6 @@
 // Load: a plan is accepted exactly if it obeys every plan rule of document 01. Walk: how long a served pair's walk is.
+#![tactic(auto)]
+
 ghost use Rattle.std.specs.Prelude.{◌≡◌, [], ◌<◌, get_or, replicate};
 ghost use Rattle.kinds.specs.Refusals.{refusal_number};
 ghost use Rattle.plan.specs.Head.{head_of, InRange};
@@ -14,7 +16,7 @@ use plan_routes::NO_SIDE;
 const HEAD_BYTES: usize = 6;
 
 // Load's answer: the plan's counts and capacities, or the first refusal that applies.
-#[derive(Drop)]
+#[derive(Clone, Copy)]
 pub enum Loaded {
     Accepted(Head),
     Refused(Refusal),

@@ -1,4 +1,6 @@
 // All walks of a plan at once: which routers they meet, and which pairs are served. How long they are: see lengths.
+#![tactic(auto)]
+
 ghost use Rattle.std.specs.Prelude.{◌≡◌, ◌+◌, ◌*◌, ◌/◌, ◌%◌, ◌≤◌, ◌<◌, get_or, replicate};
 ghost use Rattle.plan.specs.Head.{Counts};
 ghost use Rattle.load_arrivals.specs.Tables.{next_of, nexts_of, PortsIn, first_of, firsts_of, far_of};

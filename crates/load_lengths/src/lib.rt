@@ -1,5 +1,7 @@
 // All walks of a plan: at which destinations the walk from each router arrives, which pairs are served, and how long
 // their walks are.
+#![tactic(auto)]
+
 ghost use Rattle.std.specs.Prelude.{◌≡◌, false, [], ℕ, ◌+◌, ◌≤◌, ◌<◌, get_or, replicate};
 ghost use Rattle.basis.specs.Choice.{pick};
 ghost use Rattle.sets.specs.Sets.{has};

@@ -1,5 +1,7 @@
 // Refusal 6 by links and answers: a ring of feeding queues is a ring of links that the walks of served pairs go by, or
 // one of crossings that answers go by. Sets of destinations are words: active d, or passive d - A.
+#![tactic(auto)]
+
 ghost use Rattle.std.specs.Prelude.{◌≡◌, false, List, ℕ, ◌*◌, ◌≤◌, length};
 ghost use Rattle.basis.specs.Ring.{ring_test};
 ghost use Rattle.plan.specs.Plan.{Plan, R};

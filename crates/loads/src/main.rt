@@ -1,5 +1,7 @@
 // Runs Load on named plans and writes its number for each, and how many pairs are served of a plan that loads.
 // The plans and the numbers are those of the Rust model (rust/model, example plans).
+#![tactic(auto)]
+
 ghost use Rattle.std.specs.Prelude.{◌≡◌, ◌*◌, ◌≤◌, ◌<◌};
 ghost use Rattle.plan.specs.Head.{Counts};
 

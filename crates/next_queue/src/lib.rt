@@ -1,5 +1,7 @@
 // Where packets go next, by the tables that Load lends: the number of the queue that a packet joins as it leaves by
 // an output.
+#![tactic(auto)]
+
 ghost use Rattle.std.specs.Prelude.{◌≡◌, Bool, List, [], ℕ, ◌+◌, ◌*◌, ◌≤◌, ◌<◌, get_or, length};
 ghost use Rattle.plan.specs.Head.{Counts, destinations};
 ghost use Rattle.plan.specs.Plan.{no_side};

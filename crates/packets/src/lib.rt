@@ -1,11 +1,13 @@
 // Packets, wires, phases and answers, by value; and the stated rules that join the three counters, one function each.
+#![tactic(auto)]
+
 ghost use Rattle.std.specs.Prelude.{◌≡◌, ◌<◌, ◌≤◌};
 ghost use Rattle.packets.specs.Counters.{slot_next, start_slot, slot_after, hub_up, hub_down, credit_up, credit_down};
 
 use kinds::{Credit, Hub, Refusal, Slot};
 
 // A packet's kind. SETUP and TDOWN go to the passive, ACK and NACK to the active.
-#[derive(Drop)]
+#[derive(Clone, Copy)]
 pub enum Kind {
     Setup,
     Tdown,
@@ -14,7 +16,7 @@ pub enum Kind {
 }
 
 // A packet: its kind, its active and passive numbers, a slot, and a hub count.
-#[derive(Drop)]
+#[derive(Clone, Copy)]
 pub struct Packet {
     pub kind: Kind,
     pub active: u8,
@@ -24,14 +26,14 @@ pub struct Packet {
 }
 
 // A wire holds nothing or one packet.
-#[derive(Drop)]
+#[derive(Clone, Copy)]
 pub enum Wire {
     Empty,
     Full(Packet),
 }
 
 // The phases of a round, in turn.
-#[derive(Drop)]
+#[derive(Clone, Copy)]
 pub enum Phase {
     Read,
     Execute,
@@ -39,7 +41,7 @@ pub enum Phase {
 }
 
 // An entry of the slot table: free, or booked with the side by which the booking came in.
-#[derive(Drop)]
+#[derive(Clone, Copy)]
 pub enum Entry {
     Free,
     Booked(u8),
@@ -47,7 +49,7 @@ pub enum Entry {
 
 // What is left in the network: the packets in queues and on wires, and the rounds after which a program that waits
 // finds it empty.
-#[derive(Drop)]
+#[derive(Clone, Copy)]
 pub struct Remaining {
     pub packets: u32,
     pub rounds: u32,
@@ -55,7 +57,7 @@ pub struct Remaining {
 
 // What a call answers: its refusal, only that it was accepted, the packet that a Look shows, the entry, or what is
 // left.
-#[derive(Drop)]
+#[derive(Clone, Copy)]
 pub enum Answer {
     Refused(Refusal),
     Done,

@@ -1,5 +1,7 @@
 // EXECUTE in place on a state's bytes: each unit handles its head, each output picks a sender, each active tears down
 // what was declined.
+#![tactic(auto)]
+
 ghost use Rattle.packets.specs.declared.Phase.TheVariants.{Execute};
 ghost use Rattle.plan.specs.Tables.{table_plan};
 ghost use Rattle.rules.specs.Execute.{do_execute};

@@ -1,4 +1,6 @@
 // EXECUTE 2: each output picks the next of its senders that is a candidate, from the one behind the last served on.
+#![tactic(auto)]
+
 ghost use Rattle.std.specs.Prelude.{◌≡◌, true, false, ℕ, ◌+◌, ◌*◌, ◌≤◌, ◌<◌, length};
 ghost use Rattle.std.proofs.Math.Option.{some};
 ghost use Rattle.basis.specs.Fold.{up_to};

@@ -1,4 +1,6 @@
 // READ in place on a state's bytes: each wire's packet joins its queue, and each raised flag becomes a credit.
+#![tactic(auto)]
+
 ghost use Rattle.std.specs.Prelude.{◌≡◌, true, not, ℕ, ◌+◌, ◌*◌, ◌≤◌, ◌<◌, eqb, get_or, length};
 ghost use Rattle.basis.specs.Fold.{up_to};
 ghost use Rattle.packets.specs.declared.Phase.TheVariants.{Read};

@@ -1,5 +1,7 @@
 // A unit's queue, lent to its unit: the head is handled once. A SETUP books or becomes a NACK, a TDOWN goes on or
 // ends.
+#![tactic(auto)]
+
 ghost use Rattle.std.specs.Prelude.{◌≡◌, ◌≤◌, ◌<◌};
 ghost use Rattle.rules.specs.Execute.{declined, booked, freed};
 ghost use Rattle.phase_unit.specs.Handled.{Ready, set_up, stays, torn, handled_of};
@@ -7,7 +9,7 @@ ghost use Rattle.phase_unit.specs.Handled.{Ready, set_up, stays, torn, handled_o
 use packets::{Kind, Packet};
 
 // What a unit looks at and changes of its queue: the flag, the mark, how many packets, and the head.
-#[derive(Drop)]
+#[derive(Clone, Copy)]
 pub struct Queue {
     pub flag: u8,
     pub mark: u8,

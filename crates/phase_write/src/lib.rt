@@ -1,5 +1,7 @@
 // WRITE in place on a state's bytes: each picked head enters its wire, its queue's flag rises, the next queue's credit
 // falls, choices are cleared, the output remembers whom it served; the slot grows by one modulo S.
+#![tactic(auto)]
+
 ghost use Rattle.std.specs.Prelude.{◌≡◌, not, suc, ◌+◌, ◌*◌, ◌-◌, ◌≤◌, ◌<◌, eqb, get_or, length, set};
 ghost use Rattle.basis.specs.Fold.{up_to};
 ghost use Rattle.packets.specs.declared.Phase.TheVariants.{Write};

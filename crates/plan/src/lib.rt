@@ -1,5 +1,7 @@
 // The plan's bytes: counts and capacities, and joints (routes are read in crate routes), with the tests of document
 // 01's refusals 1 to 5.
+#![tactic(auto)]
+
 use kinds::Credit;
 
 pub mod counts;
@@ -7,7 +9,7 @@ pub mod joints;
 
 // The plan's first 45 bits: counts, the slot count and the eight capacities, in the plan's order: of the actives'
 // out-queues (aout) and in_queues (ain), of U, Q, F and K, of the passives' in_queues (pin) and out-queues (pout).
-#[derive(Drop)]
+#[derive(Clone, Copy)]
 pub struct Head {
     pub routers: usize,
     pub actives: usize,
@@ -24,7 +26,7 @@ pub struct Head {
 }
 
 // What a router's side is joined to: nothing, a router at one of its sides, an active or a passive interface.
-#[derive(Drop)]
+#[derive(Clone, Copy)]
 pub enum Joint {
     Nothing,
     Router(usize, usize),
@@ -33,7 +35,7 @@ pub enum Joint {
 }
 
 // The ports that an interface is joined to: none, one (router times four plus side), or several.
-#[derive(Drop)]
+#[derive(Clone, Copy)]
 pub enum Ports {
     Missing,
     One(usize),

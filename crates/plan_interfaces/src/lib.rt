@@ -1,4 +1,6 @@
 // What the joints join: routers by a joint at each end, each interface by exactly one.
+#![tactic(auto)]
+
 ghost use Rattle.std.specs.Prelude.{◌≡◌, true, ◌&&◌, [], ◌≤◌, ◌<◌, length, get_or, replicate};
 ghost use Rattle.plan.specs.declared.Head.{Head};
 ghost use Rattle.plan.specs.Head.{destinations, Counts};

@@ -1,5 +1,7 @@
 // The routes: 3 bits for each router and destination, kept as a table of bytes, router by destination, with 7 where
 // the plan gives no side; and as sets of destinations by router and side.
+#![tactic(auto)]
+
 ghost use Rattle.std.specs.Prelude.{◌≡◌, ◌≤◌, ◌<◌, ◌+◌, ◌*◌, ◌%◌, length, replicate};
 ghost use Rattle.fields.specs.Bits.{field_of};
 ghost use Rattle.sets.specs.Sets.{either};

@@ -1,6 +1,8 @@
 // Walks: the way from a router to an interface by the routes, step by step.
 // A plan is two tables and a head: the side by router and destination column, and what each port is joined to, as a
 // byte (kind times 64, number times 4, partner's side). A port is a number, router times four plus side.
+#![tactic(auto)]
+
 ghost use Rattle.std.specs.Prelude.{◌≡◌, List, [], ℕ, ◌+◌, ◌≤◌, ◌<◌, length, get_or};
 ghost use Rattle.plan.specs.Plan.{no_side, route_to};
 ghost use Rattle.plan.specs.Rules.{port_of};
@@ -11,7 +13,7 @@ ghost use Rattle.plan_walks.specs.Steps.{step_of, wanted_of, Stepped};
 use plan::Head;
 
 // Where a walk stands: on a router, entered by a side (router times four plus side), at its interface, or nowhere.
-#[derive(Drop)]
+#[derive(Clone, Copy)]
 pub enum Step {
     On(usize),
     End,
@@ -19,7 +21,7 @@ pub enum Step {
 }
 
 // A router's index on a walk, from 0, or off the walk.
-#[derive(Drop)]
+#[derive(Clone, Copy)]
 pub enum Index {
     At(usize),
     Off,

@@ -1,5 +1,7 @@
 // Document 01's 'Runs to compare' and three of document 02, done by the calls on byte arrays: every call is written
 // with its answer, and after each run whether the answers are those of the document.
+#![tactic(auto)]
+
 ghost use Rattle.std.specs.Prelude.{◌≡◌, length};
 
 use kinds::{Hub, Refusal, Slot};

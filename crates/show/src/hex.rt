@@ -4,7 +4,7 @@ ghost use Rattle.show.specs.Hex.{Fits};
 
 // What a text gives: so many bytes, an odd count of digits, or, first at this index, a sign that is neither digit nor
 // white space.
-#[derive(Drop)]
+#[derive(Clone, Copy)]
 pub enum Decoded {
     Bytes(usize),
     Odd,

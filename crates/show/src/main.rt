@@ -1,5 +1,7 @@
 // Shows a plan: its counts, capacities and joints, and the walk of each pair that it serves; or why Load refuses it.
 // Standard input has the plan's bytes in hex; empty input means plan T of document 01.
+#![tactic(auto)]
+
 ghost use Rattle.std.specs.Prelude.{◌≡◌, ◌≤◌, ◌<◌, length};
 ghost use Rattle.plan.specs.Tables.{table_plan, homes_of};
 ghost use Rattle.plan.specs.Head.{Counts};

@@ -1,0 +1,7 @@
+use Rattle.sets.specs.Laws.{single_code}
+use native.Mathlib.Omega.{arith}
+use borrow.Author.Rules.{rules}
+use Rattle.sets.proofs.long.single.Goals as goal
+
+pub returns : goal.returns
+returns c = single_code 64 _ (search rules)

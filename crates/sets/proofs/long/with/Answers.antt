@@ -1,0 +1,5 @@
+use borrow.Author.Rules.{rules}
+use Rattle.sets.proofs.long.with.Goals as goal
+
+pub returns : goal.returns
+returns c = rw (← c.single.ensures) c.either.ensures

@@ -102,22 +102,33 @@ def table(top):
     return names, theory, source
 
 
-def turned(text, names, walk, strings):
-    """The text with its names respelled; in a proof that walks the code a name behind a dot may be a step of the code."""
-    out = []
-    before = ''
-    for piece in (re.split(r'("(?:[^"\\\n]|\\.)*")', text) if strings else [text]):
-        if strings and piece.startswith('"'):
-            out.append(piece)
-            continue
-        for w in CUT.split(piece):
-            n = names.get(w, w)
-            if walk and before.endswith('.') and n.endswith('_lem'):
-                n = w
-            out.append(n)
-            if w:
-                before = w
+def respell(code, names, walk):
+    out, before = [], ''
+    for w in CUT.split(code):
+        n = names.get(w, w)
+        # in a proof that walks the code a name behind a dot may be a step of the code
+        if walk and before.endswith('.') and n.endswith('_lem'):
+            n = w
+        out.append(n)
+        before = w or before
     return ''.join(out)
+
+
+def turned(text, names, path):
+    """The text with its names respelled. A comment has words with a dash (`set-up`), so only names with a hump are turned
+    there; a name that a lemma gives way to is a function's in src/, and keeps its spelling; so does a string."""
+    source = path.endswith('.rt')
+    mark = '//' if source else '--'
+    here = {a: b for a, b in names.items() if not (source and b.endswith('_lem'))}
+    humped = {a: b for a, b in here.items() if HUMP.search(a)}
+    out = []
+    for line in text.split('\n'):
+        at = line.find(mark)
+        at = at if at == 0 or (at > 0 and line[at - 1] == ' ') else len(line)
+        for piece in re.split(r'("(?:[^"\\]|\\.)*")', line[:at]) if source else [line[:at]]:
+            out.append(piece if source and piece.startswith('"') else respell(piece, here, is_walk(path)))
+        out.append(respell(line[at:], humped, False) + '\n')
+    return ''.join(out)[:-1]
 
 
 def main(argv):
@@ -129,7 +140,7 @@ def main(argv):
     walks = [p for p in files(top, '*/proofs/**/Proof.antt')]
     for p in theory + source + walks:
         old = read(p)
-        new = turned(old, names, is_walk(p), p.endswith('.rt'))
+        new = turned(old, names, p)
         if new != old:
             with open(p, 'w', encoding='utf-8') as f:
                 f.write(new)

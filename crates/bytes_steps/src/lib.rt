@@ -39,7 +39,7 @@ pub fn queue_row(n: usize) -> usize
 }
 
 // The row of output m.
-pub fn output_row_lem(h: Head, m: usize) -> usize
+pub fn output_row(h: Head, m: usize) -> usize
     requires { Counts h × (m ≤ 65535) }
     ensures { result ≡ outputs_from h + 7 * m }
 {
@@ -51,7 +51,7 @@ pub fn allowance_row(h: Head, a: usize) -> usize
     requires { Counts h × (a ≤ 65535) }
     ensures { result ≡ allowances_from h + a }
 {
-    output_row_lem(h, output_count(h)) + a
+    output_row(h, output_count(h)) + a
 }
 
 // The first byte of the table.

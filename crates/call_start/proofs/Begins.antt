@@ -191,7 +191,7 @@ routers_as h m b {n} {t} {u} l e f g q =
     (λ i k. ap (λ (x : List ℕ). get_or x i 0) (f ∙ ap (inner_credits h h.routers) e)
     ∙ inner_at h h.routers m l i k ∙ sym (router_part h i k))
 
--- out-queues, routers' queues, in_queues
+-- out-queues, routers' queues, in-queues
 pub all_groups : (h : Head) → Counts h → (b : List ℕ) {c d e f g : List ℕ}
     → c ≡ credits 0 (copies 16 h.aout.0) h.actives b
     → d ≡ credits h.actives (copies 16 h.pout.0) h.passives c

@@ -158,7 +158,7 @@ fn lay_same(s: &mut [u8], from: usize, n: usize, v: u8)
     lay_credits(s, from, &t, n);
 }
 
-// 'credit of each queue fed by a wire = its capacity': out-queues, routers' queues, in_queues.
+// 'credit of each queue fed by a wire = its capacity': out-queues, routers' queues, in-queues.
 fn all_credits(h: Head, s: &mut [u8])
     requires { Counts h × (state_size h ≤ length s.old) }
     ensures { s.new ≡ credited h 0 (queue_count h) s.old }

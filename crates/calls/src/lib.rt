@@ -123,7 +123,7 @@ pub fn write(plan: &[u8], state: &mut [u8]) -> Answer
     opened::write(h, &routes, &joints, &homes, state)
 }
 
-// Launch: a set_up_lem of a served pair joins the active's out-queue.
+// Launch: a set-up of a served pair joins the active's out-queue.
 pub fn launch(plan: &[u8], state: &mut [u8], active: usize, passive: usize, slot: usize) -> Answer
     ensures { given result state.new ≡ call_on plan.now (launch active passive slot)
         state.old }
@@ -233,7 +233,7 @@ pub fn drop(plan: &[u8], state: &mut [u8], active: usize) -> Answer
     call_drop::drop(h, state, active)
 }
 
-// Close: the tear_down_lem of an accepted connection joins the active's out-queue, and the connection is accepted no more.
+// Close: the tear-down of an accepted connection joins the active's out-queue, and the connection is accepted no more.
 pub fn close(plan: &[u8], state: &mut [u8], active: usize, passive: usize, slot: usize) -> Answer
     ensures { given result state.new ≡ call_on plan.now (close active passive slot)
         state.old }

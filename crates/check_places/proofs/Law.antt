@@ -263,7 +263,7 @@ module _ {h : Head} {actives outs inner : ℕ} {routes : List (List ℕ)} {joint
             asked.active asked.passive pair t.length trip.size (n - h.actives) x.hub.0
             x.kind))
 
-    -- ---- the queue of a number: out-queues, routers' queues, in_queues
+    -- ---- the queue of a number: out-queues, routers' queues, in-queues
     queue_out : (n : ℕ) → n < h.actives + h.passives
         → queue_at (table_plan h routes joints) n ≡ pick (ltb n h.actives) (active_out n) (passive_out (n - h.actives))
     unfolding queue_at table_plan

@@ -56,7 +56,7 @@ coming_as v hub Nack = false
 unfoldable pub coming : Standing → Kind → ℕ → Bool
 coming v k hub = pick (eqb v.ahead 0) false (coming_as v hub k)
 
--- handled: by the rule of its kind a set_up_lem has one router more behind it, a tear_down_lem one less ahead
+-- handled: by the rule of its kind a set-up has one router more behind it, a tear-down one less ahead
 abbrev pub leaving_as : Standing → ℕ → Kind → Bool
 leaving_as v hub Setup = eqb hub (v.behind + 1)
 leaving_as v hub Tdown = frees_up_to hub (v.ahead - 1)
@@ -203,7 +203,7 @@ module _ (routes : List (List ℕ)) (joints homes : List ℕ) (by up : List (Lis
       (pick (ltb k 8) (unit_by joints by up t (4 * r + (k - 4)) done x.kind x.hub.0)
       (sender_by r ((k - 8) / 5) ((k - 8) % 5)))
 
-  -- the n-th queue: out-queues, then inner ones of the routers, then in_queues
+  -- the n-th queue: out-queues, then inner ones of the routers, then in-queues
   unfoldable pub fits_by : ℕ → ℕ → ℕ → ℕ → Bool → Bool
   fits_by actives outs inner n done =
       pick (ltb n outs) (sent_by actives t.length n x)

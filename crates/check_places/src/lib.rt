@@ -590,7 +590,7 @@ fn received(actives: usize, length: usize, n: usize, x: Packet) -> bool
     passive_in(length, x)
 }
 
-// In the n-th queue: out-queues first, then inner ones of the routers, then the in_queues.
+// In the n-th queue: out-queues first, then inner ones of the routers, then the in-queues.
 fn looked(
     actives: usize,
     outs: usize,

@@ -149,7 +149,7 @@ module _ (pl : Plan) (b : List ℕ) (d : ℕ) where
       → RowsChecked pl b d (28 * n) true t u
   routers_done x e = rw (← e) x
 
-  -- the three groups: interfaces' out-queues, routers, interfaces' in_queues
+  -- the three groups: interfaces' out-queues, routers, interfaces' in-queues
   module _ (m n k : ℕ) where
     pub first_lost : {t u : List ℕ} → RowsChecked pl b d m false t u → RowsChecked pl b d (m + n + k) false t u
     first_lost x = rows_lost pl b d (m + n) k (rows_lost pl b d m n x)

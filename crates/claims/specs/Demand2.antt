@@ -1,5 +1,5 @@
 -- Demand 2: 'Every accepted call leaves exactly the state, and gives exactly the answer, that the published ÆTHEREAL
--- set_up_lem protocol prescribes as document 01 condenses and amends it; and a plan loads exactly when it obeys every plan
+-- set-up protocol prescribes as document 01 condenses and amends it; and a plan loads exactly when it obeys every plan
 -- rule.' What is prescribed: machine/specs.
 use Rattle.std.specs.Prelude.{◌≡◌, ◌≢◌, List, ℕ}
 use Rattle.kinds.specs.declared.Refusal.{Refusal}

@@ -302,7 +302,7 @@ module _ {pl : Plan} (wired : Wired pl) where
       by (ahead, g) = sym (some_same g.goes)
           ∙ ap (Q r) (came_in_lem wired g.a g.p g.has_active g.serves g.visits.steps r i g.visits.here)
 
-  -- from Q to F: by a set_up_lem or tear_down_lem of a served pair that came in by that side. So its walk left the router
+  -- from Q to F: by a set-up or tear-down of a served pair that came in by that side. So its walk left the router
   -- behind that side by the side that is joined there
   from_q : (r i : ℕ) (y : Queue) → Feeds pl (Q r i) y → late y ≡ false
       → (o : ℕ) × (y ≡ F ahead r o)

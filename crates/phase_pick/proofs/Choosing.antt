@@ -69,7 +69,7 @@ no_choice s o e = λ i. with_links (record { wire = s.links.wire; choice = λ x.
         by (inl t) = rw t (sym e ∙ ap s.links.choice (sym (same_output_lem x o t)))
         by (inr t) = rw t
 
--- in_queues are left by no output
+-- in-queues are left by no output
 leaves_in : (q : Queue) (o : Output) → output_of q ≡ some o → is_in_queue q ≡ false
 leaves_in (active_out x) o e = refl
 leaves_in (active_in x) o e = absurd (some_not_none e)

@@ -16,7 +16,7 @@ ghost use Rattle.phase_read.specs.Awaiting.{lacks_at, Only};
 ghost use Rattle.phase_read.specs.Reading.{delivery, Arriving, Flagged, Settles, Whole, SettlesTo, Down};
 
 use bytes_rows::{phase_code, push, put_wire, wire_at};
-use bytes_steps::{output_count, output_row_lem, queue_count, queue_row};
+use bytes_steps::{output_count, output_row, queue_count, queue_row};
 use kinds::Credit;
 use next_queue::{NO_QUEUE, base_of, next};
 use packets::{Phase, Wire, credit_up};
@@ -103,7 +103,7 @@ fn deliver(
         (Arriving (table_plan h routes.now joints.now) m)
         (delivery (table_plan h routes.now joints.now) m) s.old s.new }
 {
-    let i = output_row_lem(h, m);
+    let i = output_row(h, m);
     let w = wire_at(s, i);
     let Wire::Full(x) = w else {
         return;
@@ -132,7 +132,7 @@ fn deliver_all(h: Head, routes: &[[u8; 32]; 16], joints: &[u8; 64], homes: &[u8;
         s.old s.new }
 {
     let count = output_count(h);
-    let from = output_row_lem(h, 0);
+    let from = output_row(h, 0);
     for m in 0..count {
         if full(s, from, m) {
             deliver(h, routes, joints, homes, s, m);

@@ -15,7 +15,7 @@ ghost use Rattle.next_queue.specs.Wiring.{Wiring};
 ghost use Rattle.phase_write.specs.Writing.{sending, Picking, Picked, sender_of, Raises, Takes, Enters};
 
 use bytes_rows::{packet_at, phase_code, pop, put_wire};
-use bytes_steps::{output_count, output_row_lem, queue_row, turn_row};
+use bytes_steps::{output_count, output_row, queue_row, turn_row};
 use kinds::{Credit, Slot};
 use next_queue::{base_of, next};
 use packets::{Packet, Phase, Wire, credit_down, slot_next};
@@ -132,7 +132,7 @@ fn send(
         (Picking (table_plan h routes.now joints.now) m)
         (sending (table_plan h routes.now joints.now) m) s.old s.new }
 {
-    let i = output_row_lem(h, m);
+    let i = output_row(h, m);
     let c = s[i + CHOICE_BYTE];
     if c == 0 {
         return;
@@ -161,7 +161,7 @@ fn send_all(h: Head, routes: &[[u8; 32]; 16], joints: &[u8; 64], homes: &[u8; 32
         s.old s.new }
 {
     let count = output_count(h);
-    let from = output_row_lem(h, 0);
+    let from = output_row(h, 0);
     for m in 0..count {
         if picked(s, from, m) {
             send(h, routes, joints, homes, s, m);

@@ -118,7 +118,7 @@ pub fn capacities_ok(h: Head) -> bool
 }
 
 // Whether no number of the head is outside its range: refusal 2.
-pub fn head_ok_lem(h: Head) -> bool
+pub fn head_ok(h: Head) -> bool
     ensures { result ≡ head_ok h }
 {
     counts_ok(h) & capacities_ok(h)

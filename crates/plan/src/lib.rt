@@ -8,7 +8,7 @@ pub mod counts;
 pub mod joints;
 
 // The plan's first 45 bits: counts, the slot count and the eight capacities, in the plan's order: of the actives'
-// out-queues (aout) and in_queues (ain), of U, Q, F and K, of the passives' in_queues (pin) and out-queues (pout).
+// out-queues (aout) and in-queues (ain), of U, Q, F and K, of the passives' in-queues (pin) and out-queues (pout).
 #[derive(Clone, Copy)]
 pub struct Head {
     pub routers: usize,

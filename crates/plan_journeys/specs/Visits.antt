@@ -1,4 +1,4 @@
--- Where a packet of a pair may be, its hub left aside: the queues that a set_up_lem or an answer visits.
+-- Where a packet of a pair may be, its hub left aside: the queues that a set-up or an answer visits.
 use Rattle.std.specs.Prelude.{◌≡◌, ◌⊎◌, ℕ}
 use Rattle.basis.specs.Walk.{on}
 use Rattle.plan.specs.Plan.{Plan, Port, active, passive, route_to}

@@ -11,7 +11,7 @@ use Rattle.plan_queues.specs.Feeds.{Output, of_active, of_passive, of_side, to_u
 abbrev pub next_by : Plan → Output → Packet → Option Queue
 next_by pl o x = beyond pl (heading_of x.kind) x.active x.passive o
 
--- an output's senders in order: 'A side's order is now set_up_lem F, answer F, then K' (document 02 (i)), K[0,o] to K[3,o]
+-- an output's senders in order: 'A side's order is now set-up F, answer F, then K' (document 02 (i)), K[0,o] to K[3,o]
 -- without K[o,o]; U[0] to U[3] to the unit; Q[0] to Q[3] to F; an interface's out-queue
 abbrev pub senders : Output → List Queue
 senders (of_active a) = active_out a ∷ []

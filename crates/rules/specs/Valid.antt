@@ -106,7 +106,7 @@ abbrev pub spends : ℕ → Packet → ℕ
 spends a x = pick (eqb x.active a) (spends_kind x.kind) 0
 
 -- 'a queue fed by a wire': 'A wire enters each joined side and each interface from its neighbour; one leads from
--- router to unit, one back.' So U[i] and K[i,o] are fed where side i is joined, in_queues, Q and F always, out-queues
+-- router to unit, one back.' So U[i] and K[i,o] are fed where side i is joined, in-queues, Q and F always, out-queues
 -- never.
 abbrev pub is_joined : Joint → Bool
 is_joined Nothing = false

@@ -366,7 +366,7 @@ fn crosses(plan: &[u8], clockwise: &[u8]) {
     );
 }
 
-// 'Before a wash the arm program .. waits': a declined set_up_lem on plan T.
+// 'Before a wash the arm program .. waits': a declined set-up on plan T.
 fn washed(plan: &[u8]) {
     say(b"\nPlan T before a wash: a set-up is declined, and all is waited out\n");
     let mut s = room();

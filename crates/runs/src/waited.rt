@@ -1,5 +1,5 @@
-// Document 02 (n) on plan T: before a wash a set_up_lem is under way; the passive declines it, the active drops the NACK,
-// and the network is empty when the tear_down_lem has ended.
+// Document 02 (n) on plan T: before a wash a set-up is under way; the passive declines it, the active drops the NACK,
+// and the network is empty when the tear-down has ended.
 use kinds::Refusal;
 use packets::{Answer, Remaining};
 use telling::words::say;
@@ -37,7 +37,7 @@ fn neither(plan: &[u8], s: &mut [u8], from: usize, to: usize) -> bool {
     ok
 }
 
-// A set_up_lem is launched and the program begins to wait: one packet, 512 rounds.
+// A set-up is launched and the program begins to wait: one packet, 512 rounds.
 fn begun(plan: &[u8], s: &mut [u8]) -> bool {
     let started = super::told::start(plan, s);
     say(b"  before round 0:");

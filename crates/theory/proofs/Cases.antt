@@ -1,5 +1,5 @@
 -- What each step of the rules does, by cases, each with the state that it leaves: a wire's delivery, a unit's turn, an
--- active's tear_down_lem, a sending, what a Drop notes.
+-- active's tear-down, a sending, what a Drop notes.
 use mathlib.Core.Path.{◌≡◌, refl, ap, ap₂, ◌∙◌}
 use mathlib.Core.Logic.{◌⊎◌, inl, inr}
 use mathlib.Core.Bool.{Bool, true, false, ◌&&◌, false≢true}
@@ -54,16 +54,16 @@ exit_at pl r x = route_to pl (passive x.passive) r
 abbrev pub may_book_at : Plan → ℕ → State → Packet → Bool
 may_book_at pl r s x = may_book (S pl) (s.table r (exit_at pl r x)) x.slot.0
 
--- the states that a unit's turn leaves: a set_up_lem has booked
+-- the states that a unit's turn leaves: a set-up has booked
 abbrev pub after_booked : Plan → ℕ → ℕ → Packet → List Packet → State → State
 after_booked pl r i x rest s = handled_as r i (booked (S pl) x) rest
     (with_entry r (exit_at pl r x) x.slot.0 (Booked (came_in pl x.active x.passive r)) s)
 
--- a tear_down_lem has freed an entry and goes on
+-- a tear-down has freed an entry and goes on
 abbrev pub after_freed : Plan → ℕ → ℕ → Packet → List Packet → State → State
 after_freed pl r i x rest s = handled_as r i (freed (S pl) x) rest (with_entry r (exit_at pl r x) x.slot.0 Free s)
 
--- a tear_down_lem has freed its last entry and ended
+-- a tear-down has freed its last entry and ended
 abbrev pub after_ended : Plan → ℕ → ℕ → Packet → List Packet → State → State
 after_ended pl r i x rest s = with_flag (Q r i) true (with_queue (Q r i) rest (with_entry r (exit_at pl r x)
     x.slot.0 Free s))
@@ -86,26 +86,26 @@ module _ (pl : Plan) (r i : ℕ) (s : State) where
     by_kind k f q = ap₂ (λ (l : List Packet) (b : Bool). at_unit pl r i l b s) e f
         ∙ ap (λ (c : Kind). handle pl r i (exit_at pl r x) c x rest s) q
 
-    -- A set_up_lem whose entry may be booked books it.
+    -- A set-up whose entry may be booked books it.
     pub unit_books : s.lines.handled (Q r i) ≡ false → x.kind ≡ Setup → may_book_at pl r s x ≡ true
         → unit pl r i s ≡ after_booked pl r i x rest s
     unfolding handle set_up
     unit_books f q t = by_kind Setup f q ∙ ap (λ (b : Bool). set_up pl r i (exit_at pl r x) x rest b s) t
 
-    -- Another set_up_lem is declined.
+    -- Another set-up is declined.
     pub unit_declines : s.lines.handled (Q r i) ≡ false → x.kind ≡ Setup → may_book_at pl r s x ≡ false
         → unit pl r i s ≡ handled_as r i (declined x) rest s
     unfolding handle set_up
     unit_declines f q t = by_kind Setup f q ∙ ap (λ (b : Bool). set_up pl r i (exit_at pl r x) x rest b s) t
 
-    -- A tear_down_lem with hub 1 frees its entry and ends.
+    -- A tear-down with hub 1 frees its entry and ends.
     pub unit_ends : s.lines.handled (Q r i) ≡ false → x.kind ≡ Tdown → eqb x.hub.0 1 ≡ true
         → unit pl r i s ≡ after_ended pl r i x rest s
     unfolding handle tear_down tear_one
     unit_ends f q t = by_kind Tdown f q
         ∙ ap (λ (b : Bool). tear_one pl r i x rest b (with_entry r (exit_at pl r x) x.slot.0 Free s)) t
 
-    -- Another tear_down_lem frees its entry.
+    -- Another tear-down frees its entry.
     pub unit_frees : s.lines.handled (Q r i) ≡ false → x.kind ≡ Tdown → eqb x.hub.0 1 ≡ false
         → unit pl r i s ≡ after_freed pl r i x rest s
     unfolding handle tear_down tear_one

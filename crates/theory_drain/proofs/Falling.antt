@@ -136,7 +136,7 @@ module _ {pl : Plan} (wired : Wired pl) (a p : ℕ) (ha : a < A pl) (hp : p < P 
   next_falls Ack h x y l (f, e) q = answer_falls h h x y l f q
   next_falls Nack h x y l f q = answer_falls h h x y l f q
 
-  -- ---- at a passive: the way back from it is counted before the set_up_lem is answered
+  -- ---- at a passive: the way back from it is counted before the set-up is answered
   pub reply_falls : (h : ℕ) → R pl ≤ 16 → h ≤ 16
       → answer_left pl a h (in_queue (passive_out p)) + 1 ≤ setup_left h (in_queue (passive_in p))
   reply_falls h r l =
@@ -144,7 +144,7 @@ module _ {pl : Plan} (wired : Wired pl) (a p : ℕ) (ha : a < A pl) (hp : p < P 
       (back_walk wired a p ha hp s) in
       omega arith
 
-  -- ---- at a unit: the way back is counted before the set_up_lem is declined
+  -- ---- at a unit: the way back is counted before the set-up is declined
   pub decline_falls : (n h r i : ℕ) → R pl ≤ 16 → h ≤ 16 → r < R pl → Stands pl a p n r i
       → answer_left pl a h (handled_at r i) ≤ setup_left h (in_queue (Q r i))
   decline_falls n h r i m l k f =
@@ -162,7 +162,7 @@ module _ {pl : Plan} (wired : Wired pl) where
       (ap (leaving pl (heading_of x.kind) x.active x.passive) (sender_leaves o k q e) ∙ n)
 
   -- ---- at a unit
-  -- A set_up_lem that is booked has as many.
+  -- A set-up that is booked has as many.
   pub booked_left : (r i : ℕ) (x : Packet) → x.kind ≡ Setup → x.hub.0 < 16
       → left pl (handled_at r i) (booked (S pl) x) ≡ left pl (in_queue (Q r i)) x
   booked_left r i x e l =
@@ -170,7 +170,7 @@ module _ {pl : Plan} (wired : Wired pl) where
       let old = left_of pl Setup (in_queue (Q r i)) x e in
       omega arith
 
-  -- A set_up_lem that is declined has no more.
+  -- A set-up that is declined has no more.
   pub declined_left : (r i : ℕ) (x : Packet) → R pl ≤ 16 → r < R pl → x.kind ≡ Setup → Belongs pl (in_queue (Q r i)) x
       → left pl (handled_at r i) (declined x) ≤ left pl (in_queue (Q r i)) x
   declined_left r i x m l e b =
@@ -182,7 +182,7 @@ module _ {pl : Plan} (wired : Wired pl) where
       let old = left_of pl Setup (in_queue (Q r i)) x e in
       omega arith
 
-  -- A tear_down_lem that goes on has as many,
+  -- A tear-down that goes on has as many,
   pub freed_left : (r i : ℕ) (x : Packet) → x.kind ≡ Tdown → 1 < x.hub.0
       → left pl (handled_at r i) (freed (S pl) x) ≡ left pl (in_queue (Q r i)) x
   freed_left r i x e l =
@@ -195,7 +195,7 @@ module _ {pl : Plan} (wired : Wired pl) where
   ended_left r i x e l = let old = left_of pl Tdown (in_queue (Q r i)) x e in omega arith
 
   -- ---- at an active
-  -- A NACK that is marked and its tear_down_lem together have one fewer at least.
+  -- A NACK that is marked and its tear-down together have one fewer at least.
   pub torn_left : (a : ℕ) (x : Packet) → x.kind ≡ Nack → 1 ≤ x.hub.0
       → left pl (in_queue (active_in a)) (marked x) + left pl (in_queue (active_out a)) (tdown_of (S pl) x) + 1
       ≤ left pl (in_queue (active_in a)) x
@@ -211,7 +211,7 @@ module _ {pl : Plan} (wired : Wired pl) where
   dropped_left a x (inr e) = let old = left_of pl Nack (in_queue (active_in a)) x e in omega arith
 
   -- ---- at a passive
-  -- An answer has one fewer than the set_up_lem had.
+  -- An answer has one fewer than the set-up had.
   pub replied_left : (p : ℕ) (k : Kind) (x : Packet) → R pl ≤ 16 → (k ≡ Ack) ⊎ (k ≡ Nack)
       → Belongs pl (in_queue (passive_in p)) x
       → left pl (in_queue (passive_out p)) (replied_as k x) + 1 ≤ left pl (in_queue (passive_in p)) x

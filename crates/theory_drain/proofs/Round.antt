@@ -1,7 +1,7 @@
 -- Within S rounds some step is made: from a state in EXECUTE with a packet the sum falls. A passive that can reply does
 -- so in this round. If none can, every one that has a packet has a full out-queue, and answers move whatever the
 -- passives do. If there is no answer in K or in a passive's out-queue, no passive has a packet, and packets outside the
--- in_queues move. If there is none, an active's in-queue has one, which is marked in this round, or dropped.
+-- in-queues move. If there is none, an active's in-queue has one, which is marked in this round, or dropped.
 use mathlib.Core.Path.{◌≡◌, refl, sym, ap, subst, ◌∙◌}
 use mathlib.Core.Logic.{◌⊎◌, inl, inr, ◌≢◌}
 use mathlib.Core.Bool.{Bool, true, false, false≢true}

@@ -140,7 +140,7 @@ left_some pl at x b = by x.kind at b.fits
     answer n (in_queue (Q r i)) f = absurd f
     answer n (in_queue (F ahead r o)) f = absurd f
 
-    -- a tear_down_lem is at no passive: it has a router ahead
+    -- a tear-down is at no passive: it has a router ahead
     not_there : (at : Place) → Fits pl Tdown x.active x.passive x.hub.0 at → (p : ℕ)
         → at ≡ in_queue (passive_in p) → ⊥
     not_there at f p e = here (subst (Fits pl Tdown x.active x.passive x.hub.0) e f)

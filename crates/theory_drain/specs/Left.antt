@@ -1,6 +1,6 @@
 -- How many steps a packet still has before it, at most. A step takes a packet out of a queue (a move by Execute or
--- Write, a Reply, a Drop) or marks a NACK. A set_up_lem counts its way to the passive, the answer, the way back, and what
--- is torn down after a decline; an answer the way back and what may be torn down; a tear_down_lem its routers.
+-- Write, a Reply, a Drop) or marks a NACK. A set-up counts its way to the passive, the answer, the way back, and what
+-- is torn down after a decline; an answer the way back and what may be torn down; a tear-down its routers.
 use Rattle.std.specs.Prelude.{ℕ, ◌+◌, ◌*◌, ◌-◌}
 use Rattle.packets.specs.declared.Kind.{Kind}
 use Rattle.packets.specs.declared.Kind.TheVariants.{Setup, Tdown, Ack, Nack}
@@ -20,7 +20,7 @@ way_back pl a x = walk_size pl (active a) x
 abbrev pub at_router : ℕ → Port
 at_router r = record { router = r; side = 0 }
 
--- a set_up_lem with so many routers booked: three queues for each router that may be ahead, at most 16; beyond, at most 83
+-- a set-up with so many routers booked: three queues for each router that may be ahead, at most 16; beyond, at most 83
 abbrev pub setup_left : ℕ → Place → ℕ
 setup_left h (in_queue (active_out x)) = 84 + 3 * (16 - h)
 setup_left h (in_queue (U r i)) = 83 + 3 * (16 - h)
@@ -33,7 +33,7 @@ setup_left h (in_queue (passive_out x)) = 0
 setup_left h (in_queue (F back r o)) = 0
 setup_left h (in_queue (K r i o)) = 0
 
--- a tear_down_lem with so many routers ahead: three queues for each but the last, where it ends in the second
+-- a tear-down with so many routers ahead: three queues for each but the last, where it ends in the second
 abbrev pub tdown_left : ℕ → Place → ℕ
 tdown_left h (in_queue (active_out x)) = 3 * h
 tdown_left h (in_queue (U r i)) = 3 * h - 1
@@ -47,7 +47,7 @@ tdown_left h (in_queue (F back r o)) = 0
 tdown_left h (in_queue (K r i o)) = 0
 
 -- an answer with a hub: a queue for each router on its way back, its Drop, and four for each router that its marking
--- and tear_down_lem may still cost
+-- and tear-down may still cost
 abbrev pub answer_left : Plan → ℕ → ℕ → Place → ℕ
 answer_left pl a h (in_queue (passive_out x)) = way_back pl a (home pl (passive x)) + 2 + 4 * h
 answer_left pl a h (in_queue (K r i o)) = way_back pl a (record { router = r; side = i }) + 1 + 4 * h

@@ -114,7 +114,7 @@ holding q xs n s =
     with_queue q xs
     (with_credit q (record { 0 = credit_for around q xs }) (with_allowance 0 (start_allowance around - n) s))
 
--- one packet that counts against the allowance; a tear_down_lem, which does not
+-- one packet that counts against the allowance; a tear-down, which does not
 abbrev one : Queue → Packet → State → State
 one q x s = holding q (x ∷ []) 1 s
 
@@ -245,7 +245,7 @@ on_wires =
     ∷ broken credits (on_wire (from_unit 0) (F ahead 0 3) (of Nack 1))
     ∷ []
 
--- a set_up_lem in set_up_lem F[2] of router 0, and in WRITE side 2 has picked the sender of a rank
+-- a set-up in set-up F[2] of router 0, and in WRITE side 2 has picked the sender of a rank
 abbrev picking : ℕ → State → State
 picking k s = with_phase Write (with_choice (of_side 0 2) (sender k) (one (F ahead 0 2) (of Setup 2) s))
 
@@ -316,7 +316,7 @@ on_numbers =
     -- of one that no wire feeds it stays as Start left it
     ∷ broken out_credits (with_credit (active_out 0) (record { 0 = 3 }))
     ∷ broken out_credits (with_credit (U 1 3) (record { 0 = 1 }))
-    -- 'an active's allowance + its SETUPs, ACKs and NACKs ≠ its start allowance': a tear_down_lem does not count
+    -- 'an active's allowance + its SETUPs, ACKs and NACKs ≠ its start allowance': a tear-down does not count
     ∷ broken allowances (with_allowance 0 3)
     ∷ broken allowances (with_allowance 1 5)
     ∷ broken allowances (holding (active_out 0) (of Setup 0 ∷ []) 0)

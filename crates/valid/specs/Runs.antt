@@ -97,7 +97,7 @@ t_closes = refl
 abbrev packet : Kind → ℕ → Packet
 packet k hub = record { kind = k; active = 0; passive = 0; slot = record { 0 = 0 }; hub = record { 0 = hub } }
 
--- a set_up_lem on the active's wire, as a Write leaves it, but for its hub
+-- a set-up on the active's wire, as a Write leaves it, but for its hub
 abbrev under_way : ℕ → State → State
 under_way hub s =
     with_wire (of_active 0) (Full (packet Setup hub)) (with_credit (U 0 0) (record { 0 = 0 }) (with_allowance 0 0 s))
@@ -254,7 +254,7 @@ abbrev waits : Queue → Kind → ℕ → State → State
 waits q k hub s =
     with_queue q (packet k hub ∷ []) (with_credit q (record { 0 = 0 }) (with_allowance 0 0 s))
 
--- a set_up_lem on the wire to the unit, for a credit of Q[i]
+-- a set-up on the wire to the unit, for a credit of Q[i]
 abbrev on_the_way : ℕ → State → State
 on_the_way i s =
     with_wire (to_unit 0) (Full (packet Setup 0)) (with_credit (Q 0 i) (record { 0 = 0 }) (with_allowance 0 0 s))
@@ -271,7 +271,7 @@ pub t_split : count_valid (
 unfolding count_valid
 t_split = refl
 
--- another side's Q, a set_up_lem in F of answers, an answer in F of set-ups, another Q's credit
+-- another side's Q, a set-up in F of answers, an answer in F of set-ups, another Q's credit
 pub t_unsplit : count_valid (
     waits (Q 0 1) Setup 0
     ∷ waits (F back 0 1) Setup 1

@@ -105,7 +105,7 @@ back_test pl a p (in_queue (U r i)) n = false
 back_test pl a p (in_queue (active_out x)) n = false
 back_test pl a p (in_queue (passive_in x)) n = false
 
--- a packet of this kind, pair and hub may be at this place; the hub of a tear_down_lem and the routers behind it are at
+-- a packet of this kind, pair and hub may be at this place; the hub of a tear-down and the routers behind it are at
 -- most the walk's length
 unfoldable pub fits_test : Plan → Kind → ℕ → ℕ → ℕ → Place → Bool
 fits_test pl Setup a p hub x = ahead_test pl a p x hub

@@ -1,6 +1,6 @@
 -- Document 02 (i), 'Cameras at both ends': 'Split Q by incoming side, and F[o] into one queue for set-ups and
 -- tear-downs and one for answers, each with the old capacity. A unit handles each queue's unhandled head once in a
--- round, side 0 first, and sends one packet a round, turn about. A side's order is now set_up_lem F, answer F, then K, so
+-- round, side 0 first, and sends one packet a round, turn about. A side's order is now set-up F, answer F, then K, so
 -- at most four others go first there.' Each run is one list of calls and one theorem that evaluates it. Rounds are
 -- counted from 0.
 use Rattle.std.specs.Prelude.{◌≡◌, refl, List, [], ◌∷◌, ◌++◌, ℕ}
@@ -39,12 +39,12 @@ abbrev pub side2 : State → List ℕ
 side2 s = entry_in s 0 2 0 ∷ entry_in s 0 2 1 ∷ entry_in s 0 2 2 ∷ entry_in s 0 2 3 ∷ []
 
 pub side_0_first : moments two_to_one side2 (Q 0 0 ∷ Q 0 1 ∷ []) one_entry
-    -- round 4: active 1's first set_up_lem, handled, waits for F; behind it is its second
+    -- round 4: active 1's first set-up, handled, waits for F; behind it is its second
     ≡ after done (1 ∷ 4 ∷ 0 ∷ 4 ∷ []) ([] ∷ (packet Setup 1 0 1 1 ∷ packet Setup 1 0 3 0 ∷ []) ∷ [])
     -- round 5: both heads are unhandled, both for slot 3. Side 0's is booked, side 1's becomes a NACK
     ∷ after done (1 ∷ 4 ∷ 0 ∷ 4 ∷ []) ((packet Setup 0 0 3 0 ∷ []) ∷ (packet Setup 1 0 3 0 ∷ []) ∷ [])
     ∷ after done (1 ∷ 4 ∷ 0 ∷ 0 ∷ []) ((packet Setup 0 0 0 1 ∷ []) ∷ (packet Nack 1 0 3 0 ∷ []) ∷ [])
-    -- the NACK leaves, by answer F; set_up_lem F is full, and side 0's waits
+    -- the NACK leaves, by answer F; set-up F is full, and side 0's waits
     ∷ after done (1 ∷ 4 ∷ 0 ∷ 0 ∷ []) ((packet Setup 0 0 0 1 ∷ []) ∷ [] ∷ [])
     ∷ []
 unfolding moments
@@ -65,9 +65,9 @@ freed_and_booked =
 
 pub freed_and_booked_lem : moments two_to_one side2 (Q 0 0 ∷ Q 0 1 ∷ []) freed_and_booked
     ≡ after done (0 ∷ 4 ∷ 4 ∷ 4 ∷ []) ([] ∷ [] ∷ [])
-    -- round 9: the last set_up_lem stands behind a NACK
+    -- round 9: the last set-up stands behind a NACK
     ∷ after done (0 ∷ 4 ∷ 4 ∷ 4 ∷ []) ([] ∷ (packet Nack 1 0 0 0 ∷ packet Setup 1 0 0 0 ∷ []) ∷ [])
-    -- round 10: the TDOWN has come. It frees slot 0 and ends, and then active 1's set_up_lem finds the entry free
+    -- round 10: the TDOWN has come. It frees slot 0 and ends, and then active 1's set-up finds the entry free
     ∷ after done (0 ∷ 4 ∷ 4 ∷ 4 ∷ []) ((packet Tdown 0 0 0 1 ∷ []) ∷ (packet Setup 1 0 0 0 ∷ []) ∷ [])
     ∷ after done (1 ∷ 4 ∷ 4 ∷ 4 ∷ []) ([] ∷ (packet Setup 1 0 1 1 ∷ []) ∷ [])
     ∷ after done (1 ∷ 4 ∷ 4 ∷ 4 ∷ []) ([] ∷ [] ∷ [])
@@ -78,7 +78,7 @@ freed_and_booked_lem = once side_0_first refl
 -- ---- the Q that a packet on the way to the unit joins is that of the side by which its walk comes in. The wire does
 -- not say by which side it came, and the rank that the way to the unit remembers is not it: along a list from Start
 -- the two are the same, but 7 does not tie one to the other. So here is a list from another state: after rounds 0 and
--- 1 active 1's set_up_lem is on that wire, and the way to the unit remembers U[0]
+-- 1 active 1's set-up is on that wire, and the way to the unit remembers U[0]
 abbrev pub on_the_wire : List Call
 on_the_wire = launch 1 0 0 ∷ many_rounds 2
 
@@ -95,7 +95,7 @@ pub side_of_the_walk :
 unfolding moments
 side_of_the_walk = once freed_and_booked_lem refl
 
--- ---- set_up_lem F and answer F of one side: 'set-up F, answer F, then K'. The crossing plan with active out 2, active
+-- ---- set-up F and answer F of one side: 'set-up F, answer F, then K'. The crossing plan with active out 2, active
 -- in 2: two routers, joined by their sides 2, each with an active on side 0 and a passive on side 1; S=4.
 abbrev pub both_fs : List (List Call)
 both_fs =
@@ -112,7 +112,7 @@ both_fs =
 abbrev pub slot2_and_last : State → List ℕ
 slot2_and_last s = entry_in s 0 2 2 ∷ last_at (of_side 0 2) s
 
--- active 1's NACK, hub 1; active 0's set_up_lem, booked at router 0
+-- active 1's NACK, hub 1; active 0's set-up, booked at router 0
 abbrev pub nack1 : List Packet
 nack1 = packet Nack 1 0 1 1 ∷ []
 
@@ -120,9 +120,9 @@ abbrev pub setup0 : List Packet
 setup0 = packet Setup 0 1 3 1 ∷ []
 
 pub set_ups_first : moments wider_crossing slot2_and_last (F ahead 0 2 ∷ F back 0 2 ∷ []) both_fs
-    -- round 6: the NACK waits in answer F, for active 0's set_up_lem has booked the current slot
+    -- round 6: the NACK waits in answer F, for active 0's set-up has booked the current slot
     ≡ after done (0 ∷ 4 ∷ []) ([] ∷ nack1 ∷ [])
-    -- round 7: the set_up_lem waits in set_up_lem F, and goes first though it came later; round 8: the NACK
+    -- round 7: the set-up waits in set-up F, and goes first though it came later; round 8: the NACK
     ∷ after done (0 ∷ 4 ∷ []) (setup0 ∷ nack1 ∷ [])
     ∷ after done (0 ∷ 0 ∷ []) ([] ∷ nack1 ∷ [])
     ∷ after done (0 ∷ 1 ∷ []) ([] ∷ [] ∷ [])
@@ -171,7 +171,7 @@ pub four_in_turn : moments line_of_three at_unit0 [] from_all_sides
     ≡ after done (3 ∷ 0 ∷ (1 ∷ 2 ∷ 1 ∷ 1 ∷ []) ++ 0 ∷ 0 ∷ 1 ∷ 1 ∷ []) []
     ∷ after done (0 ∷ 2 ∷ (0 ∷ 2 ∷ 1 ∷ 1 ∷ []) ++ 0 ∷ 0 ∷ 0 ∷ 1 ∷ []) []
     ∷ after done (1 ∷ 3 ∷ (0 ∷ 1 ∷ 1 ∷ 1 ∷ []) ++ 1 ∷ 0 ∷ 0 ∷ 0 ∷ []) []
-    -- rounds 9 and 10: sides 2 and 3 are closed in round 9, both set_up_lem F are full, and nothing leaves the unit
+    -- rounds 9 and 10: sides 2 and 3 are closed in round 9, both set-up F are full, and nothing leaves the unit
     ∷ after done (2 ∷ 3 ∷ (0 ∷ 1 ∷ 0 ∷ 1 ∷ []) ++ 1 ∷ 1 ∷ 0 ∷ 0 ∷ []) []
     ∷ after done (3 ∷ 3 ∷ (0 ∷ 1 ∷ 0 ∷ 0 ∷ []) ++ 1 ∷ 1 ∷ 1 ∷ 0 ∷ []) []
     -- round 11: all four Q wait, each full. They go in turn, Q[0] to Q[3], in rounds 11 to 14
@@ -213,7 +213,7 @@ five_senders =
     ∷ round
     ∷ []
 
--- set_up_lem F[3], answer F[3], K[0,3], K[1,3], K[2,3]
+-- set-up F[3], answer F[3], K[0,3], K[1,3], K[2,3]
 abbrev pub five : List Queue
 five = F ahead 0 3 ∷ F back 0 3 ∷ K 0 0 3 ∷ K 0 1 3 ∷ K 0 2 3 ∷ []
 
@@ -239,12 +239,12 @@ ack3 = packet Ack 0 3 5 3 ∷ []
 pub fifth_sees_four : moments drives_around (last_at (of_side 0 3)) five five_senders
     -- round 13: all five wait
     ≡ after done (4 ∷ []) (setup ∷ nack ∷ ack0 ∷ ack1 ∷ ack3 ∷ [])
-    -- rounds 13 to 16: set_up_lem F goes, answer F, K[0,3], K[1,3]
+    -- rounds 13 to 16: set-up F goes, answer F, K[0,3], K[1,3]
     ∷ after done (0 ∷ []) ([] ∷ nack ∷ ack0 ∷ ack1 ∷ ack3 ∷ [])
     ∷ after done (1 ∷ []) ([] ∷ [] ∷ ack0 ∷ ack1 ∷ ack3 ∷ [])
     ∷ after done (2 ∷ []) ([] ∷ [] ∷ [] ∷ ack1 ∷ ack3 ∷ [])
     ∷ after done (3 ∷ []) ([] ∷ [] ∷ [] ∷ [] ∷ ack3 ∷ [])
-    -- round 17: set_up_lem F has another, and it is the turn of K[2,3], which saw four go; round 18: set_up_lem F again
+    -- round 17: set-up F has another, and it is the turn of K[2,3], which saw four go; round 18: set-up F again
     ∷ after done (3 ∷ []) (next_setup ∷ [] ∷ [] ∷ [] ∷ ack3 ∷ [])
     ∷ after done (4 ∷ []) (next_setup ∷ [] ∷ [] ∷ [] ∷ [] ∷ [])
     ∷ after done (0 ∷ []) ([] ∷ [] ∷ [] ∷ [] ∷ [] ∷ [])

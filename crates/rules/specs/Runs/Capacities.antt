@@ -16,7 +16,7 @@ use Rattle.rules.specs.Runs.Watch.{once}
 
 -- ---- the way to a passive. Document 02 (i) splits Q by incoming side: an active's own set-ups are to fill its Q and
 -- its U, and three Qs fill. With Q 3 and U 4, as `narrowThere` has them, an allowance of 6 does not do it; with Q 1 and
--- U 4 it does, and one set_up_lem has to wait. The router is that of `narrowThere`: side 0 to passive 0, sides 1 to 3 to
+-- U 4 it does, and one set-up has to wait. The router is that of `narrowThere`: side 0 to passive 0, sides 1 to 3 to
 -- actives 0 to 2, S=16. Active out 6, in 7, U 4, Q 1, F 3, K 5, passive in 2, out 4.
 
 -- nobody replies before round 17
@@ -41,7 +41,7 @@ fill_there =
     ∷ (execute ∷ write ∷ read ∷ [])
     ∷ []
 
--- U[2], U[3], Q[1], Q[2], Q[3], set_up_lem F[0], passive 0's in-queue
+-- U[2], U[3], Q[1], Q[2], Q[3], set-up F[0], passive 0's in-queue
 abbrev pub way_ahead : List Queue
 way_ahead = U 0 2 ∷ U 0 3 ∷ Q 0 1 ∷ Q 0 2 ∷ Q 0 3 ∷ F ahead 0 0 ∷ passive_in 0 ∷ []
 
@@ -72,7 +72,7 @@ pub filled_there : moments narrow_unit there [] fill_there
     -- round 10: active 0's six have gone ahead: two are at the passive, two in F, one is on the wire to the unit, one
     -- in U[1]
     ∷ after done (waiting 0 6 6 ++ (0 ∷ 0 ∷ 0 ∷ 0 ∷ 0 ∷ 2 ∷ 2 ∷ []) ++ (4 ∷ 4 ∷ 0 ∷ 1 ∷ 1 ∷ 1 ∷ 0 ∷ []) ++ 0 ∷ []) []
-    -- round 15: each is full, with credit 0, also each of the three Qs, and a set_up_lem waits in the out-queues of
+    -- round 15: each is full, with credit 0, also each of the three Qs, and a set-up waits in the out-queues of
     -- actives 1 and 2; round 16: still
     ∷ after done (waiting 0 1 1 ++ full ++ zeros ++ 0 ∷ []) []
     ∷ after done (waiting 0 1 1 ++ full ++ zeros ++ 0 ∷ []) []
@@ -169,7 +169,7 @@ allowance0 s = allowance_in s 0 ∷ []
 abbrev pub tdown : Packet
 tdown = packet Tdown 0 0 6 1
 
--- the set_up_lem launched with a slot
+-- the set-up launched with a slot
 abbrev pub setup : ℕ → Packet
 setup t = packet Setup 0 0 t 0
 
@@ -179,7 +179,7 @@ pub out_queue_full : moments wider_t allowance0 (active_out 0 ∷ []) fill_out
     -- round 7: once it is dropped the whole allowance is back, and the TDOWN is still in the out-queue
     ∷ after (shows (packet Nack 0 0 7 0)) (1 ∷ []) ((tdown ∷ []) ∷ [])
     ∷ after done (2 ∷ []) ((tdown ∷ []) ∷ [])
-    -- round 8: room for one set_up_lem
+    -- round 8: room for one set-up
     ∷ after done (1 ∷ []) ((tdown ∷ setup 4 ∷ []) ∷ [])
     ∷ after (refused 12) (1 ∷ []) ((tdown ∷ setup 4 ∷ []) ∷ [])
     -- round 9: the TDOWN has left

@@ -24,7 +24,7 @@ other_connects =
     launch 1 0 0 ∷ many_rounds 4 ++ in_write (reply 0 1) ++ write ∷ many_rounds 2 ++ in_write (drop 1)
 
 -- from the end of that WRITE on, or of any later round 4n + 3: active 0 launches with slot 2 in the next round, its
--- set_up_lem is accepted seven rounds later, and its ACK is on the wire to it at the start of the round four later
+-- set-up is accepted seven rounds later, and its ACK is on the wire to it at the start of the round four later
 abbrev pub connecting : List Call
 connecting = write ∷ launch 0 0 2 ∷ many_rounds 7 ++ in_write (reply 0 1) ++ write ∷ many_rounds 3
 
@@ -93,7 +93,7 @@ opened_closed_opened =
     -- rounds 23 and 24, then round 25: the second one, and the TDOWN ends
     ∷ (write ∷ many_rounds 2 ++ read ∷ [])
     ∷ (execute ∷ [])
-    -- rounds 26 and 27, then the same set_up_lem again
+    -- rounds 26 and 27, then the same set-up again
     ∷ (write ∷ many_rounds 1 ++ read ∷ execute ∷ [])
     ∷ connecting
     ∷ (read ∷ execute ∷ [])
@@ -192,7 +192,7 @@ closed_later =
     -- round 8, READ: a launch fills the out-queue and spends the only allowance
     ∷ (launch 0 0 1 ∷ [])
     ∷ (close 0 0 0 ∷ [])
-    -- round 9, READ: the set_up_lem is on its way
+    -- round 9, READ: the set-up is on its way
     ∷ many_rounds 1
     ∷ (close 0 0 0 ∷ [])
     ∷ []

@@ -1,7 +1,7 @@
 -- 'Runs to compare' of document 01: 'S=4, two routers, start 3, second declines: NACK slot 0 hub 1, TDOWN slot 3 hub
 -- 1; the second router keeps its entry.' One list of calls and one theorem that evaluates it. Rounds are counted from
 -- 0: round n begins with the current slot n modulo 4. Request (i) of document 02 splits Q by incoming side: at the
--- second router active 1's set_up_lem is in Q[2] and active 0's in Q[0]; nothing else changes, for neither meets the
+-- second router active 1's set-up is in Q[2] and active 0's in Q[0]; nothing else changes, for neither meets the
 -- other there.
 use Rattle.std.specs.Prelude.{◌≡◌, refl, List, [], ◌∷◌, ◌++◌, ℕ}
 use Rattle.packets.specs.declared.Kind.TheVariants.{Setup, Tdown, Ack, Nack}
@@ -26,11 +26,11 @@ both_sides s =
 abbrev pub free : List ℕ
 free = 4 ∷ 4 ∷ 4 ∷ 4 ∷ 4 ∷ 4 ∷ 4 ∷ 4 ∷ []
 
--- the second router has booked slot 0, for a set_up_lem of active 1 that came in by side 2
+-- the second router has booked slot 0, for a set-up of active 1 that came in by side 2
 abbrev pub second : List ℕ
 second = 4 ∷ 4 ∷ 4 ∷ 4 ∷ 2 ∷ 4 ∷ 4 ∷ 4 ∷ []
 
--- and the first router slot 3, for a set_up_lem of active 0 that came in by side 0
+-- and the first router slot 3, for a set-up of active 0 that came in by side 0
 abbrev pub both : List ℕ
 both = 4 ∷ 4 ∷ 4 ∷ 0 ∷ 2 ∷ 4 ∷ 4 ∷ 4 ∷ []
 
@@ -95,7 +95,7 @@ in_second_by2 x = seen [] [] [] (x ∷ []) []
 abbrev pub in_in : Packet → List (List Packet)
 in_in x = seen [] [] [] [] (x ∷ [])
 
--- active 0's set_up_lem as launched, and as the first router sends it on: slot 0, hub 1
+-- active 0's set-up as launched, and as the first router sends it on: slot 0, hub 1
 abbrev pub setup : Packet
 setup = packet Setup 0 0 3 0
 
@@ -113,7 +113,7 @@ marked_nack = packet Nack 0 0 0 0
 abbrev pub tdown : Packet
 tdown = packet Tdown 0 0 3 1
 
--- active 1's set_up_lem as launched, and as the second router sends it on; its ACK
+-- active 1's set-up as launched, and as the second router sends it on; its ACK
 abbrev pub other : Packet
 other = packet Setup 1 0 0 0
 

@@ -22,7 +22,7 @@ free = 4 ∷ 4 ∷ []
 abbrev pub booked_side : List ℕ
 booked_side = 0 ∷ 4 ∷ []
 
--- the set_up_lem of Launch (0,0,0), as launched and after its booking; its ACK: slot 1, hub 1
+-- the set-up of Launch (0,0,0), as launched and after its booking; its ACK: slot 1, hub 1
 abbrev pub launched_setup : Packet
 launched_setup = packet Setup 0 0 0 0
 
@@ -53,7 +53,7 @@ launch_in_round0 =
 abbrev pub nowhere : List (List Packet)
 nowhere = [] ∷ [] ∷ []
 
--- the set_up_lem waits at the passive; the ACK waits at the active
+-- the set-up waits at the passive; the ACK waits at the active
 abbrev pub waits_at_passive : List (List Packet)
 waits_at_passive = (setup ∷ []) ∷ [] ∷ []
 
@@ -98,7 +98,7 @@ launch_in_round1 =
 abbrev pub slot_and_side1 : State → List ℕ
 slot_and_side1 s = slot_in s ∷ side1 s
 
--- F[1], by document 02 (i) that of set-ups, and the passive's in-queue: the set_up_lem is in F[1]; it has reached the
+-- F[1], by document 02 (i) that of set-ups, and the passive's in-queue: the set-up is in F[1]; it has reached the
 -- passive
 abbrev pub in_f : List (List Packet)
 in_f = (setup ∷ []) ∷ [] ∷ []
@@ -116,7 +116,7 @@ pub launch_in_round_1 : watch plan_t slot_and_side1 (F ahead 0 1 ∷ passive_in 
     ++ after done (0 ∷ free) nowhere ∷ after done (0 ∷ free) nowhere ∷ after done (1 ∷ free) nowhere ∷ []
     -- round 3: booked by its Execute
     ++ after done (1 ∷ free) nowhere ∷ after done (1 ∷ booked_side) nowhere ∷ after done (0 ∷ booked_side) nowhere ∷ []
-    -- round 4: the current slot is 0, which is booked: the set_up_lem waits in F[1], and is there still after the Write
+    -- round 4: the current slot is 0, which is booked: the set-up waits in F[1], and is there still after the Write
     ++ after done (0 ∷ booked_side) in_f ∷ after done (0 ∷ booked_side) in_f ∷ after done (1 ∷ booked_side) in_f ∷ []
     -- round 5: the current slot is 1, which is free: the Write sends it
     ++ after done (1 ∷ booked_side) in_f ∷ after done (1 ∷ booked_side) in_f ∷ after done (0 ∷ booked_side) nowhere ∷ []

@@ -1,6 +1,6 @@
 -- 'Each unit handles Q's head once, if not yet handled, and no second head in that round; the handled mark goes when
--- that head leaves or ends.' One list of calls and one theorem that evaluates it: a handled set_up_lem that must wait,
--- behind it a TDOWN that ends at this unit, behind it another set_up_lem. Document 02 (i) splits Q by incoming side: 'a
+-- that head leaves or ends.' One list of calls and one theorem that evaluates it: a handled set-up that must wait,
+-- behind it a TDOWN that ends at this unit, behind it another set-up. Document 02 (i) splits Q by incoming side: 'a
 -- unit handles each queue's unhandled head once in a round'. So all three are active 0's, to stand in one queue,
 -- Q[1]. The figures are those of the one Q that two actives shared.
 use Rattle.std.specs.Prelude.{◌≡◌, refl, List, [], ◌∷◌, ◌++◌, ℕ}
@@ -39,7 +39,7 @@ heads_in_turn =
 abbrev pub watched : State → List ℕ
 watched s = entry_in s 0 0 15 ∷ entry_in s 0 0 4 ∷ credit_in s (Q 0 1) ∷ flag_in s (Q 0 1) ∷ []
 
--- the last of the set-ups that fill the way, handled; the TDOWN; the set_up_lem behind it, as launched and booked
+-- the last of the set-ups that fill the way, handled; the TDOWN; the set-up behind it, as launched and booked
 abbrev pub waiting : Packet
 waiting = packet Setup 0 0 4 1
 

@@ -24,7 +24,7 @@ last_free_entry =
     -- round 12: looked at and dropped in its WRITE
     ++ read ∷ execute ∷ look 0 ∷ drop 0 ∷ write ∷ []
 
--- the set_up_lem of Launch (0,0,1), and the NACK that it becomes, 'slot and hub kept': slot 1, hub 0
+-- the set-up of Launch (0,0,1), and the NACK that it becomes, 'slot and hub kept': slot 1, hub 0
 abbrev pub last : Packet
 last = packet Setup 0 0 1 0
 

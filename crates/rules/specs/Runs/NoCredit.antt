@@ -29,11 +29,11 @@ row_of_set_ups =
     ∷ (read ∷ [])
     ∷ []
 
--- the credit of U[2] of router 1, to which set_up_lem F[2] of router 0 sends, and the last sender of that side
+-- the credit of U[2] of router 1, to which set-up F[2] of router 0 sends, and the last sender of that side
 abbrev pub credit_and_last : State → List ℕ
 credit_and_last s = credit_in s (U 1 2) ∷ s.last_sender (of_side 0 2) ∷ []
 
--- active 0's last set_up_lem, booked at router 0; active 1's two answers
+-- active 0's last set-up, booked at router 0; active 1's two answers
 abbrev pub setup : Packet
 setup = packet Setup 0 1 7 1
 
@@ -43,9 +43,9 @@ first = packet Ack 1 0 2 2
 abbrev pub second : Packet
 second = packet Ack 1 0 4 2
 
--- set_up_lem F[2] and K[1,2] of router 0, and the queue of router 1 to which K[1,2]'s head goes
+-- set-up F[2] and K[1,2] of router 0, and the queue of router 1 to which K[1,2]'s head goes
 pub passed_over : moments roomy_crossing credit_and_last (F ahead 0 2 ∷ K 0 1 2 ∷ K 1 2 0 ∷ []) row_of_set_ups
-    -- round 11: the set_up_lem has no credit; K[1,2] goes, and is remembered
+    -- round 11: the set-up has no credit; K[1,2] goes, and is remembered
     ≡ after done (0 ∷ 0 ∷ []) ((setup ∷ []) ∷ (first ∷ []) ∷ [] ∷ [])
     ∷ after done (0 ∷ 3 ∷ []) ((setup ∷ []) ∷ [] ∷ [] ∷ [])
     -- round 13: it is the set-up's turn, which has no credit still; K[1,2] goes again

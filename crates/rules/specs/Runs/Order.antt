@@ -1,5 +1,5 @@
 -- An output's order: 'F[o], K[0,o] to K[3,o] for a side', 'U[0] to U[3] to the unit'; by document 02 (i) 'a side's
--- order is now set_up_lem F, answer F, then K' (both F wait in BothEnds). Who goes first where several wait: an output
+-- order is now set-up F, answer F, then K' (both F wait in BothEnds). Who goes first where several wait: an output
 -- 'starts as if the last in order had sent' (document 02 (b)), so those that wait once each go in order, as they did
 -- when the first in order always went first. One list of calls and one theorem each.
 use Rattle.std.specs.Prelude.{◌≡◌, refl, List, [], ◌∷◌, ◌++◌, ℕ}
@@ -39,11 +39,11 @@ free = 4 ∷ []
 abbrev pub booked_side : List ℕ
 booked_side = 1 ∷ []
 
--- U[1], U[2], U[3], then Q[1], Q[2], Q[3]: an active's set_up_lem comes to the Q of its own side
+-- U[1], U[2], U[3], then Q[1], Q[2], Q[3]: an active's set-up comes to the Q of its own side
 abbrev pub seen : List Packet → List Packet → List Packet → List (List Packet) → List (List Packet)
 seen u1 u2 u3 qs = u1 ∷ u2 ∷ u3 ∷ qs
 
--- an active's set_up_lem
+-- an active's set-up
 abbrev pub of : ℕ → List Packet
 of a = packet Setup a 0 5 0 ∷ []
 
@@ -67,7 +67,7 @@ lower_side_first = once allowance_spent_lem refl
 -- side 1
 abbrev pub three_answers : List (List Call)
 three_answers =
-    -- round 0: a set_up_lem to each passive; round 6: another to passive 0, for an entry that is booked
+    -- round 0: a set-up to each passive; round 6: another to passive 0, for an entry that is booked
     (launch 0 0 8 ∷ launch 0 1 8 ∷ many_rounds 6 ++ launch 0 0 8 ∷ round)
     -- round 7: both passives accept; round 8; round 9: all three answers wait
     ∷ (read ∷ execute ∷ reply 0 1 ∷ reply 1 1 ∷ write ∷ round ++ read ∷ [])

@@ -84,7 +84,7 @@ three_go_first =
     once stored_choice_goes_though_booked
     (go_first line_of_three four_arrive (to_unit 0) 3 (execute ∷ write ∷ many_rounds 2) 3 refl refl)
 
--- ---- at a side four: `BothEnds.fifth-sees-four`, rounds 13 to 16. K[2,3] sees set_up_lem F[3], answer F[3], K[0,3] and
+-- ---- at a side four: `BothEnds.fifth-sees-four`, rounds 13 to 16. K[2,3] sees set-up F[3], answer F[3], K[0,3] and
 -- K[1,3] go
 pub four_go_first : GoFirst drives_around (up_to_first five_senders) (of_side 0 3) 4 (execute ∷ write ∷ many_rounds 3) 4
 unfolding moments
@@ -94,7 +94,7 @@ four_go_first =
 
 -- ---- who is a candidate now and then is passed more often: at a unit four times, where three is the bound. One
 -- router, S=16: side 0 to passive 0, sides 1 to 3 to actives 0 to 2; F 1, passive in 1. The heads of Q[2] and Q[3] go
--- to set_up_lem F[0], those of Q[1] become NACKs. Each time that F[0] has room it is Q[2]'s turn, for Q[1] has gone before
+-- to set-up F[0], those of Q[1] become NACKs. Each time that F[0] has room it is Q[2]'s turn, for Q[1] has gone before
 -- it while F[0] had none
 abbrev pub now_and_then : List Call
 now_and_then =

@@ -14,7 +14,7 @@ use Rattle.packets.specs.Answers.{refused, done, shows}
 use Rattle.rules.specs.Runs.FirstBookings.{launch_in_round_1}
 use Rattle.rules.specs.Runs.Watch.{once}
 
--- ---- '**Read, Execute, Write**: 8 another phase'. Plan T, with a set_up_lem on its way
+-- ---- '**Read, Execute, Write**: 8 another phase'. Plan T, with a set-up on its way
 abbrev pub phases_tried : List Call
 phases_tried =
     launch 0 0 0 ∷ execute ∷ write ∷ read
@@ -79,7 +79,7 @@ launches_tried =
 abbrev pub allowances : State → List ℕ
 allowances s = allowance_in s 0 ∷ allowance_in s 1 ∷ []
 
--- their out-queues: empty, with one set_up_lem each or not
+-- their out-queues: empty, with one set-up each or not
 abbrev pub out_queues : List Packet → List Packet → List (List Packet)
 out_queues o0 o1 = o0 ∷ o1 ∷ []
 
@@ -233,7 +233,7 @@ tdown6 = packet Tdown 0 0 6 1
 abbrev pub tdown7 : Packet
 tdown7 = packet Tdown 0 0 7 1
 
--- another set_up_lem
+-- another set-up
 abbrev pub later : Packet
 later = packet Setup 0 0 5 0
 

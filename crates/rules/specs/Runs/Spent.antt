@@ -42,7 +42,7 @@ spent = 0 ∷ []
 abbrev pub back : List ℕ
 back = 1 ∷ []
 
--- the active's out-queue and its in-queue: both are empty; a set_up_lem is in the out-queue; the ACK is in the in-queue
+-- the active's out-queue and its in-queue: both are empty; a set-up is in the out-queue; the ACK is in the in-queue
 abbrev pub quiet : List (List Packet)
 quiet = [] ∷ [] ∷ []
 

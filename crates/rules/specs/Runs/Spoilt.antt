@@ -1,4 +1,4 @@
--- Demand 2 speaks of any bytes, and 7 ties neither a tear_down_lem to the entry that it frees nor a choice to the order in
+-- Demand 2 speaks of any bytes, and 7 ties neither a tear-down to the entry that it frees nor a choice to the order in
 -- which an output looks. So there are states that no list from Start reaches, and a rule can be wrong of them alone.
 -- Each run here begins at such a state; `valid` judges each a state (`Runs.spoilt-states`).
 use Rattle.std.specs.Prelude.{◌≡◌, refl, List, [], ◌∷◌}

@@ -1,4 +1,4 @@
--- A passive declines: the set_up_lem over two routers, and over three, is torn down to its end. One list of calls and one
+-- A passive declines: the set-up over two routers, and over three, is torn down to its end. One list of calls and one
 -- theorem each. Looked at: when the allowance comes back, and that every entry is free again.
 use Rattle.std.specs.Prelude.{◌≡◌, refl, List, [], ◌∷◌, ◌++◌, ℕ}
 use Rattle.packets.specs.declared.Kind.TheVariants.{Setup, Tdown, Nack}
@@ -61,7 +61,7 @@ places = active_out 0 ∷ active_in 0 ∷ Q 0 0 ∷ Q 1 0 ∷ passive_in 0 ∷ [
 abbrev pub quiet : List (List Packet)
 quiet = seen [] [] [] [] []
 
--- the set_up_lem as it comes to the passive, its NACK, 'slot and hub kept', and that NACK marked
+-- the set-up as it comes to the passive, its NACK, 'slot and hub kept', and that NACK marked
 abbrev pub setup : Packet
 setup = packet Setup 0 0 0 2
 

@@ -1,7 +1,7 @@
 -- Turn about (document 02 (b)): 'each output remembers the last sender that a WRITE served and looks from the next
 -- one on, cyclically, in the old order. It starts as if the last in order had sent.' One list of calls and one
 -- theorem each. The number that is looked at is the rank that the output remembers. By document 02 (i) 'a side's
--- order is now set_up_lem F, answer F, then K': at a side set_up_lem F has rank 0, answer F rank 1, K ranks 2 to 4, where F
+-- order is now set-up F, answer F, then K': at a side set-up F has rank 0, answer F rank 1, K ranks 2 to 4, where F
 -- had 0 and K 1 to 3.
 use Rattle.std.specs.Prelude.{◌≡◌, refl, List, [], ◌∷◌, ◌++◌, ℕ}
 use Rattle.packets.specs.declared.Kind.TheVariants.{Setup, Ack, Nack}
@@ -88,7 +88,7 @@ two_in_turn = once fifth_sees_four refl
 -- ---- three senders at side 1: answer F[1], K[0,1] and K[3,1], of rank 4, with passive 1's ACK
 abbrev pub three_senders : List (List Call)
 three_senders =
-    -- round 0: a set_up_lem to each passive, one more to passive 0, then two for an entry that is booked
+    -- round 0: a set-up to each passive, one more to passive 0, then two for an entry that is booked
     (launch 0 0 8 ∷ launch 0 1 8 ∷ each (launch 0 0) (10 ∷ 8 ∷ 8 ∷ [])
     -- rounds 4 and 5: a passive accepts
     ++ many_rounds 4 ++ in_write (reply 0 1) ++ write ∷ in_write (reply 1 1))
@@ -163,11 +163,11 @@ pub unit_in_turn : moments narrow_there last_to_unit (U 0 1 ∷ U 0 2 ∷ U 0 3 
 unfolding moments
 unit_in_turn = once three_in_turn refl
 
--- ---- a round that is skipped: in round 10 active 0's set_up_lem waits in set_up_lem F[1] of router 0 and an ACK in K[2,1],
--- and the side's entry for slot 10 is booked, by that set_up_lem itself
+-- ---- a round that is skipped: in round 10 active 0's set-up waits in set-up F[1] of router 0 and an ACK in K[2,1],
+-- and the side's entry for slot 10 is booked, by that set-up itself
 abbrev pub skipped_round : List (List Call)
 skipped_round =
-    -- round 0: active 1's set_up_lem to passive 1, accepted in round 7; round 7: active 0's to passive 0
+    -- round 0: active 1's set-up to passive 1, accepted in round 7; round 7: active 0's to passive 0
     (launch 1 1 0 ∷ many_rounds 7 ++ launch 0 0 10 ∷ in_write (reply 1 1) ++ write ∷ many_rounds 2 ++ read ∷ [])
     -- rounds 10, 11 and 12: after WRITE
     ∷ (execute ∷ write ∷ [])
@@ -176,10 +176,10 @@ skipped_round =
     ∷ []
 
 pub skipped_changes_nothing : moments long_way_back (last_at_side 1) (F ahead 0 1 ∷ K 0 2 1 ∷ []) skipped_round
-    -- round 10: both wait, nobody goes, and nothing is remembered: it is still set_up_lem F[1]'s turn
+    -- round 10: both wait, nobody goes, and nothing is remembered: it is still set-up F[1]'s turn
     ≡ after done (4 ∷ []) ((packet Setup 0 0 11 1 ∷ []) ∷ (packet Ack 1 1 2 2 ∷ []) ∷ [])
     ∷ after done (4 ∷ []) ((packet Setup 0 0 11 1 ∷ []) ∷ (packet Ack 1 1 2 2 ∷ []) ∷ [])
-    -- round 11: set_up_lem F[1], of rank 0, goes; round 12: K[2,1], of rank 3
+    -- round 11: set-up F[1], of rank 0, goes; round 12: K[2,1], of rank 3
     ∷ after done (0 ∷ []) ([] ∷ (packet Ack 1 1 2 2 ∷ []) ∷ [])
     ∷ after done (3 ∷ []) ([] ∷ [] ∷ [])
     ∷ []

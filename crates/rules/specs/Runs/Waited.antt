@@ -38,7 +38,7 @@ pub nothing_left_lem : watch plan_t (λ s. []) [] nothing_left
 unfolding watch
 nothing_left_lem = once fifth_sees_four refl
 
--- ---- one set_up_lem, accepted: 512 rounds are promised, 8 are needed
+-- ---- one set-up, accepted: 512 rounds are promised, 8 are needed
 abbrev pub waited_out : List Call
 waited_out =
     launch 0 0 0 ∷ remaining ∷ []
@@ -65,7 +65,7 @@ pub waited_out_lem : watch plan_t entry0 [] waited_out
 unfolding watch
 waited_out_lem = once nothing_left_lem refl
 
--- ---- one set_up_lem, declined: it takes the tear_down_lem too, which is a second packet once the NACK is marked
+-- ---- one set-up, declined: it takes the tear-down too, which is a second packet once the NACK is marked
 abbrev pub declined_out : List Call
 declined_out =
     launch 0 0 0 ∷ remaining ∷ []

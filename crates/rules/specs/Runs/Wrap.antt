@@ -58,7 +58,7 @@ slot2 = 4 ∷ 4 ∷ 0 ∷ []
 abbrev pub seen : List Packet → List Packet → List Packet → List Packet → List Packet → List (List Packet)
 seen q0 q1 q2 q3 pin = q0 ∷ q1 ∷ q2 ∷ q3 ∷ pin ∷ []
 
--- the set_up_lem with its slot and hub
+-- the set-up with its slot and hub
 abbrev pub setup : ℕ → ℕ → List Packet
 setup t h = packet Setup 0 0 t h ∷ []
 

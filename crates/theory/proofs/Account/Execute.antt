@@ -1,4 +1,4 @@
--- EXECUTE keeps the credits' part of the core: a TDOWN that ends leaves room and a raised flag, and a tear_down_lem joins
+-- EXECUTE keeps the credits' part of the core: a TDOWN that ends leaves room and a raised flag, and a tear-down joins
 -- an out-queue with room.
 use mathlib.Core.Path.{◌≡◌, refl}
 use mathlib.Core.Bool.{true, false}

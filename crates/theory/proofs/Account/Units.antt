@@ -54,7 +54,7 @@ module _ (pl : Plan) (s : State) (P : State → Type 0) where
       by (x ∷ rest) e true m = same
       by (x ∷ rest) e false m = kind (route_to pl (passive x.passive) r) x rest e m x.kind
 
-  -- an active does nothing; or its in-queue's unmarked head is marked and a tear_down_lem joins its out-queue, which has
+  -- an active does nothing; or its in-queue's unmarked head is marked and a tear-down joins its out-queue, which has
   -- room
   pub undo_by : (a : ℕ) → P s
       → ((x : Packet) (rest : List Packet) → s.lines.queue (active_in a) ≡ x ∷ rest → unmarked x ≡ true

@@ -1,4 +1,4 @@
--- A Close keeps every entry owned: what the accepted connection owned its tear_down_lem owns, and nothing else.
+-- A Close keeps every entry owned: what the accepted connection owned its tear-down owns, and nothing else.
 use mathlib.Core.Path.{◌≡◌, refl, ap₂, ◌∙◌}
 use mathlib.Core.List.{List}
 use Prim.Native.Nat.{ℕ, ◌+◌, ◌<◌}
@@ -23,7 +23,7 @@ use Rattle.theory.proofs.Own.Packets.{owns_of}
 use Rattle.theory.proofs.Own.Listed.{without_in}
 use Rattle.theory.proofs.Own.Made.{made_once, owned_once}
 
--- A closing tear_down_lem in its active's out-queue owns what its connection owned: all routers of the walk are ahead.
+-- A closing tear-down in its active's out-queue owns what its connection owned: all routers of the walk are ahead.
 pub closing_owns : (pl : Plan) (r o u : ℕ) (v : Holder) (a p t : ℕ) → t < S pl
     → owns pl r o u v (in_queue (active_out a)) (closing_of pl a p t) ≡ owns_made pl r o u v (connection a p t)
 unfolding behind owns_made

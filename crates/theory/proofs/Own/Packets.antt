@@ -81,16 +81,16 @@ module _ (pl : Plan) (r o t : ℕ) (v : Holder) where
       by Ack = up
       by Nack = up
 
-  -- A packet other than a tear_down_lem owns nothing with hub 0.
+  -- A packet other than a tear-down owns nothing with hub 0.
   pub up_none : (x : Packet) → x.hub.0 ≡ 0 → owns_up pl r o t v x ≡ 0
   up_none x e =
       owning_none pl r o t v x.active x.passive (start_slot x.slot x.hub (S pl)) 0 x.hub.0 (omega arith)
 
-  -- A launched set_up_lem owns nothing.
+  -- A launched set-up owns nothing.
   pub launched_owns : (at : Place) (a p u : ℕ) → owns pl r o t v at (setup_of a p u) ≡ 0
   launched_owns at a p u = owns_of Setup at (setup_of a p u) refl ∙ up_none (setup_of a p u) refl
 
-  -- A declined set_up_lem owns what it owned.
+  -- A declined set-up owns what it owned.
   pub declined_owns : (from at : Place) (x : Packet) → x.kind ≡ Setup
       → owns pl r o t v at (declined x) ≡ owns pl r o t v from x
   declined_owns from at x e = owns_of Nack at (declined x) refl ∙ sym (owns_of Setup from x e)
@@ -101,7 +101,7 @@ module _ (pl : Plan) (r o t : ℕ) (v : Holder) where
   replied_owns from at k x (inl q) e = owns_of Ack at (replied_as k x) q ∙ sym (owns_of Setup from x e)
   replied_owns from at k x (inr q) e = owns_of Nack at (replied_as k x) q ∙ sym (owns_of Setup from x e)
 
-  -- A NACK marked owns nothing, and the tear_down_lem made of it owns what it owned.
+  -- A NACK marked owns nothing, and the tear-down made of it owns what it owned.
   pub torn_owns : (a : ℕ) (from at : Place) (x : Packet) → x.kind ≡ Nack → x.slot.0 < S pl
       → owns pl r o t v at (marked x) + owns pl r o t v (in_queue (active_out a)) (tdown_of (S pl) x)
       ≡ owns pl r o t v from x
@@ -158,7 +158,7 @@ module _ (pl : Plan) (r o t : ℕ) (v : Holder) where
         (bit (same_holder (holder_of pl x.active x.passive i) v)) 0)
         (after_start (S pl) x.slot (record { 0 = n }) b.ranges.slot)
 
-    -- A set_up_lem that is booked owns that entry more.
+    -- A set-up that is booked owns that entry more.
     pub booked_owns : (i j : ℕ) (x : Packet) → x.kind ≡ Setup → Belongs pl (in_queue (Q i j)) x
         → owns pl r o t v (handled_at i j) (booked (S pl) x) ≡ owns pl r o t v (in_queue (Q i j)) x + one_at i x
     booked_owns i j x e b =
@@ -173,7 +173,7 @@ module _ (pl : Plan) (r o t : ℕ) (v : Holder) where
         let old = owns_of Setup (in_queue (Q i j)) x e in
         omega arith
 
-    -- A tear_down_lem that frees an entry owns that entry less.
+    -- A tear-down that frees an entry owns that entry less.
     pub freed_owns : (i j : ℕ) (x : Packet) → x.kind ≡ Tdown → Belongs pl (in_queue (Q i j)) x
         → owns pl r o t v (in_queue (Q i j)) x ≡ owns pl r o t v (handled_at i j) (freed (S pl) x) + one_at i x
     unfolding Ahead

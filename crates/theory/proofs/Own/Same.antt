@@ -1,4 +1,4 @@
--- READ, choices, WRITE and an active's tear_down_lem change lines, flow and links alone, and a sending what its output
+-- READ, choices, WRITE and an active's tear-down change lines, flow and links alone, and a sending what its output
 -- remembers: the table and the connections stay. A unit leaves the connections and what outputs remember.
 use mathlib.Core.Path.{◌≡◌, refl, ap, ◌∙◌}
 use mathlib.Core.Bool.{Bool, true, false, ◌&&◌}
@@ -111,7 +111,7 @@ module _ {X : Type 0} {f : State → X} (k : Apart f) where
             last (turn_taken o n t).last_sender (with_choice o nobody t) ∙ k.links (with_choice o nobody t).links t
             ∙ sent_leaves o (of_rank (senders o) n)
 
-    -- So does an active's tear_down_lem.
+    -- So does an active's tear-down.
     pub undo_leaves : (a : ℕ) → f (undo pl a s) ≡ f s
     unfolding undo at_active answer
     undo_leaves a = by (s.lines.queue (active_in a))

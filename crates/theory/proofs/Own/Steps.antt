@@ -106,7 +106,7 @@ module _ {pl : Plan} (wired : Wired pl) {acc : List Connection} (s : State) (c :
   send_owned w d ready z = owned_same s (send pl w s) k (send_leaves table_apart pl s (λ x t. refl) w)
       (λ r o u v. send_weighed pl (owns pl r o u v) wired c w d (owns_steady pl r o u v wired) ready z)
 
-  -- So does an active that tears down: the tear_down_lem owns what the NACK owned.
+  -- So does an active that tears down: the tear-down owns what the NACK owned.
   pub undo_owned : (a : ℕ) → a < A pl → Owned pl acc (undo pl a s)
   undo_owned a h = owned_same s (undo pl a s) k (undo_leaves table_apart pl s a)
       (λ r o u v. by r o u v (undo_does pl a s))
@@ -121,7 +121,7 @@ module _ {pl : Plan} (wired : Wired pl) {acc : List Connection} (s : State) (c :
           b.ranges.slot in
           omega arith
 
-  -- So does a Launch: with hub 0 the set_up_lem owns nothing.
+  -- So does a Launch: with hub 0 the set-up owns nothing.
   pub launched_owned : (a p t : ℕ) → a < A pl → Owned pl acc (launched a p t s)
   unfolding launched join
   launched_owned a p t h = owned_same s (launched a p t s) k refl (λ r o u v. by r o u v)

@@ -1,4 +1,4 @@
--- A unit's turn keeps every entry owned: a set_up_lem comes to own the entry that it books, a tear_down_lem owned the entry
+-- A unit's turn keeps every entry owned: a set-up comes to own the entry that it books, a tear-down owned the entry
 -- that it frees.
 use mathlib.Core.Path.{◌≡◌, refl, sym, ap, subst, ◌∙◌}
 use mathlib.Core.Logic.{◌⊎◌, inl, inr}
@@ -118,8 +118,8 @@ module _ {pl : Plan} (wired : Wired pl) {acc : List Connection} (s : State) (c :
         stands_exit wired x.active x.passive here.ranges.active here.ranges.passive here.serves n i
         d p
 
-    -- ---- a set_up_lem
-    -- A set_up_lem that books keeps the ownership: nobody owned the entry, now the set_up_lem does.
+    -- ---- a set-up
+    -- A set-up that books keeps the ownership: nobody owned the entry, now the set-up does.
     pub booked_owned : x.kind ≡ Setup → may_book_at pl i s x ≡ true → Owned pl acc (unit pl i d s)
     booked_owned q t =
         put_owned s (unit pl i d s) k i exit x.slot.0 (some own)
@@ -142,7 +142,7 @@ module _ {pl : Plan} (wired : Wired pl) {acc : List Connection} (s : State) (c :
             rw free (pick_same (same_entry r o u i exit x.slot.0) 0) in
             omega arith
 
-    -- A declined set_up_lem keeps what it owned.
+    -- A declined set-up keeps what it owned.
     pub declined_owned : x.kind ≡ Setup → may_book_at pl i s x ≡ false → Owned pl acc (unit pl i d s)
     declined_owned q t =
         owned_same s (unit pl i d s) k (ap (λ (u : State). u.table) (unit_declines pl i d s x rest e f q t)) by
@@ -153,7 +153,7 @@ module _ {pl : Plan} (wired : Wired pl) {acc : List Connection} (s : State) (c :
             let one = declined_owns pl r o u v (in_queue (Q i d)) (handled_at i d) x q in
             omega arith
 
-    -- ---- a tear_down_lem
+    -- ---- a tear-down
     -- the sum falls by the entry that is freed
     down_weighed : x.kind ≡ Tdown → (r o u : ℕ) (v : Holder)
         → weighed pl (owns pl r o u v) (unit pl i d s) + one_at pl r o u v i x ≡ weighed pl (owns pl r o u v) s
@@ -170,7 +170,7 @@ module _ {pl : Plan} (wired : Wired pl) {acc : List Connection} (s : State) (c :
             let one = freed_owns pl r o u v wired i d x q here in
             omega arith
 
-    -- A tear_down_lem finds its entry held for its own pair.
+    -- A tear-down finds its entry held for its own pair.
     pub tdown_holder : x.kind ≡ Tdown
         → k.holders i (exit_at pl i x) x.slot.0 ≡ some (holder_of pl x.active x.passive i)
     tdown_holder q =
@@ -180,7 +180,7 @@ module _ {pl : Plan} (wired : Wired pl) {acc : List Connection} (s : State) (c :
         let sum = k.owners i exit x.slot.0 h.0 (exit_below g.0 g.1) here.ranges.slot own in
         held (k.holders i exit x.slot.0) own (omega arith)
 
-    -- A tear_down_lem finds its entry booked with the side that its walk came in by.
+    -- A tear-down finds its entry booked with the side that its walk came in by.
     pub tdown_entry : x.kind ≡ Tdown
         → s.table i (exit_at pl i x) x.slot.0 ≡ Booked (came_in pl x.active x.passive i)
     tdown_entry q =
@@ -188,7 +188,7 @@ module _ {pl : Plan} (wired : Wired pl) {acc : List Connection} (s : State) (c :
         k.entries i exit x.slot.0 h.0 (exit_below g.0 g.1) here.ranges.slot
         ∙ ap held_entry (tdown_holder q)
 
-    -- A tear_down_lem owns the entry that it frees: it is held for its own pair, and holds the side that the pair's walk
+    -- A tear-down owns the entry that it frees: it is held for its own pair, and holds the side that the pair's walk
     -- came in by.
     pub tdown_own : x.kind ≡ Tdown → OwnEntry pl acc s k i d x
     tdown_own q = record { holder = tdown_holder q; entry = tdown_entry q; own = own' }
@@ -212,7 +212,7 @@ module _ {pl : Plan} (wired : Wired pl) {acc : List Connection} (s : State) (c :
             let none = pick_same {A = ℕ} (same_entry r o u i exit x.slot.0) 0 in
             rw (tdown_holder q) (omega arith)
 
-    -- A tear_down_lem that frees its last entry keeps the ownership of the others.
+    -- A tear-down that frees its last entry keeps the ownership of the others.
     pub ended_owned : x.kind ≡ Tdown → eqb x.hub.0 1 ≡ true → Owned pl acc (unit pl i d s)
     ended_owned q t = torn_owned q (ap (λ (u : State). u.table) (unit_ends pl i d s x rest e f q t))
 

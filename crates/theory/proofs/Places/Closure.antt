@@ -179,7 +179,7 @@ module _ {pl : Plan} (wired : Wired pl) (a p : ℕ) (ha : a < A pl) (hp : p < P 
   unfolding Back
   passive_nack hub e = (refl, e)
 
-  -- ---- at an active: an answer of its own; a NACK's tear_down_lem fits the out-queue, and marked it fits
+  -- ---- at an active: an answer of its own; a NACK's tear-down fits the out-queue, and marked it fits
   pub active_answer : (k : Kind) (hub x : ℕ) → Fits pl k a p hub (in_queue (active_in x))
       → (x ≡ a) × (hub ≤ span pl a p) × ((k ≡ Ack) ⊎ (k ≡ Nack))
   unfolding Ahead Back

@@ -1,4 +1,4 @@
--- The units' turn in EXECUTE: a tear_down_lem ends, which is a move, or every head is handled afterwards and no queue has
+-- The units' turn in EXECUTE: a tear-down ends, which is a move, or every head is handled afterwards and no queue has
 -- lost a packet.
 use mathlib.Core.Path.{◌≡◌, refl, sym, ap, ◌∙◌}
 use mathlib.Core.Logic.{◌⊎◌, inl, inr, ◌≢◌}
@@ -29,7 +29,7 @@ use Rattle.theory.proofs.Cases.{after_freed, after_ended, ActiveDoes, waits, tea
 use Rattle.theory.proofs.Progress.Still.{all_chosen}
 use Rattle.theory.proofs.Shape.Execute.{q_at, q_same}
 
--- a tear_down_lem with hub 1 is at router r's unit, not yet handled
+-- a tear-down with hub 1 is at router r's unit, not yet handled
 pub record Ends (s : State) (r : ℕ) : Type 0 where
   pub packet : Packet
   pub rest : List Packet
@@ -38,7 +38,7 @@ pub record Ends (s : State) (r : ℕ) : Type 0 where
   pub kind : packet.kind ≡ Tdown
   pub last : eqb packet.hub.0 1 ≡ true
 
--- what a unit's turn changes: its own queue and mark, the table, and the flag of a Q whose tear_down_lem ended
+-- what a unit's turn changes: its own queue and mark, the table, and the flag of a Q whose tear-down ended
 pub record Turned (pl : Plan) (r : ℕ) (s : State) : Type 0 where
   pub queue : (q : Queue) → q ≢ q_at r → (unit_at pl r s).lines.queue q ≡ s.lines.queue q
   pub handled : (q : Queue) → q ≢ q_at r → (unit_at pl r s).lines.handled q ≡ s.lines.handled q
@@ -101,7 +101,7 @@ module _ (pl : Plan) (r : ℕ) (s : State) where
         flag = rw e c;
       }
 
-  -- an unhandled head is a set_up_lem or a tear_down_lem
+  -- an unhandled head is a set-up or a tear-down
   pub turn : ((x : Packet) (l : List Packet) → s.lines.queue (q_at r) ≡ x ∷ l → s.lines.handled (q_at r) ≡ false
       → (x.kind ≡ Setup) ⊎ (x.kind ≡ Tdown)) → Ends s r ⊎ Handled pl r s
   turn own = by (unit_does pl (r / 4) (r % 4) s)

@@ -44,7 +44,7 @@ use Rattle.theory.proofs.Progress.Undisturbed.{turn_now}
 use Rattle.theory.proofs.Progress.Rounds.{from_execute, execute_phase}
 
 -- ---- what calls other than Read do in READ
--- wires and in_queues stay, and a queue that has a packet keeps one
+-- wires and in-queues stay, and a queue that has a packet keeps one
 record Before (s t : State) : Type 0 where
   pub phase : t.clock.phase ≡ s.clock.phase
   pub wire : t.links.wire ≡ s.links.wire

@@ -1,4 +1,4 @@
--- What is picked moves: after WRITE the queue of a picked head has lost it. A tear_down_lem that ends has left its Q after
+-- What is picked moves: after WRITE the queue of a picked head has lost it. A tear-down that ends has left its Q after
 -- EXECUTE.
 use mathlib.Core.Path.{◌≡◌, refl, sym, ap, ◌∙◌}
 use mathlib.Core.Logic.{◌⊎◌, inl, inr, ◌≢◌}

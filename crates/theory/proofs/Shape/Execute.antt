@@ -186,7 +186,7 @@ module _ (pl : Plan) where
   picks_wires s w = up_keeps (WiresEmpty pl) chooses (outputs pl) s (λ i t h p. p) w
 
   -- ---- (3) tear-downs
-  -- a tear_down_lem spares every output
+  -- a tear-down spares every output
   pub undo_spares : (a : ℕ) (o : Output) (s : State) → Spares pl s (undo pl a s) o
   undo_spares a o s =
       undo_by pl s (λ (t : State). Spares pl s t o) a (spares_alike s s refl refl refl refl)

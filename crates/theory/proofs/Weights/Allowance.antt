@@ -1,5 +1,5 @@
 -- 'An active's allowance + its SETUPs, ACKs and NACKs' stays its start allowance: in every step of the rules. Its
--- packets are weighed: one for each set_up_lem and answer, nothing for a tear_down_lem, wherever they are.
+-- packets are weighed: one for each set-up and answer, nothing for a tear-down, wherever they are.
 use mathlib.Core.Path.{◌≡◌, refl, sym, ap, ap₂, subst, ◌∙◌}
 use mathlib.Core.Logic.{◌⊎◌, inl, inr}
 use mathlib.Core.Bool.{Bool, true, false}
@@ -150,7 +150,7 @@ module _ {pl : Plan} {s : State} (c : Core pl s) where
   unfolding choose
   choose_allowances o = allowances_kept (choose pl o s) refl refl (λ a. choose_weighed pl (anywhere (spends a)) o s)
 
-  -- An active's tear_down_lem keeps the allowances: the marked NACK still counts, the TDOWN doesn't.
+  -- An active's tear-down keeps the allowances: the marked NACK still counts, the TDOWN doesn't.
   pub undo_allowances : (a : ℕ) → a < A pl → Allowances pl (undo pl a s)
   unfolding join
   undo_allowances a h = by (undo_does pl a s)
@@ -191,7 +191,7 @@ module _ {pl : Plan} {s : State} (c : Core pl s) where
               (g.onto, subst (λ (v : Packet). next_by pl o v ≡ some g.onto) same g.next)
 
   -- ---- the calls
-  -- A launch takes one of the allowance for its set_up_lem.
+  -- A launch takes one of the allowance for its set-up.
   pub launched_allowances : (a p t : ℕ) → a < A pl → 1 ≤ s.flow.allowance a → Allowances pl (launched a p t s)
   unfolding launched join
   launched_allowances a p t h l =
@@ -201,7 +201,7 @@ module _ {pl : Plan} {s : State} (c : Core pl s) where
       let now = fallen s.flow.allowance a b (s.flow.allowance a - 1) (omega arith) in
       omega arith)
 
-  -- A close costs none: a tear_down_lem takes nothing.
+  -- A close costs none: a tear-down takes nothing.
   pub closed_allowances : (a p t : ℕ) → a < A pl → Allowances pl (closed pl a p t s)
   unfolding closed join
   closed_allowances a p t h =
@@ -214,7 +214,7 @@ module _ {pl : Plan} {s : State} (c : Core pl s) where
   noted_allowances x = noted_keeps pl x s (Allowances pl)
       (λ e. connection_allowances x.active x.passive _ true) c.allowances
 
-  -- A reply keeps the allowances: an answer for the set_up_lem.
+  -- A reply keeps the allowances: an answer for the set-up.
   pub replied_allowances : Wired pl → (p : ℕ) → p < P pl → (k : Kind) → spends_kind k ≡ 1 → (x : Packet)
       (rest : List Packet) → s.lines.queue (passive_in p) ≡ x ∷ rest → Allowances pl (replied p k (x ∷ rest) s)
   unfolding join

@@ -55,7 +55,7 @@ module _ (pl : Plan) (w : Weight) where
 
     module _ (x : Packet) (rest : List Packet) (e : s.lines.queue (Q r i) ≡ x ∷ rest)
         (f : s.lines.handled (Q r i) ≡ false) where
-      -- A set_up_lem is booked.
+      -- A set-up is booked.
       pub booked_weighed : x.kind ≡ Setup → may_book_at pl r s x ≡ true
           → weighed pl w (unit pl r i s) + w (in_queue (Q r i)) x ≡ weighed pl w s + w (handled_at r i) (booked (S pl) x)
       unfolding weighed
@@ -63,14 +63,14 @@ module _ (pl : Plan) (w : Weight) where
           ap (λ (u : State). weighed pl w u + w (in_queue (Q r i)) x) (unit_books pl r i s x rest e f k t)
           ∙ handled_weighed x (booked (S pl) x) rest e f
 
-      -- A set_up_lem is declined.
+      -- A set-up is declined.
       pub declined_weighed : x.kind ≡ Setup → may_book_at pl r s x ≡ false
           → weighed pl w (unit pl r i s) + w (in_queue (Q r i)) x ≡ weighed pl w s + w (handled_at r i) (declined x)
       declined_weighed k t =
           ap (λ (u : State). weighed pl w u + w (in_queue (Q r i)) x) (unit_declines pl r i s x rest e f k t)
           ∙ handled_weighed x (declined x) rest e f
 
-      -- A tear_down_lem frees an entry and goes on.
+      -- A tear-down frees an entry and goes on.
       pub freed_weighed : x.kind ≡ Tdown → eqb x.hub.0 1 ≡ false
           → weighed pl w (unit pl r i s) + w (in_queue (Q r i)) x ≡ weighed pl w s + w (handled_at r i) (freed (S pl) x)
       unfolding weighed
@@ -78,7 +78,7 @@ module _ (pl : Plan) (w : Weight) where
           ap (λ (u : State). weighed pl w u + w (in_queue (Q r i)) x) (unit_frees pl r i s x rest e f k t)
           ∙ handled_weighed x (freed (S pl) x) rest e f
 
-      -- A tear_down_lem frees its last entry and ends.
+      -- A tear-down frees its last entry and ends.
       pub ended_weighed : x.kind ≡ Tdown → eqb x.hub.0 1 ≡ true
           → weighed pl w (unit pl r i s) + w (in_queue (Q r i)) x ≡ weighed pl w s
       unfolding weighed
@@ -88,7 +88,7 @@ module _ (pl : Plan) (w : Weight) where
 
   -- ---- an active and a passive
   module _ {s : State} (c : Core pl s) where
-    -- An unmarked NACK is marked, and its tear_down_lem joins the out-queue.
+    -- An unmarked NACK is marked, and its tear-down joins the out-queue.
     pub torn_weighed : (a : ℕ) → a < A pl → (x : Packet) (rest : List Packet) → s.lines.queue (active_in a) ≡ x ∷ rest
         → unmarked x ≡ true → has_room pl (active_out a) s ≡ true
         → weighed pl w (undo pl a s) + w (in_queue (active_in a)) x ≡ weighed pl w s
@@ -103,13 +103,13 @@ module _ (pl : Plan) (w : Weight) where
         = ap (weighed pl w) (undo_tears pl a s x rest e u g) in
         omega arith
 
-    -- A launched set_up_lem joins the out-queue.
+    -- A launched set-up joins the out-queue.
     pub launched_weighed : (a p t : ℕ) → a < A pl
         → weighed pl w (launched a p t s) ≡ weighed pl w s + w (in_queue (active_out a)) (setup_of a p t)
     unfolding launched weighed
     launched_weighed a p t h = weighed_join pl w (active_out a) h (setup_of a p t) s (λ m. (c.marks (active_out a) h m).3)
 
-    -- A closing tear_down_lem joins the out-queue.
+    -- A closing tear-down joins the out-queue.
     pub closed_weighed : (a p t : ℕ) → a < A pl
         → weighed pl w (closed pl a p t s) ≡ weighed pl w s + w (in_queue (active_out a)) (closing_of pl a p t)
     unfolding closed

@@ -41,7 +41,7 @@ use Rattle.theory.proofs.Weights.Changes.{torn_weighed, launched_weighed, closed
 use Rattle.theory.proofs.Weights.Changes.{removed_weighed}
 use Rattle.theory.proofs.Places.Slots.{start_next, start_none}
 
--- what a packet of a kind bears: of a set_up_lem and an ACK, the connection of its pair and start slot
+-- what a packet of a kind bears: of a set-up and an ACK, the connection of its pair and start slot
 abbrev pub bears_kind : Plan → Connection → Kind → Packet → ℕ
 bears_kind pl d Setup x = pick (same_connection (connection_of pl x) d) 1 0
 bears_kind pl d Tdown x = 0
@@ -66,7 +66,7 @@ module _ (pl : Plan) (d : Connection) where
   unfolding bears
   bears_of k x e = ap (λ (k : Kind). bears_kind pl d k x) e
 
-  -- A booked set_up_lem keeps its start slot, and so its connection.
+  -- A booked set-up keeps its start slot, and so its connection.
   pub booked_bears : (x : Packet) → x.kind ≡ Setup → x.slot.0 < S pl → bears pl d (booked (S pl) x) ≡ bears pl d x
   booked_bears x e h =
       bears_of Setup (booked (S pl) x) e
@@ -74,14 +74,14 @@ module _ (pl : Plan) (d : Connection) where
       && eqb u.0 d.start.0) 1 0) (start_next (S pl) x.slot x.hub h)
       ∙ sym (bears_of Setup x e)
 
-  -- A launched set_up_lem is the connection of its Launch.
+  -- A launched set-up is the connection of its Launch.
   pub launched_bears : (a p t : ℕ) → t < S pl → bears pl d (setup_of a p t) ≡ launches_call d (launch a p t) Done
   launched_bears a p t h =
       bears_of Setup (setup_of a p t) refl
       ∙ ap (λ (u : Slot). pick (eqb a d.active && eqb p d.passive && eqb u.0 d.start.0) 1 0)
       (start_none (S pl) (record { 0 = t }) h)
 
-  -- An answer is that of its set_up_lem, or none.
+  -- An answer is that of its set-up, or none.
   pub replied_bears : (k : Kind) (x : Packet) → (k ≡ Ack) ⊎ (k ≡ Nack) → x.kind ≡ Setup
       → bears pl d (replied_as k x) ≤ bears pl d x
   replied_bears k x (inl q) e = let a = bears_of Ack (replied_as k x) q in let b = bears_of Setup x e in omega arith
@@ -165,7 +165,7 @@ module _ (pl : Plan) (d : Connection) where
       send_counted o h ready z = same s (send pl o s) k
           (send_weighed pl (anywhere (bears pl d)) wired c o h (λ u m q y x g e f b. refl) ready z)
 
-      -- So does a unit's turn: a booked set_up_lem is the same connection, a declined one is none.
+      -- So does a unit's turn: a booked set-up is the same connection, a declined one is none.
       pub unit_counted : (r i : ℕ) → (r < R pl) × (i < 4) → Counted pl d m n (unit pl r i s)
       unfolding borne
       unit_counted r i h = counted_less s (unit pl r i s) k (by (unit_does pl r i s))
@@ -211,7 +211,7 @@ module _ (pl : Plan) (d : Connection) where
                 let b = launched_bears a p t l in let m = k.count in omega arith;
           }
 
-      -- A Close keeps the count: a tear_down_lem bears none.
+      -- A Close keeps the count: a tear-down bears none.
       pub closed_counted : (a p t : ℕ) → a < A pl → Counted pl d m n (closed pl a p t s)
       unfolding borne
       closed_counted a p t h =

@@ -14,7 +14,7 @@ use Rattle.rules.specs.Store.{put}
 use Rattle.rules.specs.Visits.{reply_kind}
 use Rattle.rules.specs.Valid.{spends_kind, spends}
 
--- A tear_down_lem takes nothing.
+-- A tear-down takes nothing.
 pub tdown_spends : (a : ℕ) (x : Packet) → x.kind ≡ Tdown → spends a x ≡ 0
 tdown_spends a x e = ap (λ (k : Kind). pick (eqb x.active a) (spends_kind k) 0) e ∙ pick_same (eqb x.active a) 0
 
@@ -23,7 +23,7 @@ pub kinds_spend : (a : ℕ) (x y : Packet) → y.active ≡ x.active → spends_
     → spends a y ≡ spends a x
 kinds_spend a x y e k = ap₂ (λ (m n : ℕ). pick (eqb m a) n 0) e k
 
--- An answer of either kind takes as much as a set_up_lem.
+-- An answer of either kind takes as much as a set-up.
 pub reply_spends : (c : ℕ) → spends_kind (reply_kind c) ≡ 1
 reply_spends c = by (eqb c 1)
   where

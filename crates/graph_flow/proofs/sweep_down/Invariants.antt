@@ -1,0 +1,13 @@
+use borrow.Author.Rules.{rules}
+use Rattle.graph_flow.specs.Carried.{Round}
+use lib.ListN.{length}
+use mathlib.Core.Path.{◌≡◌, ◌∙◌}
+use mathlib.Core.List.{List}
+use Prim.Native.Nat.{ℕ, ◌-◌, ◌≤◌}
+use native.Mathlib.Omega.{arith}
+use Rattle.graph_flow.proofs.Laws.{round_more}
+use Rattle.graph_flow.proofs.sweep_down.Given as goal
+
+abbrev pub invariant-loop-i : goal.invariant-loop-i
+invariant-loop-i l = (l.i ≤ l.n) × (length l.t ≡ 32)
+    × ((first : List ℕ) (k : ℕ) → Round l.by l.joints l.n first k l.work l.initial.t → Round l.by l.joints l.n first k l.left l.t)

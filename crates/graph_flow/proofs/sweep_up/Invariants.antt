@@ -1,0 +1,13 @@
+use borrow.Author.Rules.{rules}
+use Rattle.graph_flow.specs.Carried.{Round}
+use lib.ListN.{length}
+use mathlib.Core.Path.{◌≡◌, ◌∙◌}
+use mathlib.Core.List.{List}
+use Prim.Native.Nat.{ℕ, ◌-◌, ◌≤◌}
+use native.Mathlib.Omega.{arith}
+use Rattle.graph_flow.proofs.Laws.{Turned, turned_none, turned_more, turned_done}
+use Rattle.graph_flow.proofs.sweep_up.Given as goal
+
+abbrev pub invariant-loop-x : goal.invariant-loop-x
+invariant-loop-x l = (l.x ≤ l.n) × (length l.t ≡ 32)
+    × ((first : List ℕ) (k : ℕ) → Round l.by l.joints l.n first k l.work l.initial.t → Turned l.by l.joints l.n first k l.initial.t l.x l.left l.t)

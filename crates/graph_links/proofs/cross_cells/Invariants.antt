@@ -1,0 +1,12 @@
+use borrow.Author.Rules.{rules}
+use mathlib.Core.Path.{◌≡◌, refl, ◌∙◌}
+use Prim.Native.Nat.{ℕ, ◌-◌, ◌≤◌, ◌<◌}
+use native.Mathlib.Omega.{arith}
+use lib.ListN.{get_or, length, length-set}
+use Rattle.graph_links.specs.Cells.{cross_of}
+use Rattle.graph_links.proofs.Members.{cells_more}
+use Rattle.graph_links.proofs.cross_cells.Given as goal
+
+abbrev pub invariant-loop-x : goal.invariant-loop-x
+invariant-loop-x l =
+    (l.x ≤ l.n) × (length l.cells ≡ length l.initial.cells) × ((k : ℕ) → k < l.x → get_or l.cells k 0 ≡ cross_of l.l l.joints k)

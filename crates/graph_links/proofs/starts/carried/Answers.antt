@@ -1,0 +1,13 @@
+use Rattle.graph_links.proofs.Laws.{starts_whole}
+use borrow.Author.Rules.{rules}
+use Rattle.graph_links.proofs.starts.carried.Goals as goal
+
+pub spread-requires : goal.spread-requires
+spread-requires c = (
+  c.requires.0,
+  (starts_whole _ _ _ c.starts.ensures c.below.ensures).0,
+  (starts_whole _ _ _ c.starts.ensures c.below.ensures).1,
+)
+
+pub returns : goal.returns
+returns c = rw (← c.starts.ensures) c.spread.ensures

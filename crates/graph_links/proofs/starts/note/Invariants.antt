@@ -1,0 +1,12 @@
+use borrow.Author.Rules.{rules}
+use Prim.Native.Nat.{◌-◌, ◌≤◌}
+use lib.ListN.{get_or, set}
+use mathlib.Core.Path.{◌≡◌}
+use Rattle.graph_links.specs.Starts.{note_of, notes_of}
+use Rattle.basis.specs.Fold.{up_to, up_none, up_done}
+use Rattle.graph_links.proofs.Laws.{notes_more}
+use native.Mathlib.Omega.{arith}
+use Rattle.graph_links.proofs.starts.note.Given as goal
+
+abbrev pub invariant-loop-x : goal.invariant-loop-x
+invariant-loop-x l = (l.x ≤ l.n) × (l.t ≡ up_to (λ y u. set u y (note_of l.a (get_or l.m y 0) (get_or u y 0))) l.x l.initial.t)

@@ -1,0 +1,10 @@
+use Rattle.graph_met.proofs.Trailing.{Leading, leading_none, leading_word, leading_more, leading_end, single_fits}
+use borrow.Author.Rules.{rules}
+use native.Mathlib.Omega.{arith}
+use Rattle.graph_met.proofs.lead.Given as goal
+
+abbrev pub invariant-loop-left : goal.invariant-loop-left
+invariant-loop-left l = Leading l.x l.n l.k l.left l.initial.up l.up
+
+abbrev pub decreases-loop-left : goal.decreases-loop-left
+decreases-loop-left l = l.left

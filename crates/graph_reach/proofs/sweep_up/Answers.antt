@@ -1,0 +1,24 @@
+use borrow.Author.Rules.{rules}
+use native.Mathlib.Omega.{arith}
+use Prim.Native.Nat.{◌-◌, ◌≤◌}
+use Rattle.graph_reach.specs.Sizes.{Grows}
+use Rattle.graph_reach.proofs.Sized.{grows_on}
+use Rattle.graph_reach.proofs.Sweeps.{Swept, swept_none, swept_more, swept_done}
+use Rattle.graph_reach.proofs.sweep_up.Goals as goal
+
+pub loop-x-init : goal.loop-x-init
+loop-x-init c = (omega arith, swept_none _ _ _, λ first told w. w)
+
+pub step-requires : goal.step-requires
+step-requires c = (omega arith, omega arith, c.requires.2)
+
+pub loop-x-preserved : goal.loop-x-preserved
+loop-x-preserved c = (
+  omega arith,
+  swept_more _ _ _ _ _ _ c.loop-x.invariant.1
+      c.step.ensures.0 c.step.ensures.1 c.either-new.ensures,
+  grows_on _ _ _ _ c.loop-x.invariant.2 c.step.ensures.2,
+)
+
+pub returns : goal.returns
+returns c = swept_done _ _ _ _ _ _ _ c.loop-x.invariant.1 (omega arith) c.loop-x.invariant.2

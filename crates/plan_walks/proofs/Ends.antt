@@ -25,8 +25,8 @@ use Rattle.plan_walks.proofs.Stood.{Stood, then_end, then_lost, still_end, still
 abbrev pub Over : Step → Type 0
 Over s = (s ≡ End) ⊎ (s ≡ Lost)
 
-pub over : (s : Step) → OneOf (1 ∷ 2 ∷ []) (tag_of the_type s) → Over s
-over (On n) k = absurd (⊎_elim (λ e. omega arith) (λ e. omega arith) k)
+pub over : (s : Step) → ((n : ℕ) → s ≡ On n → ⊥) → Over s
+over (On n) k = absurd (k n refl)
 over End k = inl refl
 over Lost k = inr refl
 

@@ -1,0 +1,7 @@
+use Rattle.plan.specs.Head.{capacity_at}
+use borrow.Author.Rules.{rules}
+use Rattle.plan.proofs.counts.capacity.Goals as goal
+
+pub returns : goal.returns
+unfolding capacity_at
+returns c = simp c.field-v.ensures

@@ -1,0 +1,12 @@
+use Rattle.plan.specs.Head.{counts_ok}
+use borrow.Author.Rules.{rules}
+use Rattle.plan.proofs.counts.counts_ok.Goals as goal
+
+pub returns : goal.returns
+unfolding counts_ok
+returns c = simp (
+  c.is_within.ensures,
+  c.is_within-2.ensures,
+  c.is_within-3.ensures,
+  c.is_within-4.ensures,
+)

@@ -1,0 +1,8 @@
+use mathlib.Core.Path.{refl}
+use Rattle.plan_routes.specs.Marks.{lane_of}
+use borrow.Author.Rules.{rules}
+use Rattle.plan_routes.proofs.lane.Goals as goal
+
+pub returns : goal.returns
+unfolding lane_of
+returns c = refl

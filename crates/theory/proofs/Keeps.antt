@@ -29,6 +29,7 @@ use Rattle.rules.specs.Execute.{unit, choose, undo, do_execute}
 use Rattle.rules.specs.Write.{send, do_write}
 use Rattle.rules.specs.Visits.{launched, reply_kind, replied, removed, noted, closed}
 use Rattle.rules.specs.Calls.{Visit, Call, Outcome, phase_step, call}
+use Rattle.theory.specs.Does.{MayLaunch, MayReply, MayDrop, MayClose}
 use Rattle.theory.specs.Does.{Visited, launches, replies, looks, drops, closes, tells, counts, Does, refuses}
 use Rattle.theory.specs.Does.{turns, visits}
 use Rattle.rules.specs.Valid.{Belongs, Drives, Ties, Valid}
@@ -180,9 +181,10 @@ module _ {pl : Plan} (wired : Wired pl) (range : InRange pl.head) where
         turns = turns_alike pl s (noted pl x s) (noted_last pl x s) i.turns;
       }
 
-  visit_inv : (v : Visit) (o : Outcome) (s : State) → Visited pl s v o → Inv pl s → Inv pl o.state
-  unfolding launched removed closed join
-  visit_inv v o s (launches a p t m) i =
+  -- ---- each visit that changes the state
+  launched_inv : (a p t : ℕ) (s : State) → MayLaunch pl s a p t → Inv pl s → Inv pl (launched a p t s)
+  unfolding launched join
+  launched_inv a p t s m i =
       record {
         core = core_by
             (launched_kept wired range a p t s m.active m.passive m.slot
@@ -192,7 +194,11 @@ module _ {pl : Plan} (wired : Wired pl) (range : InRange pl.head) where
         shape = launched_shape s a p t m.phase i.shape;
         turns = turns_alike pl s (launched a p t s) refl i.turns;
       }
-  visit_inv v o s (replies p c x rest m) i =
+
+  replied_inv : (p c : ℕ) (x : Packet) (rest : List Packet) (s : State) → MayReply pl s p c x rest → Inv pl s
+      → Inv pl (replied p (reply_kind c) (x ∷ rest) s)
+  unfolding join
+  replied_inv p c x rest s m i =
       record {
         core = core_by
             (replied_kept wired range p (reply_kind c) x rest s m.passive (reply_kind_lem c) m.line
@@ -202,8 +208,11 @@ module _ {pl : Plan} (wired : Wired pl) (range : InRange pl.head) where
         shape = replied_shape s p (reply_kind c) x rest m.phase i.shape;
         turns = turns_alike pl s (replied p (reply_kind c) (x ∷ rest) s) refl i.turns;
       }
-  visit_inv v o s (looks a x rest m) i = i
-  visit_inv v o s (drops a x rest m) i =
+
+  dropped_inv : (a : ℕ) (x : Packet) (rest : List Packet) (s : State) → MayDrop pl s a x rest → Inv pl s
+      → Inv pl (noted pl x (removed a rest s))
+  unfolding removed
+  dropped_inv a x rest s m i =
       noted_inv x (in_queue (active_in a)) (removed a rest s)
       (core_head i.core (active_in a) m.active x rest m.line)
       (record {
@@ -213,7 +222,10 @@ module _ {pl : Plan} (wired : Wired pl) (range : InRange pl.head) where
         shape = removed_shape s a rest m.phase i.shape;
         turns = turns_alike pl s (removed a rest s) refl i.turns;
       })
-  visit_inv v o s (closes a p t m) i =
+
+  closed_inv : (a p t : ℕ) (s : State) → MayClose pl s a p t → Inv pl s → Inv pl (closed pl a p t s)
+  unfolding closed join
+  closed_inv a p t s m i =
       record {
         core = core_by
             (closed_kept wired range a p t s m.active m.passive m.slot
@@ -222,16 +234,23 @@ module _ {pl : Plan} (wired : Wired pl) (range : InRange pl.head) where
         shape = closed_shape s a p t m.phase i.shape;
         turns = turns_alike pl s (closed pl a p t s) refl i.turns;
       }
-  visit_inv v o s (tells r q t m) i = i
-  visit_inv v o s counts i = i
 
-  does_inv : (c : Call) (o : Outcome) (s : State) → Does pl s c o → Inv pl s → Inv pl o.state
-  does_inv c o s (refuses d w n) i = i
-  does_inv c o s (turns x e) i = turn_inv x s e i
-  does_inv c o s (visits v r d) i = visit_inv v r s d i
+  visit_inv : (v : Visit) (s : State) (o : Outcome) → Visited pl s v o → Inv pl s → Inv pl o.state
+  visit_inv v s o (launches a p t m) i = launched_inv a p t s m i
+  visit_inv v s o (replies p c x rest m) i = replied_inv p c x rest s m i
+  visit_inv v s o (looks a x rest m) i = i
+  visit_inv v s o (drops a x rest m) i = dropped_inv a x rest s m i
+  visit_inv v s o (closes a p t m) i = closed_inv a p t s m i
+  visit_inv v s o (tells r q t m) i = i
+  visit_inv v s o counts i = i
+
+  does_inv : (c : Call) (s : State) (o : Outcome) → Does pl s c o → Inv pl s → Inv pl o.state
+  does_inv c s o (refuses d w n) i = i
+  does_inv c s o (turns x e) i = turn_inv x s e i
+  does_inv c s o (visits v r d) i = visit_inv v s r d i
 
   pub call_inv : (c : Call) (s : State) → Inv pl s → Inv pl (call pl c s).state
-  call_inv c s i = does_inv c (call pl c s) s (call_does pl s c) i
+  call_inv c s i = does_inv c s (call pl c s) (call_does pl s c) i
 
   pub start_inv : Inv pl (start pl)
   unfolding start blank

@@ -13,6 +13,8 @@ use lib.ListN.{length}
 use borrow.Author.Tests.{ltb-true, ltb-false, lt-ltb, le-ltb}
 use Rattle.basis.specs.Choice.{pick, also, test, not_both}
 use Rattle.basis.specs.Fold.{up_to, up_keeps}
+use Rattle.packets.specs.declared.Kind.{Kind}
+use Rattle.packets.specs.declared.Packet.{Packet}
 use Rattle.packets.specs.declared.Phase.TheVariants.{Read, Execute, Write}
 use Rattle.packets.specs.declared.Answer.TheVariants.{Refused}
 use Rattle.plan.specs.Head.{InRange}
@@ -27,7 +29,7 @@ use Rattle.rules.specs.State.{State, Choice, nobody, sender, with_queue, join}
 use Rattle.rules.specs.Read.{do_read}
 use Rattle.rules.specs.Execute.{unit_at, unit, candidate, picked, choose, marked, tdown_of, undo, do_execute}
 use Rattle.rules.specs.Write.{of_rank, send, do_write}
-use Rattle.rules.specs.Visits.{launched, removed, closed}
+use Rattle.rules.specs.Visits.{launched, reply_kind, replied, removed, noted, closed}
 use Rattle.rules.specs.Calls.{Visit, Call, Outcome, call}
 use Rattle.rules.specs.Valid.{Drives, bit}
 use Rattle.rules.specs.TurnAbout.{candidate_of, waits, is_other, goes_before, Stays, others_in, others, StaysIn}
@@ -170,16 +172,33 @@ module _ (pl : Plan) (o : Output) where
       ∙ sym (turn_nobody s (n o d))
 
   -- visits
-  visit_turn : (v : Visit) (r : Outcome) (s : State) → Visited pl s v r → turn_of o r.state ≡ turn_of o s
-  unfolding launched removed closed join turn_of
-  visit_turn v r s (launches a p t m) = refl
-  visit_turn v r s (replies p c x rest m) = refl
-  visit_turn v r s (looks a x rest m) = refl
-  visit_turn v r s (drops a x rest m) =
+  launched_turn : (a p t : ℕ) (s : State) → turn_of o (launched a p t s) ≡ turn_of o s
+  unfolding launched join turn_of
+  launched_turn a p t s = refl
+
+  replied_turn : (p : ℕ) (k : Kind) (line : List Packet) (s : State) → turn_of o (replied p k line s) ≡ turn_of o s
+  unfolding join turn_of
+  replied_turn p k [] s = refl
+  replied_turn p k (x ∷ rest) s = refl
+
+  dropped_turn : (a : ℕ) (x : Packet) (rest : List Packet) (s : State)
+      → turn_of o (noted pl x (removed a rest s)) ≡ turn_of o s
+  unfolding removed turn_of
+  dropped_turn a x rest s =
       noted_keeps pl x (removed a rest s) (λ (t : State). turn_of o t ≡ turn_of o s) (λ e. refl) refl
-  visit_turn v r s (closes a p t m) = refl
-  visit_turn v r s (tells i q t m) = refl
-  visit_turn v r s counts = refl
+
+  closed_turn : (a p t : ℕ) (s : State) → turn_of o (closed pl a p t s) ≡ turn_of o s
+  unfolding closed join turn_of
+  closed_turn a p t s = refl
+
+  visit_turn : (v : Visit) (s : State) (r : Outcome) → Visited pl s v r → turn_of o r.state ≡ turn_of o s
+  visit_turn v s r (launches a p t m) = launched_turn a p t s
+  visit_turn v s r (replies p c x rest m) = replied_turn p (reply_kind c) (x ∷ rest) s
+  visit_turn v s r (looks a x rest m) = refl
+  visit_turn v s r (drops a x rest m) = dropped_turn a x rest s
+  visit_turn v s r (closes a p t m) = closed_turn a p t s
+  visit_turn v s r (tells i q t m) = refl
+  visit_turn v s r counts = refl
 
 -- ---- EXECUTE
 module _ (pl : Plan) (s : State) where
@@ -323,7 +342,7 @@ module _ (pl : Plan) (o : Output) (d : Drives pl o) (j : ℕ) (s : State) where
   does_nearer c r (turns Write e) i stays =
       let same = ahead_same o j s (do_write pl s) (write_turn pl o s) in omega arith
   does_nearer c r (visits v b m) i stays =
-      let same = ahead_same o j s b.state (visit_turn pl o v b s m) in omega arith
+      let same = ahead_same o j s b.state (visit_turn pl o v s b m) in omega arith
 
 -- The one-step law: what a call counts, and what it leaves, is no more than was there before it.
 pub step_nearer : (pl : Plan) (o : Output) → Drives pl o → (j : ℕ) (c : Call) (s : State) → Inv pl s

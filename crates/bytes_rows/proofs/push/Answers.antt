@@ -1,0 +1,6 @@
+use Rattle.bytes_rows.proofs.Joining.{pushed}
+use borrow.Author.Rules.{rules}
+use Rattle.bytes_rows.proofs.push.Goals as goal
+
+pub returns : goal.returns
+returns c = pushed _ _ _ _ _ c.index.ensures c.put_packet.ensures

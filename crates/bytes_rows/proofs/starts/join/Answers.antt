@@ -1,0 +1,9 @@
+use Rattle.bytes_rows.proofs.Joining.{joined}
+use borrow.Author.Rules.{rules}
+use Rattle.bytes_rows.proofs.starts.join.Goals as goal
+
+pub returns : goal.returns
+returns c =
+    joined _ _ _ c.word-w.ensures
+    c.index.ensures c.with.ensures
+    c.put_word.ensures

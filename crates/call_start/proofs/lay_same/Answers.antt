@@ -1,0 +1,6 @@
+use borrow.Author.Rules.{rules}
+use Rattle.call_start.proofs.lay_same.Goals as goal
+
+pub returns : goal.returns
+unfolding Rattle.call_start.specs.Starting.copies
+returns c = c.lay_credits.ensures

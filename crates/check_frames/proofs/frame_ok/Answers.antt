@@ -1,0 +1,24 @@
+use Rattle.check_frames.proofs.Frames.{frame_none, frame_fed, frame_unfed}
+use borrow.Author.Tests.{not-true, not-false}
+use borrow.Author.Tests.{ltb-true, lt-ltb, le-ltb, eq-eqb, ne_eqb, le-leb, lt-leb}
+use borrow.Author.Rules.{rules}
+use Rattle.check_frames.proofs.frame_ok.Goals as goal
+
+pub returns-then-not-flags_ok : goal.returns-then-not-flags_ok
+returns-then-not-flags_ok c = frame_none _ _ _ _ _ _ _ _ _ _ c.flags_ok.ensures (c.if-not-flags_ok.true)
+
+pub returns-then-fed : goal.returns-then-fed
+returns-then-fed c =
+    rw (
+      c.low.ensures.0,
+      c.low-then-fed.ensures.0,
+      c.low-then-fed-2.ensures.0,
+      c.low-then-fed-3.ensures.0,
+      c.low-then-fed-4.ensures.0,
+    ) (frame_fed _ _ _ _ _ _ _ _ _ _
+    c.flags_ok.ensures (c.if-not-flags_ok.false) c.if-fed.true)
+
+pub returns : goal.returns
+returns c =
+    frame_unfed _ _ _ _ _ _ _ _ _ _ c.flags_ok.ensures (c.if-not-flags_ok.false)
+    c.if-fed.false

@@ -49,17 +49,17 @@ module _ {pl : Plan} (wired : Wired pl) (range : InRange pl.head) where
       noted_keeps pl x s (λ (t : State). weighed pl (left pl) t ≡ weighed pl (left pl) s)
       (λ e. connection_weighed pl (left pl) x.active x.passive _ true s) refl
 
-  visit_lowers : (v : Visit) (o : Outcome) (s : State) → Inv pl s → Visited pl s v o
+  visit_lowers : (v : Visit) (s : State) (o : Outcome) → Inv pl s → Visited pl s v o
       → (adds (visit v) ≡ true → o.answer ≢ Done) → Lowers pl s o.state
   unfolding all_left
-  visit_lowers v o s i (launches a p t m) n = absurd (n refl refl)
-  visit_lowers v o s i (replies p c x rest m) n =
+  visit_lowers v s o i (launches a p t m) n = absurd (n refl refl)
+  visit_lowers v s o i (replies p c x rest m) n =
       let b = core_head i.core (passive_in p) m.passive x rest m.line in
       let less = replied_left wired p (reply_kind c) x range.routers.1 (reply_kind_lem wired range c) b in
       let all = replied_weighed pl (left pl) i.core p m.passive (reply_kind c) x rest m.line in
       falls (omega arith)
-  visit_lowers v o s i (looks a x rest m) n = lowers_same pl s s refl
-  visit_lowers v o s i (drops a x rest m) n =
+  visit_lowers v s o i (looks a x rest m) n = lowers_same pl s s refl
+  visit_lowers v s o i (drops a x rest m) n =
       let b = core_head i.core (active_in a) m.active x rest m.line in
       let k = active_answer wired x.active x.passive b.ranges.active b.ranges.passive b.serves
       x.kind x.hub.0 a b.fits in
@@ -67,24 +67,24 @@ module _ {pl : Plan} (wired : Wired pl) (range : InRange pl.head) where
       let all = removed_weighed pl (left pl) s a m.active x rest m.line in
       let same = noted_left x (removed a rest s) in
       falls (omega arith)
-  visit_lowers v o s i (closes a p t m) n = absurd (n refl refl)
-  visit_lowers v o s i (tells r q t m) n = lowers_same pl s s refl
-  visit_lowers v o s i counts n = lowers_same pl s s refl
+  visit_lowers v s o i (closes a p t m) n = absurd (n refl refl)
+  visit_lowers v s o i (tells r q t m) n = lowers_same pl s s refl
+  visit_lowers v s o i counts n = lowers_same pl s s refl
 
   -- ---- a call: an accepted Read, or it lowers the sum
-  does_lowers : (c : Call) (o : Outcome) (s : State) → Inv pl s → Does pl s c o → (adds c ≡ true → o.answer ≢ Done)
+  does_lowers : (c : Call) (s : State) (o : Outcome) → Inv pl s → Does pl s c o → (adds c ≡ true → o.answer ≢ Done)
       → (o.state ≡ do_read pl s) ⊎ Lowers pl s o.state
-  does_lowers c o s i (refuses d z n) k = inr (lowers_same pl s s refl)
-  does_lowers c o s i (turns Read e) k = inl refl
-  does_lowers c o s i (turns Execute e) k =
+  does_lowers c s o i (refuses d z n) k = inr (lowers_same pl s s refl)
+  does_lowers c s o i (turns Read e) k = inl refl
+  does_lowers c s o i (turns Execute e) k =
       inr (execute_lowers wired range s i.core (execute_has s e i.shape).2)
-  does_lowers c o s i (turns Write e) k =
+  does_lowers c s o i (turns Write e) k =
       let h = write_has s e i.shape in inr (write_lowers wired range s i.core h.0 h.1)
-  does_lowers c o s i (visits v r d) k = inr (visit_lowers v r s i d k)
+  does_lowers c s o i (visits v r d) k = inr (visit_lowers v s r i d k)
 
   reads_or_lowers : (c : Call) (s : State) → Inv pl s → Calmly pl c s
       → ((call pl c s).state ≡ do_read pl s) ⊎ Lowers pl s (call pl c s).state
-  reads_or_lowers c s i k = does_lowers c (call pl c s) s i (call_does pl s c) k.none_added
+  reads_or_lowers c s i k = does_lowers c s (call pl c s) i (call_does pl s c) k.none_added
 
   -- Where wires are empty, each lowers it.
   pub call_lowers : (c : Call) (s : State) → Inv pl s → WiresEmpty pl s → Calmly pl c s

@@ -1,0 +1,16 @@
+use mathlib.Core.Bool.{Bool}
+use Rattle.sets.specs.Sets.{has}
+use Rattle.basis.specs.Choice.{pick}
+use mathlib.Core.List.{[]}
+use Prim.Native.Nat.{◌+◌, ◌-◌, ◌≤◌, ◌*◌, ◌/◌, ◌%◌}
+use lib.ListN.{get_or, set, length, length-set}
+use mathlib.Core.Path.{◌≡◌, ap, ◌∙◌}
+use Rattle.basis.specs.Fold.{up_to, fill, up_none, up_more, up_fill, up_done}
+use borrow.Author.Rules.{rules}
+use native.Mathlib.Omega.{arith}
+use Rattle.load_arrivals.specs.Pairs.{mask_of}
+use Rattle.load_lengths.proofs.masked.Given as goal
+
+abbrev pub invariant-loop-p : goal.invariant-loop-p
+invariant-loop-p l =
+    (l.p ≤ 16) × (l.t ≡ up_to (fill (λ i. pick (has l.w (l.column + i)) (get_or (get_or l.z l.x []) i 0) 0)) l.p l.initial.t) × (length l.t ≡ 16)

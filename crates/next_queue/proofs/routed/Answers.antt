@@ -1,0 +1,22 @@
+use borrow.Author.Tests.{ltb-true, lt-ltb, le-ltb, eq-eqb, ne_eqb}
+use borrow.Author.Rules.{rules}
+use Rattle.next_queue.proofs.routed.Goals as goal
+
+pub returns-then-k-lt4 : goal.returns-then-k-lt4
+unfolding Rattle.next_queue.specs.Next.routed_of
+returns-then-k-lt4 c = simp (lt-ltb _ _ c.if-k-lt4.true, c.across.ensures)
+
+pub returns-then-k-eq4 : goal.returns-then-k-eq4
+unfolding Rattle.next_queue.specs.Next.routed_of
+returns-then-k-eq4 c = simp (le-ltb _ _ c.if-k-lt4.false, eq-eqb _ _ c.if-k-eq4.true)
+
+pub returns : goal.returns
+unfolding Rattle.next_queue.specs.Next.routed_of
+returns c = simp (
+  le-ltb _ _ c.if-k-lt4.false,
+  ne_eqb _ _ c.if-k-eq4.false,
+  c.leaves.ensures,
+  c.side_out-o.ensures.0,
+  c.column_of-d.ensures.0,
+  c.base_of-base.ensures.0,
+)

@@ -1,0 +1,11 @@
+use mathlib.Core.Path.{◌∙◌}
+use Rattle.plan_walks.proofs.Through.{same_default}
+use borrow.Author.Rules.{rules}
+use Rattle.next_queue.proofs.side_of.Goals as goal
+
+pub returns : goal.returns
+returns c = (
+  c.index.ensures.0 ∙ same_default c.args.row.now _ 0 7
+      c.requires,
+  c.index.ensures.1,
+)

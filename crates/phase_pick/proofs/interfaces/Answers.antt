@@ -1,0 +1,39 @@
+use Rattle.phase_pick.specs.Moments.{Picks, chooses}
+use Rattle.bytes_steps.specs.Acts.{Steps, steps_none, steps_done}
+use Rattle.plan.specs.Tables.{table_plan}
+use Rattle.plan.specs.Head.{destinations}
+use Rattle.basis.specs.Fold.{up_to}
+use lib.ListN.{length}
+use Prim.Native.Nat.{◌-◌, ◌≤◌}
+use native.Mathlib.Omega.{arith}
+use mathlib.Core.Path.{◌≡◌, refl, ◌∙◌}
+use Rattle.phase_pick.proofs.Loops.{interfaces_hold, interfaces_more}
+use Rattle.phase_pick.proofs.interfaces.Goals as goal
+
+pub overflow_add-n : goal.overflow_add-n
+overflow_add-n c =
+    let p = c.requires in let a = p.0.range.actives.1 in let b = p.0.range.passives.1 in omega
+    arith
+
+pub loop-m-init : goal.loop-m-init
+loop-m-init c = (omega arith, refl, steps_none _ _ _ _, refl)
+
+pub interface-requires : goal.interface-requires
+interface-requires c =
+    let p = c.requires in let v = c.loop-m.invariant in let l = v.1 in
+    (p.0, omega arith, interfaces_hold p.0 (omega arith) p.1 v.2)
+
+pub loop-m-preserved : goal.loop-m-preserved
+loop-m-preserved c =
+    let p = c.requires in let v = c.loop-m.invariant in let l = v.1 in (
+      omega arith,
+      v.1,
+      interfaces_more p.0 (omega arith) v.2 c.interface.ensures,
+      c.interface.auto.s ∙ v.3,
+    )
+
+pub shape_of-s : goal.shape_of-s
+shape_of-s c = c.loop-m.invariant.3
+
+pub returns : goal.returns
+returns c = let v = c.loop-m.invariant in let l = v.1 in steps_done _ _ v.2 (omega arith)

@@ -1,0 +1,17 @@
+use Rattle.phase_pick.specs.Moments.{Picks, chooses_from}
+use Rattle.bytes_steps.specs.Acts.{Steps}
+use Rattle.plan.specs.Tables.{table_plan}
+use Rattle.plan.specs.Head.{destinations}
+use lib.ListN.{length}
+use Prim.Native.Nat.{◌+◌, ◌*◌, ◌-◌, ◌≤◌}
+use native.Mathlib.Omega.{arith}
+use mathlib.Core.Path.{◌≡◌, refl, ◌∙◌}
+use Rattle.phase_pick.proofs.Loops.{from_none, sides_hold, sides_more, from_done}
+use Rattle.phase_pick.proofs.sides.Given as goal
+
+abbrev pub invariant-loop-o : goal.invariant-loop-o
+invariant-loop-o l =
+    (l.o ≤ 4)
+    × Steps (table_plan l.h l.routes l.joints) (Picks (table_plan l.h l.routes l.joints) (destinations l.h + 6 * l.r))
+    (chooses_from (table_plan l.h l.routes l.joints) (destinations l.h + 6 * l.r) l.o) l.initial.s l.s
+    × (length l.s ≡ length l.initial.s)

@@ -1,3 +1,4 @@
 pub mod Apart
 pub mod Numbers
 pub mod OutNumbers
+pub mod Runs

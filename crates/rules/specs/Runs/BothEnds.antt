@@ -15,7 +15,6 @@ use Rattle.rules.specs.State.{State, start, with_last_sender}
 use Rattle.rules.specs.Calls.{Call, read, execute, write, launch, reply}
 use Rattle.rules.specs.Runs.Watch.{round, many_rounds, in_write, packet, entry_in, count_in, each, after}
 use Rattle.rules.specs.Runs.Watch.{ran, watching, moments}
-use Rattle.rules.specs.Runs.Crossing.{crosses_both_ways}
 use Rattle.rules.specs.Runs.Watch.{once}
 
 -- the last sender that an output served, by its rank
@@ -38,18 +37,6 @@ one_entry =
 abbrev pub side2 : State → List ℕ
 side2 s = entry_in s 0 2 0 ∷ entry_in s 0 2 1 ∷ entry_in s 0 2 2 ∷ entry_in s 0 2 3 ∷ []
 
-pub side_0_first : moments two_to_one side2 (Q 0 0 ∷ Q 0 1 ∷ []) one_entry
-    -- round 4: active 1's first set-up, handled, waits for F; behind it is its second
-    ≡ after done (1 ∷ 4 ∷ 0 ∷ 4 ∷ []) ([] ∷ (packet Setup 1 0 1 1 ∷ packet Setup 1 0 3 0 ∷ []) ∷ [])
-    -- round 5: both heads are unhandled, both for slot 3. Side 0's is booked, side 1's becomes a NACK
-    ∷ after done (1 ∷ 4 ∷ 0 ∷ 4 ∷ []) ((packet Setup 0 0 3 0 ∷ []) ∷ (packet Setup 1 0 3 0 ∷ []) ∷ [])
-    ∷ after done (1 ∷ 4 ∷ 0 ∷ 0 ∷ []) ((packet Setup 0 0 0 1 ∷ []) ∷ (packet Nack 1 0 3 0 ∷ []) ∷ [])
-    -- the NACK leaves, by answer F; set-up F is full, and side 0's waits
-    ∷ after done (1 ∷ 4 ∷ 0 ∷ 0 ∷ []) ((packet Setup 0 0 0 1 ∷ []) ∷ [] ∷ [])
-    ∷ []
-unfolding moments
-side_0_first = once crosses_both_ways refl
-
 -- ---- an entry freed and booked in one EXECUTE: a TDOWN ends in Q[0], and in the same round Q[1]'s head has the entry
 abbrev pub freed_and_booked : List (List Call)
 freed_and_booked =
@@ -63,18 +50,6 @@ freed_and_booked =
     ∷ (write ∷ [])
     ∷ []
 
-pub freed_and_booked_lem : moments two_to_one side2 (Q 0 0 ∷ Q 0 1 ∷ []) freed_and_booked
-    ≡ after done (0 ∷ 4 ∷ 4 ∷ 4 ∷ []) ([] ∷ [] ∷ [])
-    -- round 9: the last set-up stands behind a NACK
-    ∷ after done (0 ∷ 4 ∷ 4 ∷ 4 ∷ []) ([] ∷ (packet Nack 1 0 0 0 ∷ packet Setup 1 0 0 0 ∷ []) ∷ [])
-    -- round 10: the TDOWN has come. It frees slot 0 and ends, and then active 1's set-up finds the entry free
-    ∷ after done (0 ∷ 4 ∷ 4 ∷ 4 ∷ []) ((packet Tdown 0 0 0 1 ∷ []) ∷ (packet Setup 1 0 0 0 ∷ []) ∷ [])
-    ∷ after done (1 ∷ 4 ∷ 4 ∷ 4 ∷ []) ([] ∷ (packet Setup 1 0 1 1 ∷ []) ∷ [])
-    ∷ after done (1 ∷ 4 ∷ 4 ∷ 4 ∷ []) ([] ∷ [] ∷ [])
-    ∷ []
-unfolding moments
-freed_and_booked_lem = once side_0_first refl
-
 -- ---- the Q that a packet on the way to the unit joins is that of the side by which its walk comes in. The wire does
 -- not say by which side it came, and the rank that the way to the unit remembers is not it: along a list from Start
 -- the two are the same, but 7 does not tie one to the other. So here is a list from another state: after rounds 0 and
@@ -85,15 +60,6 @@ on_the_wire = launch 1 0 0 ∷ many_rounds 2
 abbrev pub with_u0_remembered : Plan → State
 with_u0_remembered pl =
     with_last_sender (to_unit 0) 0 (ran pl on_the_wire (record { answer = done; state = start pl })).state
-
-pub side_of_the_walk :
-    watching (plan_of two_to_one) (last_at (to_unit 0)) (Q 0 0 ∷ Q 0 1 ∷ []) ((read ∷ []) ∷ (execute ∷ []) ∷ [])
-    (with_u0_remembered (plan_of two_to_one))
-    ≡ after done (0 ∷ []) ([] ∷ (packet Setup 1 0 0 0 ∷ []) ∷ [])
-    ∷ after done (0 ∷ []) ([] ∷ (packet Setup 1 0 1 1 ∷ []) ∷ [])
-    ∷ []
-unfolding moments
-side_of_the_walk = once freed_and_booked_lem refl
 
 -- ---- set-up F and answer F of one side: 'set-up F, answer F, then K'. The crossing plan with active out 2, active
 -- in 2: two routers, joined by their sides 2, each with an active on side 0 and a passive on side 1; S=4.
@@ -118,17 +84,6 @@ nack1 = packet Nack 1 0 1 1 ∷ []
 
 abbrev pub setup0 : List Packet
 setup0 = packet Setup 0 1 3 1 ∷ []
-
-pub set_ups_first : moments wider_crossing slot2_and_last (F ahead 0 2 ∷ F back 0 2 ∷ []) both_fs
-    -- round 6: the NACK waits in answer F, for active 0's set-up has booked the current slot
-    ≡ after done (0 ∷ 4 ∷ []) ([] ∷ nack1 ∷ [])
-    -- round 7: the set-up waits in set-up F, and goes first though it came later; round 8: the NACK
-    ∷ after done (0 ∷ 4 ∷ []) (setup0 ∷ nack1 ∷ [])
-    ∷ after done (0 ∷ 0 ∷ []) ([] ∷ nack1 ∷ [])
-    ∷ after done (0 ∷ 1 ∷ []) ([] ∷ [] ∷ [])
-    ∷ []
-unfolding moments
-set_ups_first = once side_of_the_walk refl
 
 -- ---- four senders to the unit, and four Qs from it: '.. and sends one packet a round, turn about'. A line of three
 -- routers, 'sensors and drives on each end of the line', S=8. Router 0 is in the middle: side 0 to active 0, side 1
@@ -165,26 +120,6 @@ abbrev pub at_unit0 : State → List ℕ
 at_unit0 s =
     last_at (to_unit 0) s ++ last_at (from_unit 0) s ++ each (count_in s) (U 0 0 ∷ U 0 1 ∷ U 0 2 ∷ U 0 3 ∷ [])
     ++ each (count_in s) (Q 0 0 ∷ Q 0 1 ∷ Q 0 2 ∷ Q 0 3 ∷ [])
-
-pub four_in_turn : moments line_of_three at_unit0 [] from_all_sides
-    -- round 7: all four U wait. They go in turn, U[0] to U[3], in rounds 7 to 10
-    ≡ after done (3 ∷ 0 ∷ (1 ∷ 2 ∷ 1 ∷ 1 ∷ []) ++ 0 ∷ 0 ∷ 1 ∷ 1 ∷ []) []
-    ∷ after done (0 ∷ 2 ∷ (0 ∷ 2 ∷ 1 ∷ 1 ∷ []) ++ 0 ∷ 0 ∷ 0 ∷ 1 ∷ []) []
-    ∷ after done (1 ∷ 3 ∷ (0 ∷ 1 ∷ 1 ∷ 1 ∷ []) ++ 1 ∷ 0 ∷ 0 ∷ 0 ∷ []) []
-    -- rounds 9 and 10: sides 2 and 3 are closed in round 9, both set-up F are full, and nothing leaves the unit
-    ∷ after done (2 ∷ 3 ∷ (0 ∷ 1 ∷ 0 ∷ 1 ∷ []) ++ 1 ∷ 1 ∷ 0 ∷ 0 ∷ []) []
-    ∷ after done (3 ∷ 3 ∷ (0 ∷ 1 ∷ 0 ∷ 0 ∷ []) ++ 1 ∷ 1 ∷ 1 ∷ 0 ∷ []) []
-    -- round 11: all four Q wait, each full. They go in turn, Q[0] to Q[3], in rounds 11 to 14
-    ∷ after done (3 ∷ 3 ∷ (0 ∷ 1 ∷ 0 ∷ 0 ∷ []) ++ 1 ∷ 1 ∷ 1 ∷ 1 ∷ []) []
-    ∷ after done (3 ∷ 0 ∷ (0 ∷ 1 ∷ 0 ∷ 0 ∷ []) ++ 0 ∷ 1 ∷ 1 ∷ 1 ∷ []) []
-    ∷ after done (3 ∷ 1 ∷ (0 ∷ 1 ∷ 0 ∷ 0 ∷ []) ++ 0 ∷ 0 ∷ 1 ∷ 1 ∷ []) []
-    ∷ after done (1 ∷ 2 ∷ (0 ∷ 0 ∷ 0 ∷ 0 ∷ []) ++ 0 ∷ 0 ∷ 0 ∷ 1 ∷ []) []
-    -- round 14: Q[1] has a head again, and it is Q[3]'s turn; round 15: Q[1]'s
-    ∷ after done (1 ∷ 3 ∷ (0 ∷ 0 ∷ 0 ∷ 0 ∷ []) ++ 0 ∷ 1 ∷ 0 ∷ 0 ∷ []) []
-    ∷ after done (1 ∷ 1 ∷ (0 ∷ 0 ∷ 0 ∷ 0 ∷ []) ++ 0 ∷ 0 ∷ 0 ∷ 0 ∷ []) []
-    ∷ []
-unfolding moments
-four_in_turn = once set_ups_first refl
 
 -- ---- five senders at a side: '.. so at most four others go first there'. Three routers, S=8. Router 0: side 0 to
 -- passive 0, side 1 to passive 1, side 2 to side 0 of router 2, side 3 to side 0 of router 1. Router 1: side 1 to
@@ -235,19 +170,3 @@ ack1 = packet Ack 0 1 2 2 ∷ []
 
 abbrev pub ack3 : List Packet
 ack3 = packet Ack 0 3 5 3 ∷ []
-
-pub fifth_sees_four : moments drives_around (last_at (of_side 0 3)) five five_senders
-    -- round 13: all five wait
-    ≡ after done (4 ∷ []) (setup ∷ nack ∷ ack0 ∷ ack1 ∷ ack3 ∷ [])
-    -- rounds 13 to 16: set-up F goes, answer F, K[0,3], K[1,3]
-    ∷ after done (0 ∷ []) ([] ∷ nack ∷ ack0 ∷ ack1 ∷ ack3 ∷ [])
-    ∷ after done (1 ∷ []) ([] ∷ [] ∷ ack0 ∷ ack1 ∷ ack3 ∷ [])
-    ∷ after done (2 ∷ []) ([] ∷ [] ∷ [] ∷ ack1 ∷ ack3 ∷ [])
-    ∷ after done (3 ∷ []) ([] ∷ [] ∷ [] ∷ [] ∷ ack3 ∷ [])
-    -- round 17: set-up F has another, and it is the turn of K[2,3], which saw four go; round 18: set-up F again
-    ∷ after done (3 ∷ []) (next_setup ∷ [] ∷ [] ∷ [] ∷ ack3 ∷ [])
-    ∷ after done (4 ∷ []) (next_setup ∷ [] ∷ [] ∷ [] ∷ [] ∷ [])
-    ∷ after done (0 ∷ []) ([] ∷ [] ∷ [] ∷ [] ∷ [] ∷ [])
-    ∷ []
-unfolding moments
-fifth_sees_four = once four_in_turn refl

@@ -13,7 +13,6 @@ use Rattle.rules.specs.Runs.Watch.{after, moments, accepts}
 use Rattle.rules.specs.Runs.Declined.{both_sides}
 use Rattle.plan.specs.Samples.{plan_t, two_routers, all_sides}
 use Rattle.packets.specs.Answers.{refused, done, shows}
-use Rattle.rules.specs.Runs.Capacities.{out_queue_full}
 use Rattle.rules.specs.Runs.Watch.{once}
 
 -- ---- two routers, S=4. Active 1, at the second router, is connected from slot 0 on; active 0, at the first, from
@@ -100,37 +99,6 @@ opened_closed_opened =
     ∷ (drop 0 ∷ [])
     ∷ []
 
-pub opened_closed_opened_lem : moments two_routers table_and_kept places opened_closed_opened
-    ≡ after done (4 ∷ 4 ∷ 4 ∷ 4 ∷ 2 ∷ 4 ∷ 4 ∷ 4 ∷ 0 ∷ 1 ∷ []) quiet
-    ∷ after done (both_booked 0 1) quiet
-    -- round 19: 16 before the ACK is dropped, 8 in WRITE
-    ∷ after (refused 16) (both_booked 0 1) quiet
-    ∷ after done (both_booked 0 1) (seen [] (ack ∷ []) [] [])
-    ∷ after (shows ack) (both_booked 0 1) (seen [] (ack ∷ []) [] [])
-    ∷ after (refused 8) (both_booked 0 1) (seen [] (ack ∷ []) [] [])
-    ∷ after done (both_booked 1 1) quiet
-    -- round 20
-    ∷ after (refused 16) (both_booked 1 1) quiet
-    ∷ after (refused 16) (both_booked 1 1) quiet
-    -- closed: the mark is gone at once, and both entries are there still
-    ∷ after done (both_booked 0 1) (seen (closing ∷ []) [] [] [])
-    ∷ after (refused 16) (both_booked 0 1) (seen (closing ∷ []) [] [] [])
-    ∷ after (refused 12) (both_booked 0 1) (seen (closing ∷ []) [] [] [])
-    -- round 22
-    ∷ after done (both_booked 0 1) (seen [] [] (closing ∷ []) [])
-    ∷ after done first_freed (seen [] [] (passed_on ∷ []) [])
-    -- round 25: active 1 keeps its entry
-    ∷ after done first_freed (seen [] [] [] (passed_on ∷ []))
-    ∷ after done both_freed quiet
-    -- opened again at the same start
-    ∷ after done both_freed quiet
-    ∷ after done (both_booked 0 1) quiet
-    ∷ after done (both_booked 0 1) (seen [] (ack ∷ []) [] [])
-    ∷ after done (both_booked 1 1) quiet
-    ∷ []
-unfolding moments
-opened_closed_opened_lem = once out_queue_full refl
-
 -- ---- accepted, closed and accepted again on plan T: told by the calls and the states before them, the connection is
 -- accepted once, though an ACK of it was looked at and dropped twice
 abbrev pub connects : List Call
@@ -140,10 +108,6 @@ connects =
 
 abbrev pub accepted_twice : List (List Call)
 accepted_twice = connects ∷ (close 0 0 0 ∷ many_rounds 4) ∷ connects ∷ []
-
-pub accepted_once : accepts plan_t accepted_twice ≡ connection 0 0 0 ∷ []
-unfolding accepts
-accepted_once = once opened_closed_opened_lem refl
 
 -- ---- the refusals' order, 8, 9, 10, 16, 12, where the conditions of two or more hold at once. Three actives, two
 -- passives, S=4; actives 0 and 1 are not served with passive 1
@@ -169,22 +133,6 @@ closes_tried =
 abbrev pub allowance : State → List ℕ
 allowance s = allowance_in s 0 ∷ []
 
-pub closes_in_order : moments all_sides allowance [] closes_tried
-    ≡ after (refused 9) (1 ∷ []) []
-    ∷ after (refused 9) (1 ∷ []) []
-    ∷ after (refused 9) (1 ∷ []) []
-    ∷ after (refused 9) (1 ∷ []) []
-    ∷ after (refused 10) (1 ∷ []) []
-    ∷ after (refused 16) (1 ∷ []) []
-    ∷ after done (0 ∷ []) []
-    ∷ after (refused 16) (0 ∷ []) []
-    ∷ after (refused 10) (0 ∷ []) []
-    ∷ after (refused 8) (0 ∷ []) []
-    ∷ after (refused 8) (0 ∷ []) []
-    ∷ []
-unfolding moments
-closes_in_order = once accepted_once refl
-
 -- ---- a Close with the out-queue full, which is accepted later; and it costs no allowance: plan T
 abbrev pub closed_later : List (List Call)
 closed_later =
@@ -200,14 +148,3 @@ closed_later =
 -- the allowance, the entry of side 1 for slot 0, and whether the connection is kept
 abbrev pub allowance_and_kept : State → List ℕ
 allowance_and_kept s = allowance_in s 0 ∷ entry_in s 0 1 0 ∷ connection_in s 0 0 0 ∷ []
-
-pub closed_later_lem : moments plan_t allowance_and_kept (active_out 0 ∷ []) closed_later
-    ≡ after (shows (packet Ack 0 0 1 1)) (1 ∷ 0 ∷ 1 ∷ []) ([] ∷ [])
-    ∷ after done (0 ∷ 0 ∷ 1 ∷ []) ((packet Setup 0 0 1 0 ∷ []) ∷ [])
-    -- 12: the mark stays
-    ∷ after (refused 12) (0 ∷ 0 ∷ 1 ∷ []) ((packet Setup 0 0 1 0 ∷ []) ∷ [])
-    ∷ after done (0 ∷ 0 ∷ 1 ∷ []) ([] ∷ [])
-    ∷ after done (0 ∷ 0 ∷ 0 ∷ []) ((packet Tdown 0 0 0 1 ∷ []) ∷ [])
-    ∷ []
-unfolding moments
-closed_later_lem = once closes_in_order refl

@@ -10,10 +10,9 @@ use Rattle.rules.specs.Calls.{Call, read, execute, write, launch, reply, drop}
 use Rattle.rules.specs.Runs.Watch.{many_rounds, packet, entry_in, after, moments}
 use Rattle.packets.specs.Answers.{done}
 use Rattle.plan.specs.Samples.{crossing}
-use Rattle.rules.specs.Runs.Declined.{second_declines_lem}
 use Rattle.rules.specs.Runs.Watch.{once}
 
-abbrev both_ways : List (List Call)
+abbrev pub both_ways : List (List Call)
 both_ways =
     -- rounds 0 and 1; round 2: at the first unit, in Q[0]
     (launch 0 1 0 ∷ launch 1 0 0 ∷ many_rounds 2 ++ read ∷ execute ∷ [])
@@ -27,22 +26,8 @@ both_ways =
     ∷ []
 
 -- the entries of sides 2 and 1 of router 0, and of router 1, that the two set-ups book
-abbrev booked : State → List ℕ
+abbrev pub booked : State → List ℕ
 booked s = entry_in s 0 2 0 ∷ entry_in s 1 1 1 ∷ entry_in s 1 2 0 ∷ entry_in s 0 1 1 ∷ []
 
-abbrev none : List Packet
+abbrev pub none : List Packet
 none = []
-
-pub crosses_both_ways :
-    moments crossing booked (Q 0 0 ∷ Q 1 2 ∷ Q 1 0 ∷ Q 0 2 ∷ active_in 0 ∷ active_in 1 ∷ []) both_ways
-    ≡ after done (0 ∷ 4 ∷ 0 ∷ 4 ∷ [])
-    ((packet Setup 0 1 1 1 ∷ []) ∷ none ∷ (packet Setup 1 0 1 1 ∷ []) ∷ none ∷ none ∷ none ∷ [])
-    ∷ after done (0 ∷ 2 ∷ 0 ∷ 2 ∷ [])
-    (none ∷ (packet Setup 0 1 2 2 ∷ []) ∷ none ∷ (packet Setup 1 0 2 2 ∷ []) ∷ none ∷ none ∷ [])
-    ∷ after done (0 ∷ 2 ∷ 0 ∷ 2 ∷ []) (none ∷ none ∷ none ∷ none ∷ none ∷ none ∷ [])
-    ∷ after done (0 ∷ 2 ∷ 0 ∷ 2 ∷ [])
-    (none ∷ none ∷ none ∷ none ∷ (packet Ack 0 1 2 2 ∷ []) ∷ (packet Ack 1 0 2 2 ∷ []) ∷ [])
-    ∷ after done (0 ∷ 2 ∷ 0 ∷ 2 ∷ []) (none ∷ none ∷ none ∷ none ∷ none ∷ none ∷ [])
-    ∷ []
-unfolding moments
-crosses_both_ways = once second_declines_lem refl

@@ -13,7 +13,6 @@ use Rattle.rules.specs.Runs.Watch.{round, many_rounds, in_write, packet, entry_i
 use Rattle.rules.specs.Runs.Watch.{moments}
 use Rattle.plan.specs.Samples.{narrow_there}
 use Rattle.packets.specs.Answers.{done}
-use Rattle.rules.specs.Runs.Order.{unit_first_then_sides}
 use Rattle.rules.specs.Runs.Watch.{once}
 
 abbrev pub heads_in_turn : List (List Call)
@@ -51,21 +50,3 @@ next_setup = packet Setup 0 0 4 0
 
 abbrev pub next_booked : Packet
 next_booked = packet Setup 0 0 5 1
-
-pub one_head_a_round : moments narrow_there watched (Q 0 1 ∷ []) heads_in_turn
-    ≡ after done (1 ∷ 4 ∷ 3 ∷ 0 ∷ []) ([] ∷ [])
-    ∷ after done (1 ∷ 4 ∷ 1 ∷ 1 ∷ []) ([] ∷ [])
-    -- round 11: the handled head waits, and nothing behind it is handled
-    ∷ after done (1 ∷ 4 ∷ 0 ∷ 0 ∷ []) ((waiting ∷ tdown ∷ next_setup ∷ []) ∷ [])
-    -- round 13: it has left
-    ∷ after done (1 ∷ 4 ∷ 0 ∷ 1 ∷ []) ((tdown ∷ next_setup ∷ []) ∷ [])
-    -- round 14: the TDOWN frees slot 15 and ends, the flag of Q[1] rises; the next head is not handled in this round
-    ∷ after done (1 ∷ 4 ∷ 1 ∷ 0 ∷ []) ((tdown ∷ next_setup ∷ []) ∷ [])
-    ∷ after done (4 ∷ 4 ∷ 1 ∷ 1 ∷ []) ((next_setup ∷ []) ∷ [])
-    ∷ after done (4 ∷ 4 ∷ 1 ∷ 1 ∷ []) ((next_setup ∷ []) ∷ [])
-    -- round 15: the credit is back, and it is handled
-    ∷ after done (4 ∷ 4 ∷ 2 ∷ 0 ∷ []) ((next_setup ∷ []) ∷ [])
-    ∷ after done (4 ∷ 1 ∷ 2 ∷ 0 ∷ []) ((next_booked ∷ []) ∷ [])
-    ∷ []
-unfolding moments
-one_head_a_round = once unit_first_then_sides refl

@@ -10,7 +10,6 @@ use Rattle.plan_queues.specs.Feeds.{of_side}
 use Rattle.rules.specs.State.{State}
 use Rattle.rules.specs.Calls.{Call, read, execute, write, launch, reply}
 use Rattle.rules.specs.Runs.Watch.{round, many_rounds, in_write, packet, credit_in, each, after, moments}
-use Rattle.rules.specs.Runs.Queues.{heads_in_order}
 use Rattle.rules.specs.Runs.Watch.{once}
 
 -- two routers, joined by their sides 2, each with an active on side 0 and a passive on side 1; S=8, active out 4,
@@ -42,16 +41,3 @@ first = packet Ack 1 0 2 2
 
 abbrev pub second : Packet
 second = packet Ack 1 0 4 2
-
--- set-up F[2] and K[1,2] of router 0, and the queue of router 1 to which K[1,2]'s head goes
-pub passed_over : moments roomy_crossing credit_and_last (F ahead 0 2 ∷ K 0 1 2 ∷ K 1 2 0 ∷ []) row_of_set_ups
-    -- round 11: the set-up has no credit; K[1,2] goes, and is remembered
-    ≡ after done (0 ∷ 0 ∷ []) ((setup ∷ []) ∷ (first ∷ []) ∷ [] ∷ [])
-    ∷ after done (0 ∷ 3 ∷ []) ((setup ∷ []) ∷ [] ∷ [] ∷ [])
-    -- round 13: it is the set-up's turn, which has no credit still; K[1,2] goes again
-    ∷ after done (0 ∷ 3 ∷ []) ((setup ∷ []) ∷ (second ∷ []) ∷ [] ∷ [])
-    ∷ after done (0 ∷ 3 ∷ []) ((setup ∷ []) ∷ [] ∷ [] ∷ [])
-    ∷ after done (0 ∷ 3 ∷ []) ((setup ∷ []) ∷ [] ∷ (second ∷ []) ∷ [])
-    ∷ []
-unfolding moments
-passed_over = once heads_in_order refl

@@ -9,7 +9,6 @@ use Rattle.plan.specs.Samples.{narrow_back}
 use Rattle.plan_queues.specs.Queue.{active_in, passive_in, passive_out}
 use Rattle.rules.specs.Calls.{Call, read, execute, write, launch, reply, drop}
 use Rattle.rules.specs.Runs.Watch.{many_rounds, in_write, packet, each, after, moments}
-use Rattle.rules.specs.Runs.Waited.{declined_out_lem}
 use Rattle.rules.specs.Runs.Watch.{once}
 
 -- three set-ups wait at passive 0. It accepts the first and declines the two others; the ACK is dropped only when all
@@ -29,18 +28,3 @@ three_answers =
 
 abbrev pub of : Kind → ℕ → ℕ → Packet
 of k t h = packet k 0 0 t h
-
--- the passive's in-queue and out-queue, and the active's in-queue
-pub heads_in_order : moments narrow_back (λ s. []) (passive_in 0 ∷ passive_out 0 ∷ active_in 0 ∷ []) three_answers
-    ≡ after done [] ((of Setup 9 1 ∷ of Setup 10 1 ∷ of Setup 11 1 ∷ []) ∷ [] ∷ [] ∷ [])
-    -- the first is answered
-    ∷ after done [] ((of Setup 10 1 ∷ of Setup 11 1 ∷ []) ∷ (of Ack 9 1 ∷ []) ∷ [] ∷ [])
-    ∷ after done [] ([] ∷ [] ∷ (of Ack 9 1 ∷ of Nack 10 1 ∷ of Nack 11 1 ∷ []) ∷ [])
-    -- the ACK is dropped, and an unmarked NACK is the head
-    ∷ after done [] ([] ∷ [] ∷ (of Nack 10 1 ∷ of Nack 11 1 ∷ []) ∷ [])
-    ∷ after done [] ([] ∷ [] ∷ (of Nack 10 1 ∷ of Nack 11 1 ∷ []) ∷ [])
-    -- marked, it stays where it is
-    ∷ after done [] ([] ∷ [] ∷ (of Nack 10 0 ∷ of Nack 11 1 ∷ []) ∷ [])
-    ∷ []
-unfolding moments
-heads_in_order = once declined_out_lem refl

@@ -14,7 +14,6 @@ use Rattle.rules.specs.Ruled.{ruled_after}
 use Rattle.rules.specs.TurnAbout.{waits, Stays, others, StaysAlong}
 use Rattle.rules.specs.Runs.Watch.{round, many_rounds, in_write, each, moments}
 use Rattle.rules.specs.Runs.BothEnds.{five_senders}
-use Rattle.rules.specs.Runs.Spoilt.{stored_choice_goes_though_booked}
 use Rattle.rules.specs.Runs.Watch.{once}
 
 -- ---- `StaysAlong`, by a test that can be evaluated
@@ -29,27 +28,6 @@ stays_test pl o j (c ∷ cs) s =
     also (pick (eqb (turns_call Execute c r.answer) 1) (stays_by pl o j r.state (r.state.links.choice o)) true)
     (stays_test pl o j cs r.state)
 
-stays_here : (pl : Plan) (o : Output) (j : ℕ) (s : State) → stays_by pl o j s (s.links.choice o) ≡ true
-    → Stays pl o j s
-stays_here pl o j s t =
-    record {
-      stays = λ k e.
-          let both = also_true {a = waits pl o j s} {b = not (eqb k j)} (sym (ap (stays_by pl o j s) e) ∙ t) in
-          (both.0, λ q. true≢false (sym both.1 ∙ ap not (eq-eqb k j q)));
-    }
-
-pub stays_along : (pl : Plan) (o : Output) (j : ℕ) (cs : List Call) (s : State) → stays_test pl o j cs s ≡ true
-    → StaysAlong pl o j cs s
-stays_along pl o j [] s t = record {}
-stays_along pl o j (c ∷ cs) s t =
-    let r : Outcome = call pl c s in
-    let here : Bool = stays_by pl o j r.state (r.state.links.choice o) in
-    let n : ℕ = turns_call Execute c r.answer in
-    let both = also_true {a = pick (eqb n 1) here true} {b = stays_test pl o j cs r.state} t in (
-      λ e. stays_here pl o j r.state (ap (λ (x : Bool). pick x here true) (sym (eq-eqb n 1 e)) ∙ both.0),
-      stays_along pl o j cs r.state both.1,
-    )
-
 -- ---- how many go first
 -- the state of a plan's bytes after some calls from Start
 abbrev pub reached : List ℕ → List Call → State
@@ -59,12 +37,6 @@ reached b cs = ruled_after (plan_of b) cs (start (plan_of b))
 pub record GoFirst (b : List ℕ) (before : List Call) (o : Output) (j : ℕ) (cs : List Call) (n : ℕ) : Type 0 where
   pub stays : StaysAlong (plan_of b) o j cs (reached b before)
   pub count : others (plan_of b) o j cs (reached b before) ≡ n
-
-go_first : (b : List ℕ) (before : List Call) (o : Output) (j : ℕ) (cs : List Call) (n : ℕ)
-    → stays_test (plan_of b) o j cs (reached b before) ≡ true → others (plan_of b) o j cs (reached b before) ≡ n
-    → GoFirst b before o j cs n
-go_first b before o j cs n t e =
-    record { stays = stays_along (plan_of b) o j cs (reached b before) t; count = e }
 
 -- the list of a run, up to its first moment
 abbrev pub up_to_first : List (List Call) → List Call
@@ -77,20 +49,6 @@ up_to_first (cs ∷ more) = cs
 abbrev pub four_arrive : List Call
 four_arrive =
     launch 2 1 0 ∷ launch 3 0 0 ∷ many_rounds 3 ++ launch 0 1 5 ∷ launch 1 0 5 ∷ round ++ read ∷ []
-
-pub three_go_first : GoFirst line_of_three four_arrive (to_unit 0) 3 (execute ∷ write ∷ many_rounds 2) 3
-unfolding moments
-three_go_first =
-    once stored_choice_goes_though_booked
-    (go_first line_of_three four_arrive (to_unit 0) 3 (execute ∷ write ∷ many_rounds 2) 3 refl refl)
-
--- ---- at a side four: `BothEnds.fifth-sees-four`, rounds 13 to 16. K[2,3] sees set-up F[3], answer F[3], K[0,3] and
--- K[1,3] go
-pub four_go_first : GoFirst drives_around (up_to_first five_senders) (of_side 0 3) 4 (execute ∷ write ∷ many_rounds 3) 4
-unfolding moments
-four_go_first =
-    once three_go_first
-    (go_first drives_around (up_to_first five_senders) (of_side 0 3) 4 (execute ∷ write ∷ many_rounds 3) 4 refl refl)
 
 -- ---- who is a candidate now and then is passed more often: at a unit four times, where three is the bound. One
 -- router, S=16: side 0 to passive 0, sides 1 to 3 to actives 0 to 2; F 1, passive in 1. The heads of Q[2] and Q[3] go
@@ -107,7 +65,3 @@ now_and_then =
     ++ write ∷ launch 0 0 2 ∷ many_rounds 2 ++ in_write (reply 0 1)
     ++ write ∷ launch 0 0 2 ∷ many_rounds 2 ++ in_write (reply 0 1)
     ++ write ∷ many_rounds 2
-
-pub passed_more_often : others (plan_of narrow_side) (from_unit 0) 3 now_and_then (start (plan_of narrow_side)) ≡ 4
-unfolding moments
-passed_more_often = once four_go_first refl

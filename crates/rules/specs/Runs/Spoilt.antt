@@ -14,7 +14,6 @@ use Rattle.rules.specs.Calls.{Call, read, execute, write}
 use Rattle.rules.specs.Runs.Watch.{packet, joined, after, ran, watching, moments}
 use Rattle.rules.specs.Runs.FirstBookings.{side1}
 use Rattle.rules.specs.Runs.Turns.{last_at_side, both_wait, nack, first}
-use Rattle.rules.specs.Runs.NoCredit.{passed_over}
 use Rattle.rules.specs.Runs.Watch.{once}
 
 -- ---- 'TDOWN: the entry is freed': whichever side it holds. Plan T, Start's state but for a TDOWN in Q[0] and its
@@ -23,14 +22,6 @@ abbrev pub anothers_entry : Plan → State
 anothers_entry pl =
     with_entry 0 1 0 (Booked 2)
     (with_queue (Q 0 0) (packet Tdown 0 0 0 1 ∷ []) (with_credit (Q 0 0) (record { 0 = 0 }) (start pl)))
-
-pub another_side_freed : watching (plan_of plan_t) side1 (Q 0 0 ∷ []) ((read ∷ []) ∷ (execute ∷ []) ∷ [])
-    (anothers_entry (plan_of plan_t))
-    ≡ after done (2 ∷ 4 ∷ []) ((packet Tdown 0 0 0 1 ∷ []) ∷ [])
-    ∷ after done (4 ∷ 4 ∷ []) ([] ∷ [])
-    ∷ []
-unfolding moments
-another_side_freed = once passed_over refl
 
 -- ---- 'each picked head enters its wire': the one that is stored, whoever's turn it was. `Turns.two-in-turn` up to
 -- round 6, after EXECUTE: answer F[1], of rank 1, and K[0,1], of rank 2, both wait, and K[0,1] is picked. Stored is
@@ -44,26 +35,7 @@ other_stored pl = with_choice (of_side 0 1) (sender 1) (in_round6 pl)
 abbrev pub write_and_one_more : List (List Call)
 write_and_one_more = (write ∷ []) ∷ (read ∷ []) ∷ (execute ∷ write ∷ []) ∷ []
 
-pub stored_choice_goes : watching (plan_of narrow_back) (last_at_side 1) (F back 0 1 ∷ K 0 0 1 ∷ []) write_and_one_more
-    (other_stored (plan_of narrow_back))
-    -- answer F[1] goes, and is remembered
-    ≡ after done (1 ∷ []) ([] ∷ (first ∷ []) ∷ [])
-    -- round 7: both wait again, and it is K[0,1]'s turn
-    ∷ after done (1 ∷ []) ((nack ∷ []) ∷ (first ∷ []) ∷ [])
-    ∷ after done (2 ∷ []) ((nack ∷ []) ∷ [] ∷ [])
-    ∷ []
-unfolding moments
-stored_choice_goes = once another_side_freed refl
-
 -- ---- 'a router side picks nobody when its entry for the current slot is booked' is of EXECUTE; WRITE sends what is
 -- stored. The same round, with that entry of side 1 booked behind the pick
 abbrev pub booked_behind : Plan → State
 booked_behind pl = with_entry 0 1 6 (Booked 0) (in_round6 pl)
-
-pub stored_choice_goes_though_booked :
-    watching (plan_of narrow_back) (last_at_side 1) (F back 0 1 ∷ K 0 0 1 ∷ []) ((write ∷ []) ∷ [])
-    (booked_behind (plan_of narrow_back))
-    ≡ after done (2 ∷ []) ((nack ∷ []) ∷ [] ∷ [])
-    ∷ []
-unfolding moments
-stored_choice_goes_though_booked = once stored_choice_goes refl

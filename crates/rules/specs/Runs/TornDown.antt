@@ -10,7 +10,6 @@ use Rattle.rules.specs.Runs.Watch.{many_rounds, in_write, packet, entry_in, allo
 use Rattle.rules.specs.Runs.Declined.{both_sides}
 use Rattle.plan.specs.Samples.{two_routers, four_routers}
 use Rattle.packets.specs.Answers.{refused, done, shows}
-use Rattle.rules.specs.Runs.Closed.{closed_later_lem}
 use Rattle.rules.specs.Runs.Watch.{once}
 
 -- ---- two routers, S=4: active 0 launches with slot 2, and the passive declines
@@ -78,30 +77,6 @@ tdown = packet Tdown 0 0 2 2
 abbrev pub tdown_on : Packet
 tdown_on = packet Tdown 0 0 3 1
 
-pub torn_over_two : moments two_routers allowance_and_both places over_two
-    -- round 6: both routers have booked; round 7: declined
-    ≡ after done (both 0) quiet
-    ∷ after done (both 0) (seen [] [] [] [] (setup ∷ []))
-    ∷ after done (both 0) quiet
-    -- round 11: the NACK has come; Execute marks it and a TDOWN joins. The allowance is not back, neither at the
-    -- arrival nor at the mark
-    ∷ after done (both 0) (seen [] (nack ∷ []) [] [] [])
-    ∷ after done (both 0) (seen (tdown ∷ []) (marked_nack ∷ []) [] [] [])
-    ∷ after (refused 11) (both 0) (seen (tdown ∷ []) (marked_nack ∷ []) [] [] [])
-    -- round 12: nor at the Look; it is back at the Drop
-    ∷ after (shows marked_nack) (both 0) (seen (tdown ∷ []) (marked_nack ∷ []) [] [] [])
-    ∷ after done (both 1) (seen (tdown ∷ []) [] [] [] [])
-    -- round 14: the first router frees its entry and sends the TDOWN on
-    ∷ after done (both 1) (seen [] [] (tdown ∷ []) [] [])
-    ∷ after done (second 1) (seen [] [] (tdown_on ∷ []) [] [])
-    -- round 17: the second frees its own, and the TDOWN ends
-    ∷ after done (second 1) (seen [] [] [] (tdown_on ∷ []) [])
-    ∷ after done (all_free 1) quiet
-    ∷ after done (all_free 1) quiet
-    ∷ []
-unfolding moments
-torn_over_two = once closed_later_lem refl
-
 -- ---- three routers, S=3: active 1 launches with slot 1, over routers 1 to 3 of four; the passive declines
 abbrev pub over_three : List (List Call)
 over_three =
@@ -168,28 +143,3 @@ tdown2 = packet Tdown 1 0 2 2
 
 abbrev pub tdown1 : Packet
 tdown1 = packet Tdown 1 0 0 1
-
-pub torn_over_three :
-    moments four_routers allowance_and_three (active_out 1 ∷ active_in 1 ∷ Q 1 2 ∷ Q 2 0 ∷ Q 3 0 ∷ []) over_three
-    -- rounds 10 and 11
-    ≡ after done (three 0) still
-    ∷ after done (three 0) still
-    ∷ after done (three 0) still
-    -- round 16: the NACK comes, and is marked; the allowance is not back
-    ∷ after done (three 0) (watched [] (nack3 ∷ []) [] [] [])
-    ∷ after done (three 0) (watched (tdown3 ∷ []) (marked3 ∷ []) [] [] [])
-    ∷ after (refused 11) (three 0) (watched (tdown3 ∷ []) (marked3 ∷ []) [] [] [])
-    -- round 17: it is back at the Drop
-    ∷ after (shows marked3) (three 0) (watched (tdown3 ∷ []) (marked3 ∷ []) [] [] [])
-    ∷ after done (three 1) (watched (tdown3 ∷ []) [] [] [] [])
-    -- rounds 19, 22 and 25: freed one by one
-    ∷ after done (three 1) (watched [] [] (tdown3 ∷ []) [] [])
-    ∷ after done (last_two 1) (watched [] [] (tdown2 ∷ []) [] [])
-    ∷ after done (last_two 1) (watched [] [] [] (tdown2 ∷ []) [])
-    ∷ after done (last_one 1) (watched [] [] [] (tdown1 ∷ []) [])
-    ∷ after done (last_one 1) (watched [] [] [] [] (tdown1 ∷ []))
-    ∷ after done (none_booked 1) still
-    ∷ after done (none_booked 1) still
-    ∷ []
-unfolding moments
-torn_over_three = once torn_over_two refl

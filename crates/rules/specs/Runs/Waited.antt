@@ -8,7 +8,6 @@ use Rattle.rules.specs.Calls.{Call, read, execute, write, launch, reply, drop, r
 use Rattle.rules.specs.Runs.Watch.{entry_in, After, after, watch, once}
 use Rattle.plan.specs.Samples.{plan_t}
 use Rattle.packets.specs.Answers.{Value, refused, done, remains}
-use Rattle.rules.specs.Runs.BothEnds.{fifth_sees_four}
 
 -- a round in which both are asked; the passive accepts (1) or declines (0)
 abbrev pub asked : ℕ → List Call
@@ -32,38 +31,11 @@ neither before then left = waited before then (refused 13) (refused 13) left
 abbrev pub nothing_left : List Call
 nothing_left = remaining ∷ read ∷ remaining ∷ execute ∷ remaining ∷ write ∷ remaining ∷ []
 
-pub nothing_left_lem : watch plan_t (λ s. []) [] nothing_left
-    ≡ after (remains 0 0) [] [] ∷ after done [] [] ∷ after (remains 0 0) [] [] ∷ after done [] []
-    ∷ after (remains 0 0) [] [] ∷ after done [] [] ∷ after (remains 0 0) [] [] ∷ []
-unfolding watch
-nothing_left_lem = once fifth_sees_four refl
-
 -- ---- one set-up, accepted: 512 rounds are promised, 8 are needed
 abbrev pub waited_out : List Call
 waited_out =
     launch 0 0 0 ∷ remaining ∷ []
     ++ asked 1 ++ asked 1 ++ asked 1 ++ asked 1 ++ asked 1 ++ asked 1 ++ asked 1 ++ asked 1 ++ asked 1
-
-pub waited_out_lem : watch plan_t entry0 [] waited_out
-    ≡ after done (4 ∷ []) [] ∷ after (remains 1 512) (4 ∷ []) [] ∷ []
-    -- rounds 0 and 1: to the router, and to the unit
-    ++ neither 4 4 (remains 1 512)
-    ++ neither 4 4 (remains 1 512)
-    -- round 2: booked
-    ++ neither 4 0 (remains 1 512)
-    -- round 3
-    ++ neither 0 0 (remains 1 512)
-    -- round 4: the passive accepts; the ACK is still one packet
-    ++ waited 0 0 done (refused 13) (remains 1 512)
-    -- rounds 5 and 6
-    ++ neither 0 0 (remains 1 512)
-    ++ neither 0 0 (remains 1 512)
-    -- round 7: the active drops it, and the network is empty; the table is the accepted connection's own
-    ++ waited 0 0 (refused 13) done (remains 0 0)
-    -- round 8: and it stays so
-    ++ neither 0 0 (remains 0 0)
-unfolding watch
-waited_out_lem = once nothing_left_lem refl
 
 -- ---- one set-up, declined: it takes the tear-down too, which is a second packet once the NACK is marked
 abbrev pub declined_out : List Call
@@ -73,30 +45,3 @@ declined_out =
     -- round 7, with a Remaining after Execute
     ++ read ∷ execute ∷ remaining ∷ reply 0 0 ∷ drop 0 ∷ write ∷ remaining ∷ []
     ++ asked 0 ++ asked 0 ++ asked 0 ++ asked 0
-
-pub declined_out_lem : watch plan_t entry0 [] declined_out
-    ≡ after done (4 ∷ []) [] ∷ after (remains 1 512) (4 ∷ []) [] ∷ []
-    -- rounds 0 to 3, as before
-    ++ neither 4 4 (remains 1 512)
-    ++ neither 4 4 (remains 1 512)
-    ++ neither 4 0 (remains 1 512)
-    ++ neither 0 0 (remains 1 512)
-    -- round 4: the passive declines
-    ++ waited 0 0 done (refused 13) (remains 1 512)
-    -- rounds 5 and 6
-    ++ neither 0 0 (remains 1 512)
-    ++ neither 0 0 (remains 1 512)
-    -- round 7: Execute marks the NACK, and its TDOWN joins the out-queue: two packets, and the promise of the launch
-    -- still holds; the NACK is dropped
-    ++ after done (0 ∷ []) [] ∷ after done (0 ∷ []) [] ∷ after (remains 2 1024) (0 ∷ []) [] ∷ []
-    ++ after (refused 13) (0 ∷ []) [] ∷ after done (0 ∷ []) [] ∷ after done (0 ∷ []) [] ∷ []
-    ++ after (remains 1 512) (0 ∷ []) [] ∷ []
-    -- rounds 8 and 9: to the router, and to the unit
-    ++ neither 0 0 (remains 1 512)
-    ++ neither 0 0 (remains 1 512)
-    -- round 10: the entry is freed and the TDOWN ends
-    ++ neither 0 4 (remains 0 0)
-    -- round 11
-    ++ neither 4 4 (remains 0 0)
-unfolding watch
-declined_out_lem = once waited_out_lem refl

@@ -1,0 +1,33 @@
+use Rattle.check_places.proofs.Exits.{sender_unit, sender_not, sender_answer, sender_never, sender_below}
+use Rattle.check_places.proofs.Exits.{sender_above}
+use borrow.Author.Rules.{rules}
+use Rattle.check_places.proofs.at_sender.Goals as goal
+
+pub returns-then-answers : goal.returns-then-answers
+returns-then-answers c = sender_not _ _ _ _ _ _ _ _ _ _ c.if-j-eq0.true c.answers.ensures c.if-answers.true
+
+pub returns-then-j-eq0 : goal.returns-then-j-eq0
+returns-then-j-eq0 c =
+    sender_unit _ _ _ _ _ _ _ _ _ _ c.if-j-eq0.true c.answers.ensures
+    c.if-answers.false c.at_out.ensures
+
+pub returns-then-answers-2 : goal.returns-then-answers-2
+returns-then-answers-2 c =
+    sender_answer _ _ _ _ _ _ _ _ _ _ c.if-j-eq0.false
+    c.if-j-eq1.true c.answers-then-j-eq1.ensures c.if-answers-2.true
+    c.at_out-then-answers-2.ensures
+
+pub returns-then-j-eq1 : goal.returns-then-j-eq1
+returns-then-j-eq1 c =
+    sender_never _ _ _ _ _ _ _ _ _ _ c.if-j-eq0.false c.if-j-eq1.true
+    c.answers-then-j-eq1.ensures c.if-answers-2.false
+
+pub returns-then-j-o : goal.returns-then-j-o
+returns-then-j-o c =
+    sender_below _ _ _ _ _ _ _ _ _ _ c.if-j-eq0.false c.if-j-eq1.false
+    c.if-j-o.true c.at_cross.ensures
+
+pub returns : goal.returns
+returns c =
+    sender_above _ _ _ _ _ _ _ _ _ _ c.if-j-eq0.false c.if-j-eq1.false
+    c.if-j-o.false c.at_cross-2.ensures

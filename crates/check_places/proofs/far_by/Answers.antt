@@ -1,0 +1,7 @@
+use Rattle.check_places.proofs.Exits.{far_is}
+use borrow.Author.Rules.{rules}
+use Rattle.check_places.proofs.far_by.Goals as goal
+
+pub returns : goal.returns
+returns c =
+    far_is _ _ _ _ _ _ c.wide-from.ensures.0 c.wide-a.ensures.0 c.comes_by.ensures

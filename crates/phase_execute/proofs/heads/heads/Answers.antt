@@ -1,0 +1,42 @@
+use Rattle.phase_execute.specs.Moments.{Turn}
+use Rattle.rules.specs.Execute.{unit_at}
+use Rattle.plan.specs.Tables.{table_plan}
+use Rattle.basis.specs.Fold.{up_to}
+use lib.ListN.{length}
+use Prim.Native.Nat.{◌-◌, ◌≤◌, ◌*◌}
+use mathlib.Core.Path.{◌≡◌, refl, ◌∙◌}
+use native.Mathlib.Omega.{arith}
+use Rattle.bytes_steps.specs.Acts.{Steps, steps_none, steps_done}
+use Rattle.phase_execute.proofs.Needs.{units_hold, units_more}
+use Rattle.phase_execute.proofs.heads.heads.Goals as goal
+
+pub overflow_mul-n : goal.overflow_mul-n
+overflow_mul-n c = let p = c.requires in let q = p.0.range.routers.1 in omega arith
+
+pub loop-m-init : goal.loop-m-init
+loop-m-init c = (omega arith, refl, steps_none _ _ _ _, refl)
+
+pub unit_at-requires : goal.unit_at-requires
+unit_at-requires c =
+    let p = c.requires in let v = c.loop-m.invariant in let l = v.1 in (
+      p.0,
+      omega arith,
+      omega arith,
+      units_hold p.0 (omega arith) p.1 v.2,
+    )
+
+pub loop-m-preserved : goal.loop-m-preserved
+loop-m-preserved c =
+    let p = c.requires
+    in let v = c.loop-m.invariant in let l = v.1 in (
+      omega arith,
+      v.1,
+      units_more p.0 (omega arith) v.2 c.unit_at.ensures,
+      c.unit_at.auto.s ∙ v.3,
+    )
+
+pub shape_of-s : goal.shape_of-s
+shape_of-s c = c.loop-m.invariant.3
+
+pub returns : goal.returns
+returns c = let v = c.loop-m.invariant in let l = v.1 in steps_done _ _ v.2 (omega arith)

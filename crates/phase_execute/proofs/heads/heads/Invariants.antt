@@ -1,0 +1,18 @@
+use Rattle.phase_execute.specs.Moments.{Turn}
+use Rattle.rules.specs.Execute.{unit_at}
+use Rattle.plan.specs.Tables.{table_plan}
+use Rattle.basis.specs.Fold.{up_to}
+use lib.ListN.{length}
+use Prim.Native.Nat.{◌-◌, ◌≤◌, ◌*◌}
+use mathlib.Core.Path.{◌≡◌, refl, ◌∙◌}
+use native.Mathlib.Omega.{arith}
+use Rattle.bytes_steps.specs.Acts.{Steps, steps_none, steps_done}
+use Rattle.phase_execute.proofs.Needs.{units_hold, units_more}
+use Rattle.phase_execute.proofs.heads.heads.Given as goal
+
+abbrev pub invariant-loop-m : goal.invariant-loop-m
+invariant-loop-m l =
+    (l.m ≤ l.n) × (l.n ≡ 4 * l.h.routers)
+    × Steps (table_plan l.h l.routes l.joints) (Turn (table_plan l.h l.routes l.joints) 0) (up_to (unit_at (table_plan l.h l.routes l.joints))
+    l.m) l.initial.s l.s
+    × (length l.s ≡ length l.initial.s)

@@ -1,0 +1,18 @@
+use Rattle.theory.specs.Invariant.{Core}
+use Rattle.rules.specs.Execute.{undo}
+use Rattle.plan.specs.Tables.{table_plan}
+use Rattle.basis.specs.Fold.{up_to}
+use lib.ListN.{length}
+use Prim.Native.Nat.{◌-◌, ◌≤◌}
+use mathlib.Core.Path.{◌≡◌, refl, ◌∙◌}
+use native.Mathlib.Omega.{arith}
+use Rattle.bytes_steps.specs.Acts.{Steps, steps_none, steps_done}
+use Rattle.phase_execute.proofs.Undoing.{undo_hold, undo_more}
+use Rattle.phase_execute.proofs.undo.undoes.Given as goal
+
+abbrev pub invariant-loop-a : goal.invariant-loop-a
+invariant-loop-a l =
+    (l.a ≤ l.a-end) × (l.a-end ≡ l.h.actives)
+    × Steps (table_plan l.h l.routes l.joints) (Core (table_plan l.h l.routes l.joints)) (up_to (undo (table_plan l.h l.routes l.joints)) l.a)
+    l.initial.s l.s
+    × (length l.s ≡ length l.initial.s)

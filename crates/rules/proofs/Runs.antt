@@ -1,0 +1,23 @@
+-- Each run of specs/Runs evaluated. They stand in a row, and each is evaluated once the one before it is right
+-- (`Watch.once`).
+pub mod FirstBookings
+pub mod LastFree
+pub mod Spent
+pub mod Declined
+pub mod TornDown
+pub mod Order
+pub mod Heads
+pub mod Wrap
+pub mod Capacities
+pub mod Turns
+pub mod Entries
+pub mod Refusals
+pub mod Closed
+pub mod Looking
+pub mod Crossing
+pub mod BothEnds
+pub mod Waited
+pub mod Queues
+pub mod NoCredit
+pub mod Spoilt
+pub mod Reached

@@ -25,7 +25,7 @@ use Rattle.bytes_layout.specs.Offsets.{size}
 use Rattle.bytes_layout.specs.Encode.{encode, encode_append, length_encode}
 use Rattle.bytes_layout.specs.Decode.{decode}
 use Rattle.bytes_layout.proofs.StateBytes.{encode_canonical, past_encode}
-use Rattle.claims.specs.Calls.{Given, given, on_plan, is_state, stored, on_state, start_on, call_on}
+use Rattle.claims.specs.Calls.{Given, given, on_plan, is_state, stored, on_state, start_in, start_on, call_on}
 
 -- a state's bytes and what is past them, counted
 pub length_encoded : (pl : Plan) (s : State) (rest : List ℕ) → length (encode pl s rest) ≡ size pl + length rest
@@ -88,7 +88,7 @@ kept_started pl b h =
 -- and Start
 pub kept_start : (p b : List ℕ) → Unaltered (plan_of p) b (start_on p b)
 unfolding start_on
-kept_start p b = kept_plan p b _ (by (ltb (length b) (size (plan_of p))) refl) (load_of p)
+kept_start p b = kept_plan p b (start_in b) (by (ltb (length b) (size (plan_of p))) refl) (load_of p)
   where
     by : (t : Bool) → ltb (length b) (size (plan_of p)) ≡ t
         → Unaltered (plan_of p) b (pick t (given (Refused NotState) b)

@@ -14,7 +14,7 @@ side_in-requires c =
     )
 
 pub returns : goal.returns
-returns c =
+returns c h outs inner routes lengths asked =
     side_in_is c.args.x asked
     c.requires.4 c.wide-from.ensures.0
     c.wide.ensures.0 c.wide-2.ensures.0 c.side_in.ensures

@@ -1,0 +1,55 @@
+use Prim.Native.Nat.{◌-◌, ◌≤◌}
+use native.Mathlib.Omega.{arith}
+use borrow.Author.Rules.{rules}
+use borrow.Author.Tests.{not-true, not-false}
+use Rattle.plan.specs.Tables.{table_plan}
+use Rattle.check_connections.proofs.Exits.{Pairing, pairing_none, pairing_more, pairing_fail, pairing_done, four_at_lem}
+use Rattle.check_connections.proofs.pairs_ok.Goals as goal
+
+pub overflow_mul-pairs : goal.overflow_mul-pairs
+overflow_mul-pairs c = let r = c.requires.0.wiring.range.actives.1 in omega arith
+
+pub loop-n-init : goal.loop-n-init
+loop-n-init c = (omega arith, pairing_none _ _ c.none_claimed-claimed.ensures)
+
+pub overflow_mul-n : goal.overflow_mul-n
+overflow_mul-n c =
+    let r = c.requires.0.wiring.range.actives.1 in
+    omega arith
+
+pub overflow_add-i : goal.overflow_add-i
+overflow_add-i c =
+    let p = c.requires in
+    let r = p.0.wiring.range.actives.1 in
+    let l = p.0.long in
+    let e = p.1 in
+    omega arith
+
+pub four-word-requires : goal.four-word-requires
+four-word-requires c =
+    let p = c.requires in
+    let l = p.0.long in
+    let e = p.1 in
+    omega arith
+
+pub pair_ok-requires : goal.pair_ok-requires
+pair_ok-requires c =
+    let p = c.requires in (
+      p.0,
+      omega arith,
+      four_at_lem c.args.h _ _ _ c.four-word.ensures p.1,
+      c.loop-n.invariant.1.claims,
+    )
+
+pub returns-then-not-pair_ok : goal.returns-then-not-pair_ok
+returns-then-not-pair_ok c =
+    pairing_fail _ _ _ _ _ c.loop-n-test.true c.pair_ok.ensures
+    (c.if-not-pair_ok.true)
+
+pub loop-n-preserved : goal.loop-n-preserved
+loop-n-preserved c =
+    let inv = c.loop-n.invariant in
+    (omega arith, pairing_more _ _ _ inv.1 c.pair_ok.ensures (c.if-not-pair_ok.false))
+
+pub returns : goal.returns
+returns c = pairing_done _ _ _ _ _ c.loop-n.invariant.1 (omega arith)

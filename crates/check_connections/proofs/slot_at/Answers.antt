@@ -1,0 +1,7 @@
+use native.Mathlib.Omega.{arith}
+use Rattle.check_connections.proofs.Leaf.{slot_found}
+use borrow.Author.Rules.{rules}
+use Rattle.check_connections.proofs.slot_at.Goals as goal
+
+pub returns : goal.returns
+returns c = slot_found _ _ _ (omega arith) c.wide.ensures.0 c.slot_after-after.ensures

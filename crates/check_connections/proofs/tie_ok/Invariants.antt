@@ -1,0 +1,12 @@
+use Prim.Native.Nat.{◌-◌, ◌≤◌}
+use native.Mathlib.Omega.{arith}
+use borrow.Author.Rules.{rules}
+use borrow.Author.Tests.{not-true, not-false}
+use Rattle.plan.specs.Tables.{table_plan}
+use Rattle.bytes_layout.specs.Decode.{decode}
+use Rattle.check_connections.proofs.Tying.{Tying, tying_none, tying_port, tying_key, tying_more, tying_fail, tying_done}
+use Rattle.check_connections.proofs.tie_ok.Given as goal
+
+abbrev pub invariant-loop-n : goal.invariant-loop-n
+invariant-loop-n l =
+    (l.n ≤ l.size) × Tying (table_plan l.h l.routes l.joints) (decode (table_plan l.h l.routes l.joints) l.s) l.m l.size l.n l.at l.claimed

@@ -1,0 +1,9 @@
+use native.Mathlib.Omega.{arith}
+use Rattle.check_connections.proofs.Exits.{zeros_pass}
+use borrow.Author.Rules.{rules}
+use Rattle.check_connections.proofs.ties_ok.Goals as goal
+
+pub returns-then-zeros : goal.returns-then-zeros
+returns-then-zeros c =
+    zeros_pass c.requires (λ j. let f = c.shared_slice_known-1.given j in omega (arith, f))
+    c.connections_row-i.ensures c.zeros.ensures c.if-zeros.true

@@ -1,0 +1,11 @@
+use mathlib.Core.Path.{◌≡◌}
+use Prim.Native.Nat.{◌≤◌, ◌-◌}
+use lib.Dec.{eqb}
+use Rattle.check_last_senders.specs.Turns.{side_ranks}
+use Rattle.check_last_senders.proofs.Ranks.{sides_first, sides_joined, sides_ranked}
+use borrow.Author.Rules.{rules}
+use native.Mathlib.Omega.{arith}
+use Rattle.check_last_senders.proofs.sides_unfit.Given as goal
+
+abbrev pub invariant-loop-o : goal.invariant-loop-o
+invariant-loop-o l = (l.o ≤ 4) × (eqb l.bad 0 ≡ side_ranks l.i l.k l.o l.joints l.s)

@@ -27,7 +27,7 @@ bounds-s-0 c =
 
 pub shape_of-s : goal.shape_of-s
 shape_of-s c =
-    set_length c.undoes.new.1.1.1.1.0 0 2 ∙ c.undoes.auto.s ∙
+    set_length c.undoes.new.s 0 2 ∙ c.undoes.auto.s ∙
     c.picks.auto.s ∙ c.heads.auto.s
 
 pub returns : goal.returns

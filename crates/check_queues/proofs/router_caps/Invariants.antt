@@ -1,0 +1,11 @@
+use borrow.Author.Rules.{rules}
+use Rattle.check_queues.specs.Lines.{cap_in}
+use Rattle.basis.specs.Fold.{up_to, fill, up_none, up_fill, up_done}
+use lib.ListN.{replicate}
+use mathlib.Core.Path.{◌≡◌}
+use Prim.Native.Nat.{◌-◌, ◌≤◌}
+use native.Mathlib.Omega.{arith}
+use Rattle.check_queues.proofs.router_caps.Given as goal
+
+abbrev pub invariant-loop-k : goal.invariant-loop-k
+invariant-loop-k l = (l.k ≤ 28) × (l.t ≡ up_to (fill (cap_in l.h)) l.k (replicate 28 0))

@@ -1,0 +1,6 @@
+use borrow.Author.Rules.{rules}
+use Rattle.check_queues.proofs.row_frame.Goals as goal
+
+pub returns : goal.returns
+returns c =
+    rw (← c.fed_at-fed.ensures, ← c.unit_at-unit.ensures) c.frame_ok.ensures

@@ -1,0 +1,6 @@
+use borrow.Author.Rules.{rules}
+use Rattle.check_queues.proofs.tally.Goals as goal
+
+pub returns : goal.returns
+unfolding Rattle.check_frames.specs.Tally.tallied
+returns c = simp (c.counted.ensures, c.spends.ensures.0, c.index-a.ensures.0)

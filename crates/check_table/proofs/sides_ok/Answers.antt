@@ -1,0 +1,7 @@
+use Rattle.check_table.proofs.Entries.{unused_fit, sides_all}
+use borrow.Author.Rules.{rules}
+use Rattle.check_table.proofs.sides_ok.Goals as goal
+
+pub returns-then-m-n : goal.returns-then-m-n
+returns-then-m-n c = sides_all _ _ _ _ _ (unused_fit _ _ _ _ c.requires.2
+    c.unused-m.ensures.1) c.if-m-n.true

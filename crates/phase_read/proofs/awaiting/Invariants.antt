@@ -1,0 +1,8 @@
+use mathlib.Core.Path.{sym, ◌∙◌}
+use Prim.Native.Nat.{◌-◌}
+use native.Mathlib.Omega.{arith}
+use Rattle.phase_read.proofs.Awaited.{NoneBelow, none_more, found, last}
+use Rattle.phase_read.proofs.awaiting.Given as goal
+
+abbrev pub invariant-loop-i : goal.invariant-loop-i
+invariant-loop-i l = NoneBelow l.n l.i l.cap l.s

@@ -1,0 +1,79 @@
+use mathlib.Core.Path.{◌≡◌, refl, ap, ◌∙◌}
+use Prim.Native.Nat.{◌+◌, ◌*◌, ◌≤◌, ◌-◌}
+use native.Mathlib.Omega.{arith}
+use lib.ListN.{length}
+use Rattle.basis.specs.Fold.{up_to}
+use Rattle.plan.specs.Tables.{table_plan}
+use Rattle.theory.specs.Invariant.{Core}
+use Rattle.bytes_steps.specs.Acts.{Steps, steps_none, steps_done}
+use Rattle.phase_read.specs.Reading.{delivery}
+use Rattle.phase_read.proofs.Offsets.{table_head, range_counts}
+use Rattle.phase_read.proofs.Arrivals.{wire_within, deliver_idle}
+use Rattle.phase_read.proofs.Phase.{delivers_at, delivers_more}
+use Rattle.phase_read.proofs.deliver_all.Goals as goal
+use Rattle.phase_read.proofs.deliver_all.Goals.{then-full, else-full}
+
+pub output_count-count-requires : goal.output_count-count-requires
+output_count-count-requires c = range_counts c.requires.0.range
+
+pub output_row-from-requires : goal.output_row-from-requires
+output_row-from-requires c = (range_counts c.requires.0.range, omega arith)
+
+pub loop-m-init : goal.loop-m-init
+loop-m-init c = (omega arith, steps_none _ _ _ _, refl)
+
+pub full-requires : goal.full-requires
+full-requires c =
+    let pre = c.requires in
+    let n = c.output_count-count.ensures in
+    let at = c.output_row-from.ensures in
+    let l = c.loop-m in
+    let w = wire_within (table_plan _ _ _) (table_head _ _ _) l.m
+    (c.output_row-from.result + 7 * l.m) (omega arith) (omega arith)
+    (delivers_at (table_head _ _ _) pre.0.range pre.0.wired (omega arith) l.invariant.1 pre.1) in
+    omega arith
+
+pub deliver-requires : goal.deliver-requires
+deliver-requires c =
+    let pre = c.requires in
+    let n = c.output_count-count.ensures in
+    let l = c.loop-m in (
+      pre.0,
+      omega arith,
+      delivers_at (table_head _ _ _) pre.0.range pre.0.wired (omega arith) l.invariant.1 pre.1,
+    )
+
+pub overflow_step-m : goal.overflow_step-m
+overflow_step-m c = let n = c.output_count-count.ensures in omega arith
+
+pub loop-m-preserved : goal.loop-m-preserved
+loop-m-preserved c =
+    let pre = c.requires in
+    let n = c.output_count-count.ensures in
+    let at = c.output_row-from.ensures in
+    let l = c.loop-m in
+    elim c.if-full.branch [
+      | then-full w ↦ (
+        omega arith,
+        delivers_more (table_head _ _ _) pre.0.range pre.0.wired (omega arith) l.invariant.1
+            w.deliver.ensures w.s-is,
+        ap length w.s-is ∙ w.deliver.auto.s ∙ l.invariant.2,
+      )
+      | else-full w ↦ (
+        omega arith,
+        delivers_more (table_head _ _ _) pre.0.range pre.0.wired (omega arith) l.invariant.1
+            (deliver_idle (table_plan _ _ _) (table_head _ _ _) l.m
+            (c.output_row-from.result + 7 * l.m) (omega arith) (omega arith) _
+            c.full.ensures w.if-full.false)
+            w.s-is,
+        ap length w.s-is ∙ l.invariant.2,
+      )
+    ]
+
+pub shape_of-s : goal.shape_of-s
+shape_of-s c = c.loop-m.invariant.2
+
+pub returns : goal.returns
+returns c =
+    let n = c.output_count-count.ensures in
+    steps_done _ _ c.loop-m.invariant.1 (omega arith)

@@ -1,0 +1,6 @@
+use native.Mathlib.Nat.{add-zero}
+use borrow.Author.Rules.{rules}
+use Rattle.phase_read.proofs.full.Goals as goal
+
+pub returns : goal.returns
+returns c = simp add-zero

@@ -23,7 +23,7 @@ rows_ok-requires c =
 
 pub returns-then-not-rows_ok : goal.returns-then-not-rows_ok
 returns-then-not-rows_ok c =
-    rows_lost _ _ _ _ _ (rw (not-true c.rows_ok.result c.if-not-rows_ok.true) at
+    rows_lost _ _ _ _ _ (rw (c.if-not-rows_ok.true) at
     c.rows_ok.ensures)
 
 pub overflow_add-from : goal.overflow_add-from
@@ -51,5 +51,5 @@ rows_ok-requires-2 c =
 
 pub returns : goal.returns
 returns c =
-    rows_join _ _ _ _ _ (rw (not-false c.rows_ok.result c.if-not-rows_ok.false) at
+    rows_join _ _ _ _ _ (rw (c.if-not-rows_ok.false) at
     c.rows_ok.ensures) c.rows_ok-2.ensures

@@ -12,14 +12,13 @@ interfaces_ok-requires c =
 
 pub returns-then-not-interfaces_ok : goal.returns-then-not-interfaces_ok
 returns-then-not-interfaces_ok c =
-    lines_first _ _ _ _ (rw (not-true c.interfaces_ok.result c.if-not-interfaces_ok.true) at
+    lines_first _ _ _ _ (rw (c.if-not-interfaces_ok.true) at
     c.interfaces_ok.ensures)
 
 pub returns-then-not-routers_ok : goal.returns-then-not-routers_ok
 returns-then-not-routers_ok c =
-    lines_second _ _ _ _ (rw (not-false c.interfaces_ok.result
-    c.if-not-interfaces_ok.false) at c.interfaces_ok.ensures) (rw
-    (not-true c.routers_ok.result c.if-not-routers_ok.true) at c.routers_ok.ensures)
+    lines_second _ _ _ _ (rw (c.if-not-interfaces_ok.false) at c.interfaces_ok.ensures) (rw
+    (c.if-not-routers_ok.true) at c.routers_ok.ensures)
 
 pub overflow_add-from : goal.overflow_add-from
 overflow_add-from c =
@@ -55,7 +54,5 @@ interfaces_ok-requires-2 c =
 
 pub returns : goal.returns
 returns c =
-    lines_all _ _ _ _ (rw (not-false c.interfaces_ok.result
-    c.if-not-interfaces_ok.false) at c.interfaces_ok.ensures) (rw (not-false
-    c.routers_ok.result c.if-not-routers_ok.false) at c.routers_ok.ensures)
+    lines_all _ _ _ _ (rw (c.if-not-interfaces_ok.false) at c.interfaces_ok.ensures) (rw (c.if-not-routers_ok.false) at c.routers_ok.ensures)
     c.interfaces_ok-2.ensures

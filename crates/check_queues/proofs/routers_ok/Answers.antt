@@ -48,14 +48,12 @@ rows_ok-requires c =
 pub returns-then-not-rows_ok : goal.returns-then-not-rows_ok
 returns-then-not-rows_ok c =
     routers_fail _ _ _ _ _ c.loop-r-test.true
-    c.loop-r.invariant.1 (rw (not-true c.rows_ok.result
-    c.if-not-rows_ok.true) at c.rows_ok.ensures)
+    c.loop-r.invariant.1 (rw (c.if-not-rows_ok.true) at c.rows_ok.ensures)
 
 pub loop-r-preserved : goal.loop-r-preserved
 loop-r-preserved c = (
   omega arith,
-  routers_more _ _ _ _ c.loop-r.invariant.1 (rw (not-false
-      c.rows_ok.result c.if-not-rows_ok.false) at c.rows_ok.ensures),
+  routers_more _ _ _ _ c.loop-r.invariant.1 (rw (c.if-not-rows_ok.false) at c.rows_ok.ensures),
 )
 
 pub returns : goal.returns

@@ -1,0 +1,20 @@
+use mathlib.Core.Path.{◌≡◌, refl, sym, ap, ◌∙◌}
+use mathlib.Core.Logic.{⊎_elim}
+use Prim.Native.Nat.{◌+◌, ◌*◌, ◌≤◌, ◌-◌}
+use native.Mathlib.Omega.{arith}
+use lib.ListN.{length}
+use borrow.Author.Tests.{not-false, eqb-true}
+use Rattle.basis.specs.Fold.{up_to}
+use Rattle.plan.specs.Tables.{table_plan}
+use Rattle.bytes_steps.specs.Acts.{Steps, steps_none, steps_done}
+use Rattle.phase_write.specs.Writing.{sending, Picked}
+use Rattle.phase_read.proofs.Offsets.{table_head, range_counts}
+use Rattle.phase_write.proofs.Turns.{choice_within, send_none}
+use Rattle.phase_write.proofs.Phase.{sends_at, sends_more}
+use Rattle.phase_write.proofs.send_all.Given as goal
+
+abbrev pub invariant-loop-m : goal.invariant-loop-m
+invariant-loop-m l =
+    (l.m ≤ l.count) × Steps (table_plan l.h l.routes l.joints) (Picked (table_plan l.h l.routes l.joints)) (up_to (sending
+    (table_plan l.h l.routes l.joints)) l.m) l.initial.s l.s
+    × (length l.s ≡ length l.initial.s)

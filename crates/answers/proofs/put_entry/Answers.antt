@@ -1,0 +1,6 @@
+use Rattle.answers.proofs.Put.{entry_some}
+use borrow.Author.Rules.{rules}
+use Rattle.answers.proofs.put_entry.Goals as goal
+
+pub returns-in-Holds : goal.returns-in-Holds
+returns-in-Holds c = entry_some _ c.in-Holds.is c.put_side.ensures

@@ -1,0 +1,12 @@
+use Rattle.plan_walks.specs.Inside.{on_of_walk}
+use native.Mathlib.Omega.{arith}
+use borrow.Author.Rules.{rules}
+use Rattle.show.proofs.show_stop.Goals as goal
+
+pub side_out-requires : goal.side_out-requires
+side_out-requires c =
+    let l =
+    (on_of_walk _ _ _ _ _ _ c.requires.2
+    c.stands-s.ensures
+    c.in-On.is).1 in
+    (omega arith, omega arith)

@@ -1,0 +1,10 @@
+use Rattle.export.proofs.Told.{number_told, bytes_told}
+use borrow.Author.Rules.{rules}
+use Rattle.export.proofs.pandabrass_read.Goals as goal
+
+pub returns : goal.returns
+returns c = (
+  number_told c.read.ensures c.number_of.ensures,
+  bytes_told
+      c.read.ensures,
+)

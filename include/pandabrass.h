@@ -1,7 +1,7 @@
 /*
  * The arm controller's reservation network: the proved calls, for C and C++.
  *
- * Link with target/staticlib/libexport.a, which `rt staticlib export` writes.
+ * Link with target/staticlib/libexport.a, which tools/library.sh writes.
  *
  * The rules are those of documents 01 and 02; the state's bytes are laid out in docs/STATE.md.
  *

@@ -9,7 +9,7 @@ fn main() {
     let library = folder.join("libexport.a");
     println!("cargo::rerun-if-changed={}", library.display());
     if !library.is_file() {
-        eprintln!("no {}: build it first: rt staticlib export", library.display());
+        eprintln!("no {}: build it first: tools/library.sh", library.display());
         exit(1);
     }
     println!("cargo::rustc-link-search=native={}", folder.display());

@@ -1,5 +1,5 @@
 -- n + 1 numbers below n: two are equal.
-use Rattle.std.specs.Prelude.{◌≡◌, ◌⊎◌, ◌≢◌, Bool, true, false, List, ℕ, zero, suc, ◌<◌, eqb}
+use Rattle.std.specs.Prelude.{◌≡◌, ◌⊎◌, ◌≢◌, Bool, true, false, ℕ, zero, suc, ◌<◌, eqb}
 use Rattle.std.proofs.Common.{ap, inl, inr, not-suc-le-zero, arith, eqb-true}
 use Rattle.std.proofs.lemmas.Bool.{eqb-false}
 use Rattle.basis.specs.Bounded.{Found, find}

@@ -3,7 +3,6 @@ use mathlib.Core.Path.{◌≡◌, refl, sym, ◌∙◌}
 use mathlib.Core.Logic.{◌⊎◌, inl, inr}
 use mathlib.Core.Bool.{Bool, true, false}
 use mathlib.Core.List.{List, [], ◌∷◌, ◌++◌}
-use mathlib.Core.Option.{some}
 use Prim.Native.Nat.{ℕ, zero, suc, ◌+◌, ◌/◌, ◌%◌, ◌≤◌, ◌<◌}
 use native.Mathlib.Omega.{arith}
 use lib.ListN.{length, get_or}
@@ -21,7 +20,6 @@ use Rattle.plan_queues.specs.Queue.{Queue, Exists, queues, queue_at}
 use Rattle.plan_queues.specs.Feeds.{Output, of_active, of_passive, of_side, to_unit, from_unit}
 use Rattle.rules.specs.Outputs.{senders, outputs, output_at}
 use Rattle.rules.specs.State.{State, Choice, nobody, sender, blank, start}
-use Rattle.rules.specs.Write.{of_rank}
 use Rattle.rules.specs.Valid.{PacketOk, Lined, Drives, fed, Valid, Bounded}
 use Rattle.rules.proofs.Numbers.{rank_below, exists_at}
 use Rattle.rules.proofs.OutNumbers.{drives_at}

@@ -1,5 +1,5 @@
 -- What code on bytes did, told by the rules: whatever state the bytes were of, and whatever bytes stand past it.
-use Rattle.std.specs.Prelude.{◌≡◌, refl, List, ℕ, suc, ◌+◌}
+use Rattle.std.specs.Prelude.{◌≡◌, List, ℕ, suc, ◌+◌}
 use Rattle.std.proofs.Common.{ap, ◌∙◌, add-one}
 use Rattle.basis.specs.Fold.{up_to, up_none, up_suc}
 use Rattle.packets.specs.declared.Phase.{Phase}

@@ -11,7 +11,7 @@ use Rattle.packets.specs.declared.Answer.TheVariants.{Refused}
 use Rattle.plan.specs.Plan.{Plan}
 use Rattle.rules.specs.State.{State}
 use Rattle.rules.specs.Guards.{Guard, guard, refusal_of}
-use Rattle.rules.specs.Calls.{Call, Outcome, gives, guards, accepted, decided, call}
+use Rattle.rules.specs.Calls.{Call, Outcome, guards, accepted, decided, call}
 use Rattle.rules.specs.Ruled.{Good}
 use Rattle.bytes_layout.specs.Encode.{encode}
 use Rattle.bytes_steps.specs.Acts.{Acts}

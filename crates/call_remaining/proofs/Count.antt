@@ -10,10 +10,8 @@ use Rattle.packets.specs.declared.Wire.{Wire}
 use Rattle.packets.specs.declared.Wire.TheVariants.{Empty, Full}
 use Rattle.packets.specs.declared.Answer.TheVariants.{Remains}
 use Rattle.plan.specs.declared.Head.{Head}
-use Rattle.plan.specs.Head.{InRange}
-use Rattle.plan.specs.Plan.{Plan, S}
-use Rattle.plan_queues.specs.Queue.{Queue, queues, queue_at, number}
-use Rattle.plan_queues.specs.Feeds.{Output}
+use Rattle.plan.specs.Plan.{Plan}
+use Rattle.plan_queues.specs.Queue.{queues, queue_at}
 use Rattle.rules.specs.Outputs.{outputs, output_at}
 use Rattle.rules.specs.State.{State}
 use Rattle.rules.specs.Valid.{sum, in_all, in_wire, total}

@@ -1,12 +1,10 @@
 -- How every call begins: Load's answer, the check's answer, and what the call's own code then did.
-use mathlib.Core.Path.{◌≡◌, refl, sym, ap, ap₂, ◌∙◌, subst}
-use mathlib.Core.Bool.{Bool, true, false, ◌&&◌}
+use mathlib.Core.Path.{◌≡◌, sym, ap, ap₂, ◌∙◌, subst}
+use mathlib.Core.Bool.{true, false}
 use mathlib.Core.List.{List}
 use Prim.Native.Nat.{ℕ, ◌≤◌, ◌<◌}
-use lib.Dec.{ltb}
 use lib.ListN.{length}
 use borrow.Author.Tests.{lt-ltb, le-ltb}
-use Rattle.basis.specs.Choice.{pick}
 use Rattle.kinds.specs.declared.Refusal.{Refusal}
 use Rattle.kinds.specs.declared.Refusal.TheVariants.{NotState}
 use Rattle.packets.specs.declared.Answer.{Answer}
@@ -14,24 +12,21 @@ use Rattle.packets.specs.declared.Answer.TheVariants.{Refused, Done}
 use Rattle.plan.specs.declared.Head.{Head}
 use Rattle.plan.specs.Head.{InRange}
 use Rattle.plan.specs.Plan.{Plan, plan_of}
-use Rattle.plan.specs.Tables.{table_plan}
 use Rattle.plan_facts.specs.Wired.{Wired}
 use Rattle.load.specs.declared.Loaded.{Loaded}
 use Rattle.load.specs.declared.Loaded.TheVariants.{Accepted, Refused as Unloaded}
 use Rattle.load.specs.Load.{load_of}
-use Rattle.rules.specs.State.{State, start}
-use Rattle.rules.specs.Calls.{Call, call}
+use Rattle.rules.specs.State.{start}
+use Rattle.rules.specs.Calls.{Call}
 use Rattle.rules.specs.Ruled.{Good}
-use Rattle.valid.specs.Test.{valid_test}
 use Rattle.bytes_layout.specs.Rows.{past}
 use Rattle.bytes_layout.specs.Offsets.{size}
 use Rattle.bytes_layout.specs.Encode.{encode}
 use Rattle.bytes_layout.specs.Decode.{decode}
-use Rattle.bytes_layout.specs.Canonical.{canonical}
 use Rattle.check_rule.specs.Check.{check_of}
 use Rattle.check_rule.proofs.Equal.{check_equal}
 use Rattle.bytes_steps.specs.Acts.{Holds, Acts}
-use Rattle.claims.specs.Calls.{Given, given, on_plan, is_state, stored, on_state, start_in, start_on, call_on}
+use Rattle.claims.specs.Calls.{given, is_state, on_state, start_on, call_on}
 use Rattle.claims.proofs.Exact.{accepted_wired, accepted_range, is_state_lem}
 
 -- the check is refusal 7's test

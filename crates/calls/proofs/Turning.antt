@@ -1,9 +1,9 @@
 -- The calls that turn the phase: refused in another phase, else the phase's step.
 use mathlib.Core.Path.{◌≡◌, refl, sym, ap, ◌∙◌}
 use mathlib.Core.Logic.{◌≢◌}
-use mathlib.Core.Bool.{Bool, true, false, not}
+use mathlib.Core.Bool.{true, false}
 use mathlib.Core.List.{List}
-use Prim.Native.Nat.{ℕ, ◌+◌, ◌≤◌, ◌<◌}
+use Prim.Native.Nat.{ℕ, ◌<◌}
 use native.Mathlib.Omega.{arith}
 use lib.ListN.{get_or, length}
 use Rattle.kinds.specs.declared.Refusal.TheVariants.{WrongPhase}
@@ -14,7 +14,7 @@ use Rattle.plan.specs.Plan.{Plan}
 use Rattle.rules.specs.State.{State}
 use Rattle.rules.specs.Calls.{is_phase, turn, phase_step, call}
 use Rattle.rules.specs.Ruled.{Good}
-use Rattle.bytes_layout.specs.Offsets.{size, size_is}
+use Rattle.bytes_layout.specs.Offsets.{size_is}
 use Rattle.bytes_layout.specs.Codes.{phase_code}
 use Rattle.bytes_layout.specs.Encode.{encode}
 use Rattle.bytes_layout.proofs.Readings.{length_bytes}

@@ -8,12 +8,12 @@ use native.Mathlib.Omega.{arith}
 use lib.Dec.{eqb, ltb}
 use lib.ListN.{get_or}
 use borrow.Author.Tests.{lt-ltb, le-ltb, eqb-true, eqb-false}
-use Rattle.basis.specs.Choice.{test, not_both}
+use Rattle.basis.specs.Choice.{not_both}
 use Rattle.basis.specs.Bounded.{all_below, all_none, all_more, all_fail, all_done, all_of, lt_or_ge}
 use Rattle.sets.specs.Sets.{has, less, below, lowest}
 use Rattle.sets.specs.Laws.{none_has, has_less, has_below, less_le, lowest_is, lowest_lt}
 use Rattle.plan.specs.declared.Head.{Head}
-use Rattle.plan.specs.Plan.{Plan, Interface, active, passive, A}
+use Rattle.plan.specs.Plan.{Plan, Interface, active, A}
 use Rattle.plan.specs.Rules.{port_of, port_or0, ports_of, home}
 use Rattle.plan.specs.Tables.{table_plan, interface_at}
 use Rattle.plan_walks.specs.Served.{served}

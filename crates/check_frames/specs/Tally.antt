@@ -1,8 +1,7 @@
 -- Counting what each active has spent: a table of bytes, each counted to 200 and no further. An active's whole is at
 -- most 7, so more than that is never right.
-use Rattle.std.specs.Prelude.{◌≡◌, List, ℕ, ◌+◌, ◌≤◌, ◌<◌, min, ltb, eqb, get_or, set, length}
+use Rattle.std.specs.Prelude.{◌≡◌, List, ℕ, ◌+◌, ◌≤◌, ◌<◌, min, ltb, get_or, set, length}
 use Rattle.basis.specs.Choice.{pick}
-use Rattle.packets.specs.declared.Kind.{Kind}
 use Rattle.packets.specs.declared.Packet.{Packet}
 use Rattle.rules.specs.Valid.{spends_kind}
 

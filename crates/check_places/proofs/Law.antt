@@ -5,9 +5,9 @@ use mathlib.Core.Bool.{Bool, true, false}
 use mathlib.Core.List.{List, []}
 use Prim.Native.Nat.{ℕ, zero, suc, ◌+◌, ◌*◌, ◌-◌, ◌/◌, ◌%◌, ◌≤◌, ◌<◌}
 use native.Mathlib.Omega.{arith}
-use lib.Dec.{eqb, ltb}
+use lib.Dec.{ltb}
 use lib.ListN.{get_or}
-use borrow.Author.Tests.{lt-ltb, le-ltb, ne_eqb, ltb-true, ltb-false, eqb-false}
+use borrow.Author.Tests.{lt-ltb, le-ltb, ne_eqb, ltb-true, ltb-false}
 use Rattle.basis.specs.Choice.{pick, test, same_test}
 use Rattle.basis.specs.Bounded.{lt_or_ge}
 use Rattle.sets.specs.Sets.{has}
@@ -16,7 +16,6 @@ use Rattle.packets.specs.declared.Kind.TheVariants.{Setup, Tdown, Ack, Nack}
 use Rattle.packets.specs.declared.Packet.{Packet}
 use Rattle.plan.specs.declared.Head.{Head}
 use Rattle.plan.specs.Plan.{active, R, A, P}
-use Rattle.plan.specs.Rules.{home}
 use Rattle.plan.specs.Tables.{table_plan}
 use Rattle.plan_walks.specs.Served.{Served}
 use Rattle.plan_walks.proofs.Through.{same_default}

@@ -1,5 +1,5 @@
 -- The side by which a pair's walk comes in to a router, as it is looked up, is the one that the rules speak of.
-use mathlib.Core.Path.{◌≡◌, refl, sym, ap, ◌∙◌}
+use mathlib.Core.Path.{◌≡◌, refl, sym, ◌∙◌}
 use mathlib.Core.Logic.{◌⊎◌, inl, inr}
 use mathlib.Core.Bool.{Bool, true, false}
 use mathlib.Core.List.{List}
@@ -18,7 +18,7 @@ use Rattle.plan_walks.specs.declared.Index.{Index}
 use Rattle.plan_walks.specs.declared.Index.TheVariants.{At, Off}
 use Rattle.plan_walks.specs.Served.{Served}
 use Rattle.plan_walks.specs.Steps.{index_on}
-use Rattle.plan_queues.specs.Feeds.{Stands, came_by, came_in}
+use Rattle.plan_queues.specs.Feeds.{came_by, came_in}
 use Rattle.load_arrivals.specs.Charted.{Charting}
 use Rattle.load_arrivals.specs.Tracks.{Tracks}
 use Rattle.theory.proofs.Places.CameIn.{stands_inside, came_in_lem}

@@ -1,22 +1,22 @@
 -- The groups of queues, one behind the other: their capacities, and all their rows.
 use mathlib.Core.Path.{◌≡◌, refl, sym, ap, ◌∙◌}
 use mathlib.Core.Logic.{◌⊎◌, inl, inr}
-use mathlib.Core.Bool.{Bool, true, false, false≢true}
+use mathlib.Core.Bool.{Bool, true, false}
 use mathlib.Core.List.{List}
 use Prim.Native.Nat.{ℕ, zero, suc, ◌+◌, ◌*◌, ◌-◌, ◌/◌, ◌%◌, ◌≤◌, ◌<◌}
 use native.Mathlib.Nat.{zero-add}
 use native.Mathlib.Omega.{arith}
-use lib.Dec.{ltb, eqb}
-use lib.ListN.{get_or, replicate, length}
-use borrow.Author.Tests.{ltb-true, ltb-false, lt-ltb, le-ltb, eqb-true, eqb-false, ne_eqb}
+use lib.Dec.{ltb}
+use lib.ListN.{get_or, replicate}
+use borrow.Author.Tests.{lt-ltb, le-ltb}
 use Rattle.basis.specs.Choice.{pick, test}
 use Rattle.basis.specs.Bounded.{all_below, all_same}
-use Rattle.basis.specs.Fold.{up_to, fill, fill_at}
+use Rattle.basis.specs.Fold.{fill_at}
 use Rattle.plan.specs.declared.Head.{Head}
 use Rattle.plan.specs.Head.{destinations}
 use Rattle.plan.specs.Plan.{Plan}
 use Rattle.plan.specs.Tables.{table_plan}
-use Rattle.plan_queues.specs.Queue.{Queue, active_out, active_in, passive_in, passive_out, Exists, number, queues, queue_at}
+use Rattle.plan_queues.specs.Queue.{active_out, active_in, passive_in, passive_out, number, queues, queue_at}
 use Rattle.plan_queues.specs.Queue.{in_router, sender_at}
 use Rattle.plan_journeys.proofs.Numbers.{queue_at_lem}
 use Rattle.rules.specs.Capacity.{capacity}

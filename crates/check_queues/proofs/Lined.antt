@@ -2,18 +2,17 @@
 use mathlib.Core.Path.{◌≡◌, refl, sym, ap, ap₂, ◌∙◌}
 use mathlib.Core.Logic.{◌⊎◌, inl, inr}
 use mathlib.Core.Bool.{Bool, true, false}
-use mathlib.Core.List.{List, [], ◌∷◌}
+use mathlib.Core.List.{List}
 use Prim.Native.Nat.{ℕ, zero, suc, ◌+◌, ◌*◌, ◌-◌, ◌≤◌, ◌<◌}
 use native.Mathlib.Omega.{arith}
-use lib.Dec.{ltb, leb, eqb}
-use lib.ListN.{get_or, length}
-use borrow.Author.Tests.{eqb-true, eq-eqb}
-use Rattle.basis.specs.Choice.{pick, also, also_true, also_of, same_test}
-use Rattle.basis.specs.Bounded.{all_below, all_at, all_of, lt_or_ge}
+use lib.Dec.{leb, eqb}
+use lib.ListN.{get_or}
+use Rattle.basis.specs.Choice.{also, also_true, also_of, same_test}
+use Rattle.basis.specs.Bounded.{all_at, all_of, lt_or_ge}
 use Rattle.packets.specs.declared.Packet.{Packet}
 use Rattle.plan.specs.Plan.{Plan}
 use Rattle.plan_queues.specs.Queue.{Queue, active_out, active_in, passive_in, passive_out, U, Q, F, K}
-use Rattle.plan_queues.specs.Feeds.{Place, in_queue, head_place}
+use Rattle.plan_queues.specs.Feeds.{in_queue, head_place}
 use Rattle.rules.specs.Valid.{sum, in_all, spends}
 use Rattle.valid.specs.Test.{all_in, lined_test, belongs_test}
 use Rattle.bytes_layout.specs.Offsets.{packet_kind, packet_width}

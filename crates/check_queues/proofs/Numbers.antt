@@ -1,14 +1,14 @@
 -- A packet's numbers, as the code tests them.
-use mathlib.Core.Path.{◌≡◌, refl, sym, ap, ◌∙◌}
+use mathlib.Core.Path.{◌≡◌, sym, ap, ◌∙◌}
 use mathlib.Core.Logic.{◌⊎◌, inl, inr, ◌≢◌}
 use mathlib.Core.Bool.{Bool, true, false, not}
 use mathlib.Core.List.{List, []}
 use Prim.Native.Nat.{ℕ, ◌≤◌, ◌<◌}
 use native.Mathlib.Omega.{arith}
-use lib.Dec.{ltb, leb, eqb}
+use lib.Dec.{eqb}
 use lib.ListN.{get_or}
 use borrow.Author.Tests.{lt-ltb, le-ltb, le-leb, lt-leb, ne_eqb}
-use Rattle.basis.specs.Choice.{pick, also, test}
+use Rattle.basis.specs.Choice.{also, test}
 use Rattle.packets.specs.declared.Packet.{Packet}
 use Rattle.plan.specs.declared.Head.{Head}
 use Rattle.plan.specs.Plan.{Plan, active, passive}
@@ -16,10 +16,9 @@ use Rattle.plan.specs.Tables.{table_plan}
 use Rattle.plan.specs.Rules.{home}
 use Rattle.plan_walks.specs.Served.{Served, served}
 use Rattle.plan_walks.specs.Walk.{walk_size}
-use Rattle.plan_facts.specs.Wired.{Wired}
 use Rattle.plan_facts.proofs.Joints.{interface_some}
 use Rattle.plan_journeys.proofs.Walks.{served_of, size_is}
-use Rattle.load_arrivals.specs.Pairs.{pair_walk, lengths_of}
+use Rattle.load_arrivals.specs.Pairs.{pair_walk}
 use Rattle.load.specs.Lent.{length_at_lem}
 use Rattle.valid.specs.Test.{packet_test}
 use Rattle.next_queue.specs.Lent.{Lent}

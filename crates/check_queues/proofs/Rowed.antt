@@ -1,15 +1,14 @@
 -- A queue's whole row, as the code tests it.
-use mathlib.Core.Path.{◌≡◌, refl, sym, ap, ap₂, ◌∙◌}
+use mathlib.Core.Path.{◌≡◌, refl, sym, ap, ◌∙◌}
 use mathlib.Core.Logic.{◌⊎◌, inl, inr}
 use mathlib.Core.Bool.{Bool, true, false, false≢true}
-use mathlib.Core.List.{List, [], ◌∷◌}
-use Prim.Native.Nat.{ℕ, zero, suc, ◌+◌, ◌*◌, ◌-◌, ◌≤◌, ◌<◌}
+use mathlib.Core.List.{List}
+use Prim.Native.Nat.{ℕ, zero, suc, ◌+◌, ◌*◌, ◌-◌, ◌≤◌}
 use native.Mathlib.Omega.{arith}
-use lib.Dec.{ltb, leb, eqb}
+use lib.Dec.{leb, eqb}
 use lib.ListN.{get_or, length}
-use borrow.Author.Tests.{eqb-true, eq-eqb, ne_eqb, leb-true, le-leb}
-use Rattle.basis.specs.Choice.{pick, also, also_true, also_of, same_test, test}
-use Rattle.packets.specs.declared.Packet.{Packet}
+use borrow.Author.Tests.{ne_eqb, leb-true, le-leb}
+use Rattle.basis.specs.Choice.{also, also_true, same_test, test}
 use Rattle.packets.specs.declared.Phase.TheVariants.{Execute}
 use Rattle.plan.specs.Head.{InRange}
 use Rattle.plan.specs.Plan.{Plan}
@@ -23,8 +22,8 @@ use Rattle.bytes_layout.specs.Offsets.{phase_byte, places, credit_byte, flag_byt
 use Rattle.bytes_layout.specs.Offsets.{packet_width, queue_row}
 use Rattle.bytes_layout.specs.Codes.{phase_of, flag_of}
 use Rattle.bytes_layout.specs.Places.{packet_at, packets_at}
-use Rattle.bytes_layout.specs.Named.{exists_test, exists_test_lem}
-use Rattle.bytes_layout.specs.Decode.{decode, capacity_most, queue_in}
+use Rattle.bytes_layout.specs.Named.{exists_test_lem}
+use Rattle.bytes_layout.specs.Decode.{decode, capacity_most}
 use Rattle.check_rule.specs.Forms.{zeros, places_form, queue_form}
 use Rattle.check_rule.specs.Parts.{frame_test, queue_test}
 use Rattle.check_rule.specs.Check.{queue_row_test}

@@ -7,13 +7,13 @@ use Prim.Native.Nat.{ℕ, zero, suc, ◌+◌, ◌*◌, ◌-◌, ◌≤◌, ◌<�
 use native.Mathlib.Numerals.{add-one}
 use native.Mathlib.Omega.{arith}
 use lib.Dec.{ltb, leb, eqb}
-use lib.ListN.{get_or, length}
+use lib.ListN.{get_or}
 use borrow.Author.Tests.{ltb-true, leb-true, le-leb, lt-leb}
-use Rattle.basis.specs.Choice.{pick, also, also_true, also_of, same_test, refuted}
+use Rattle.basis.specs.Choice.{also, also_true, same_test, refuted}
 use Rattle.basis.specs.Bounded.{all_below, all_none, all_more, all_fail, all_done, all_at, all_of, all_same, lt_or_ge}
 use Rattle.packets.specs.declared.Packet.{Packet}
 use Rattle.plan.specs.declared.Head.{Head}
-use Rattle.plan.specs.Head.{InRange, Counts}
+use Rattle.plan.specs.Head.{InRange}
 use Rattle.plan.specs.Tables.{table_plan}
 use Rattle.plan.specs.Plan.{Plan, A, P, S}
 use Rattle.plan_walks.specs.Served.{served}
@@ -36,7 +36,7 @@ use Rattle.rules.proofs.Numbers.{exists_at, at_number}
 use Rattle.bytes_layout.specs.Offsets.{queue_row}
 use Rattle.bytes_layout.specs.Codes.{flag_of}
 use Rattle.bytes_layout.specs.Decode.{decode, capacity_most}
-use Rattle.bytes_steps.specs.Counts.{queue_count, state_size}
+use Rattle.bytes_steps.specs.Counts.{queue_count}
 use Rattle.check_rule.specs.Forms.{zeros}
 use Rattle.check_rule.specs.Check.{queue_row_test}
 use Rattle.check_rule.proofs.Quiet.{zeros_row}

@@ -1,9 +1,8 @@
 -- What the check of the queues' rows gives: whether each passes, and what their packets have spent.
-use Rattle.std.specs.Prelude.{◌≡◌, Bool, true, List, ℕ, ◌+◌, ◌*◌, ◌-◌, ◌%◌, ◌≤◌, ◌<◌, leb, ltb, eqb, get_or, replicate}
+use Rattle.std.specs.Prelude.{◌≡◌, Bool, true, List, ℕ, ◌+◌, ◌*◌, ◌-◌, ◌%◌, ◌≤◌, ◌<◌, leb, ltb, get_or, replicate}
 use Rattle.basis.specs.Choice.{pick, also}
 use Rattle.basis.specs.Bounded.{all_below}
 use Rattle.basis.specs.Fold.{up_to, fill}
-use Rattle.packets.specs.declared.Packet.{Packet}
 use Rattle.plan.specs.declared.Head.{Head}
 use Rattle.plan.specs.Plan.{Plan}
 use Rattle.plan_queues.specs.Queue.{Queue, queue_at, queues}
@@ -11,7 +10,7 @@ use Rattle.plan_queues.specs.Feeds.{head_place}
 use Rattle.rules.specs.Valid.{sum, in_all, spends, on_wires}
 use Rattle.valid.specs.Test.{belongs_test}
 use Rattle.bytes_layout.specs.Offsets.{packet_kind, packet_width}
-use Rattle.bytes_layout.specs.Places.{packet_at, packets_at}
+use Rattle.bytes_layout.specs.Places.{packet_at}
 use Rattle.bytes_layout.specs.Decode.{decode}
 use Rattle.check_rule.specs.Check.{queue_row_test, queues_part}
 use Rattle.check_idle.specs.Bytes.{IdleRow}

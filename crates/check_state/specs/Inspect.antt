@@ -1,5 +1,5 @@
 -- What the check's parts give.
-use Rattle.std.specs.Prelude.{◌≡◌, Bool, true, false, List, ℕ, ◌≤◌, ◌<◌, min, leb, ltb, get_or, replicate}
+use Rattle.std.specs.Prelude.{◌≡◌, Bool, true, false, List, ℕ, ◌<◌, min, leb, ltb, get_or, replicate}
 use Rattle.basis.specs.Choice.{pick, also}
 use Rattle.plan.specs.declared.Head.{Head}
 use Rattle.plan.specs.Plan.{Plan, A}

@@ -1,23 +1,22 @@
 -- The queue at a unit that a packet joins, by its number: what the code computes from the output's number and the side
 -- by which the pair's walk comes in.
-use mathlib.Core.Path.{◌≡◌, refl, sym, ap, subst, ◌∙◌}
+use mathlib.Core.Path.{◌≡◌, sym, ap, subst, ◌∙◌}
 use mathlib.Core.List.{List}
-use mathlib.Core.Option.{some}
 use Prim.Native.Nat.{ℕ, ◌+◌, ◌*◌, ◌-◌, ◌/◌, ◌%◌, ◌≤◌, ◌<◌}
 use native.Mathlib.Omega.{arith}
 use borrow.Author.Tests.{lt-ltb, le-ltb}
 use Rattle.packets.specs.declared.Packet.{Packet}
 use Rattle.plan.specs.declared.Head.{Head}
 use Rattle.plan.specs.Head.{destinations}
-use Rattle.plan.specs.Plan.{Plan, R}
+use Rattle.plan.specs.Plan.{Plan}
 use Rattle.plan.specs.Tables.{table_plan}
-use Rattle.plan_queues.specs.Queue.{Q, number}
+use Rattle.plan_queues.specs.Queue.{number}
 use Rattle.plan_queues.specs.Feeds.{to_unit, came_in}
 use Rattle.rules.specs.Outputs.{outputs, output_at, output_number}
 use Rattle.rules.specs.Valid.{Drives}
 use Rattle.rules.proofs.OutNumbers.{drives_at, at_output}
 use Rattle.bytes_steps.specs.Counts.{output_count}
-use Rattle.next_queue.specs.Next.{no_queue, number_or, base_of, AtUnit}
+use Rattle.next_queue.specs.Next.{no_queue, base_of, AtUnit}
 
 module _ (h : Head) (routes : List (List ℕ)) (joints : List ℕ) (m : ℕ) (l : m < output_count h) (x : Packet) where
   abbrev net : Plan

@@ -3,7 +3,6 @@
 -- then the call's own refusals. Bytes past the state are never written, and a refusal alters no byte.
 use Rattle.std.specs.Prelude.{Bool, ◌&&◌, List, ℕ, ltb, length}
 use Rattle.basis.specs.Choice.{pick}
-use Rattle.kinds.specs.declared.Refusal.{Refusal}
 use Rattle.kinds.specs.declared.Refusal.TheVariants.{NotState}
 use Rattle.packets.specs.declared.Answer.{Answer}
 use Rattle.packets.specs.declared.Answer.TheVariants.{Refused, Done}

@@ -1,12 +1,11 @@
 -- Demand 3, 'a single claim about the whole list': plan bytes that Load accepts, the state bytes that an accepted
 -- Start left, and any list of the calls Read, Execute, Write, Launch, Reply, Look, Drop, Close, Entry and Remaining,
 -- each on the bytes as the last one left them.
-use Rattle.std.specs.Prelude.{◌≡◌, ◌≢◌, Bool, true, List, [], ◌∷◌, ◌++◌, ℕ, ◌+◌, ◌≤◌}
+use Rattle.std.specs.Prelude.{◌≡◌, ◌≢◌, true, List, [], ◌∷◌, ◌++◌, ℕ, ◌+◌, ◌≤◌}
 use Rattle.kinds.specs.declared.Refusal.TheVariants.{NotState}
-use Rattle.packets.specs.declared.Answer.{Answer}
 use Rattle.packets.specs.declared.Answer.TheVariants.{Refused, Done}
 use Rattle.plan.specs.declared.Head.{Head}
-use Rattle.plan.specs.Plan.{Plan, plan_of, S}
+use Rattle.plan.specs.Plan.{plan_of, S}
 use Rattle.load.specs.declared.Loaded.TheVariants.{Accepted}
 use Rattle.load.specs.Load.{load_of}
 use Rattle.rules.specs.State.{State, start}

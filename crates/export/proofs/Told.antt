@@ -11,7 +11,7 @@ use Rattle.load.specs.Load.{load_of}
 use Rattle.bytes_steps.specs.Counts.{state_size}
 use Rattle.claims.specs.Calls.{Given, given}
 use Rattle.answers.specs.Numbers.{answer_number, shown_bytes, entry_byte, remaining_bytes}
-use Rattle.export.specs.Size.{size_in, size_of}
+use Rattle.export.specs.Size.{size_of}
 
 module _ {x : Answer} {d : List ℕ} {g : Given} (e : given x d ≡ g) where
   pub number_told : {n : ℕ} → n ≡ answer_number x → n ≡ answer_number g.answer

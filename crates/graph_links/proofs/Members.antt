@@ -12,7 +12,7 @@ use lib.Seq.{get_or-set_same, get_or-set_other}
 use borrow.Author.Tests.{lt-ltb, ltb-true, eqb-true, eqb-false, eq-eqb, ne_eqb}
 use Rattle.basis.specs.Choice.{pick, test}
 use Rattle.basis.specs.Bounded.{Found, find, below_suc}
-use Rattle.basis.specs.Fold.{fill_at, length_fill, up_keeps_at}
+use Rattle.basis.specs.Fold.{fill_at, up_keeps_at}
 use Rattle.basis.specs.Fold.{up_to, fill, up_fill, up_done}
 use Rattle.sets.specs.Sets.{has, both, either}
 use Rattle.sets.specs.Laws.{has_single, no_member}

@@ -5,7 +5,7 @@ use Rattle.basis.specs.Choice.{pick, refuted}
 use Rattle.kinds.specs.declared.Refusal.{Refusal}
 use Rattle.plan.specs.declared.Head.{Head}
 use Rattle.plan.specs.Head.{head_of, head_ok, InRange, byte_count}
-use Rattle.plan.specs.Plan.{Plan, plan_of}
+use Rattle.plan.specs.Plan.{plan_of}
 use Rattle.plan.specs.Rules.{Filled, FieldsFit, JointsMatch, fields_ok}
 use Rattle.plan_queues.specs.Feeds.{FeedRing}
 use Rattle.load_rings.specs.RingTest.{has_ring}

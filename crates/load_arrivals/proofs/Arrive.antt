@@ -14,7 +14,6 @@ use Rattle.basis.specs.Walk.{Spot, on, end, lost, spot, end_of, on_end, end_lost
 use Rattle.basis.specs.Walk.{spot_end, spot_lost, spot_add, way_of_end}
 use Rattle.plan.specs.declared.Joint.{Joint}
 use Rattle.plan.specs.declared.Joint.TheVariants.{Nothing, Router, Active, Passive}
-use Rattle.plan.specs.declared.Head.{Head}
 use Rattle.plan.specs.Head.{destinations}
 use Rattle.plan.specs.Plan.{Plan, Port, Interface, active, passive, R, A, route_to, column}
 use Rattle.plan.specs.Rules.{leads_to}

@@ -18,7 +18,6 @@ use Rattle.plan.specs.Head.{destinations}
 use Rattle.plan.specs.Plan.{Plan, Interface, active, passive, R, A, Has, joint_of}
 use Rattle.plan.specs.Rules.{leads_to, home, JoinedAt}
 use Rattle.plan.specs.Tables.{interface_at, joint_of_byte}
-use Rattle.plan_facts.specs.Wired.{Wired}
 use Rattle.plan_facts.proofs.Wires.{home_inside}
 use Rattle.plan_facts.proofs.Tables.{replicate_at}
 use Rattle.plan_journeys.proofs.Walks.{joint_leads}

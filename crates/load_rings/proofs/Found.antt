@@ -1,6 +1,5 @@
 -- The cells of the tables are the edges of the tests, so the search finds a ring exactly if there is one.
 use mathlib.Core.Path.{◌≡◌, sym, ap, subst, ◌∙◌}
-use mathlib.Core.Logic.{◌≢◌}
 use mathlib.Core.Bool.{Bool, true, false, and-eq-true_iff}
 use mathlib.Core.List.{List, []}
 use Prim.Native.Nat.{ℕ, ◌+◌, ◌*◌, ◌/◌, ◌%◌, ◌≤◌, ◌<◌}
@@ -35,7 +34,7 @@ use Rattle.graph_links.proofs.Members.{member, in_lives, leaves_at, leave_in, in
 use Rattle.graph_links.proofs.Members.{mask_in, in_mask, cross_in, cross_is}
 use Rattle.graph_next.proofs.Onward.{gone_by, in_next, links_in, in_links}
 use Rattle.load_rings.specs.Circles.{Answers, Crossing, Hands, AnswerRing}
-use Rattle.load_rings.specs.RingTest.{walk_meets, walk_leaves, is_router, trail_edge, answered, answer_leaves}
+use Rattle.load_rings.specs.RingTest.{walk_leaves, is_router, trail_edge, answered, answer_leaves}
 use Rattle.load_rings.specs.RingTest.{answer_comes, answers_pass, hand_edge, has_ring}
 use Rattle.load_rings.specs.Told.{Told}
 use Rattle.load_rings.proofs.Tests.{walk_by, by_walk, router_is, port_is, answered_by, by_answers}

@@ -1,34 +1,32 @@
 -- What the code computes is the number of the next queue.
-use mathlib.Core.Path.{◌≡◌, refl, sym, ap, ap₂, ◌∙◌}
+use mathlib.Core.Path.{◌≡◌, refl, sym, ap, ◌∙◌}
 use mathlib.Core.Logic.{◌⊎◌, inl, inr}
-use mathlib.Core.Bool.{Bool, true, false}
+use mathlib.Core.Bool.{true, false}
 use mathlib.Core.List.{List, []}
-use mathlib.Core.Option.{Option, none, some}
+use mathlib.Core.Option.{some}
 use Prim.Native.Nat.{ℕ, ◌+◌, ◌*◌, ◌-◌, ◌/◌, ◌%◌, ◌≤◌, ◌<◌}
 use native.Mathlib.Omega.{arith}
 use lib.Dec.{eqb, ltb}
 use lib.ListN.{get_or}
-use borrow.Author.Tests.{ltb-true, ltb-false, lt-ltb, le-ltb, eqb-true, eqb-false, eq-eqb, ne_eqb}
-use Rattle.basis.specs.Choice.{pick, also, also_of, test}
+use borrow.Author.Tests.{ltb-true, lt-ltb, le-ltb, eqb-true}
+use Rattle.basis.specs.Choice.{test}
 use Rattle.basis.specs.Bounded.{lt_or_ge}
 use Rattle.packets.specs.declared.Kind.{Kind}
 use Rattle.packets.specs.declared.Kind.TheVariants.{Setup, Tdown, Ack, Nack}
 use Rattle.packets.specs.declared.Packet.{Packet}
 use Rattle.plan.specs.declared.Head.{Head}
 use Rattle.plan.specs.declared.Joint.{Joint}
-use Rattle.plan.specs.declared.Joint.TheVariants.{Nothing, Router, Active, Passive}
+use Rattle.plan.specs.declared.Joint.TheVariants.{Router, Active, Passive}
 use Rattle.plan.specs.Head.{destinations}
-use Rattle.plan.specs.Plan.{Plan, Port, Interface, active, passive, R, A, P, no_side, Has, joint_of, route_to}
+use Rattle.plan.specs.Plan.{Plan, Port, Interface, active, passive, no_side, Has, route_to}
 use Rattle.plan.specs.Rules.{port_of, port_or0, ports_of, home}
 use Rattle.plan.specs.Tables.{table_plan, joint_of_byte, interface_at}
 use Rattle.plan_facts.proofs.Joints.{router_some, interface_some}
-use Rattle.plan_queues.specs.Queue.{Queue, U, K, Q, F, active_in, passive_in, number, rank}
-use Rattle.plan_queues.specs.Feeds.{came_in, Heading, ahead, back, heading_of, destination, enters, across, beyond}
-use Rattle.plan_queues.specs.Feeds.{Output, of_active, of_passive, of_side, to_unit, from_unit}
+use Rattle.plan_queues.specs.Queue.{U, K, Q, F, number}
+use Rattle.plan_queues.specs.Feeds.{came_in, heading_of, destination, enters, across}
 use Rattle.rules.specs.Outputs.{next_by, output_at, router_output}
-use Rattle.bytes_layout.specs.Named.{exists_test}
 use Rattle.next_queue.specs.Wiring.{Wiring}
-use Rattle.next_queue.specs.Next.{no_queue, number_or, goes_back, base_of, in_base_of, outputs_of, crossed_of, leaves_of}
+use Rattle.next_queue.specs.Next.{number_or, goes_back, base_of, outputs_of, crossed_of, leaves_of}
 use Rattle.next_queue.specs.Next.{entered_of, across_of, column_of, routed_of, next_of, AtUnit}
 
 module _ (h : Head) (routes : List (List ℕ)) (joints : List ℕ) where

@@ -4,7 +4,6 @@ use Rattle.kinds.specs.Refusals.{refusal_number}
 use Rattle.packets.specs.declared.Packet.{Packet}
 use Rattle.packets.specs.declared.Entry.{Entry}
 use Rattle.packets.specs.declared.Entry.TheVariants.{Free, Booked}
-use Rattle.packets.specs.declared.Remaining.{Remaining}
 use Rattle.packets.specs.declared.Answer.{Answer}
 use Rattle.packets.specs.declared.Answer.TheVariants.{Refused, Done, Shows, Holds, Remains}
 

@@ -22,7 +22,7 @@ use Rattle.rules.specs.State.{State, with_queue, with_flag, is_free}
 use Rattle.rules.specs.Execute.{came_in, declined, booked, freed, other_free, may_book, handled_as}
 use Rattle.rules.specs.Valid.{Belongs}
 use Rattle.theory.proofs.Places.Closure.{stands_below, span_short, unit_setup, unit_no_answer}
-use Rattle.theory.proofs.Places.CameIn.{stands_inside, came_in_lem}
+use Rattle.theory.proofs.Places.CameIn.{came_in_lem}
 use Rattle.theory.proofs.Places.Makes.{side_out}
 use Rattle.theory.proofs.Kept.Parts.{kept_of}
 use Rattle.theory.proofs.Kept.Lines.{head_belongs}

@@ -15,7 +15,7 @@ use Rattle.basis.specs.Bounded.{below_suc}
 use Rattle.kinds.specs.declared.Credit.{Credit}
 use Rattle.packets.specs.declared.Packet.{Packet}
 use Rattle.plan.specs.Head.{InRange}
-use Rattle.plan.specs.Plan.{Plan, A}
+use Rattle.plan.specs.Plan.{Plan}
 use Rattle.plan_queues.specs.Queue.{Queue, active_out, active_in, passive_in, passive_out, U, Q, F, K, Exists, number, queues}
 use Rattle.plan_queues.specs.Queue.{queue_at}
 use Rattle.plan_queues.specs.Role.{is_unit}

@@ -5,16 +5,16 @@ use mathlib.Core.Bool.{Bool, true, false, ◌&&◌, true≢false}
 use mathlib.Core.List.{List}
 use Prim.Native.Nat.{ℕ, zero, suc, ◌+◌, ◌*◌, ◌-◌, ◌/◌, ◌%◌, ◌^◌, ◌≤◌, ◌<◌}
 use native.Mathlib.Omega.{arith}
-use lib.Dec.{eqb, ltb}
+use lib.Dec.{eqb}
 use lib.ListN.{get_or, length}
 use lib.Pow.{pow_pos, add-lt-pow}
-use borrow.Author.Tests.{eqb-true, eq-eqb, ne_eqb, lt-ltb, le-ltb}
+use borrow.Author.Tests.{eqb-true, eq-eqb, lt-ltb, le-ltb}
 use Rattle.basis.specs.Choice.{same_test}
-use Rattle.basis.specs.Bounded.{all_below, all_at, all_of, lt_or_ge}
+use Rattle.basis.specs.Bounded.{all_at, all_of, lt_or_ge}
 use Rattle.sets.specs.Sets.{has, both, below}
 use Rattle.sets.specs.Laws.{has_both, has_below, none_has, no_member}
 use Rattle.fields.specs.Bits.{bit_at, field_of}
-use Rattle.fields.specs.Laws.{bit_of, bit_lt}
+use Rattle.fields.specs.Laws.{bit_of}
 use Rattle.plan.specs.Rules.{fill_ok}
 
 -- ---- a set that holds nothing is 0

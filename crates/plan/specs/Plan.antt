@@ -1,5 +1,5 @@
 -- The plan that bytes give: joints by router and side, routes by router and destination.
-use Rattle.std.specs.Prelude.{Bool, List, ℕ, ◌+◌, ◌*◌, ◌<◌, eqb, ltb}
+use Rattle.std.specs.Prelude.{List, ℕ, ◌+◌, ◌*◌, ◌<◌, eqb, ltb}
 use Rattle.basis.specs.Choice.{pick}
 use Rattle.fields.specs.Bits.{field_of}
 use Rattle.plan.specs.declared.Head.{Head}

@@ -6,7 +6,7 @@ use Prim.Native.Nat.{ℕ, zero, suc, ◌+◌, ◌-◌, ◌<◌}
 use native.Mathlib.Omega.{arith}
 use borrow.Author.Tests.{eq-eqb, ne_eqb}
 use Rattle.basis.specs.Walk.{Spot, on, end, lost, way_on}
-use Rattle.plan.specs.Plan.{Plan, Port, Interface, active, passive, R, A, P}
+use Rattle.plan.specs.Plan.{Plan, Port, Interface, active, passive, R, A}
 use Rattle.plan.specs.Rules.{home}
 use Rattle.plan_walks.specs.declared.Index.TheVariants.{At, Off}
 use Rattle.plan_walks.specs.Walk.{onward, router_of, walked}

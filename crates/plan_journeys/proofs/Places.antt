@@ -1,13 +1,12 @@
 -- Where a packet of a served pair may be: the queue exists, and where it goes next it may be too.
 use mathlib.Core.Path.{◌≡◌, refl, sym, ap, ◌∙◌}
 use mathlib.Core.Logic.{◌⊎◌, inl, inr, ◌≢◌}
-use mathlib.Core.Option.{Option, none, some}
+use mathlib.Core.Option.{none, some}
 use Prim.Native.Nat.{ℕ, zero, suc, ◌-◌, ◌<◌}
 use native.Mathlib.Omega.{arith}
 use Rattle.basis.specs.Bounded.{below_suc}
 use Rattle.basis.specs.Walk.{on, end, spot_next, spot_none, way_on}
 use Rattle.basis.specs.Walk.{way_tail}
-use Rattle.plan.specs.declared.Joint.{Joint}
 use Rattle.plan.specs.declared.Joint.TheVariants.{Nothing, Router}
 use Rattle.plan.specs.Plan.{Plan, Port, Interface, active, passive, R, A, P, Has, joint_of, route_to}
 use Rattle.plan.specs.Rules.{home}

@@ -6,7 +6,6 @@ use Prim.Native.Nat.{ℕ, zero, suc, ◌<◌}
 use native.Mathlib.Omega.{arith}
 use Rattle.basis.specs.Bounded.{below_suc}
 use Rattle.basis.specs.Walk.{on}
-use Rattle.plan.specs.declared.Joint.{Joint}
 use Rattle.plan.specs.declared.Joint.TheVariants.{Router}
 use Rattle.plan.specs.Plan.{Plan, Port, Interface, active, passive, Has, joint_of, route_to}
 use Rattle.plan.specs.Rules.{home}

@@ -1,5 +1,5 @@
 -- The queues by name, and their numbers: out-queues first, then each router's, then the in-queues.
-use Rattle.std.specs.Prelude.{◌≢◌, Bool, ℕ, zero, suc, ◌+◌, ◌*◌, ◌-◌, ◌/◌, ◌%◌, ◌<◌, ltb}
+use Rattle.std.specs.Prelude.{◌≢◌, ℕ, zero, suc, ◌+◌, ◌*◌, ◌-◌, ◌/◌, ◌%◌, ◌<◌, ltb}
 use Rattle.basis.specs.Choice.{pick}
 use Rattle.plan.specs.Plan.{Plan, R, A, P}
 

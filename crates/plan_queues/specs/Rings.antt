@@ -1,7 +1,7 @@
 -- Document 02 (i): 'such plans are refused as rings. Split Q by incoming side, and F[o] into one queue for set-ups and
 -- tear-downs and one for answers .. Feeding is read over the new queues: the crossing two-router plan loads'.
 -- Evaluated: with both splits that plan has no ring of feeding queues; with only one of them it has one.
-use Rattle.std.specs.Prelude.{◌≡◌, refl, Bool, true, false, ◌||◌, List, [], ◌∷◌, ◌++◌, ℕ, zero, suc, ◌+◌, eqb}
+use Rattle.std.specs.Prelude.{◌≡◌, refl, Bool, true, false, ◌||◌, List, [], ◌∷◌, ◌++◌, ℕ, zero, suc, eqb}
 use Rattle.std.proofs.Math.Option.{Option, none, some}
 use Rattle.basis.specs.Choice.{pick}
 use Rattle.basis.specs.Fold.{up_to}

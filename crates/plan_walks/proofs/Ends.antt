@@ -1,13 +1,10 @@
 -- What the ends of the loop along a walk tell of it, where it stands; and laws of a router's index on a walk.
 use mathlib.Core.Path.{◌≡◌, refl, sym, ap, ◌∙◌}
-use mathlib.Core.Logic.{◌⊎◌, inl, inr, ⊎_elim}
-use mathlib.Core.Bool.{Bool, true, false}
-use mathlib.Core.List.{List, [], ◌∷◌}
+use mathlib.Core.Logic.{◌⊎◌, inl, inr}
+use mathlib.Core.Bool.{true, false}
+use mathlib.Core.List.{List}
 use Prim.Native.Nat.{ℕ, zero, suc, ◌+◌, ◌≤◌, ◌<◌}
 use native.Mathlib.Nat.{zero-add, suc-add}
-use native.Mathlib.Omega.{arith}
-use denote.Enum.Declared.{tag_of}
-use types.Run.{OneOf}
 use Rattle.plan.specs.declared.Head.{Head}
 use Rattle.plan.specs.Plan.{Plan, Port, Interface}
 use Rattle.plan.specs.Rules.{port_of}
@@ -18,7 +15,6 @@ use Rattle.plan_walks.specs.declared.Index.TheVariants.{At, Off}
 use Rattle.plan_walks.specs.Walk.{walked}
 use Rattle.plan_walks.specs.Steps.{step_of, wanted_of, Stepped, stands_on, index_in}
 use Rattle.plan_walks.specs.Inside.{number_of_port}
-use Rattle.plan_walks.specs.contracts.Step.{the_type}
 use Rattle.plan_walks.proofs.Stood.{Stood, then_end, then_lost, still_end, still_lost}
 
 -- ---- a step that is on no port is the end or nowhere: what the code's `let .. else` knows

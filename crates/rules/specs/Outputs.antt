@@ -1,5 +1,5 @@
 -- The outputs: their numbers, their senders in order, and the next queue of a packet that leaves by one.
-use Rattle.std.specs.Prelude.{Bool, List, [], ◌∷◌, ℕ, ◌+◌, ◌*◌, ◌-◌, ◌/◌, ◌%◌, ltb, eqb, length}
+use Rattle.std.specs.Prelude.{List, [], ◌∷◌, ℕ, ◌+◌, ◌*◌, ◌-◌, ◌/◌, ◌%◌, ltb, eqb, length}
 use Rattle.std.proofs.Math.Option.{Option}
 use Rattle.basis.specs.Choice.{pick}
 use Rattle.packets.specs.declared.Packet.{Packet}

@@ -1,7 +1,6 @@
 -- The words of demand 3: an empty network, a packet on its way, a move, and whole rounds.
 use Rattle.std.specs.Prelude.{◌≡◌, ◌⊎◌, ◌≢◌, Bool, true, false, List, [], ◌∷◌, ℕ, ◌≤◌, ◌<◌, length}
 use Rattle.basis.specs.Choice.{pick}
-use Rattle.kinds.specs.declared.Refusal.{Refusal}
 use Rattle.packets.specs.declared.Packet.{Packet}
 use Rattle.packets.specs.declared.Wire.TheVariants.{Empty, Full}
 use Rattle.packets.specs.declared.Phase.{Phase}

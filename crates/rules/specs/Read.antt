@@ -1,6 +1,6 @@
 -- '*READ*: each wire's packet joins its queue and the wire empties. Each raised flag adds one credit to its queue and
 -- is lowered.'
-use Rattle.std.specs.Prelude.{Bool, true, false, ℕ}
+use Rattle.std.specs.Prelude.{Bool, true, false}
 use Rattle.std.proofs.Math.Option.{Option, none, some}
 use Rattle.basis.specs.Fold.{up_to}
 use Rattle.packets.specs.declared.Packet.{Packet}

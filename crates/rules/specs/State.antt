@@ -1,16 +1,16 @@
 -- The state of a network, its Start, and one change for each of its parts. A new part touches its group alone.
-use Rattle.std.specs.Prelude.{◌≡◌, Bool, true, false, List, [], ◌∷◌, ◌++◌, ℕ, min, eqb}
+use Rattle.std.specs.Prelude.{Bool, true, false, List, [], ◌∷◌, ◌++◌, ℕ, min, eqb}
 use Rattle.kinds.specs.declared.Slot.{Slot}
 use Rattle.kinds.specs.declared.Credit.{Credit}
 use Rattle.packets.specs.declared.Packet.{Packet}
 use Rattle.packets.specs.declared.Wire.{Wire}
 use Rattle.packets.specs.declared.Wire.TheVariants.{Empty, Full}
 use Rattle.packets.specs.declared.Phase.{Phase}
-use Rattle.packets.specs.declared.Phase.TheVariants.{Read, Execute, Write}
+use Rattle.packets.specs.declared.Phase.TheVariants.{Read}
 use Rattle.packets.specs.declared.Entry.{Entry}
 use Rattle.packets.specs.declared.Entry.TheVariants.{Free, Booked}
 use Rattle.plan.specs.Plan.{Plan}
-use Rattle.plan_queues.specs.Queue.{Queue, active_out}
+use Rattle.plan_queues.specs.Queue.{Queue}
 use Rattle.plan_queues.specs.Feeds.{Output}
 use Rattle.rules.specs.Capacity.{capacity}
 use Rattle.rules.specs.Store.{put, same_queue, same_output}

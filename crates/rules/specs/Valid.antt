@@ -21,7 +21,7 @@ use Rattle.rules.specs.Capacity.{capacity}
 use Rattle.rules.specs.Store.{same_queue}
 use Rattle.rules.specs.Outputs.{next_by, senders, last_in_order, outputs, output_at}
 use Rattle.rules.specs.Connections.{Connection, Makes}
-use Rattle.rules.specs.State.{State, Choice, sender, blank, start_allowance, has_connection}
+use Rattle.rules.specs.State.{State, sender, blank, start_allowance, has_connection}
 use Rattle.rules.specs.Execute.{candidate}
 use Rattle.rules.specs.Write.{of_rank}
 

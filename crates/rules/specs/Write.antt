@@ -1,7 +1,7 @@
 -- '*WRITE*: each picked head enters its wire, its queue's flag rises (none for out-queues), the next queue's credit
 -- falls by one, choices are cleared. The slot grows by one modulo S.' 'The handled mark goes when that head leaves or
 -- ends'. 'Each output remembers the last sender that a WRITE served' (document 02 (b)).
-use Rattle.std.specs.Prelude.{Bool, true, false, List, [], ◌∷◌, ℕ, zero, suc}
+use Rattle.std.specs.Prelude.{true, false, List, [], ◌∷◌, ℕ, zero, suc}
 use Rattle.std.proofs.Math.Option.{Option, none, some}
 use Rattle.basis.specs.Fold.{up_to}
 use Rattle.packets.specs.declared.Packet.{Packet}

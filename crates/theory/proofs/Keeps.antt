@@ -8,8 +8,6 @@ use mathlib.Core.List.{List, ◌∷◌}
 use Prim.Native.Nat.{ℕ, ◌<◌}
 use lib.Dec.{eqb}
 use Rattle.basis.specs.Choice.{pick}
-use Rattle.kinds.specs.declared.Refusal.{Refusal}
-use Rattle.packets.specs.declared.Kind.{Kind}
 use Rattle.packets.specs.declared.Kind.TheVariants.{Ack, Nack}
 use Rattle.packets.specs.declared.Packet.{Packet}
 use Rattle.packets.specs.declared.Wire.TheVariants.{Empty}
@@ -18,7 +16,6 @@ use Rattle.packets.specs.declared.Phase.TheVariants.{Read, Execute, Write}
 use Rattle.packets.specs.Counters.{slot_next}
 use Rattle.plan.specs.Head.{InRange}
 use Rattle.plan.specs.Plan.{Plan, R, A, S}
-use Rattle.plan_walks.specs.Served.{Served}
 use Rattle.plan_queues.specs.Queue.{Queue, active_in, Q, Exists}
 use Rattle.plan_queues.specs.Feeds.{Output, Place, in_queue}
 use Rattle.plan_facts.specs.Wired.{Wired}
@@ -32,10 +29,10 @@ use Rattle.rules.specs.Calls.{Visit, Call, Outcome, phase_step, call}
 use Rattle.theory.specs.Does.{MayLaunch, MayReply, MayDrop, MayClose}
 use Rattle.theory.specs.Does.{Visited, launches, replies, looks, drops, closes, tells, counts, Does, refuses}
 use Rattle.theory.specs.Does.{turns, visits}
-use Rattle.rules.specs.Valid.{Belongs, Drives, Ties, Valid}
+use Rattle.rules.specs.Valid.{Belongs, Drives, Ties}
 use Rattle.rules.specs.Ruled.{Good}
 use Rattle.theory.proofs.Does.{call_does}
-use Rattle.theory.specs.Invariant.{Inv, Core, Shape, in_read, Sendable}
+use Rattle.theory.specs.Invariant.{Inv, Core, in_read, Sendable}
 use Rattle.theory.specs.Invariant.{WiresEmpty, FlagsDown, ChoicesSendable, Allowances}
 use Rattle.theory.proofs.Core.{core_of, shape_of, valid_of}
 use Rattle.theory.proofs.Weights.Spending.{reply_spends}

@@ -2,17 +2,14 @@
 -- accepted and not closed since are those that the state keeps, and acceptances are counted against launches. From it
 -- the ties that refusal 7 asks, the empty network's table, and demand 3 on the rules.
 use mathlib.Core.Path.{◌≡◌, refl, ap}
-use mathlib.Core.Bool.{Bool, false, false≢true}
+use mathlib.Core.Bool.{false, false≢true}
 use mathlib.Core.List.{List, [], ◌∷◌}
 use Prim.Native.Nat.{ℕ, ◌+◌, ◌≤◌, ◌<◌}
 use native.Mathlib.Omega.{arith}
 use Rattle.kinds.specs.declared.Refusal.{Refusal}
-use Rattle.packets.specs.declared.Kind.{Kind}
-use Rattle.packets.specs.declared.Packet.{Packet}
 use Rattle.packets.specs.declared.Wire.TheVariants.{Empty}
 use Rattle.packets.specs.declared.Phase.{Phase}
 use Rattle.packets.specs.declared.Phase.TheVariants.{Read, Execute, Write}
-use Rattle.packets.specs.declared.Answer.{Answer}
 use Rattle.packets.specs.declared.Answer.TheVariants.{Refused, Done, Shows, Holds, Remains}
 use Rattle.packets.specs.Counters.{slot_next}
 use Rattle.plan.specs.Head.{InRange}
@@ -37,7 +34,7 @@ use Rattle.rules.specs.Progress.{Within}
 use Rattle.rules.specs.Ruled.{Good, Ruled, Remembers, ruled_after, accepted_after, launches_call}
 use Rattle.rules.specs.Ruled.{launches as launches_in, accepts_head, accepts_call, acceptances}
 use Rattle.theory.proofs.Does.{call_does}
-use Rattle.theory.specs.Invariant.{Core, Shape, Sendable, FlagsDown, WiresEmpty, ChoicesSendable, Inv}
+use Rattle.theory.specs.Invariant.{Core, Sendable, FlagsDown, WiresEmpty, ChoicesSendable, Inv}
 use Rattle.theory.proofs.Shape.Calls.{execute_has, write_has}
 use Rattle.theory.proofs.Shape.Phases.{read_keeps, execute_keeps, write_keeps}
 use Rattle.theory.proofs.Keeps.{good_of, start_inv, call_inv, reply_kind_lem, phase_core, turn_core, deliver_core}

@@ -27,7 +27,7 @@ use Rattle.rules.specs.Store.{same_output, same_output_lem, output_same}
 use Rattle.rules.specs.Outputs.{last_in_order, senders, outputs, output_at, output_number}
 use Rattle.rules.specs.State.{State, Choice, nobody, sender, with_queue, join}
 use Rattle.rules.specs.Read.{do_read}
-use Rattle.rules.specs.Execute.{unit_at, unit, candidate, picked, choose, marked, tdown_of, undo, do_execute}
+use Rattle.rules.specs.Execute.{unit_at, candidate, picked, choose, marked, tdown_of, undo, do_execute}
 use Rattle.rules.specs.Write.{of_rank, send, do_write}
 use Rattle.rules.specs.Visits.{launched, reply_kind, replied, removed, noted, closed}
 use Rattle.rules.specs.Calls.{Visit, Call, Outcome, call}

@@ -1,16 +1,13 @@
 -- What outputs remember is in range, and stays so: only a sending changes it, to the rank of a sender whose head goes.
 use mathlib.Core.Path.{◌≡◌, refl, sym, ap, subst, ◌∙◌}
 use mathlib.Core.Bool.{false, true≢false}
-use mathlib.Core.List.{List, [], ◌∷◌}
-use mathlib.Core.Option.{some}
-use Prim.Native.Nat.{ℕ, zero, suc, ◌<◌}
+use Prim.Native.Nat.{ℕ, ◌<◌}
 use native.Mathlib.Omega.{arith}
 use lib.ListN.{length}
 use Rattle.packets.specs.declared.Packet.{Packet}
 use Rattle.plan.specs.declared.Joint.{Joint}
 use Rattle.plan.specs.declared.Joint.TheVariants.{Nothing, Router, Active, Passive}
 use Rattle.plan.specs.Plan.{Plan, R}
-use Rattle.plan_queues.specs.Queue.{Queue}
 use Rattle.plan_queues.specs.Feeds.{Output, of_active, of_passive, of_side, to_unit, from_unit, heading_of, across}
 use Rattle.plan_facts.specs.Wired.{Wired}
 use Rattle.plan_journeys.proofs.Places.{some_not_none}

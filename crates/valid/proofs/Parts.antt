@@ -17,7 +17,7 @@ use Rattle.packets.specs.declared.Entry.{Entry}
 use Rattle.packets.specs.declared.Entry.TheVariants.{Free, Booked}
 use Rattle.plan.specs.Plan.{Plan}
 use Rattle.plan_queues.specs.Queue.{Queue, Q, Exists, number, queues, queue_at}
-use Rattle.plan_queues.specs.Role.{Role, is_unit, unit_or}
+use Rattle.plan_queues.specs.Role.{is_unit, unit_or}
 use Rattle.plan_queues.specs.Feeds.{Output}
 use Rattle.rules.specs.Outputs.{senders, outputs, output_at, output_number}
 use Rattle.rules.specs.State.{State, Choice, nobody, sender, is_free, is_full}

@@ -19,7 +19,7 @@ use Rattle.plan_walks.specs.Served.{served}
 use Rattle.plan_walks.specs.Steps.{stands_on}
 use Rattle.plan_queues.specs.Queue.{ahead, back, Queue, active_out, active_in, passive_in, passive_out, U, Q, F, K, queues}
 use Rattle.plan_queues.specs.Queue.{queue_at}
-use Rattle.plan_queues.specs.Role.{Role, is_unit}
+use Rattle.plan_queues.specs.Role.{is_unit}
 use Rattle.plan_queues.specs.Feeds.{Output, of_active, of_passive, of_side, to_unit, from_unit, Place, in_queue, handled_at, span}
 use Rattle.plan_queues.specs.Feeds.{head_place}
 use Rattle.rules.specs.Capacity.{capacity}

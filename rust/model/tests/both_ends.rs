@@ -1,4 +1,4 @@
-//! The runs of `crates/rules/specs/Runs/BothEnds.antt`, document 02 (i): each test has its theorem's
+//! The runs of `crates/rules/proofs/Runs/BothEnds.antt`, document 02 (i): each test has its theorem's
 //! name, and the same calls, moments and figures. Rounds are counted from 0.
 
 mod common;

@@ -61,7 +61,7 @@ fn set_ups_cross_both_ways() {
     assert_eq!(booked(&run), [0, 0, 2, 2]);
 }
 
-/// `Crossing.crosses-both-ways`, which is evaluated: the same calls, moments and figures.
+/// `Crossing.crosses_both_ways`, which is evaluated: the same calls, moments and figures.
 #[test]
 fn crosses_both_ways() {
     let list = [

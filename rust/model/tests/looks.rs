@@ -155,7 +155,7 @@ fn look_shows_an_unmarked_nack() {
     assert_eq!((counters(&run), run.accepted()), ((1, true, 2), vec![]));
 }
 
-/// `Looking.marked-between`: Execute marks the NACK between a Look and the Drop, so what was looked at in
+/// `Looking.marked_between`: Execute marks the NACK between a Look and the Drop, so what was looked at in
 /// another phase is not what is dropped.
 #[test]
 fn marked_between() {

@@ -1,4 +1,4 @@
-//! Runs of `crates/rules/specs/Runs` that each pin one rule: those of `Queues`, `NoCredit`, `Spoilt` and
+//! Runs of `crates/rules/proofs/Runs` that each pin one rule: those of `Queues`, `NoCredit`, `Spoilt` and
 //! `Reached`. Each test has its theorem's name, and the same calls, moments and figures. Rounds are
 //! counted from 0.
 
@@ -19,7 +19,7 @@ fn side(side: usize) -> Link {
     Link::Side(Port { router: 0, side })
 }
 
-/// `Queues.heads-in-order`, "queues, first in first out": a Reply answers the head of three set-ups,
+/// `Queues.heads_in_order`, "queues, first in first out": a Reply answers the head of three set-ups,
 /// and a NACK that Execute marks stays where it is.
 #[test]
 fn heads_in_order() {
@@ -85,7 +85,7 @@ fn row_of_set_ups() -> [Vec<Call>; 5] {
     ]
 }
 
-/// `NoCredit.passed-over`, "a candidate has a head and its next queue has credit": a head whose next
+/// `NoCredit.passed_over`, "a candidate has a head and its next queue has credit": a head whose next
 /// queue has none is passed over, and holds up nobody.
 #[test]
 fn passed_over() {
@@ -117,7 +117,7 @@ fn spoilt(mut run: Run, change: impl Fn(&Network, &mut State)) -> Run {
     run
 }
 
-/// `Spoilt.another-side-freed`, "TDOWN: the entry is freed", whichever side it holds: here side 2, while
+/// `Spoilt.another_side_freed`, "TDOWN: the entry is freed", whichever side it holds: here side 2, while
 /// the walk comes in by side 0.
 #[test]
 fn another_side_freed() {
@@ -153,7 +153,7 @@ fn picked(run: &Run, link: Link) -> Option<usize> {
     choice.and_then(|sender| run.network.rank(link, sender))
 }
 
-/// `Spoilt.stored-choice-goes`, "each picked head enters its wire": the one that is stored, the answer
+/// `Spoilt.stored_choice_goes`, "each picked head enters its wire": the one that is stored, the answer
 /// `F[1]`, whoever's turn it was.
 #[test]
 fn stored_choice_goes() {
@@ -174,7 +174,7 @@ fn stored_choice_goes() {
     assert_eq!(seen, expected);
 }
 
-/// `Spoilt.stored-choice-goes-though-booked`: "a router side picks nobody when its entry for the current
+/// `Spoilt.stored_choice_goes_though_booked`: "a router side picks nobody when its entry for the current
 /// slot is booked" is of EXECUTE. Booked behind the pick, it does not keep WRITE from sending.
 #[test]
 fn stored_choice_goes_though_booked() {
@@ -213,7 +213,7 @@ fn sees(run: &mut Run, link: Link, rank: usize, calls: &[Call]) -> Sees {
     sees
 }
 
-/// `Reached.three-go-first`, "at most three others go before it": at the unit so many do. The set-ups of
+/// `Reached.three_go_first`, "at most three others go before it": at the unit so many do. The set-ups of
 /// actives 0 to 3 come in to router 0 by sides 0 to 3, all in round 4, and `U[3]` sees three go.
 #[test]
 fn three_go_first() {
@@ -230,7 +230,7 @@ fn three_go_first() {
     assert_eq!(sees(&mut run, Link::Unit(0), 3, &list), Sees { others: 3, stays: true });
 }
 
-/// `Reached.four-go-first`, "at most four others go first there": at a side so many do. In rounds 13 to
+/// `Reached.four_go_first`, "at most four others go first there": at a side so many do. In rounds 13 to
 /// 16 `K[2,3]` sees the set-up `F[3]`, the answer `F[3]`, `K[0,3]` and `K[1,3]` go.
 #[test]
 fn four_go_first() {
@@ -240,7 +240,7 @@ fn four_go_first() {
     assert_eq!(sees(&mut run, side(3), 4, &list), Sees { others: 4, stays: true });
 }
 
-/// `Reached.passed-more-often`: who is a candidate only now and then, and so does not stay one, is passed
+/// `Reached.passed_more_often`: who is a candidate only now and then, and so does not stay one, is passed
 /// more often than three times at a unit. The heads of `Q[2]` and `Q[3]` go to the set-up `F[0]`, those
 /// of `Q[1]` become NACKs; each time that `F[0]` has room it is `Q[2]`'s turn, for `Q[1]` has gone before
 /// it while `F[0]` had none.

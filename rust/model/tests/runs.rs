@@ -103,7 +103,7 @@ fn last_free_entry_is_declined() {
     assert_eq!((run.entry(0, 1, 0), run.entry(0, 1, 1)), (0, 4));
 }
 
-/// `LastFree.slot-0-is-left`: slot 1 of side 1 is booked, for with slot 0 free too it is not "the only
+/// `LastFree.slot_0_is_left`: slot 1 of side 1 is booked, for with slot 0 free too it is not "the only
 /// free entry of o".
 #[test]
 fn slot_0_is_left() {
@@ -114,7 +114,7 @@ fn slot_0_is_left() {
     assert_eq!(seen, [done(&[4, 0], &[&[set_up(0, 0, 0, 1)]])]);
 }
 
-/// `Declined.second-declines`, looked at after each call: "S=4, two routers, start 3, second declines:
+/// `Declined.second_declines_lem`, looked at after each call: "S=4, two routers, start 3, second declines:
 /// NACK slot 0 hub 1, TDOWN slot 3 hub 1; the second router keeps its entry".
 #[test]
 fn a_declined_set_up_is_torn_down() {
@@ -268,7 +268,7 @@ fn plans_of_the_proved_runs() {
     }
 }
 
-/// `TornDown.torn-over-two`.
+/// `TornDown.torn_over_two`.
 #[test]
 fn a_passives_decline_over_two_routers() {
     let list = [
@@ -326,7 +326,7 @@ fn a_passives_decline_over_two_routers() {
     assert!(run.no_packets());
 }
 
-/// `TornDown.torn-over-three`.
+/// `TornDown.torn_over_three`.
 #[test]
 fn a_passives_decline_over_three_routers() {
     let list = [
@@ -389,7 +389,7 @@ fn a_passives_decline_over_three_routers() {
     assert!(run.no_packets());
 }
 
-/// `Order.lower-side-first`.
+/// `Order.lower_side_first`.
 #[test]
 fn the_lower_side_goes_first_to_the_unit() {
     let list = [
@@ -422,7 +422,7 @@ fn the_lower_side_goes_first_to_the_unit() {
     assert_eq!(seen, expected);
 }
 
-/// `Order.unit-first-then-sides`.
+/// `Order.unit_first_then_sides`.
 #[test]
 fn the_unit_goes_first_by_a_side_then_the_lower_side() {
     let list = [
@@ -468,7 +468,7 @@ fn way_ahead(run: &Run) -> Vec<usize> {
     [&run.state.allowances[..], &out, &filled, &room, &[run.flag(Queue::PassiveIn(0))]].concat()
 }
 
-/// `Capacities.filled-there`: with an allowance of 6 active 0 fills the way from the unit on, and then
+/// `Capacities.filled_there`: with an allowance of 6 active 0 fills the way from the unit on, and then
 /// actives 1 and 2 their Q and their U.
 #[test]
 fn capacities_on_the_way_to_a_passive() {
@@ -617,7 +617,7 @@ fn a_walk_of_four_routers_that_wraps() {
     assert_eq!(ack.slot.minus(ack.hub, run.network.slots()), Slot(2));
 }
 
-/// `Heads.one-head-a-round`: a handled set-up that must wait, behind it a TDOWN that ends at this unit,
+/// `Heads.one_head_a_round`: a handled set-up that must wait, behind it a TDOWN that ends at this unit,
 /// behind it another set-up, all in `Q[1]`.
 #[test]
 fn no_second_head_in_a_round() {

@@ -147,7 +147,7 @@ fn last_at_side_1(run: &Run) -> Vec<usize> {
     vec![run.last(side(0, 1))]
 }
 
-/// `Turns.two-in-turn`: at side 1 the answer `F[1]`, of rank 1, has NACKs of the unit, and `K[0,1]`, of
+/// `Turns.two_in_turn`: at side 1 the answer `F[1]`, of rank 1, has NACKs of the unit, and `K[0,1]`, of
 /// rank 2, has ACKs of passive 0.
 #[test]
 fn two_in_turn_from_start() {
@@ -179,7 +179,7 @@ fn two_in_turn_from_start() {
     assert_eq!(seen, expected);
 }
 
-/// `Turns.three-in-turn`: also `K[3,1]`, of rank 4, with passive 1's ACK.
+/// `Turns.three_in_turn`: also `K[3,1]`, of rank 4, with passive 1's ACK.
 #[test]
 fn three_in_turn_from_start() {
     let list = [
@@ -356,7 +356,7 @@ fn the_lowest_side_first_from_the_unit() {
     assert_eq!(order, [q(0), q(0), q(0), q(2), q(2), q(2)]);
 }
 
-/// `Turns.unit-in-turn`: an active at each of three sides, whose set-ups take turns on the way to the
+/// `Turns.unit_in_turn`: an active at each of three sides, whose set-ups take turns on the way to the
 /// unit.
 #[test]
 fn the_ways_to_the_unit_take_turns() {
@@ -425,7 +425,7 @@ fn a_booked_round_changes_nothing() {
     }
 }
 
-/// `Turns.skipped-changes-nothing`: in round 10 active 0's set-up waits in the set-up `F[1]` of router
+/// `Turns.skipped_changes_nothing`: in round 10 active 0's set-up waits in the set-up `F[1]` of router
 /// 0 and an ACK in `K[2,1]`, and the side's entry for slot 10 is booked, by that set-up itself.
 #[test]
 fn a_skipped_round_from_start() {

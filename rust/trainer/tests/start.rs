@@ -16,13 +16,14 @@ struct Place {
 }
 
 const RT: &str = "#!/bin/sh
-echo \"$RT_JOBS $*\" >> asked
-if [ \"$1\" = staticlib ]; then
-    sed 's/(.*/(unchanged since it was last proved)/' told
-    mkdir -p target/staticlib && echo lib > target/staticlib/libexport.a
+root=$(dirname \"$0\")/..
+echo \"$*\" >> \"$root/asked\"
+if [ \"$1\" = lib ]; then
+    sed 's/checked=.*/checked=0/' \"$root/told\"
+    mkdir -p out && echo lib > out/libexport.a
 else
     echo 'fn c1::f: proved'
-    cat told
+    cat \"$root/told\"
 fi
 ";
 const CARGO: &str = "#!/bin/sh
@@ -42,6 +43,7 @@ impl Place {
         place.put("tools/rt", RT, true);
         place.put("tools/cargo", CARGO, true);
         place.put("pandabrass", &common::text("pandabrass"), true);
+        place.put("tools/library.sh", &common::text("tools/library.sh"), true);
         place
     }
 
@@ -50,12 +52,12 @@ impl Place {
     fn put_crates(&self, count: usize) {
         let mut list = "# NAME: DEP ..\nbeside: c1\nc1:\n".to_string();
         (2..=count).for_each(|n| list += &format!("c{n}: c{}\n", n - 1));
-        self.put("crates.txt", &format!("{list}export: c{count}  # the library\n"), false);
+        self.put("crates.txt", &format!("{list}export staticlib: c{count}  # the library\n"), false);
         let names = (1..=count).map(|n| format!("c{n}"));
         for name in names.chain(["beside", "export"].map(str::to_string)) {
             self.put(&format!("crates/{name}/src/lib.rt"), "code", false);
         }
-        let told = (1..=count).map(|n| format!("rt: c{n} proved (3 s)\n"));
+        let told = (1..=count).map(|n| format!("crate c{n}: modules loaded=3 checked=40\n"));
         self.put("told", &told.collect::<String>(), false);
     }
 
@@ -128,7 +130,7 @@ fn how_far_it_is_is_told() {
     let (_, err, status) = place.run();
     assert_eq!(status, Some(1), "{err}");
     let asked = fs::read_to_string(place.root.join("asked")).unwrap();
-    assert_eq!(asked, "4 check c21\n staticlib export\n");
+    assert_eq!(asked, "all check --jobs 4\nlib\n");
     let lines: Vec<&str> = err.lines().filter(|line| line.contains("crates proved")).collect();
     let told =
         |count| format!("pandabrass: {count} of 22 crates proved (c{count}), about 1 min left");
@@ -140,7 +142,7 @@ fn how_far_it_is_is_told() {
 fn what_was_proved_before_takes_no_time() {
     let place = Place::new("unchanged");
     place.put_crates(10);
-    let told = (1..=10).map(|n| format!("rt: c{n} proved (unchanged since it was last proved)\n"));
+    let told = (1..=10).map(|n| format!("crate c{n}: modules loaded=43 checked=0\n"));
     place.put("told", &told.collect::<String>(), false);
     let (_, err, _) = place.run();
     assert!(err.contains("pandabrass: 10 of 11 crates proved (c10)\n"), "{err}");
@@ -161,10 +163,10 @@ fn a_library_that_is_given_is_not_built() {
 #[test]
 fn a_proof_that_fails_is_told() {
     let place = Place::new("unproved");
-    place.put("tools/rt", "#!/bin/sh\necho 'rt: c1 NOT PROVED (exit 1, 2 s)'\nexit 1\n", true);
+    place.put("tools/rt", "#!/bin/sh\necho 'logic=not-proved'\nexit 1\n", true);
     let (out, err, status) = place.run();
     assert_eq!((out.as_str(), status), ("", Some(2)));
-    assert!(err.contains("rt: c1 NOT PROVED") && err.contains("this failed"), "{err}");
+    assert!(err.contains("logic=not-proved") && err.contains("this failed"), "{err}");
     assert!(!place.root.join("target/staticlib/libexport.a").exists());
 }
 

@@ -1,5 +1,4 @@
 use Rattle.answers.proofs.Put.{entry_some}
-use borrow.Author.Rules.{rules}
 use Rattle.answers.proofs.put_entry.Goals as goal
 
 pub returns-in-Holds : goal.returns-in-Holds

@@ -1,4 +1,3 @@
-use borrow.Author.Rules.{rules}
 use Rattle.answers.proofs.put_packet.Goals as goal
 
 pub returns : goal.returns

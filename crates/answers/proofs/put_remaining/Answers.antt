@@ -1,5 +1,4 @@
 use Rattle.answers.proofs.Put.{remaining_some}
-use borrow.Author.Rules.{rules}
 use Rattle.answers.proofs.put_remaining.Goals as goal
 
 pub returns-in-Remains : goal.returns-in-Remains

@@ -1,5 +1,4 @@
 use Rattle.answers.proofs.Put.{shown_some}
-use borrow.Author.Rules.{rules}
 use Rattle.answers.proofs.put_shown.Goals as goal
 
 pub returns-in-Shows : goal.returns-in-Shows

@@ -3,7 +3,6 @@ use mathlib.Core.List.{List}
 use Prim.Native.Nat.{ℕ}
 use lib.Seq.{sets}
 use Rattle.bytes_layout.specs.Encode.{word_bytes}
-use borrow.Author.Rules.{rules}
 use Rattle.answers.proofs.put_words.Goals as goal
 
 pub returns : goal.returns

@@ -1,8 +1,6 @@
-use mathlib.Core.Path.{◌≡◌, refl, ◌∙◌}
-use Prim.Native.Nat.{◌+◌, ◌*◌, ◌-◌, ◌≤◌}
+use mathlib.Core.Path.{refl, ◌∙◌}
 use native.Mathlib.Omega.{arith}
-use lib.ListN.{length}
-use Rattle.basis.specs.Fold.{up_to, up_none, up_more, up_done}
+use Rattle.basis.specs.Fold.{up_none, up_more, up_done}
 use Rattle.bytes_layout.specs.Updates.{move_place}
 use Rattle.bytes_rows.proofs.close_up.Goals as goal
 

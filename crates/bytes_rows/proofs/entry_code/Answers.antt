@@ -1,6 +1,5 @@
 use Rattle.bytes_rows.proofs.Codes.{booked_code, booked_small}
 use native.Mathlib.Omega.{arith}
-use borrow.Author.Rules.{rules}
 use Rattle.bytes_rows.proofs.entry_code.Goals as goal
 
 pub overflow_add-result : goal.overflow_add-result

@@ -1,5 +1,4 @@
 use Rattle.bytes_rows.proofs.Codes.{entry_booked}
-use borrow.Author.Rules.{rules}
 use Rattle.bytes_rows.proofs.entry_of.Goals as goal
 
 pub returns-else-b-eq0 : goal.returns-else-b-eq0

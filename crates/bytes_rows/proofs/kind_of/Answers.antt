@@ -1,5 +1,4 @@
 use Rattle.bytes_rows.proofs.Codes.{kind_last}
-use borrow.Author.Rules.{rules}
 use Rattle.bytes_rows.proofs.kind_of.Goals as goal
 
 pub returns-in_default : goal.returns-in_default

@@ -1,7 +1,6 @@
 use mathlib.Core.Path.{refl}
 use native.Mathlib.Omega.{arith}
 use lib.ListN.{length-set}
-use borrow.Author.Rules.{rules}
 use Rattle.bytes_rows.proofs.move_place.Goals as goal
 
 pub bounds-s-at-3 : goal.bounds-s-at-3

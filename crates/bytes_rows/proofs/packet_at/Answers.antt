@@ -1,5 +1,4 @@
 use Rattle.bytes_rows.proofs.Wires.{packet_of}
-use borrow.Author.Rules.{rules}
 use Rattle.bytes_rows.proofs.packet_at.Goals as goal
 
 pub returns : goal.returns

@@ -1,5 +1,4 @@
 use Rattle.bytes_rows.proofs.Codes.{phase_last}
-use borrow.Author.Rules.{rules}
 use Rattle.bytes_rows.proofs.phase_of.Goals as goal
 
 pub returns-in_default : goal.returns-in_default

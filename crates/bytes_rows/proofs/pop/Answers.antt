@@ -1,7 +1,6 @@
 use mathlib.Core.Path.{◌∙◌}
 use lib.ListN.{length-set}
 use Rattle.bytes_rows.proofs.Joining.{popped}
-use borrow.Author.Rules.{rules}
 use Rattle.bytes_rows.proofs.pop.Goals as goal
 
 pub shape_of-s : goal.shape_of-s

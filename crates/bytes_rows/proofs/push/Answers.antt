@@ -1,5 +1,4 @@
 use Rattle.bytes_rows.proofs.Joining.{pushed}
-use borrow.Author.Rules.{rules}
 use Rattle.bytes_rows.proofs.push.Goals as goal
 
 pub returns : goal.returns

@@ -1,7 +1,6 @@
 use Rattle.bytes_rows.proofs.Wires.{wire_none, wire_some}
 use lib.ListN.{length-set}
 use native.Mathlib.Omega.{arith}
-use borrow.Author.Rules.{rules}
 use Rattle.bytes_rows.proofs.put_wire.Goals as goal
 
 pub clear_place-requires : goal.clear_place-requires

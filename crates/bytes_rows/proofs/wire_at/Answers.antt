@@ -1,5 +1,4 @@
 use Rattle.bytes_rows.proofs.Wires.{wire_down, wire_up}
-use borrow.Author.Rules.{rules}
 use Rattle.bytes_rows.proofs.wire_at.Goals as goal
 
 pub returns-then-s-at-eq0 : goal.returns-then-s-at-eq0

@@ -1,11 +1,9 @@
 use mathlib.Core.Path.{sym, ◌∙◌}
 use native.Mathlib.Omega.{arith}
-use borrow.Author.Tests.{not-true, not-false}
 use Rattle.call_common.proofs.Rows.{phase_inside, few_counts, active_few, passive_few, active_out_inside, starts_inside}
 use Rattle.call_common.proofs.Pairs.{phase_refused, active_refused, passive_refused, slot_refused, pair_refused}
 use Rattle.call_close.proofs.Steps.{close_ready}
 use Rattle.call_close.proofs.Exits.{close_begins, close_unaccepted, close_full, closes}
-use borrow.Author.Rules.{rules}
 use Rattle.call_close.proofs.close.Goals as goal
 
 pub bounds-s-0 : goal.bounds-s-0

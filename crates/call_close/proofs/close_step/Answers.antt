@@ -1,7 +1,6 @@
 use mathlib.Core.Path.{◌∙◌}
 use Rattle.call_common.proofs.Rows.{long_still}
 use Rattle.call_close.proofs.Steps.{close_made}
-use borrow.Author.Rules.{rules}
 use Rattle.call_close.proofs.close_step.Goals as goal
 
 pub push-requires : goal.push-requires

@@ -1,4 +1,3 @@
-use borrow.Author.Rules.{rules}
 use Rattle.call_close.proofs.tear_down.Goals as goal
 
 pub returns : goal.returns

@@ -4,7 +4,6 @@ use Rattle.call_common.proofs.Rows.{long, long_still, phase_inside, few_counts, 
 use Rattle.call_drop.proofs.Steps.{drop_ready, head_named}
 use Rattle.call_drop.proofs.Exits.{drop_phase, drop_active, drop_flag, drop_empty, drop_unmarked}
 use Rattle.call_drop.proofs.Exits.{drops}
-use borrow.Author.Rules.{rules}
 use Rattle.call_drop.proofs.drop.Goals as goal
 
 pub bounds-s-0 : goal.bounds-s-0

@@ -1,6 +1,5 @@
 use mathlib.Core.Path.{ap, sym}
 use Rattle.call_drop.specs.Dropping.{is_ack}
-use borrow.Author.Rules.{rules}
 use Rattle.call_drop.proofs.is_ack.Goals as goal
 
 pub returns-in-Setup : goal.returns-in-Setup

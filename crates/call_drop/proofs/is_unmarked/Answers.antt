@@ -1,7 +1,6 @@
 use mathlib.Core.Path.{ap, sym}
 use Rattle.packets.specs.declared.Kind.{Kind}
 use Rattle.rules.specs.Execute.{unmarked_kind}
-use borrow.Author.Rules.{rules}
 use Rattle.call_drop.proofs.is_unmarked.Goals as goal
 
 pub returns-in-Nack : goal.returns-in-Nack

@@ -1,6 +1,4 @@
-use borrow.Author.Tests.{not-true, not-false}
 use Rattle.call_drop.proofs.Steps.{note_near, note_ready, note_made, note_none}
-use borrow.Author.Rules.{rules}
 use Rattle.call_drop.proofs.note.Goals as goal
 
 pub returns-then-not-is_ack : goal.returns-then-not-is_ack

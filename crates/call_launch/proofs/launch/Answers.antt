@@ -5,7 +5,6 @@ use Rattle.call_common.proofs.Rows.{allowance_inside}
 use Rattle.call_common.proofs.Pairs.{phase_refused, active_refused, passive_refused, slot_refused, pair_refused}
 use Rattle.call_launch.proofs.Steps.{launch_ready}
 use Rattle.call_launch.proofs.Exits.{launch_begins, launch_allowance, launch_full, launched}
-use borrow.Author.Rules.{rules}
 use Rattle.call_launch.proofs.launch.Goals as goal
 
 pub bounds-s-0 : goal.bounds-s-0

@@ -1,7 +1,6 @@
 use native.Mathlib.Omega.{arith}
 use lib.ListN.{length-set}
 use Rattle.call_launch.proofs.Steps.{launch_made}
-use borrow.Author.Rules.{rules}
 use Rattle.call_launch.proofs.launch_step.Goals as goal
 
 pub set_up-x-requires : goal.set_up-x-requires

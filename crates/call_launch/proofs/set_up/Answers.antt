@@ -1,4 +1,3 @@
-use borrow.Author.Rules.{rules}
 use Rattle.call_launch.proofs.set_up.Goals as goal
 
 pub returns : goal.returns

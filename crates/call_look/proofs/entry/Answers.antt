@@ -1,7 +1,6 @@
 use native.Mathlib.Omega.{arith}
 use Rattle.call_common.proofs.Rows.{few_counts, router_few, slot_few, entry_inside}
 use Rattle.call_look.proofs.Exits.{entry_router, entry_side, entry_slot, entry_held}
-use borrow.Author.Rules.{rules}
 use Rattle.call_look.proofs.entry.Goals as goal
 
 pub returns-then-h-router : goal.returns-then-h-router

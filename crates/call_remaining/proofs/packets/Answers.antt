@@ -1,6 +1,5 @@
 use native.Mathlib.Omega.{arith}
 use Rattle.call_remaining.proofs.Count.{queues_inside, wires_inside, all_counted}
-use borrow.Author.Rules.{rules}
 use Rattle.call_remaining.proofs.packets.Goals as goal
 
 pub summed-queued-requires : goal.summed-queued-requires

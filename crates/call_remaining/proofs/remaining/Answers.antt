@@ -1,6 +1,5 @@
 use native.Mathlib.Omega.{arith}
 use Rattle.call_remaining.proofs.Count.{rounds_few, told}
-use borrow.Author.Rules.{rules}
 use Rattle.call_remaining.proofs.remaining.Goals as goal
 
 pub overflow_mul-left-2 : goal.overflow_mul-left-2

@@ -1,8 +1,4 @@
-use Prim.Native.Nat.{◌*◌, ◌-◌, ◌≤◌}
-use mathlib.Core.Path.{◌≡◌}
 use native.Mathlib.Omega.{arith}
-use borrow.Author.Rules.{rules}
-use Rattle.call_remaining.specs.Counted.{apart}
 use Rattle.call_remaining.proofs.Sums.{apart_none, apart_more, apart_all}
 use Rattle.call_remaining.proofs.summed.Goals as goal
 

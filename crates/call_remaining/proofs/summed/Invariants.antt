@@ -1,9 +1,6 @@
-use Prim.Native.Nat.{◌*◌, ◌-◌, ◌≤◌}
+use Prim.Native.Nat.{◌*◌, ◌≤◌}
 use mathlib.Core.Path.{◌≡◌}
-use native.Mathlib.Omega.{arith}
-use borrow.Author.Rules.{rules}
 use Rattle.call_remaining.specs.Counted.{apart}
-use Rattle.call_remaining.proofs.Sums.{apart_none, apart_more, apart_all}
 use Rattle.call_remaining.proofs.summed.Given as goal
 
 abbrev pub invariant-loop-k : goal.invariant-loop-k

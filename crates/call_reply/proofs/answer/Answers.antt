@@ -1,4 +1,3 @@
-use borrow.Author.Rules.{rules}
 use Rattle.call_reply.proofs.answer.Goals as goal
 
 pub returns : goal.returns

@@ -4,7 +4,6 @@ use Rattle.call_common.proofs.Rows.{phase_inside, few_counts, passive_few, passi
 use Rattle.call_reply.proofs.Steps.{reply_ready}
 use Rattle.call_reply.proofs.Exits.{reply_phase, reply_passive, reply_choice, reply_flag, reply_empty, reply_full}
 use Rattle.call_reply.proofs.Exits.{replies}
-use borrow.Author.Rules.{rules}
 use Rattle.call_reply.proofs.reply.Goals as goal
 
 pub bounds-s-0 : goal.bounds-s-0

@@ -1,7 +1,6 @@
 use mathlib.Core.Path.{◌∙◌}
 use native.Mathlib.Omega.{arith}
 use Rattle.call_reply.proofs.Steps.{reply_room, reply_made}
-use borrow.Author.Rules.{rules}
 use Rattle.call_reply.proofs.reply_step.Goals as goal
 
 pub take-requires : goal.take-requires

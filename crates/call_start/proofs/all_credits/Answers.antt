@@ -1,5 +1,4 @@
 use Rattle.call_start.proofs.Begins.{all_groups}
-use borrow.Author.Rules.{rules}
 use Rattle.call_start.proofs.all_credits.Goals as goal
 
 pub returns : goal.returns

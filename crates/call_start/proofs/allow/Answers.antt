@@ -1,7 +1,6 @@
 use mathlib.Core.Path.{◌∙◌}
 use native.Mathlib.Nat.{add-zero}
 use Rattle.call_start.proofs.Begins.{filled_as}
-use borrow.Author.Rules.{rules}
 use Rattle.call_start.proofs.allow.Goals as goal
 
 pub returns : goal.returns

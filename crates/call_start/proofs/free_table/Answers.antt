@@ -3,7 +3,6 @@ use native.Mathlib.Omega.{arith}
 use lib.ListN.{length}
 use Rattle.call_start.proofs.Fills.{length_copies}
 use Rattle.call_start.proofs.Begins.{laid_as}
-use borrow.Author.Rules.{rules}
 use Rattle.call_start.proofs.free_table.Goals as goal
 
 pub lay-requires : goal.lay-requires

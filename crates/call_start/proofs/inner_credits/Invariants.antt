@@ -1,8 +1,7 @@
-use mathlib.Core.Path.{◌≡◌, refl, ◌∙◌}
-use Prim.Native.Nat.{◌*◌, ◌-◌, ◌≤◌}
-use native.Mathlib.Omega.{arith}
+use mathlib.Core.Path.{◌≡◌}
+use Prim.Native.Nat.{◌*◌, ◌≤◌}
 use lib.ListN.{length}
-use Rattle.basis.specs.Fold.{up_to, up_none, up_more, up_done}
+use Rattle.basis.specs.Fold.{up_to}
 use Rattle.call_start.specs.Starting.{router_credits}
 use Rattle.call_start.proofs.inner_credits.Given as goal
 

@@ -1,9 +1,7 @@
-use mathlib.Core.Path.{◌≡◌, refl, ap, ◌∙◌}
-use Prim.Native.Nat.{◌+◌, ◌*◌, ◌-◌, ◌≤◌}
+use mathlib.Core.Path.{refl, ap, ◌∙◌}
 use native.Mathlib.Omega.{arith}
-use lib.ListN.{length}
-use Rattle.basis.specs.Fold.{up_to, up_none, up_more}
-use Rattle.call_start.specs.Starting.{filled, router_turns}
+use Rattle.basis.specs.Fold.{up_none, up_more}
+use Rattle.call_start.specs.Starting.{filled}
 use Rattle.call_start.proofs.Begins.{inner_turns_as}
 use Rattle.call_start.proofs.inner_turns.Goals as goal
 

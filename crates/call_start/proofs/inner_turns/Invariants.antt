@@ -1,10 +1,8 @@
-use mathlib.Core.Path.{◌≡◌, refl, ap, ◌∙◌}
-use Prim.Native.Nat.{◌+◌, ◌*◌, ◌-◌, ◌≤◌}
-use native.Mathlib.Omega.{arith}
+use mathlib.Core.Path.{◌≡◌}
+use Prim.Native.Nat.{◌+◌, ◌*◌, ◌≤◌}
 use lib.ListN.{length}
-use Rattle.basis.specs.Fold.{up_to, up_none, up_more}
-use Rattle.call_start.specs.Starting.{filled, router_turns}
-use Rattle.call_start.proofs.Begins.{inner_turns_as}
+use Rattle.basis.specs.Fold.{up_to}
+use Rattle.call_start.specs.Starting.{router_turns}
 use Rattle.call_start.proofs.inner_turns.Given as goal
 
 abbrev pub invariant-loop-r : goal.invariant-loop-r

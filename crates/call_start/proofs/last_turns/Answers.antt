@@ -1,7 +1,6 @@
 use mathlib.Core.Path.{◌∙◌}
 use native.Mathlib.Nat.{add-zero}
 use Rattle.call_start.proofs.Begins.{both_turns}
-use borrow.Author.Rules.{rules}
 use Rattle.call_start.proofs.last_turns.Goals as goal
 
 pub returns : goal.returns

@@ -1,8 +1,7 @@
-use mathlib.Core.Path.{◌≡◌, refl}
-use Prim.Native.Nat.{◌+◌, ◌-◌, ◌≤◌}
+use mathlib.Core.Path.{refl}
 use native.Mathlib.Omega.{arith}
-use lib.ListN.{length, get_or, set, length-set}
-use Rattle.basis.specs.Fold.{up_to, up_none, up_more, up_done}
+use lib.ListN.{length-set}
+use Rattle.basis.specs.Fold.{up_none, up_more, up_done}
 use Rattle.call_start.proofs.lay.Goals as goal
 
 pub loop-i-init : goal.loop-i-init

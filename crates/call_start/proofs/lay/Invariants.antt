@@ -1,8 +1,7 @@
-use mathlib.Core.Path.{◌≡◌, refl}
-use Prim.Native.Nat.{◌+◌, ◌-◌, ◌≤◌}
-use native.Mathlib.Omega.{arith}
-use lib.ListN.{length, get_or, set, length-set}
-use Rattle.basis.specs.Fold.{up_to, up_none, up_more, up_done}
+use mathlib.Core.Path.{◌≡◌}
+use Prim.Native.Nat.{◌+◌, ◌≤◌}
+use lib.ListN.{length, get_or, set}
+use Rattle.basis.specs.Fold.{up_to}
 use Rattle.call_start.proofs.lay.Given as goal
 
 abbrev pub invariant-loop-i : goal.invariant-loop-i

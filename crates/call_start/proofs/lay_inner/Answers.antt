@@ -1,6 +1,5 @@
 use native.Mathlib.Omega.{arith}
 use Rattle.call_start.proofs.Begins.{routers_as}
-use borrow.Author.Rules.{rules}
 use Rattle.call_start.proofs.lay_inner.Goals as goal
 
 pub returns : goal.returns

@@ -1,6 +1,5 @@
 use mathlib.Core.Path.{refl}
 use native.Mathlib.Omega.{arith}
-use borrow.Author.Rules.{rules}
 use Rattle.call_start.proofs.lay_routers.Goals as goal
 
 pub lay_inner-requires : goal.lay_inner-requires

@@ -1,4 +1,3 @@
-use borrow.Author.Rules.{rules}
 use Rattle.call_start.proofs.lay_same.Goals as goal
 
 pub returns : goal.returns

@@ -1,5 +1,4 @@
 use Rattle.call_start.proofs.Credits.{router_made}
-use borrow.Author.Rules.{rules}
 use Rattle.call_start.proofs.router_credits.Goals as goal
 
 pub returns : goal.returns

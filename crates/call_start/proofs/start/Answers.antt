@@ -1,6 +1,5 @@
 use mathlib.Core.Path.{◌∙◌}
 use Rattle.call_start.proofs.Begins.{few_counts, long_still, start_made}
-use borrow.Author.Rules.{rules}
 use Rattle.call_start.proofs.start.Goals as goal
 
 pub all_credits-requires : goal.all_credits-requires

@@ -1,6 +1,5 @@
 use Rattle.calls.proofs.Opening.{not_loaded, no_state, state_held, call_done}
 use Rattle.calls.proofs.Tables.{tables_plan, tables_lent, table_head, checked_true, checked_false}
-use borrow.Author.Rules.{rules}
 use Rattle.calls.proofs.drop.Goals as goal
 
 pub returns-in_default : goal.returns-in_default

@@ -1,7 +1,5 @@
-use mathlib.Core.Path.{◌∙◌, sym, ap}
 use Rattle.calls.proofs.Opening.{not_loaded, no_state, state_held, call_done}
-use Rattle.calls.proofs.Tables.{tables_plan, tables_lent, tables_wired, table_head, checked_true, checked_false}
-use borrow.Author.Rules.{rules}
+use Rattle.calls.proofs.Tables.{tables_plan, tables_lent, tables_wired, checked_true, checked_false}
 use Rattle.calls.proofs.execute.Goals as goal
 
 pub returns-in_default : goal.returns-in_default

@@ -1,7 +1,5 @@
-use mathlib.Core.Path.{◌∙◌, sym, ap}
 use Rattle.calls.proofs.Opening.{not_loaded_start, start_short, start_done}
 use Rattle.calls.proofs.Tables.{tables_plan, tables_lent, table_head, size_short, size_long, counts_of}
-use borrow.Author.Rules.{rules}
 use Rattle.calls.proofs.start.Goals as goal
 
 pub returns-in_default : goal.returns-in_default

@@ -1,4 +1,3 @@
-use borrow.Author.Rules.{rules}
 use Rattle.check_choices.proofs.may_leave.Goals as goal
 
 pub returns-then-unit_at : goal.returns-then-unit_at

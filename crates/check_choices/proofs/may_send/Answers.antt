@@ -1,8 +1,6 @@
 use Rattle.check_choices.proofs.Picking.{head_ranges, head_onward, send_empty, send_flag, send_mark, send_none}
 use Rattle.check_choices.proofs.Picking.{send_below, send_credit}
-use borrow.Author.Tests.{not-true, not-false}
 use native.Mathlib.Omega.{arith}
-use borrow.Author.Rules.{rules}
 use Rattle.check_choices.proofs.may_send.Goals as goal
 
 pub returns-then-s-i-eq0 : goal.returns-then-s-i-eq0

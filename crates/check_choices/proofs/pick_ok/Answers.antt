@@ -1,5 +1,4 @@
 use Rattle.check_choices.proofs.Picking.{pick_nobody, pick_none, pick_queue, pick_some}
-use borrow.Author.Rules.{rules}
 use Rattle.check_choices.proofs.pick_ok.Goals as goal
 
 pub returns-then-c-eq0 : goal.returns-then-c-eq0

@@ -1,15 +1,7 @@
-use borrow.Author.Rules.{rules}
 use Rattle.check_choices.proofs.Picking.{picks_all}
-use Rattle.check_rule.specs.Parts.{pick_test}
-use Rattle.bytes_layout.specs.Decode.{decode}
-use Rattle.rules.specs.Outputs.{output_at}
-use Rattle.plan.specs.Tables.{table_plan}
-use Rattle.basis.specs.Bounded.{all_below, all_none, all_more, all_fail, all_done}
-use Prim.Native.Nat.{◌≤◌, ◌-◌}
-use mathlib.Core.Bool.{true}
-use mathlib.Core.Path.{◌≡◌, sym, ◌∙◌}
+use Rattle.basis.specs.Bounded.{all_none, all_more, all_fail, all_done}
+use mathlib.Core.Path.{sym, ◌∙◌}
 use native.Mathlib.Omega.{arith}
-use borrow.Author.Tests.{not-true, not-false}
 use Rattle.check_choices.proofs.picks_ok.Goals as goal
 
 pub output_count-n-requires : goal.output_count-n-requires

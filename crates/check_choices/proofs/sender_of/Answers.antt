@@ -1,5 +1,4 @@
 use borrow.Author.Tests.{lt-ltb, le-ltb, eq-eqb, ne_eqb}
-use borrow.Author.Rules.{rules}
 use Rattle.check_choices.proofs.sender_of.Goals as goal
 
 pub returns-then-k-eq0 : goal.returns-then-k-eq0

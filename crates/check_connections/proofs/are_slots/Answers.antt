@@ -1,4 +1,3 @@
-use borrow.Author.Rules.{rules}
 use Rattle.check_connections.proofs.are_slots.Goals as goal
 
 pub returns : goal.returns

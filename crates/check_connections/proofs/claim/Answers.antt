@@ -1,5 +1,4 @@
 use Rattle.check_connections.proofs.Leaf.{claim_lacking, claim_shared, claim_made}
-use borrow.Author.Rules.{rules}
 use Rattle.check_connections.proofs.claim.Goals as goal
 
 pub returns-then-wide-side : goal.returns-then-wide-side

@@ -1,8 +1,6 @@
 use native.Mathlib.Omega.{arith}
-use borrow.Author.Tests.{not-true, not-false}
 use Rattle.check_connections.proofs.Exits.{course_of, pair_none, pair_passive, pair_slot, pair_starts, pair_done}
 use Rattle.check_connections.proofs.Exits.{pair_unserved}
-use borrow.Author.Rules.{rules}
 use Rattle.check_connections.proofs.pair_ok.Goals as goal
 
 pub returns-then-word-eq0 : goal.returns-then-word-eq0

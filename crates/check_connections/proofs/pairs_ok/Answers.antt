@@ -1,9 +1,5 @@
-use Prim.Native.Nat.{◌-◌, ◌≤◌}
 use native.Mathlib.Omega.{arith}
-use borrow.Author.Rules.{rules}
-use borrow.Author.Tests.{not-true, not-false}
-use Rattle.plan.specs.Tables.{table_plan}
-use Rattle.check_connections.proofs.Exits.{Pairing, pairing_none, pairing_more, pairing_fail, pairing_done, four_at_lem}
+use Rattle.check_connections.proofs.Exits.{pairing_none, pairing_more, pairing_fail, pairing_done, four_at_lem}
 use Rattle.check_connections.proofs.pairs_ok.Goals as goal
 
 pub overflow_mul-pairs : goal.overflow_mul-pairs

@@ -1,6 +1,5 @@
 use native.Mathlib.Omega.{arith}
 use Rattle.check_connections.proofs.Leaf.{slot_found}
-use borrow.Author.Rules.{rules}
 use Rattle.check_connections.proofs.slot_at.Goals as goal
 
 pub returns : goal.returns

@@ -1,8 +1,5 @@
 use native.Mathlib.Omega.{arith}
-use borrow.Author.Tests.{not-true, not-false}
-use Rattle.plan.specs.Tables.{table_plan}
-use Rattle.bytes_layout.specs.Decode.{decode}
-use Rattle.check_connections.proofs.Starting.{Starting, starting_none, starting_slot, starting_claims, starting_more}
+use Rattle.check_connections.proofs.Starting.{starting_none, starting_slot, starting_claims, starting_more}
 use Rattle.check_connections.proofs.Starting.{starting_fail, starting_done}
 use Rattle.check_connections.proofs.Exits.{course_turn}
 use Rattle.check_connections.proofs.starts_ok.Goals as goal

@@ -1,10 +1,5 @@
-use Prim.Native.Nat.{◌-◌, ◌≤◌}
 use native.Mathlib.Omega.{arith}
-use borrow.Author.Rules.{rules}
-use borrow.Author.Tests.{not-true, not-false}
-use Rattle.plan.specs.Tables.{table_plan}
-use Rattle.bytes_layout.specs.Decode.{decode}
-use Rattle.check_connections.proofs.Tying.{Tying, tying_none, tying_port, tying_key, tying_more, tying_fail, tying_done}
+use Rattle.check_connections.proofs.Tying.{tying_none, tying_port, tying_key, tying_more, tying_fail, tying_done}
 use Rattle.check_connections.proofs.tie_ok.Goals as goal
 
 pub table_row-table-requires : goal.table_row-table-requires

@@ -1,10 +1,7 @@
-use Prim.Native.Nat.{◌-◌, ◌≤◌}
-use native.Mathlib.Omega.{arith}
-use borrow.Author.Rules.{rules}
-use borrow.Author.Tests.{not-true, not-false}
+use Prim.Native.Nat.{◌≤◌}
 use Rattle.plan.specs.Tables.{table_plan}
 use Rattle.bytes_layout.specs.Decode.{decode}
-use Rattle.check_connections.proofs.Tying.{Tying, tying_none, tying_port, tying_key, tying_more, tying_fail, tying_done}
+use Rattle.check_connections.proofs.Tying.{Tying}
 use Rattle.check_connections.proofs.tie_ok.Given as goal
 
 abbrev pub invariant-loop-n : goal.invariant-loop-n

@@ -1,6 +1,5 @@
 use native.Mathlib.Omega.{arith}
 use Rattle.check_connections.proofs.Exits.{zeros_pass}
-use borrow.Author.Rules.{rules}
 use Rattle.check_connections.proofs.ties_ok.Goals as goal
 
 pub returns-then-zeros : goal.returns-then-zeros

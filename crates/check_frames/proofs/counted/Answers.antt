@@ -1,5 +1,4 @@
-use borrow.Author.Tests.{ltb-true, lt-ltb, le-ltb, eq-eqb, ne_eqb, le-leb, lt-leb}
-use borrow.Author.Rules.{rules}
+use borrow.Author.Tests.{lt-ltb, le-ltb}
 use Rattle.check_frames.proofs.counted.Goals as goal
 
 pub returns-then-x-lt200 : goal.returns-then-x-lt200

@@ -1,6 +1,5 @@
 use Rattle.check_frames.proofs.Frames.{flag_none, flag_fed}
-use borrow.Author.Rules.{rules}
-use borrow.Author.Tests.{ltb-true, lt-ltb, le-ltb, eq-eqb, ne_eqb, le-leb, lt-leb}
+use borrow.Author.Tests.{ne_eqb}
 use Rattle.check_frames.proofs.flag_ok.Goals as goal
 
 pub returns-then-f-eq0 : goal.returns-then-f-eq0

@@ -1,5 +1,4 @@
-use borrow.Author.Tests.{ltb-true, lt-ltb, le-ltb, eq-eqb, ne_eqb, le-leb, lt-leb}
-use borrow.Author.Rules.{rules}
+use borrow.Author.Tests.{le-leb, lt-leb}
 use Rattle.check_frames.proofs.flags_ok.Goals as goal
 
 pub returns-then-f-gt1 : goal.returns-then-f-gt1

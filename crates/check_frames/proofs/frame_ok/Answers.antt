@@ -1,7 +1,4 @@
 use Rattle.check_frames.proofs.Frames.{frame_none, frame_fed, frame_unfed}
-use borrow.Author.Tests.{not-true, not-false}
-use borrow.Author.Tests.{ltb-true, lt-ltb, le-ltb, eq-eqb, ne_eqb, le-leb, lt-leb}
-use borrow.Author.Rules.{rules}
 use Rattle.check_frames.proofs.frame_ok.Goals as goal
 
 pub returns-then-not-flags_ok : goal.returns-then-not-flags_ok

@@ -1,5 +1,4 @@
 use Rattle.check_frames.proofs.Frames.{first, not_first}
-use borrow.Author.Rules.{rules}
 use Rattle.check_frames.proofs.of_head.Goals as goal
 
 pub returns-then-k-eq0 : goal.returns-then-k-eq0

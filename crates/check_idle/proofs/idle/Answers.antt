@@ -3,7 +3,6 @@ use mathlib.Core.Bool.{false≢true}
 use borrow.Author.Tests.{eqb-true}
 use Rattle.check_idle.proofs.Stretch.{row_idle, by_words}
 use native.Mathlib.Omega.{arith}
-use borrow.Author.Rules.{rules}
 use Rattle.check_idle.proofs.idle.Goals as goal
 
 pub returns-then-word-wide : goal.returns-then-word-wide

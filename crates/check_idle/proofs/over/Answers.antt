@@ -1,7 +1,6 @@
 use lib.Dec.{ltb}
 use mathlib.Core.Path.{◌∙◌}
 use Rattle.check_idle.proofs.Stretch.{bit_none, less_not}
-use borrow.Author.Rules.{rules}
 use Rattle.check_idle.proofs.over.Goals as goal
 
 pub returns : goal.returns

@@ -1,8 +1,6 @@
 use mathlib.Core.Path.{sym, ◌∙◌}
 use mathlib.Core.Bool.{false≢true}
-use borrow.Author.Tests.{not-false}
 use Rattle.check_idle.proofs.Stretch.{quiet_of}
-use borrow.Author.Rules.{rules}
 use Rattle.check_idle.proofs.quiet.Goals as goal
 
 pub returns-then-not-zeros : goal.returns-then-not-zeros

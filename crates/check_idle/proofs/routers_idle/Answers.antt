@@ -1,9 +1,6 @@
-use mathlib.Core.Path.{◌≡◌, refl}
+use mathlib.Core.Path.{refl}
 use mathlib.Core.Bool.{false≢true}
-use Prim.Native.Nat.{◌≤◌, ◌-◌}
-use borrow.Author.Tests.{not-false}
-use Rattle.check_idle.proofs.Stretch.{Routers, routers_none, routers_more, routers_done}
-use borrow.Author.Rules.{rules}
+use Rattle.check_idle.proofs.Stretch.{routers_none, routers_more, routers_done}
 use native.Mathlib.Omega.{arith}
 use Rattle.check_idle.proofs.routers_idle.Goals as goal
 

@@ -1,10 +1,6 @@
-use mathlib.Core.Path.{◌≡◌, refl}
-use mathlib.Core.Bool.{false≢true}
-use Prim.Native.Nat.{◌≤◌, ◌-◌}
-use borrow.Author.Tests.{not-false}
-use Rattle.check_idle.proofs.Stretch.{Routers, routers_none, routers_more, routers_done}
-use borrow.Author.Rules.{rules}
-use native.Mathlib.Omega.{arith}
+use mathlib.Core.Path.{◌≡◌}
+use Prim.Native.Nat.{◌≤◌}
+use Rattle.check_idle.proofs.Stretch.{Routers}
 use Rattle.check_idle.proofs.routers_idle.Given as goal
 
 abbrev pub invariant-loop-k : goal.invariant-loop-k

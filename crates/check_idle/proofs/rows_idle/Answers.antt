@@ -1,9 +1,5 @@
-use borrow.Author.Tests.{not-false}
 use mathlib.Core.Bool.{false≢true}
-use Prim.Native.Nat.{◌≤◌, ◌-◌}
-use Rattle.check_idle.specs.Bytes.{IdleRows}
 use Rattle.check_idle.proofs.Stretch.{rows_none, rows_more, rows_done}
-use borrow.Author.Rules.{rules}
 use native.Mathlib.Omega.{arith}
 use Rattle.check_idle.proofs.rows_idle.Goals as goal
 

@@ -1,6 +1,4 @@
-use borrow.Author.Tests.{not-false}
 use mathlib.Core.Bool.{false≢true}
-use borrow.Author.Rules.{rules}
 use Rattle.check_idle.proofs.side_idle.Goals as goal
 
 pub returns-then-not-rows_idle : goal.returns-then-not-rows_idle

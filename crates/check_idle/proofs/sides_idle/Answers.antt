@@ -1,8 +1,5 @@
-use borrow.Author.Tests.{not-false}
 use mathlib.Core.Bool.{false≢true}
-use Prim.Native.Nat.{◌≤◌, ◌-◌}
-use Rattle.check_idle.proofs.Stretch.{Sides, sides_none, sides_more, sides_done}
-use borrow.Author.Rules.{rules}
+use Rattle.check_idle.proofs.Stretch.{sides_none, sides_more, sides_done}
 use native.Mathlib.Omega.{arith}
 use Rattle.check_idle.proofs.sides_idle.Goals as goal
 

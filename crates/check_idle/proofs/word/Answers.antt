@@ -1,4 +1,3 @@
-use borrow.Author.Rules.{rules}
 use Rattle.check_idle.proofs.word.Goals as goal
 
 pub returns : goal.returns

@@ -1,10 +1,7 @@
 use Rattle.check_rule.specs.Forms.{zeros}
 use mathlib.Core.Path.{◌≡◌}
-use Prim.Native.Nat.{◌≤◌, ◌-◌}
+use Prim.Native.Nat.{◌≤◌}
 use lib.Dec.{eqb}
-use Rattle.check_idle.proofs.Stretch.{zeros_none, zeros_next, zeros_all}
-use borrow.Author.Rules.{rules}
-use native.Mathlib.Omega.{arith}
 use Rattle.check_idle.proofs.zeros.Given as goal
 
 abbrev pub invariant-loop-k : goal.invariant-loop-k

@@ -1,5 +1,4 @@
 use Rattle.check_last_senders.proofs.Ranks.{router_ranked}
-use borrow.Author.Rules.{rules}
 use Rattle.check_last_senders.proofs.router_fits.Goals as goal
 
 pub returns : goal.returns

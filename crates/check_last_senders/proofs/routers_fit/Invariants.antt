@@ -1,10 +1,7 @@
 use mathlib.Core.Path.{◌≡◌}
 use mathlib.Core.Bool.{true}
-use Prim.Native.Nat.{◌≤◌, ◌-◌}
-use native.Mathlib.Omega.{arith}
-use borrow.Author.Tests.{not-true, not-false}
+use Prim.Native.Nat.{◌≤◌}
 use Rattle.check_last_senders.specs.Turns.{routers_ranks}
-use Rattle.check_last_senders.proofs.Ranks.{routers_none, routers_more, routers_fail, routers_done}
 use Rattle.check_last_senders.proofs.routers_fit.Given as goal
 
 abbrev pub invariant-loop-r : goal.invariant-loop-r

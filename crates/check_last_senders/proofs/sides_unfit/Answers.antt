@@ -1,9 +1,4 @@
-use mathlib.Core.Path.{◌≡◌}
-use Prim.Native.Nat.{◌≤◌, ◌-◌}
-use lib.Dec.{eqb}
-use Rattle.check_last_senders.specs.Turns.{side_ranks}
 use Rattle.check_last_senders.proofs.Ranks.{sides_first, sides_joined, sides_ranked}
-use borrow.Author.Rules.{rules}
 use native.Mathlib.Omega.{arith}
 use Rattle.check_last_senders.proofs.sides_unfit.Goals as goal
 

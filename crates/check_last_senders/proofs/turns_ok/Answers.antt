@@ -1,6 +1,4 @@
 use Rattle.check_last_senders.proofs.Ranks.{turns_none, turns_rest}
-use borrow.Author.Tests.{not-true, not-false}
-use borrow.Author.Rules.{rules}
 use Rattle.check_last_senders.proofs.turns_ok.Goals as goal
 
 pub returns-then-not-zeros : goal.returns-then-not-zeros

@@ -1,5 +1,4 @@
 use Rattle.check_last_senders.proofs.Ranks.{side_rank_lem}
-use borrow.Author.Rules.{rules}
 use Rattle.check_last_senders.proofs.unfit.Goals as goal
 
 pub returns : goal.returns

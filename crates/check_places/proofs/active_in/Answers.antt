@@ -1,5 +1,4 @@
 use Rattle.check_places.proofs.Exits.{active_in_setup, active_in_tdown, active_in_ack, active_in_nack}
-use borrow.Author.Rules.{rules}
 use Rattle.check_places.proofs.active_in.Goals as goal
 
 pub returns-in-Setup : goal.returns-in-Setup

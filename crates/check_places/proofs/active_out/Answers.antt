@@ -1,5 +1,4 @@
 use Rattle.check_places.proofs.Exits.{active_out_setup, active_out_tdown, active_out_ack, active_out_nack}
-use borrow.Author.Rules.{rules}
 use Rattle.check_places.proofs.active_out.Goals as goal
 
 pub returns-in-Setup : goal.returns-in-Setup

@@ -1,5 +1,4 @@
 use Rattle.check_places.proofs.Exits.{answer_setup, answer_tdown, ack_other, ack_far, nack_far, nack_near}
-use borrow.Author.Rules.{rules}
 use Rattle.check_places.proofs.answer_by.Goals as goal
 
 pub returns-then-hub-t : goal.returns-then-hub-t

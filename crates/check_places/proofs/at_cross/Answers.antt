@@ -1,5 +1,4 @@
 use Rattle.check_places.proofs.Exits.{cross_off, cross_on}
-use borrow.Author.Rules.{rules}
 use Rattle.check_places.proofs.at_cross.Goals as goal
 
 pub returns-then-wide-o : goal.returns-then-wide-o

@@ -1,5 +1,4 @@
 use Rattle.check_places.proofs.Exits.{behind_small, out_off, out_on}
-use borrow.Author.Rules.{rules}
 use Rattle.check_places.proofs.at_out.Goals as goal
 
 pub returns-then-wide-o : goal.returns-then-wide-o

@@ -1,5 +1,4 @@
 use Rattle.check_places.proofs.Exits.{router_side, router_unit, router_sender_lem}
-use borrow.Author.Rules.{rules}
 use Rattle.check_places.proofs.at_router.Goals as goal
 
 pub returns-then-k-lt4 : goal.returns-then-k-lt4

@@ -1,6 +1,5 @@
 use Rattle.check_places.proofs.Exits.{sender_unit, sender_not, sender_answer, sender_never, sender_below}
 use Rattle.check_places.proofs.Exits.{sender_above}
-use borrow.Author.Rules.{rules}
 use Rattle.check_places.proofs.at_sender.Goals as goal
 
 pub returns-then-answers : goal.returns-then-answers

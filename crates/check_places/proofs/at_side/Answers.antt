@@ -1,6 +1,4 @@
-use borrow.Author.Tests.{not-true, not-false}
 use Rattle.check_places.proofs.Exits.{side_off, side_on}
-use borrow.Author.Rules.{rules}
 use Rattle.check_places.proofs.at_side.Goals as goal
 
 pub returns-then-not-comes : goal.returns-then-not-comes

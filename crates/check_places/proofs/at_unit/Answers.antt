@@ -1,6 +1,4 @@
-use borrow.Author.Tests.{not-true, not-false}
 use Rattle.check_places.proofs.Exits.{behind_small, unit_off, unit_done, unit_new}
-use borrow.Author.Rules.{rules}
 use Rattle.check_places.proofs.at_unit.Goals as goal
 
 pub returns-then-not-comes_by : goal.returns-then-not-comes_by

@@ -1,6 +1,5 @@
 use native.Mathlib.Omega.{arith}
 use Rattle.check_places.proofs.SideIn.{home_few, side_in_is}
-use borrow.Author.Rules.{rules}
 use Rattle.check_places.proofs.came_in.Goals as goal
 
 pub side_in-requires : goal.side_in-requires

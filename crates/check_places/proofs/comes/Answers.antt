@@ -1,5 +1,4 @@
 use Rattle.check_places.proofs.Exits.{coming_off, coming_setup, coming_tdown, coming_ack, coming_nack}
-use borrow.Author.Rules.{rules}
 use Rattle.check_places.proofs.comes.Goals as goal
 
 pub returns-then-v-eq0 : goal.returns-then-v-eq0

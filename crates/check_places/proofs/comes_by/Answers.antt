@@ -1,5 +1,4 @@
 use Rattle.check_places.proofs.Exits.{comes_here, comes_later}
-use borrow.Author.Rules.{rules}
 use Rattle.check_places.proofs.comes_by.Goals as goal
 
 pub returns-then-from-port : goal.returns-then-from-port

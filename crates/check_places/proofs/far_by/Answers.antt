@@ -1,5 +1,4 @@
 use Rattle.check_places.proofs.Exits.{far_is}
-use borrow.Author.Rules.{rules}
 use Rattle.check_places.proofs.far_by.Goals as goal
 
 pub returns : goal.returns

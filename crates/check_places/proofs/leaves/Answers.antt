@@ -1,5 +1,4 @@
 use Rattle.check_places.proofs.Exits.{leaving_off, leaving_setup, leaving_tdown, leaving_ack, leaving_nack}
-use borrow.Author.Rules.{rules}
 use Rattle.check_places.proofs.leaves.Goals as goal
 
 pub returns-then-v-eq0 : goal.returns-then-v-eq0

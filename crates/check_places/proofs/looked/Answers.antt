@@ -1,5 +1,4 @@
 use Rattle.check_places.proofs.Exits.{fits_out, fits_router, fits_in}
-use borrow.Author.Rules.{rules}
 use Rattle.check_places.proofs.looked.Goals as goal
 
 pub returns-then-n-outs : goal.returns-then-n-outs

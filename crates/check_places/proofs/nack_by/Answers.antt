@@ -1,5 +1,4 @@
 use Rattle.check_places.proofs.Exits.{nack_none, nack_some}
-use borrow.Author.Rules.{rules}
 use Rattle.check_places.proofs.nack_by.Goals as goal
 
 pub returns-then-t-hub : goal.returns-then-t-hub

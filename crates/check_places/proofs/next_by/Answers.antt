@@ -1,6 +1,4 @@
-use borrow.Author.Tests.{not-true, not-false}
 use Rattle.check_places.proofs.Exits.{next_none, next_off, next_on}
-use borrow.Author.Rules.{rules}
 use Rattle.check_places.proofs.next_by.Goals as goal
 
 pub returns-then-v-ne1 : goal.returns-then-v-ne1

@@ -1,8 +1,5 @@
-use mathlib.Core.Path.{◌≡◌}
-use Prim.Native.Nat.{◌-◌, ◌≤◌, ◌<◌}
 use native.Mathlib.Omega.{arith}
-use Rattle.basis.specs.Fold.{up_to, up_none, up_more}
-use Rattle.check_places.specs.Look.{onward_of}
+use Rattle.basis.specs.Fold.{up_none, up_more}
 use Rattle.check_places.proofs.Exits.{led_at, nth_done}
 use Rattle.check_places.proofs.nth.Goals as goal
 

@@ -1,9 +1,7 @@
 use mathlib.Core.Path.{◌≡◌}
-use Prim.Native.Nat.{◌-◌, ◌≤◌, ◌<◌}
-use native.Mathlib.Omega.{arith}
-use Rattle.basis.specs.Fold.{up_to, up_none, up_more}
+use Prim.Native.Nat.{◌≤◌, ◌<◌}
+use Rattle.basis.specs.Fold.{up_to}
 use Rattle.check_places.specs.Look.{onward_of}
-use Rattle.check_places.proofs.Exits.{led_at, nth_done}
 use Rattle.check_places.proofs.nth.Given as goal
 
 abbrev pub invariant-loop-i : goal.invariant-loop-i

@@ -1,6 +1,5 @@
 use native.Mathlib.Omega.{arith}
 use Rattle.check_places.proofs.Exits.{onward_is}
-use borrow.Author.Rules.{rules}
 use Rattle.check_places.proofs.onward.Goals as goal
 
 pub returns : goal.returns

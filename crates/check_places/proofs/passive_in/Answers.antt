@@ -1,5 +1,4 @@
 use Rattle.check_places.proofs.Exits.{passive_in_setup, passive_in_tdown, passive_in_ack, passive_in_nack}
-use borrow.Author.Rules.{rules}
 use Rattle.check_places.proofs.passive_in.Goals as goal
 
 pub returns-in-Setup : goal.returns-in-Setup

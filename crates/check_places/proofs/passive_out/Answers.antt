@@ -1,5 +1,4 @@
 use Rattle.check_places.proofs.Exits.{passive_out_setup, passive_out_tdown, passive_out_ack, passive_out_nack}
-use borrow.Author.Rules.{rules}
 use Rattle.check_places.proofs.passive_out.Goals as goal
 
 pub returns-in-Setup : goal.returns-in-Setup

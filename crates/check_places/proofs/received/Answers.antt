@@ -1,5 +1,4 @@
 use Rattle.check_places.proofs.Exits.{received_other, received_own, arrived_other, arrived_own}
-use borrow.Author.Rules.{rules}
 use Rattle.check_places.proofs.received.Goals as goal
 
 pub returns-then-n-wide : goal.returns-then-n-wide

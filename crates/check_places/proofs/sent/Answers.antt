@@ -1,5 +1,4 @@
 use Rattle.check_places.proofs.Exits.{sent_other, sent_own, answered_other, answered_own}
-use borrow.Author.Rules.{rules}
 use Rattle.check_places.proofs.sent.Goals as goal
 
 pub returns-then-n-wide : goal.returns-then-n-wide

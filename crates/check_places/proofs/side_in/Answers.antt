@@ -1,8 +1,7 @@
 use mathlib.Core.Path.{refl}
 use mathlib.Core.Logic.{inr}
-use Prim.Native.Nat.{◌-◌, ◌≤◌}
 use native.Mathlib.Omega.{arith}
-use Rattle.check_places.proofs.SideIn.{NoneBelow, by_start, none_more, by_side}
+use Rattle.check_places.proofs.SideIn.{by_start, none_more, by_side}
 use Rattle.check_places.proofs.side_in.Goals as goal
 
 pub returns-then-from-r : goal.returns-then-from-r

@@ -1,6 +1,4 @@
-use borrow.Author.Tests.{not-true, not-false}
 use Rattle.check_places.proofs.Exits.{spot_off, spot_fits, spot_on}
-use borrow.Author.Rules.{rules}
 use Rattle.check_places.proofs.spot.Goals as goal
 
 pub returns-then-not-has : goal.returns-then-not-has

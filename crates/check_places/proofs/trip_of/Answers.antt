@@ -1,5 +1,4 @@
 use Rattle.check_places.proofs.Exits.{trip_is}
-use borrow.Author.Rules.{rules}
 use Rattle.check_places.proofs.trip_of.Goals as goal
 
 pub returns : goal.returns

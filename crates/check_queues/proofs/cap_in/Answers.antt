@@ -1,5 +1,4 @@
-use borrow.Author.Tests.{lt-ltb, le-ltb, eq-eqb, ne_eqb}
-use borrow.Author.Rules.{rules}
+use borrow.Author.Tests.{lt-ltb, le-ltb}
 use Rattle.check_queues.proofs.cap_in.Goals as goal
 
 pub returns-then-k-lt4 : goal.returns-then-k-lt4

@@ -1,9 +1,7 @@
-use mathlib.Core.Path.{◌∙◌, sym, ap}
+use mathlib.Core.Path.{◌∙◌}
 use native.Mathlib.Omega.{arith}
-use borrow.Author.Tests.{not-true, not-false}
 use Rattle.check_queues.proofs.Turns.{rows_join, rows_lost}
 use Rattle.check_queues.proofs.Groups.{same_cap}
-use borrow.Author.Rules.{rules}
 use Rattle.check_queues.proofs.interfaces_ok.Goals as goal
 
 pub rows_ok-requires : goal.rows_ok-requires

@@ -1,8 +1,6 @@
 use native.Mathlib.Omega.{arith}
-use borrow.Author.Tests.{not-true, not-false}
 use Rattle.check_queues.proofs.Groups.{active_out_cap, passive_out_cap, active_in_cap, passive_in_cap, lines_first}
 use Rattle.check_queues.proofs.Groups.{lines_second, lines_all}
-use borrow.Author.Rules.{rules}
 use Rattle.check_queues.proofs.lines_ok.Goals as goal
 
 pub interfaces_ok-requires : goal.interfaces_ok-requires

@@ -1,5 +1,4 @@
 use Rattle.check_queues.proofs.Numbers.{active_out_lem, passive_out_lem, slot_out, hub_out, numbers_in}
-use borrow.Author.Rules.{rules}
 use Rattle.check_queues.proofs.packet_ok.Goals as goal
 
 pub returns-then-h-a : goal.returns-then-h-a

@@ -1,9 +1,7 @@
 use native.Mathlib.Omega.{arith}
 use mathlib.Core.Path.{sym, ◌∙◌}
-use borrow.Author.Tests.{not-true, not-false}
 use Rattle.check_queues.proofs.Turns.{place_kind, place_numbers, place_misfit, place_done}
 use Rattle.check_queues.proofs.Turns.{numbers_ok, asking, active_few, queues_few}
-use borrow.Author.Rules.{rules}
 use Rattle.check_queues.proofs.place_ok.Goals as goal
 
 pub returns-then-s-at-gt3 : goal.returns-then-s-at-gt3

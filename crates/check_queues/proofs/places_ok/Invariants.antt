@@ -1,10 +1,7 @@
-use borrow.Author.Rules.{rules}
 use Rattle.plan_queues.specs.Queue.{queue_at}
 use Rattle.plan.specs.Tables.{table_plan}
-use Prim.Native.Nat.{◌-◌, ◌≤◌}
-use native.Mathlib.Omega.{arith}
-use borrow.Author.Tests.{not-true, not-false}
-use Rattle.check_queues.proofs.Turns.{Seen, seen_none, seen_more, seen_fail, seen_done}
+use Prim.Native.Nat.{◌≤◌}
+use Rattle.check_queues.proofs.Turns.{Seen}
 use Rattle.check_queues.proofs.places_ok.Given as goal
 
 abbrev pub invariant-loop-k : goal.invariant-loop-k

@@ -1,6 +1,5 @@
 use mathlib.Core.Bool.{false≢true}
 use native.Mathlib.Omega.{arith}
-use borrow.Author.Rules.{rules}
 use Rattle.check_queues.proofs.rests.Goals as goal
 
 pub returns-then-w-ne0 : goal.returns-then-w-ne0

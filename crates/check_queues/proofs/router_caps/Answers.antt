@@ -1,9 +1,5 @@
-use borrow.Author.Rules.{rules}
 use Rattle.check_queues.specs.Lines.{cap_in}
-use Rattle.basis.specs.Fold.{up_to, fill, up_none, up_fill, up_done}
-use lib.ListN.{replicate}
-use mathlib.Core.Path.{◌≡◌}
-use Prim.Native.Nat.{◌-◌, ◌≤◌}
+use Rattle.basis.specs.Fold.{up_none, up_fill, up_done}
 use native.Mathlib.Omega.{arith}
 use Rattle.check_queues.proofs.router_caps.Goals as goal
 

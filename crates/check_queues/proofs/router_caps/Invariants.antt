@@ -1,10 +1,8 @@
-use borrow.Author.Rules.{rules}
 use Rattle.check_queues.specs.Lines.{cap_in}
-use Rattle.basis.specs.Fold.{up_to, fill, up_none, up_fill, up_done}
+use Rattle.basis.specs.Fold.{up_to, fill}
 use lib.ListN.{replicate}
 use mathlib.Core.Path.{◌≡◌}
-use Prim.Native.Nat.{◌-◌, ◌≤◌}
-use native.Mathlib.Omega.{arith}
+use Prim.Native.Nat.{◌≤◌}
 use Rattle.check_queues.proofs.router_caps.Given as goal
 
 abbrev pub invariant-loop-k : goal.invariant-loop-k

@@ -1,14 +1,5 @@
-use mathlib.Core.Path.{◌∙◌, sym, ap}
-use borrow.Author.Rules.{rules}
-use Rattle.check_queues.specs.Lines.{RowsChecked}
-use Rattle.plan.specs.Head.{destinations}
-use Rattle.plan.specs.Tables.{table_plan}
-use mathlib.Core.Bool.{true}
-use Prim.Native.Nat.{◌-◌, ◌≤◌, ◌*◌}
 use native.Mathlib.Omega.{arith}
-use borrow.Author.Tests.{not-true, not-false}
 use Rattle.check_queues.proofs.Groups.{router_caps_lem, routers_start, routers_more, routers_fail, routers_done}
-use Rattle.check_queues.proofs.Turns.{rows_none, rows_join, rows_lost}
 use Rattle.check_queues.proofs.routers_ok.Goals as goal
 
 pub overflow_add-d : goal.overflow_add-d

@@ -1,8 +1,5 @@
-use mathlib.Core.Path.{◌∙◌}
 use native.Mathlib.Omega.{arith}
-use borrow.Author.Tests.{not-true, not-false}
 use Rattle.check_queues.proofs.Turns.{code_frame, code_few, code_zeros, code_places}
-use borrow.Author.Rules.{rules}
 use Rattle.check_queues.proofs.row_busy.Goals as goal
 
 pub row_frame-requires : goal.row_frame-requires

@@ -1,4 +1,3 @@
-use borrow.Author.Rules.{rules}
 use Rattle.check_queues.proofs.row_frame.Goals as goal
 
 pub returns : goal.returns

@@ -1,8 +1,5 @@
 use mathlib.Core.Path.{refl}
-use Prim.Native.Nat.{◌-◌}
 use native.Mathlib.Omega.{arith}
-use borrow.Author.Tests.{not-false}
-use Rattle.check_queues.specs.Lines.{Skipped}
 use Rattle.check_queues.proofs.Turns.{skip_none, skip_more, skip_done}
 use Rattle.check_queues.proofs.skip.Goals as goal
 

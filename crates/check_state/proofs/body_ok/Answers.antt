@@ -1,9 +1,6 @@
-use mathlib.Core.Path.{◌∙◌, sym, ap}
 use native.Mathlib.Omega.{arith}
-use borrow.Author.Tests.{not-true, not-false}
-use Rattle.check_state.proofs.Together.{body_places, body_allowances, body_tables, body_ties, whole_few, phase_few}
+use Rattle.check_state.proofs.Together.{body_places, body_allowances, body_tables, body_ties, phase_few}
 use Rattle.check_state.proofs.Together.{body_turns, lent_given}
-use borrow.Author.Rules.{rules}
 use Rattle.check_state.proofs.body_ok.Goals as goal
 
 pub places_ok-requires : goal.places_ok-requires

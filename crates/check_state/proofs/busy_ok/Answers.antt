@@ -1,11 +1,8 @@
-use lib.ListN.{length, get_or}
+use lib.ListN.{length}
 use Rattle.check_wires.proofs.Bringing.{coming_is}
 use mathlib.Core.Path.{◌∙◌, sym, ap}
-use native.Mathlib.Omega.{arith}
-use borrow.Author.Tests.{not-true, not-false}
 use Rattle.check_state.proofs.Together.{none_coming_lem, coming_long, no_tracks_lem, busy_outputs, busy_lines, busy_picks}
 use Rattle.check_state.proofs.Together.{busy_else, lent_wired}
-use borrow.Author.Rules.{rules}
 use Rattle.check_state.proofs.busy_ok.Goals as goal
 
 pub tracks-requires : goal.tracks-requires

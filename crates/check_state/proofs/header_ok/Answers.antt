@@ -1,5 +1,4 @@
-use borrow.Author.Tests.{lt-ltb, le-ltb, le-leb, lt-leb}
-use borrow.Author.Rules.{rules}
+use borrow.Author.Tests.{le-leb, lt-leb}
 use Rattle.check_state.proofs.header_ok.Goals as goal
 
 pub returns-then-s-gt2 : goal.returns-then-s-gt2

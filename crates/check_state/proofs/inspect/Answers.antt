@@ -1,8 +1,5 @@
-use mathlib.Core.Path.{◌∙◌, sym, ap}
-use native.Mathlib.Omega.{arith}
-use borrow.Author.Tests.{not-true, not-false}
+use mathlib.Core.Path.{◌∙◌, sym}
 use Rattle.check_state.proofs.Together.{all_short, all_headless, all_checked}
-use borrow.Author.Rules.{rules}
 use Rattle.check_state.proofs.inspect.Goals as goal
 
 pub state_size-requires : goal.state_size-requires

@@ -1,5 +1,4 @@
 use Rattle.check_state.proofs.Together.{quiet_passed}
-use borrow.Author.Rules.{rules}
 use Rattle.check_state.proofs.places_ok.Goals as goal
 
 pub quiet-requires : goal.quiet-requires

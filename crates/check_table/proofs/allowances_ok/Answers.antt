@@ -1,9 +1,4 @@
-use mathlib.Core.Path.{◌≡◌}
-use mathlib.Core.Bool.{true}
-use Prim.Native.Nat.{◌≤◌, ◌-◌}
-use Rattle.check_idle.specs.Bytes.{allowances_fit}
 use Rattle.check_table.proofs.Entries.{allowances_none, allowances_next, allowances_fail, allowances_all}
-use borrow.Author.Rules.{rules}
 use native.Mathlib.Omega.{arith}
 use Rattle.check_table.proofs.allowances_ok.Goals as goal
 

@@ -1,10 +1,4 @@
-use mathlib.Core.Path.{◌≡◌}
-use mathlib.Core.Bool.{not}
-use Prim.Native.Nat.{◌≤◌, ◌-◌}
-use lib.Dec.{eqb}
-use Rattle.check_idle.specs.Bytes.{bytes_within, byte_open}
 use Rattle.check_table.proofs.Entries.{within_none, within_next, open_none, open_next, both_done}
-use borrow.Author.Rules.{rules}
 use native.Mathlib.Omega.{arith}
 use Rattle.check_table.proofs.bytes_ok.Goals as goal
 

@@ -1,8 +1,7 @@
-use mathlib.Core.Path.{◌≡◌, refl, ◌∙◌}
-use Prim.Native.Nat.{ℕ, ◌≤◌, ◌-◌, ◌*◌}
-use lib.ListN.{length, length-set}
-use Rattle.check_table.proofs.Entries.{Filled, filled_none, filled_more, filled_done}
-use borrow.Author.Rules.{rules}
+use mathlib.Core.Path.{refl, ◌∙◌}
+use Prim.Native.Nat.{ℕ, ◌*◌}
+use lib.ListN.{length-set}
+use Rattle.check_table.proofs.Entries.{filled_none, filled_more, filled_done}
 use native.Mathlib.Omega.{arith}
 use Rattle.check_table.proofs.limits.Goals as goal
 

@@ -1,9 +1,7 @@
-use mathlib.Core.Path.{◌≡◌, refl, ◌∙◌}
-use Prim.Native.Nat.{ℕ, ◌≤◌, ◌-◌, ◌*◌}
-use lib.ListN.{length, length-set}
-use Rattle.check_table.proofs.Entries.{Filled, filled_none, filled_more, filled_done}
-use borrow.Author.Rules.{rules}
-use native.Mathlib.Omega.{arith}
+use mathlib.Core.Path.{◌≡◌}
+use Prim.Native.Nat.{◌≤◌}
+use lib.ListN.{length}
+use Rattle.check_table.proofs.Entries.{Filled}
 use Rattle.check_table.proofs.limits.Given as goal
 
 abbrev pub invariant-loop-t : goal.invariant-loop-t

@@ -1,6 +1,5 @@
 use mathlib.Core.Path.{sym, ◌∙◌}
 use Rattle.check_table.proofs.Entries.{side_unused, side_by}
-use borrow.Author.Rules.{rules}
 use Rattle.check_table.proofs.side_ok.Goals as goal
 
 pub returns-then-side_zero : goal.returns-then-side_zero

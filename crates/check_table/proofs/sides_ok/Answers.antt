@@ -1,5 +1,4 @@
 use Rattle.check_table.proofs.Entries.{unused_fit, sides_all}
-use borrow.Author.Rules.{rules}
 use Rattle.check_table.proofs.sides_ok.Goals as goal
 
 pub returns-then-m-n : goal.returns-then-m-n

@@ -1,10 +1,4 @@
-use mathlib.Core.Path.{◌≡◌}
-use mathlib.Core.Bool.{true}
-use Prim.Native.Nat.{◌≤◌, ◌-◌}
-use Rattle.check_idle.specs.Bytes.{sides_zero}
-use borrow.Author.Tests.{not-false}
 use Rattle.check_table.proofs.Entries.{unused_none, unused_more, unused_all}
-use borrow.Author.Rules.{rules}
 use native.Mathlib.Omega.{arith}
 use Rattle.check_table.proofs.unused.Goals as goal
 

@@ -3,7 +3,6 @@ use mathlib.Core.Path.{ap, ◌∙◌}
 use mathlib.Core.Bool.{not, ◌&&◌}
 use Rattle.check_idle.proofs.Stretch.{bit_none}
 use Rattle.check_table.proofs.Entries.{and_also}
-use borrow.Author.Rules.{rules}
 use Rattle.check_table.proofs.vacant.Goals as goal
 
 pub returns : goal.returns

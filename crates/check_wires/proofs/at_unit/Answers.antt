@@ -1,7 +1,6 @@
 use mathlib.Core.Path.{refl, ap}
 use Prim.Native.Nat.{ℕ, ◌+◌}
 use Rattle.check_wires.proofs.UnitQueue.{of_interface, of_other, by_side, by_none}
-use borrow.Author.Rules.{rules}
 use Rattle.check_wires.proofs.at_unit.Goals as goal
 
 pub returns-then-m-d : goal.returns-then-m-d

@@ -1,4 +1,3 @@
-use borrow.Author.Rules.{rules}
 use Rattle.check_wires.proofs.Stretches.{blank_not, blank_is}
 use Rattle.check_wires.proofs.blank.Goals as goal
 

@@ -1,4 +1,3 @@
-use borrow.Author.Rules.{rules}
 use Rattle.check_wires.proofs.Stretches.{full_choice, full_wire, full_kind}
 use Rattle.check_wires.proofs.full.Goals as goal
 

@@ -3,7 +3,6 @@ use Rattle.next_queue.proofs.Numbered.{port_few}
 use Rattle.check_wires.proofs.Carrying.{not_carried, ready_wiring, ready_counts, unfit, asked, numbers, active_few}
 use Rattle.check_wires.proofs.Carrying.{passive_few, nowhere, in_queues, in_table, misfit, carried}
 use native.Mathlib.Omega.{arith}
-use borrow.Author.Tests.{not-true, not-false}
 use Rattle.check_wires.proofs.joins.Goals as goal
 
 pub packet_ok-requires : goal.packet_ok-requires

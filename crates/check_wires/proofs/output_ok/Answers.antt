@@ -1,4 +1,3 @@
-use borrow.Author.Rules.{rules}
 use Rattle.check_wires.proofs.Outgoing.{zero_checked}
 use mathlib.Core.Path.{sym, ◌∙◌}
 use Rattle.check_wires.proofs.Carrying.{table_head}

@@ -1,4 +1,3 @@
-use borrow.Author.Rules.{rules}
 use Rattle.check_wires.proofs.Phased.{execute_all, outside_read}
 use Rattle.check_wires.proofs.Carrying.{table_head, ready_counts}
 use mathlib.Core.Path.{◌∙◌}

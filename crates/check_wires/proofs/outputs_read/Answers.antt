@@ -1,11 +1,7 @@
-use borrow.Author.Rules.{rules}
-use Rattle.check_wires.proofs.Phased.{SoFar, far_none, far_more, far_fails, far_done}
+use Rattle.check_wires.proofs.Phased.{far_none, far_more, far_fails, far_done}
 use Rattle.check_wires.proofs.Bringing.{brought_few}
 use Rattle.check_wires.proofs.Carrying.{table_head, ready_counts}
-use Rattle.plan.specs.Tables.{table_plan}
-use Prim.Native.Nat.{◌≤◌, ◌-◌}
 use native.Mathlib.Omega.{arith}
-use borrow.Author.Tests.{not-true, not-false}
 use Rattle.check_wires.proofs.outputs_read.Goals as goal
 
 pub output_count-n-requires : goal.output_count-n-requires

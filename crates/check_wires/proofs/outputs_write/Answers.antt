@@ -1,12 +1,6 @@
-use borrow.Author.Rules.{rules}
 use Rattle.check_wires.proofs.Phased.{write_fails, write_done}
-use Rattle.check_rule.specs.Forms.{zeros}
-use Rattle.basis.specs.Bounded.{all_below, all_none, all_more}
-use Prim.Native.Nat.{◌≤◌, ◌-◌, ◌+◌, ◌*◌}
-use mathlib.Core.Bool.{true}
-use mathlib.Core.Path.{◌≡◌}
+use Rattle.basis.specs.Bounded.{all_none, all_more}
 use native.Mathlib.Omega.{arith}
-use borrow.Author.Tests.{not-true, not-false}
 use Rattle.check_wires.proofs.outputs_write.Goals as goal
 
 pub loop-m-init : goal.loop-m-init

@@ -1,12 +1,8 @@
-use borrow.Author.Rules.{rules}
-use Rattle.check_wires.proofs.Phased.{write_fails, write_done}
 use Rattle.check_rule.specs.Forms.{zeros}
-use Rattle.basis.specs.Bounded.{all_below, all_none, all_more}
-use Prim.Native.Nat.{◌≤◌, ◌-◌, ◌+◌, ◌*◌}
+use Rattle.basis.specs.Bounded.{all_below}
+use Prim.Native.Nat.{◌≤◌, ◌+◌, ◌*◌}
 use mathlib.Core.Bool.{true}
 use mathlib.Core.Path.{◌≡◌}
-use native.Mathlib.Omega.{arith}
-use borrow.Author.Tests.{not-true, not-false}
 use Rattle.check_wires.proofs.outputs_write.Given as goal
 
 abbrev pub invariant-loop-m : goal.invariant-loop-m

@@ -1,7 +1,5 @@
-use borrow.Author.Rules.{rules}
 use Rattle.check_wires.proofs.Outgoing.{wire_refused, wire_checked}
 use Rattle.check_wires.proofs.Carrying.{table_head}
-use borrow.Author.Tests.{not-true, not-false}
 use Rattle.check_wires.proofs.wire_ok.Goals as goal
 
 pub returns-then-not-full : goal.returns-then-not-full

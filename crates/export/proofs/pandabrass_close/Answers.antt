@@ -1,5 +1,4 @@
 use Rattle.export.proofs.Told.{number_told, bytes_told}
-use borrow.Author.Rules.{rules}
 use Rattle.export.proofs.pandabrass_close.Goals as goal
 
 pub returns : goal.returns

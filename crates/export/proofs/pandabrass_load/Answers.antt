@@ -1,6 +1,5 @@
 use Rattle.load.specs.Load.{load_number}
 use mathlib.Core.Path.{ap, ◌∙◌}
-use borrow.Author.Rules.{rules}
 use Rattle.export.proofs.pandabrass_load.Goals as goal
 
 pub returns : goal.returns

@@ -1,5 +1,4 @@
 use Rattle.export.proofs.Told.{number_told, remaining_told}
-use borrow.Author.Rules.{rules}
 use Rattle.export.proofs.pandabrass_remaining.Goals as goal
 
 pub returns : goal.returns

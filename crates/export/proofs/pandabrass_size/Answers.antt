@@ -1,7 +1,6 @@
 use native.Mathlib.Omega.{arith}
 use Rattle.load.proofs.Right.{lent_counts}
 use Rattle.export.proofs.Told.{size_none, size_some}
-use borrow.Author.Rules.{rules}
 use Rattle.export.proofs.pandabrass_size.Goals as goal
 
 pub returns-in_default : goal.returns-in_default

@@ -2,7 +2,6 @@ use mathlib.Core.Path.{refl}
 use native.Mathlib.Omega.{arith}
 use lib.Pow.{pow_pos}
 use Rattle.fields.proofs.Laws.{held_by_one, power_is, parts_are, parts_fit}
-use borrow.Author.Rules.{rules}
 use Rattle.fields.proofs.field.Goals as goal
 
 pub nonzero_rem-result : goal.nonzero_rem-result

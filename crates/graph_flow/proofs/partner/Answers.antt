@@ -1,5 +1,4 @@
 use Rattle.graph_flow.proofs.Laws.{partner_some, partner_none}
-use borrow.Author.Rules.{rules}
 use Rattle.graph_flow.proofs.partner.Goals as goal
 
 pub returns-then-v-eq1 : goal.returns-then-v-eq1

@@ -1,7 +1,6 @@
 use mathlib.Core.Path.{◌∙◌}
 use native.Mathlib.Omega.{arith}
 use Rattle.graph_flow.proofs.Laws.{passed}
-use borrow.Author.Rules.{rules}
 use Rattle.graph_flow.proofs.pass.Goals as goal
 
 pub push-b-requires : goal.push-b-requires

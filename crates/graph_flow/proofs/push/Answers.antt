@@ -1,5 +1,4 @@
 use Rattle.graph_flow.proofs.Laws.{beyond_at, pushed_empty, pushed_none, pushed_some}
-use borrow.Author.Rules.{rules}
 use Rattle.graph_flow.proofs.push.Goals as goal
 
 pub returns-then-m-eq0 : goal.returns-then-m-eq0

@@ -1,8 +1,3 @@
-use borrow.Author.Rules.{rules}
-use Rattle.graph_flow.specs.Carried.{Round}
-use Rattle.sets.specs.Sets.{below}
-use mathlib.Core.Path.{◌≡◌}
-use Prim.Native.Nat.{◌-◌, ◌≤◌}
 use native.Mathlib.Omega.{arith}
 use Rattle.graph_flow.proofs.Laws.{round_first, ends_off, ends_long}
 use Rattle.graph_flow.proofs.spread.Goals as goal

@@ -1,6 +1,5 @@
 use mathlib.Core.Path.{sym, ◌∙◌}
 use Rattle.graph_flow.proofs.Laws.{stepped_none, stepped_some}
-use borrow.Author.Rules.{rules}
 use Rattle.graph_flow.proofs.step.Goals as goal
 
 pub returns-then-has : goal.returns-then-has

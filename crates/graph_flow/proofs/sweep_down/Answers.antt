@@ -1,9 +1,4 @@
-use borrow.Author.Rules.{rules}
-use Rattle.graph_flow.specs.Carried.{Round}
-use lib.ListN.{length}
-use mathlib.Core.Path.{◌≡◌, ◌∙◌}
-use mathlib.Core.List.{List}
-use Prim.Native.Nat.{ℕ, ◌-◌, ◌≤◌}
+use mathlib.Core.Path.{◌∙◌}
 use native.Mathlib.Omega.{arith}
 use Rattle.graph_flow.proofs.Laws.{round_more}
 use Rattle.graph_flow.proofs.sweep_down.Goals as goal

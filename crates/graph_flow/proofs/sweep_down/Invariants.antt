@@ -1,11 +1,8 @@
-use borrow.Author.Rules.{rules}
 use Rattle.graph_flow.specs.Carried.{Round}
 use lib.ListN.{length}
-use mathlib.Core.Path.{◌≡◌, ◌∙◌}
+use mathlib.Core.Path.{◌≡◌}
 use mathlib.Core.List.{List}
-use Prim.Native.Nat.{ℕ, ◌-◌, ◌≤◌}
-use native.Mathlib.Omega.{arith}
-use Rattle.graph_flow.proofs.Laws.{round_more}
+use Prim.Native.Nat.{ℕ, ◌≤◌}
 use Rattle.graph_flow.proofs.sweep_down.Given as goal
 
 abbrev pub invariant-loop-i : goal.invariant-loop-i

@@ -1,11 +1,6 @@
-use borrow.Author.Rules.{rules}
-use Rattle.graph_flow.specs.Carried.{Round}
-use lib.ListN.{length}
-use mathlib.Core.Path.{◌≡◌, ◌∙◌}
-use mathlib.Core.List.{List}
-use Prim.Native.Nat.{ℕ, ◌-◌, ◌≤◌}
+use mathlib.Core.Path.{◌∙◌}
 use native.Mathlib.Omega.{arith}
-use Rattle.graph_flow.proofs.Laws.{Turned, turned_none, turned_more, turned_done}
+use Rattle.graph_flow.proofs.Laws.{turned_none, turned_more, turned_done}
 use Rattle.graph_flow.proofs.sweep_up.Goals as goal
 
 pub loop-x-init : goal.loop-x-init

@@ -1,11 +1,9 @@
-use borrow.Author.Rules.{rules}
 use Rattle.graph_flow.specs.Carried.{Round}
 use lib.ListN.{length}
-use mathlib.Core.Path.{◌≡◌, ◌∙◌}
+use mathlib.Core.Path.{◌≡◌}
 use mathlib.Core.List.{List}
-use Prim.Native.Nat.{ℕ, ◌-◌, ◌≤◌}
-use native.Mathlib.Omega.{arith}
-use Rattle.graph_flow.proofs.Laws.{Turned, turned_none, turned_more, turned_done}
+use Prim.Native.Nat.{ℕ, ◌≤◌}
+use Rattle.graph_flow.proofs.Laws.{Turned}
 use Rattle.graph_flow.proofs.sweep_up.Given as goal
 
 abbrev pub invariant-loop-x : goal.invariant-loop-x

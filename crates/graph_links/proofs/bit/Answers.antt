@@ -1,6 +1,5 @@
 use mathlib.Core.Path.{sym, ◌∙◌}
 use borrow.Author.Tests.{eq-eqb, ne_eqb}
-use borrow.Author.Rules.{rules}
 use Rattle.graph_links.proofs.bit.Goals as goal
 
 pub returns-then-both-eq0 : goal.returns-then-both-eq0

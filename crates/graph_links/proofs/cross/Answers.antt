@@ -1,6 +1,5 @@
 use native.Mathlib.Omega.{arith}
 use Rattle.graph_links.proofs.Laws.{cross_off, cross_out, cross_none, cross_on}
-use borrow.Author.Rules.{rules}
 use Rattle.graph_links.proofs.cross.Goals as goal
 
 pub returns-then-i-ge64 : goal.returns-then-i-ge64

@@ -1,9 +1,6 @@
-use borrow.Author.Rules.{rules}
-use mathlib.Core.Path.{◌≡◌, refl, ◌∙◌}
-use Prim.Native.Nat.{ℕ, ◌-◌, ◌≤◌, ◌<◌}
+use mathlib.Core.Path.{refl}
 use native.Mathlib.Omega.{arith}
-use lib.ListN.{get_or, length, length-set}
-use Rattle.graph_links.specs.Cells.{cross_of}
+use lib.ListN.{length-set}
 use Rattle.graph_links.proofs.Members.{cells_more}
 use Rattle.graph_links.proofs.cross_cells.Goals as goal
 

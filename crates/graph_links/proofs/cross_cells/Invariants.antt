@@ -1,10 +1,7 @@
-use borrow.Author.Rules.{rules}
-use mathlib.Core.Path.{◌≡◌, refl, ◌∙◌}
-use Prim.Native.Nat.{ℕ, ◌-◌, ◌≤◌, ◌<◌}
-use native.Mathlib.Omega.{arith}
-use lib.ListN.{get_or, length, length-set}
+use mathlib.Core.Path.{◌≡◌}
+use Prim.Native.Nat.{ℕ, ◌≤◌, ◌<◌}
+use lib.ListN.{get_or, length}
 use Rattle.graph_links.specs.Cells.{cross_of}
-use Rattle.graph_links.proofs.Members.{cells_more}
 use Rattle.graph_links.proofs.cross_cells.Given as goal
 
 abbrev pub invariant-loop-x : goal.invariant-loop-x

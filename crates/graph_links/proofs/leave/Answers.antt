@@ -1,7 +1,4 @@
-use Prim.Native.Nat.{◌<◌}
-use mathlib.Core.Path.{◌∙◌, ap}
 use Rattle.graph_links.proofs.Members.{leave_at}
-use borrow.Author.Rules.{rules}
 use Rattle.graph_links.proofs.leave.Goals as goal
 
 pub returns : goal.returns

@@ -1,11 +1,8 @@
 use native.Mathlib.Omega.{arith}
-use Rattle.basis.specs.Fold.{up_to, fill, up_none, up_done}
+use Rattle.basis.specs.Fold.{up_none, up_done}
 use Rattle.graph_links.proofs.Members.{leaves_more}
-use Rattle.graph_links.specs.Cells.{leave_of, leaves_of}
-use mathlib.Core.Path.{◌≡◌, ◌∙◌}
-use lib.ListN.{replicate}
-use Prim.Native.Nat.{◌-◌, ◌*◌, ◌≤◌}
-use borrow.Author.Rules.{rules}
+use Rattle.graph_links.specs.Cells.{leaves_of}
+use mathlib.Core.Path.{◌∙◌}
 use Rattle.graph_links.proofs.leaves.Goals as goal
 
 pub loop-x-init : goal.loop-x-init

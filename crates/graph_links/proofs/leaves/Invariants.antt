@@ -1,11 +1,8 @@
-use native.Mathlib.Omega.{arith}
-use Rattle.basis.specs.Fold.{up_to, fill, up_none, up_done}
-use Rattle.graph_links.proofs.Members.{leaves_more}
-use Rattle.graph_links.specs.Cells.{leave_of, leaves_of}
-use mathlib.Core.Path.{◌≡◌, ◌∙◌}
+use Rattle.basis.specs.Fold.{up_to, fill}
+use Rattle.graph_links.specs.Cells.{leave_of}
+use mathlib.Core.Path.{◌≡◌}
 use lib.ListN.{replicate}
-use Prim.Native.Nat.{◌-◌, ◌*◌, ◌≤◌}
-use borrow.Author.Rules.{rules}
+use Prim.Native.Nat.{◌*◌, ◌≤◌}
 use Rattle.graph_links.proofs.leaves.Given as goal
 
 abbrev pub invariant-loop-x : goal.invariant-loop-x

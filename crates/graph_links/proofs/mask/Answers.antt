@@ -1,5 +1,4 @@
 use Rattle.graph_links.proofs.Laws.{mask_is}
-use borrow.Author.Rules.{rules}
 use Rattle.graph_links.proofs.mask.Goals as goal
 
 pub returns : goal.returns

@@ -1,5 +1,4 @@
-use Rattle.graph_met.proofs.Trailing.{Leading, leading_none, leading_word, leading_more, leading_end, single_fits}
-use borrow.Author.Rules.{rules}
+use Rattle.graph_met.proofs.Trailing.{leading_none, leading_word, leading_more, leading_end, single_fits}
 use native.Mathlib.Omega.{arith}
 use Rattle.graph_met.proofs.lead.Goals as goal
 

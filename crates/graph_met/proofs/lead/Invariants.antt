@@ -1,6 +1,4 @@
-use Rattle.graph_met.proofs.Trailing.{Leading, leading_none, leading_word, leading_more, leading_end, single_fits}
-use borrow.Author.Rules.{rules}
-use native.Mathlib.Omega.{arith}
+use Rattle.graph_met.proofs.Trailing.{Leading}
 use Rattle.graph_met.proofs.lead.Given as goal
 
 abbrev pub invariant-loop-left : goal.invariant-loop-left

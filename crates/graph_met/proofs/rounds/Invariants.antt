@@ -1,11 +1,8 @@
 use lib.ListN.{length}
-use Rattle.graph_met.proofs.Trailing.{trailed_more, room_of}
-use Rattle.graph_reach.proofs.Sweeps.{Round, round_none, round_more, end_closed, end_full, end_rounds}
+use Rattle.graph_reach.proofs.Sweeps.{Round}
 use Rattle.graph_met.specs.Trails.{Trailed}
-use borrow.Author.Rules.{rules}
-use Prim.Native.Nat.{◌+◌, ◌-◌, ◌*◌, ◌≤◌}
-use mathlib.Core.Path.{◌≡◌, refl, sym, ◌∙◌}
-use native.Mathlib.Omega.{arith}
+use Prim.Native.Nat.{◌+◌, ◌*◌, ◌≤◌}
+use mathlib.Core.Path.{◌≡◌}
 use Rattle.graph_met.proofs.rounds.Given as goal
 
 abbrev pub invariant-loop-k : goal.invariant-loop-k

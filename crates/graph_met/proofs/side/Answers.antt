@@ -1,8 +1,7 @@
 use Rattle.graph_met.proofs.Trailing.{turn_small, turn_next}
-use mathlib.Core.Path.{◌∙◌, ap}
+use mathlib.Core.Path.{◌∙◌}
 use Prim.Native.Nat.{◌+◌, ◌*◌}
 use native.Mathlib.Omega.{arith}
-use borrow.Author.Rules.{rules}
 use Rattle.graph_met.proofs.side.Goals as goal
 
 pub through-requires : goal.through-requires

@@ -1,9 +1,5 @@
-use lib.ListN.{length}
-use mathlib.Core.Path.{◌≡◌, refl, ◌∙◌}
+use mathlib.Core.Path.{refl, ◌∙◌}
 use Rattle.graph_met.proofs.Trailing.{turning_on, turns_done}
-use Rattle.graph_met.specs.Trails.{Turns}
-use borrow.Author.Rules.{rules}
-use Prim.Native.Nat.{◌-◌, ◌≤◌}
 use native.Mathlib.Omega.{arith}
 use Rattle.graph_met.proofs.sides.Goals as goal
 

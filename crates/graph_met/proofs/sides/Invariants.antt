@@ -1,10 +1,7 @@
 use lib.ListN.{length}
-use mathlib.Core.Path.{◌≡◌, refl, ◌∙◌}
-use Rattle.graph_met.proofs.Trailing.{turning_on, turns_done}
+use mathlib.Core.Path.{◌≡◌}
 use Rattle.graph_met.specs.Trails.{Turns}
-use borrow.Author.Rules.{rules}
-use Prim.Native.Nat.{◌-◌, ◌≤◌}
-use native.Mathlib.Omega.{arith}
+use Prim.Native.Nat.{◌≤◌}
 use Rattle.graph_met.proofs.sides.Given as goal
 
 abbrev pub invariant-loop-o : goal.invariant-loop-o

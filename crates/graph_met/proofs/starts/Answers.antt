@@ -1,9 +1,5 @@
-use lib.ListN.{length}
-use mathlib.Core.Path.{◌≡◌, refl, ◌∙◌}
+use mathlib.Core.Path.{refl, ◌∙◌}
 use Rattle.graph_met.proofs.Trailing.{started_none, started_more, started_done}
-use Rattle.graph_met.specs.Trails.{Started}
-use borrow.Author.Rules.{rules}
-use Prim.Native.Nat.{◌-◌, ◌≤◌}
 use native.Mathlib.Omega.{arith}
 use Rattle.graph_met.proofs.starts.Goals as goal
 

@@ -1,6 +1,5 @@
 use Rattle.graph_met.proofs.Trailing.{turning_start, stepped_none, stepped_new}
 use native.Mathlib.Omega.{arith}
-use borrow.Author.Rules.{rules}
 use Rattle.graph_met.proofs.step.Goals as goal
 
 pub pull-v-requires : goal.pull-v-requires

@@ -1,11 +1,7 @@
-use lib.ListN.{length}
 use Rattle.graph_met.proofs.Trailing.{lengthens_none, lengthens_on, lengthens_done, room_on}
-use Rattle.graph_met.specs.Trails.{Lengthens}
-use Rattle.graph_reach.specs.Reach.{sweep_at, down_of}
-use Rattle.basis.specs.Fold.{up_to, up_none, up_more, up_done}
-use borrow.Author.Rules.{rules}
-use Prim.Native.Nat.{◌-◌, ◌≤◌}
-use mathlib.Core.Path.{◌≡◌, refl, ◌∙◌}
+use Rattle.graph_reach.specs.Reach.{down_of}
+use Rattle.basis.specs.Fold.{up_none, up_more, up_done}
+use mathlib.Core.Path.{refl, ◌∙◌}
 use native.Mathlib.Omega.{arith}
 use Rattle.graph_met.proofs.sweep_down.Goals as goal
 

@@ -1,10 +1,6 @@
-use lib.ListN.{length}
-use mathlib.Core.Path.{◌≡◌, refl, ◌∙◌}
+use mathlib.Core.Path.{refl, ◌∙◌}
 use Rattle.graph_met.proofs.Trailing.{lengthens_none, lengthens_on, lengthens_done, room_on}
-use Rattle.graph_reach.proofs.Sweeps.{Swept, swept_none, swept_more, swept_done}
-use Rattle.graph_met.specs.Trails.{Lengthens}
-use borrow.Author.Rules.{rules}
-use Prim.Native.Nat.{◌-◌, ◌≤◌}
+use Rattle.graph_reach.proofs.Sweeps.{swept_none, swept_more, swept_done}
 use native.Mathlib.Omega.{arith}
 use Rattle.graph_met.proofs.sweep_up.Goals as goal
 

@@ -1,11 +1,8 @@
 use lib.ListN.{length}
-use mathlib.Core.Path.{◌≡◌, refl, ◌∙◌}
-use Rattle.graph_met.proofs.Trailing.{lengthens_none, lengthens_on, lengthens_done, room_on}
-use Rattle.graph_reach.proofs.Sweeps.{Swept, swept_none, swept_more, swept_done}
+use mathlib.Core.Path.{◌≡◌}
+use Rattle.graph_reach.proofs.Sweeps.{Swept}
 use Rattle.graph_met.specs.Trails.{Lengthens}
-use borrow.Author.Rules.{rules}
-use Prim.Native.Nat.{◌-◌, ◌≤◌}
-use native.Mathlib.Omega.{arith}
+use Prim.Native.Nat.{◌≤◌}
 use Rattle.graph_met.proofs.sweep_up.Given as goal
 
 abbrev pub invariant-loop-x : goal.invariant-loop-x

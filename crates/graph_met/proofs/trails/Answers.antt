@@ -1,7 +1,6 @@
 use mathlib.Core.Path.{◌∙◌}
 use Rattle.graph_met.proofs.Trailing.{started_trailed}
 use native.Mathlib.Omega.{arith}
-use borrow.Author.Rules.{rules}
 use Rattle.graph_met.proofs.trails.Goals as goal
 
 pub starts-requires : goal.starts-requires

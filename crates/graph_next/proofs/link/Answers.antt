@@ -1,5 +1,4 @@
 use Rattle.graph_next.proofs.Onward.{link_none, link_off, link_on}
-use borrow.Author.Rules.{rules}
 use Rattle.graph_next.proofs.link.Goals as goal
 
 pub returns-then-m-eq0 : goal.returns-then-m-eq0

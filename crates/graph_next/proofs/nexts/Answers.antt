@@ -1,11 +1,8 @@
 use native.Mathlib.Omega.{arith}
-use Rattle.basis.specs.Fold.{up_to, fill, up_none, up_fill, up_done}
-use Rattle.graph_next.specs.Words.{next_of, nexts_of}
-use Rattle.graph_next.proofs.Onward.{somes_of, somes_none, somes_more, somes_done}
-use mathlib.Core.Path.{◌≡◌, ◌∙◌}
-use lib.ListN.{replicate}
-use Prim.Native.Nat.{◌-◌, ◌≤◌}
-use borrow.Author.Rules.{rules}
+use Rattle.basis.specs.Fold.{up_none, up_fill, up_done}
+use Rattle.graph_next.specs.Words.{nexts_of}
+use Rattle.graph_next.proofs.Onward.{somes_none, somes_more, somes_done}
+use mathlib.Core.Path.{◌∙◌}
 use Rattle.graph_next.proofs.nexts.Goals as goal
 
 pub loop-x-init : goal.loop-x-init

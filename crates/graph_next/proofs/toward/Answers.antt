@@ -1,5 +1,4 @@
 use Rattle.graph_next.proofs.Onward.{toward_none, toward_off, toward_on}
-use borrow.Author.Rules.{rules}
 use Rattle.graph_next.proofs.toward.Goals as goal
 
 pub returns-then-both-eq0 : goal.returns-then-both-eq0

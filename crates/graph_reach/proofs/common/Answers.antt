@@ -1,11 +1,6 @@
 use Rattle.graph_reach.specs.Reach.{common_of}
-use Rattle.sets.specs.Sets.{both}
-use Rattle.basis.specs.Fold.{up_to, up_none, up_more, up_done}
-use lib.ListN.{get_or}
-use Prim.Native.Nat.{◌-◌, ◌≤◌}
-use mathlib.Core.Path.{◌≡◌}
+use Rattle.basis.specs.Fold.{up_none, up_more, up_done}
 use native.Mathlib.Omega.{arith}
-use borrow.Author.Rules.{rules}
 use Rattle.graph_reach.proofs.common.Goals as goal
 
 pub loop-x-init : goal.loop-x-init

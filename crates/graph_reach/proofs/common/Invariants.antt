@@ -1,11 +1,8 @@
-use Rattle.graph_reach.specs.Reach.{common_of}
 use Rattle.sets.specs.Sets.{both}
-use Rattle.basis.specs.Fold.{up_to, up_none, up_more, up_done}
+use Rattle.basis.specs.Fold.{up_to}
 use lib.ListN.{get_or}
-use Prim.Native.Nat.{◌-◌, ◌≤◌}
+use Prim.Native.Nat.{◌≤◌}
 use mathlib.Core.Path.{◌≡◌}
-use native.Mathlib.Omega.{arith}
-use borrow.Author.Rules.{rules}
 use Rattle.graph_reach.proofs.common.Given as goal
 
 abbrev pub invariant-loop-x : goal.invariant-loop-x

@@ -1,5 +1,4 @@
 use Rattle.graph_reach.specs.Reach.{pull_of}
-use borrow.Author.Rules.{rules}
 use Rattle.graph_reach.proofs.pull.Goals as goal
 
 pub returns : goal.returns

@@ -1,9 +1,6 @@
-use native.Mathlib.Omega.{arith}
-use mathlib.Core.Path.{sym, ◌∙◌}
-use Prim.Native.Nat.{◌-◌, ◌≤◌}
+use Prim.Native.Nat.{◌≤◌}
 use Rattle.graph_reach.specs.Sizes.{Grows}
-use Rattle.graph_reach.proofs.Sized.{grows_on}
-use Rattle.graph_reach.proofs.Sweeps.{Round, round_none, round_more, end_closed, end_full, end_rounds}
+use Rattle.graph_reach.proofs.Sweeps.{Round}
 use Rattle.graph_reach.proofs.reach.Given as goal
 
 abbrev pub invariant-loop-k : goal.invariant-loop-k

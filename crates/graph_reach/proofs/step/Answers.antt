@@ -1,6 +1,5 @@
 use native.Mathlib.Omega.{arith}
 use Rattle.graph_reach.proofs.Sized.{stepped_same, stepped_row}
-use borrow.Author.Rules.{rules}
 use Rattle.graph_reach.proofs.step.Goals as goal
 
 pub returns-then-both-eq0 : goal.returns-then-both-eq0

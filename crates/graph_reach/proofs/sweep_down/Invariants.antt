@@ -1,10 +1,8 @@
-use native.Mathlib.Omega.{arith}
 use mathlib.Core.Path.{◌≡◌}
 use Prim.Native.Nat.{◌-◌, ◌≤◌}
 use Rattle.graph_reach.specs.Sizes.{Grows}
-use Rattle.graph_reach.proofs.Sized.{grows_on}
-use Rattle.graph_reach.specs.Reach.{sweep_at, down_of}
-use Rattle.basis.specs.Fold.{up_to, up_none, up_more, up_done}
+use Rattle.graph_reach.specs.Reach.{sweep_at}
+use Rattle.basis.specs.Fold.{up_to}
 use Rattle.graph_reach.proofs.sweep_down.Given as goal
 
 abbrev pub invariant-loop-i : goal.invariant-loop-i

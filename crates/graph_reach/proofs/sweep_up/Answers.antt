@@ -1,9 +1,6 @@
-use borrow.Author.Rules.{rules}
 use native.Mathlib.Omega.{arith}
-use Prim.Native.Nat.{◌-◌, ◌≤◌}
-use Rattle.graph_reach.specs.Sizes.{Grows}
 use Rattle.graph_reach.proofs.Sized.{grows_on}
-use Rattle.graph_reach.proofs.Sweeps.{Swept, swept_none, swept_more, swept_done}
+use Rattle.graph_reach.proofs.Sweeps.{swept_none, swept_more, swept_done}
 use Rattle.graph_reach.proofs.sweep_up.Goals as goal
 
 pub loop-x-init : goal.loop-x-init

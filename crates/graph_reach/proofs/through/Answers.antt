@@ -1,7 +1,6 @@
 use Prim.Native.Nat.{◌+◌, ◌*◌}
 use Rattle.graph_reach.specs.Reach.{through_of}
 use native.Mathlib.Omega.{arith}
-use borrow.Author.Rules.{rules}
 use Rattle.graph_reach.proofs.through.Goals as goal
 
 pub offset_bounds-t-n : goal.offset_bounds-t-n

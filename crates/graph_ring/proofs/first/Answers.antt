@@ -1,9 +1,6 @@
-use borrow.Author.Rules.{rules}
-use Prim.Native.Nat.{◌-◌, ◌≤◌}
-use lib.ListN.{replicate, length}
-use mathlib.Core.Path.{◌≡◌, refl, ◌∙◌}
+use mathlib.Core.Path.{refl, ◌∙◌}
 use Rattle.graph_ring.specs.Cells.{first_of}
-use Rattle.basis.specs.Fold.{up_to, fill, up_none, up_fill, up_done}
+use Rattle.basis.specs.Fold.{up_none, up_fill, up_done}
 use native.Mathlib.Omega.{arith}
 use Rattle.graph_ring.proofs.first.Goals as goal
 

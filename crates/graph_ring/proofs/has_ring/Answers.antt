@@ -1,7 +1,5 @@
-use borrow.Author.Rules.{rules}
-use Rattle.graph_ring.proofs.Laws.{Peeled, peeled_first, peeled_down, peeled_up, ends_none, ends_long, ends_still}
-use mathlib.Core.Path.{◌≡◌, refl}
-use Prim.Native.Nat.{◌-◌, ◌*◌, ◌≤◌}
+use Rattle.graph_ring.proofs.Laws.{peeled_first, peeled_down, peeled_up, ends_none, ends_long, ends_still}
+use mathlib.Core.Path.{refl}
 use native.Mathlib.Omega.{arith}
 use Rattle.graph_ring.proofs.has_ring.Goals as goal
 

@@ -1,8 +1,6 @@
-use borrow.Author.Rules.{rules}
-use Rattle.graph_ring.proofs.Laws.{Peeled, peeled_first, peeled_down, peeled_up, ends_none, ends_long, ends_still}
-use mathlib.Core.Path.{◌≡◌, refl}
-use Prim.Native.Nat.{◌-◌, ◌*◌, ◌≤◌}
-use native.Mathlib.Omega.{arith}
+use Rattle.graph_ring.proofs.Laws.{Peeled}
+use mathlib.Core.Path.{◌≡◌}
+use Prim.Native.Nat.{◌*◌, ◌≤◌}
 use Rattle.graph_ring.proofs.has_ring.Given as goal
 
 abbrev pub invariant-loop-k : goal.invariant-loop-k

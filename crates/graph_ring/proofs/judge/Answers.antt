@@ -1,5 +1,4 @@
 use Rattle.graph_ring.proofs.Laws.{judge_none}
-use borrow.Author.Rules.{rules}
 use Rattle.graph_ring.proofs.judge.Goals as goal
 
 pub returns-then-left-g-eq0 : goal.returns-then-left-g-eq0

@@ -1,4 +1,3 @@
-use borrow.Author.Rules.{rules}
 use Rattle.graph_ring.proofs.keep.Goals as goal
 
 pub returns-then-stays : goal.returns-then-stays

@@ -1,10 +1,5 @@
-use borrow.Author.Rules.{rules}
-use Prim.Native.Nat.{◌-◌, ◌≤◌}
-use lib.ListN.{get_or}
-use mathlib.Core.Path.{◌≡◌}
-use Rattle.sets.specs.Sets.{either}
 use Rattle.graph_ring.specs.Cells.{rest_of}
-use Rattle.basis.specs.Fold.{up_to, up_none, up_more, up_done}
+use Rattle.basis.specs.Fold.{up_none, up_more, up_done}
 use native.Mathlib.Omega.{arith}
 use Rattle.graph_ring.proofs.rest.Goals as goal
 

@@ -1,11 +1,8 @@
-use borrow.Author.Rules.{rules}
-use Prim.Native.Nat.{◌-◌, ◌≤◌}
+use Prim.Native.Nat.{◌≤◌}
 use lib.ListN.{get_or}
 use mathlib.Core.Path.{◌≡◌}
 use Rattle.sets.specs.Sets.{either}
-use Rattle.graph_ring.specs.Cells.{rest_of}
-use Rattle.basis.specs.Fold.{up_to, up_none, up_more, up_done}
-use native.Mathlib.Omega.{arith}
+use Rattle.basis.specs.Fold.{up_to}
 use Rattle.graph_ring.proofs.rest.Given as goal
 
 abbrev pub invariant-loop-g : goal.invariant-loop-g

@@ -1,4 +1,3 @@
-use borrow.Author.Rules.{rules}
 use Rattle.graph_ring.proofs.stays.Goals as goal
 
 pub returns : goal.returns

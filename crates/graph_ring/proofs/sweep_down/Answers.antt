@@ -1,9 +1,6 @@
 use Rattle.graph_ring.proofs.Laws.{down_more}
-use borrow.Author.Rules.{rules}
-use Prim.Native.Nat.{◌-◌, ◌≤◌}
-use mathlib.Core.Path.{◌≡◌}
-use Rattle.graph_ring.specs.Cells.{judge_at, down_of}
-use Rattle.basis.specs.Fold.{up_to, up_none, up_done}
+use Rattle.graph_ring.specs.Cells.{down_of}
+use Rattle.basis.specs.Fold.{up_none, up_done}
 use native.Mathlib.Omega.{arith}
 use Rattle.graph_ring.proofs.sweep_down.Goals as goal
 

@@ -1,10 +1,7 @@
-use Rattle.graph_ring.proofs.Laws.{down_more}
-use borrow.Author.Rules.{rules}
 use Prim.Native.Nat.{◌-◌, ◌≤◌}
 use mathlib.Core.Path.{◌≡◌}
-use Rattle.graph_ring.specs.Cells.{judge_at, down_of}
-use Rattle.basis.specs.Fold.{up_to, up_none, up_done}
-use native.Mathlib.Omega.{arith}
+use Rattle.graph_ring.specs.Cells.{judge_at}
+use Rattle.basis.specs.Fold.{up_to}
 use Rattle.graph_ring.proofs.sweep_down.Given as goal
 
 abbrev pub invariant-loop-i : goal.invariant-loop-i

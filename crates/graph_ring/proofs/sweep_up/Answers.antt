@@ -1,6 +1,4 @@
-use Prim.Native.Nat.{◌-◌, ◌≤◌}
-use Rattle.graph_ring.proofs.Laws.{Swept, swept_none, swept_more, swept_done}
-use borrow.Author.Rules.{rules}
+use Rattle.graph_ring.proofs.Laws.{swept_none, swept_more, swept_done}
 use native.Mathlib.Omega.{arith}
 use Rattle.graph_ring.proofs.sweep_up.Goals as goal
 

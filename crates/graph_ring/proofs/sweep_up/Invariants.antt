@@ -1,7 +1,5 @@
-use Prim.Native.Nat.{◌-◌, ◌≤◌}
-use Rattle.graph_ring.proofs.Laws.{Swept, swept_none, swept_more, swept_done}
-use borrow.Author.Rules.{rules}
-use native.Mathlib.Omega.{arith}
+use Prim.Native.Nat.{◌≤◌}
+use Rattle.graph_ring.proofs.Laws.{Swept}
 use Rattle.graph_ring.proofs.sweep_up.Given as goal
 
 abbrev pub invariant-loop-g : goal.invariant-loop-g

@@ -1,11 +1,9 @@
 use Rattle.load.proofs.Exits.{holds_all, joints_fit}
 use Rattle.load.proofs.Exits.{sweeps_ready}
 use mathlib.Core.Bool.{◌&&◌}
-use mathlib.Core.Path.{refl, ap₂, ◌∙◌}
-use borrow.Author.Tests.{not-true, not-false}
-use Rattle.load.proofs.Exits.{range_counts, head_range, long_enough, homes_alike, too_short, out_of_range}
+use mathlib.Core.Path.{refl, ap₂}
+use Rattle.load.proofs.Exits.{range_counts, head_range, long_enough, too_short, out_of_range}
 use Rattle.load.proofs.Exits.{wrong_length, bad_field, bad_joint, tables, has_ring_lem, accepted}
-use borrow.Author.Rules.{rules}
 use Rattle.load.proofs.fill.Goals as goal
 
 pub returns-then-plan-lt-HEAD_BYTES : goal.returns-then-plan-lt-HEAD_BYTES

@@ -1,7 +1,6 @@
 use native.Mathlib.Omega.{arith}
 use Rattle.plan_facts.proofs.Heads.{counts_most}
 use Rattle.load.proofs.Exits.{length_wrong, length_fits}
-use borrow.Author.Rules.{rules}
 use Rattle.load.proofs.length_ok.Goals as goal
 
 pub overflow_add-bits : goal.overflow_add-bits

@@ -1,5 +1,4 @@
 use Rattle.load.proofs.Exits.{lent_accepted, lent_refused}
-use borrow.Author.Rules.{rules}
 use Rattle.load.proofs.load.Goals as goal
 
 pub fill-l-requires : goal.fill-l-requires

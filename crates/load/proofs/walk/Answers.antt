@@ -1,7 +1,6 @@
 use native.Mathlib.Omega.{arith}
 use Rattle.load.proofs.Right.{lent_right}
 use Rattle.load.proofs.Exits.{walk_refused, walk_no_active, walk_no_passive, walk_of_pair}
-use borrow.Author.Rules.{rules}
 use Rattle.load.proofs.walk.Goals as goal
 
 pub returns-in_default : goal.returns-in_default

@@ -1,5 +1,4 @@
 use Rattle.load_arrivals.specs.Tables.{first_of}
-use borrow.Author.Rules.{rules}
 use Rattle.load_arrivals.proofs.first_of.Goals as goal
 
 pub returns : goal.returns

@@ -1,10 +1,6 @@
-use Prim.Native.Nat.{◌+◌, ◌-◌, ◌≤◌, ◌*◌, ◌/◌, ◌%◌}
-use mathlib.Core.Path.{◌≡◌}
-use Rattle.basis.specs.Fold.{up_to, up_none, up_more}
-use borrow.Author.Rules.{rules}
+use Rattle.basis.specs.Fold.{up_none, up_more}
 use native.Mathlib.Omega.{arith}
 use Rattle.load_arrivals.proofs.Steps.{first_step_lem, firsts_done}
-use Rattle.load_arrivals.specs.Tables.{first_step}
 use Rattle.load_arrivals.proofs.firsts.Goals as goal
 
 pub loop-d-init : goal.loop-d-init

@@ -1,9 +1,6 @@
-use Prim.Native.Nat.{◌+◌, ◌-◌, ◌≤◌, ◌*◌, ◌/◌, ◌%◌}
+use Prim.Native.Nat.{◌≤◌}
 use mathlib.Core.Path.{◌≡◌}
-use Rattle.basis.specs.Fold.{up_to, up_none, up_more}
-use borrow.Author.Rules.{rules}
-use native.Mathlib.Omega.{arith}
-use Rattle.load_arrivals.proofs.Steps.{first_step_lem, firsts_done}
+use Rattle.basis.specs.Fold.{up_to}
 use Rattle.load_arrivals.specs.Tables.{first_step}
 use Rattle.load_arrivals.proofs.firsts.Given as goal
 

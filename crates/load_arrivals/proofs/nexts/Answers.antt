@@ -1,10 +1,8 @@
-use Prim.Native.Nat.{◌+◌, ◌-◌, ◌≤◌, ◌*◌, ◌/◌, ◌%◌}
-use lib.ListN.{get_or, set, length, length-set}
-use mathlib.Core.Path.{◌≡◌, ap}
-use Rattle.basis.specs.Fold.{up_to, fill, up_none, up_more, up_fill, up_done}
+use lib.ListN.{length-set}
+use Rattle.basis.specs.Fold.{up_none, up_fill, up_done}
 use borrow.Author.Rules.{rules}
 use native.Mathlib.Omega.{arith}
-use Rattle.load_arrivals.specs.Tables.{next_of, nexts_of}
+use Rattle.load_arrivals.specs.Tables.{nexts_of}
 use Rattle.load_arrivals.proofs.nexts.Goals as goal
 
 pub loop-k-init : goal.loop-k-init

@@ -1,5 +1,3 @@
-use native.Mathlib.Omega.{arith}
-use borrow.Author.Rules.{rules}
 use Rattle.load_arrivals.proofs.port.Goals as goal
 
 pub returns : goal.returns

@@ -1,9 +1,6 @@
 use mathlib.Core.Path.{refl}
-use mathlib.Core.List.{[]}
-use Prim.Native.Nat.{◌+◌, ◌-◌, ◌≤◌, ◌*◌, ◌/◌, ◌%◌}
-use lib.ListN.{get_or, set, length, length-set}
-use mathlib.Core.Path.{◌≡◌, ap, ◌∙◌}
-use Rattle.basis.specs.Fold.{up_to, fill, up_none, up_more, up_fill, up_done}
+use lib.ListN.{length-set}
+use Rattle.basis.specs.Fold.{up_none, up_fill, up_done}
 use borrow.Author.Rules.{rules}
 use native.Mathlib.Omega.{arith}
 use Rattle.load_arrivals.specs.Pairs.{copy_of}

@@ -1,6 +1,5 @@
 use borrow.Author.Tests.{eq-eqb, ne_eqb}
 use Rattle.load_arrivals.specs.Pairs.{length_of}
-use borrow.Author.Rules.{rules}
 use Rattle.load_lengths.proofs.length_row.Goals as goal
 
 pub returns-then-w-v : goal.returns-then-w-v

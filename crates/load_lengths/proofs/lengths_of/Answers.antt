@@ -1,14 +1,7 @@
 use Rattle.load_arrivals.proofs.Steps.{lengths_done}
-use Prim.Native.Nat.{◌+◌, ◌-◌, ◌≤◌, ◌*◌, ◌/◌, ◌%◌}
-use lib.ListN.{get_or, set, length, length-set}
-use mathlib.Core.Path.{◌≡◌, ap, ◌∙◌}
-use Rattle.basis.specs.Fold.{up_to, fill, up_none, up_more, up_fill, up_done}
-use borrow.Author.Rules.{rules}
+use Rattle.basis.specs.Fold.{up_none, up_fill}
 use native.Mathlib.Omega.{arith}
-use Rattle.sets.specs.Sets.{both}
 use Rattle.load_arrivals.proofs.Steps.{length_step}
-use Rattle.load_arrivals.specs.Tables.{far_of}
-use Rattle.load_arrivals.specs.Pairs.{length_of, lengths_by}
 use Rattle.load_lengths.proofs.lengths_of.Goals as goal
 
 pub overflow_add-n : goal.overflow_add-n

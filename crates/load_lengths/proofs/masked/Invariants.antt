@@ -1,14 +1,10 @@
-use mathlib.Core.Bool.{Bool}
 use Rattle.sets.specs.Sets.{has}
 use Rattle.basis.specs.Choice.{pick}
 use mathlib.Core.List.{[]}
-use Prim.Native.Nat.{◌+◌, ◌-◌, ◌≤◌, ◌*◌, ◌/◌, ◌%◌}
-use lib.ListN.{get_or, set, length, length-set}
-use mathlib.Core.Path.{◌≡◌, ap, ◌∙◌}
-use Rattle.basis.specs.Fold.{up_to, fill, up_none, up_more, up_fill, up_done}
-use borrow.Author.Rules.{rules}
-use native.Mathlib.Omega.{arith}
-use Rattle.load_arrivals.specs.Pairs.{mask_of}
+use Prim.Native.Nat.{◌+◌, ◌≤◌}
+use lib.ListN.{get_or, length}
+use mathlib.Core.Path.{◌≡◌}
+use Rattle.basis.specs.Fold.{up_to, fill}
 use Rattle.load_lengths.proofs.masked.Given as goal
 
 abbrev pub invariant-loop-p : goal.invariant-loop-p

@@ -1,6 +1,5 @@
 use mathlib.Core.Path.{sym, ◌∙◌}
 use Rattle.load_arrivals.specs.Tables.{near_of}
-use borrow.Author.Rules.{rules}
 use Rattle.load_lengths.proofs.near_of.Goals as goal
 
 pub returns-then-has : goal.returns-then-has

@@ -1,11 +1,6 @@
-use Prim.Native.Nat.{◌+◌, ◌-◌, ◌≤◌, ◌*◌, ◌/◌, ◌%◌}
-use lib.ListN.{get_or, set, length, length-set}
-use mathlib.Core.Path.{◌≡◌, ap}
-use Rattle.basis.specs.Fold.{up_to, up_none, up_more}
-use borrow.Author.Rules.{rules}
+use Rattle.basis.specs.Fold.{up_none, up_more}
 use native.Mathlib.Omega.{arith}
 use Rattle.load_arrivals.proofs.Steps.{near_step_lem, nears_done}
-use Rattle.load_arrivals.specs.Tables.{near_step}
 use Rattle.load_lengths.proofs.nears.Goals as goal
 
 pub loop-p-init : goal.loop-p-init

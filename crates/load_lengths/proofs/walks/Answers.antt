@@ -1,10 +1,8 @@
 use Rattle.load_arrivals.proofs.Steps.{reached_below}
 use lib.ListN.{length}
 use mathlib.Core.Path.{ap, ◌∙◌}
-use native.Mathlib.Omega.{arith}
 use Rattle.load_arrivals.proofs.Charts.{nexts_inside, first_idle, firsts_long}
 use Rattle.load_lengths.proofs.Sound.{walks_sound}
-use borrow.Author.Rules.{rules}
 use Rattle.load_lengths.proofs.walks.Goals as goal
 
 pub reach-all-requires : goal.reach-all-requires

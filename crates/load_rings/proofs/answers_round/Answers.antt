@@ -1,5 +1,4 @@
 use Rattle.load_rings.proofs.Found.{answers_ring}
-use borrow.Author.Rules.{rules}
 use Rattle.load_rings.proofs.answers_round.Goals as goal
 
 pub returns : goal.returns

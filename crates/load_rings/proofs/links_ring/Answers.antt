@@ -2,7 +2,6 @@ use Rattle.load_rings.proofs.Found.{links_ring}
 use Rattle.graph_next.proofs.Onward.{links_long}
 use native.Mathlib.Omega.{arith}
 use mathlib.Core.Path.{sym}
-use borrow.Author.Rules.{rules}
 use Rattle.load_rings.proofs.links_ring.Goals as goal
 
 pub slice_bounds-has_ring-end : goal.slice_bounds-has_ring-end

@@ -1,6 +1,5 @@
 use mathlib.Core.Path.{sym, ◌∙◌}
 use Rattle.load_rings.proofs.Found.{one_ringless, ring_by_walks, ring_by_links, ring_by_answers}
-use borrow.Author.Rules.{rules}
 use Rattle.load_rings.proofs.ring_found.Goals as goal
 
 pub returns-then-h-eq1 : goal.returns-then-h-eq1

@@ -1,7 +1,6 @@
 use mathlib.Core.Path.{sym}
 use native.Mathlib.Omega.{arith}
 use Rattle.graph_next.proofs.Onward.{nexts_long}
-use borrow.Author.Rules.{rules}
 use Rattle.load_rings.proofs.routers_ring.Goals as goal
 
 pub slice_bounds-has_ring-end : goal.slice_bounds-has_ring-end

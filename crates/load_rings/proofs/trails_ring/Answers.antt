@@ -1,7 +1,6 @@
 use mathlib.Core.Path.{sym}
 use native.Mathlib.Omega.{arith}
 use Rattle.graph_next.proofs.Onward.{links_long}
-use borrow.Author.Rules.{rules}
 use Rattle.load_rings.proofs.trails_ring.Goals as goal
 
 pub slice_bounds-has_ring-end : goal.slice_bounds-has_ring-end

@@ -1,6 +1,4 @@
-use borrow.Author.Tests.{not-true}
 use Rattle.load_rings.proofs.Found.{routers_clear, walks_ring}
-use borrow.Author.Rules.{rules}
 use Rattle.load_rings.proofs.walks_ring.Goals as goal
 
 pub returns-then-not-routers_ring : goal.returns-then-not-routers_ring

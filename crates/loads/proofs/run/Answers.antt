@@ -1,7 +1,6 @@
 use native.Mathlib.Omega.{arith}
 use native.Mathlib.Nat.{mul-le-mul}
 use Rattle.load.specs.Lent.{lent}
-use borrow.Author.Rules.{rules}
 use Rattle.loads.proofs.run.Goals as goal
 
 pub served-requires : goal.served-requires

@@ -1,5 +1,4 @@
-use borrow.Author.Tests.{ltb-true, lt-ltb, le-ltb, eq-eqb, ne_eqb}
-use borrow.Author.Rules.{rules}
+use borrow.Author.Tests.{eq-eqb, ne_eqb}
 use Rattle.next_queue.proofs.across.Goals as goal
 
 pub returns-then-v-eq1 : goal.returns-then-v-eq1

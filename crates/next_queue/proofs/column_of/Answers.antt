@@ -1,5 +1,4 @@
 use native.Mathlib.Omega.{arith}
-use borrow.Author.Rules.{rules}
 use Rattle.next_queue.proofs.column_of.Goals as goal
 
 pub returns-then-back : goal.returns-then-back

@@ -1,4 +1,3 @@
-use borrow.Author.Rules.{rules}
 use Rattle.next_queue.proofs.entered.Goals as goal
 
 pub returns-then-back : goal.returns-then-back

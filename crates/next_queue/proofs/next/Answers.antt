@@ -1,7 +1,5 @@
 use native.Mathlib.Omega.{arith}
-use mathlib.Core.Path.{◌∙◌}
 use Rattle.next_queue.proofs.Numbered.{next_number, port_few}
-use borrow.Author.Rules.{rules}
 use Rattle.next_queue.proofs.next.Goals as goal
 
 pub next_of-requires : goal.next_of-requires

@@ -1,6 +1,5 @@
 use mathlib.Core.Path.{◌∙◌}
 use Rattle.plan_walks.proofs.Through.{same_default}
-use borrow.Author.Rules.{rules}
 use Rattle.next_queue.proofs.side_of.Goals as goal
 
 pub returns : goal.returns

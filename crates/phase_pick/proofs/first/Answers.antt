@@ -1,7 +1,4 @@
-use Prim.Native.Nat.{◌-◌, ◌≤◌}
 use native.Mathlib.Omega.{arith}
-use Rattle.plan.specs.Tables.{table_plan}
-use Rattle.phase_pick.specs.Moments.{Passed}
 use Rattle.phase_pick.proofs.Tables.{range_of}
 use Rattle.phase_pick.proofs.Choosing.{passed_none, passed_more, first_found, first_none, sends_by}
 use Rattle.phase_pick.proofs.Asked.{sends_asks}

@@ -1,10 +1,6 @@
-use Prim.Native.Nat.{◌-◌, ◌≤◌}
-use native.Mathlib.Omega.{arith}
+use Prim.Native.Nat.{◌≤◌}
 use Rattle.plan.specs.Tables.{table_plan}
 use Rattle.phase_pick.specs.Moments.{Passed}
-use Rattle.phase_pick.proofs.Tables.{range_of}
-use Rattle.phase_pick.proofs.Choosing.{passed_none, passed_more, first_found, first_none, sends_by}
-use Rattle.phase_pick.proofs.Asked.{sends_asks}
 use Rattle.phase_pick.proofs.first.Given as goal
 
 abbrev pub invariant-loop-k : goal.invariant-loop-k

@@ -4,7 +4,6 @@ use Rattle.phase_pick.proofs.Choosing.{steps_idle}
 use Rattle.phase_pick.proofs.Asked.{interface_room, interface_sends, idle_row, holds_open, steps_open}
 use Rattle.phase_pick.proofs.Asked.{interface_open}
 use native.Mathlib.Omega.{arith}
-use borrow.Author.Rules.{rules}
 use Rattle.phase_pick.proofs.interface.Goals as goal
 
 pub bounds-s-at : goal.bounds-s-at

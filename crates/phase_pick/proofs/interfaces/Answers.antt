@@ -1,12 +1,6 @@
-use Rattle.phase_pick.specs.Moments.{Picks, chooses}
-use Rattle.bytes_steps.specs.Acts.{Steps, steps_none, steps_done}
-use Rattle.plan.specs.Tables.{table_plan}
-use Rattle.plan.specs.Head.{destinations}
-use Rattle.basis.specs.Fold.{up_to}
-use lib.ListN.{length}
-use Prim.Native.Nat.{◌-◌, ◌≤◌}
+use Rattle.bytes_steps.specs.Acts.{steps_none, steps_done}
 use native.Mathlib.Omega.{arith}
-use mathlib.Core.Path.{◌≡◌, refl, ◌∙◌}
+use mathlib.Core.Path.{refl, ◌∙◌}
 use Rattle.phase_pick.proofs.Loops.{interfaces_hold, interfaces_more}
 use Rattle.phase_pick.proofs.interfaces.Goals as goal
 

@@ -1,13 +1,11 @@
 use Rattle.phase_pick.specs.Moments.{Picks, chooses}
-use Rattle.bytes_steps.specs.Acts.{Steps, steps_none, steps_done}
+use Rattle.bytes_steps.specs.Acts.{Steps}
 use Rattle.plan.specs.Tables.{table_plan}
 use Rattle.plan.specs.Head.{destinations}
 use Rattle.basis.specs.Fold.{up_to}
 use lib.ListN.{length}
-use Prim.Native.Nat.{◌-◌, ◌≤◌}
-use native.Mathlib.Omega.{arith}
-use mathlib.Core.Path.{◌≡◌, refl, ◌∙◌}
-use Rattle.phase_pick.proofs.Loops.{interfaces_hold, interfaces_more}
+use Prim.Native.Nat.{◌≤◌}
+use mathlib.Core.Path.{◌≡◌}
 use Rattle.phase_pick.proofs.interfaces.Given as goal
 
 abbrev pub invariant-loop-m : goal.invariant-loop-m

@@ -2,7 +2,6 @@ use Rattle.phase_pick.proofs.Tables.{range_of}
 use Rattle.phase_pick.proofs.Choosing.{credit_tells}
 use Rattle.phase_pick.proofs.Asked.{read_at, is_queue, row_room, next_asks, onto_asks, onto_room}
 use native.Mathlib.Omega.{arith}
-use borrow.Author.Rules.{rules}
 use Rattle.phase_pick.proofs.may_go.Goals as goal
 
 pub packet_at-x-requires : goal.packet_at-x-requires

@@ -3,7 +3,6 @@ use Rattle.phase_pick.proofs.Tables.{range_of}
 use Rattle.phase_pick.proofs.Choosing.{steps_picked}
 use Rattle.phase_pick.proofs.Asked.{output_asks, choice_small, choice_row, choice_room}
 use native.Mathlib.Omega.{arith}
-use borrow.Author.Rules.{rules}
 use Rattle.phase_pick.proofs.pick.Goals as goal
 
 pub turn-v-requires : goal.turn-v-requires

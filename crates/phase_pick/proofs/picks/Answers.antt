@@ -1,6 +1,5 @@
 use native.Mathlib.Omega.{arith}
 use Rattle.phase_pick.proofs.Loops.{interfaces_hold, picks_all}
-use borrow.Author.Rules.{rules}
 use Rattle.phase_pick.proofs.picks.Goals as goal
 
 pub interfaces-requires : goal.interfaces-requires

@@ -4,7 +4,6 @@ use Rattle.phase_pick.proofs.Steps.{holds_by, tells_by}
 use Rattle.phase_pick.proofs.Choosing.{empty_tells, unhandled_tells, leaves_handled, leaves_passing}
 use Rattle.phase_pick.proofs.Asked.{is_queue, row_room}
 use native.Mathlib.Omega.{arith}
-use borrow.Author.Rules.{rules}
 use Rattle.phase_pick.proofs.ready.Goals as goal
 
 pub bounds-s-at : goal.bounds-s-at

@@ -1,5 +1,4 @@
 use Rattle.phase_pick.proofs.Loops.{from_four, from_five, from_six}
-use borrow.Author.Rules.{rules}
 use Rattle.phase_pick.proofs.router.Goals as goal
 
 pub sides-requires : goal.sides-requires

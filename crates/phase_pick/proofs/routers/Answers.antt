@@ -1,12 +1,6 @@
-use mathlib.Core.Path.{◌≡◌, refl, ◌∙◌}
+use mathlib.Core.Path.{refl, ◌∙◌}
 use native.Mathlib.Omega.{arith}
-use Prim.Native.Nat.{◌-◌, ◌≤◌}
-use lib.ListN.{length}
-use Rattle.basis.specs.Fold.{up_to}
-use Rattle.plan.specs.Head.{destinations}
-use Rattle.plan.specs.Tables.{table_plan}
-use Rattle.bytes_steps.specs.Acts.{Steps, steps_none, steps_done}
-use Rattle.phase_pick.specs.Moments.{Picks, chooses_at}
+use Rattle.bytes_steps.specs.Acts.{steps_none, steps_done}
 use Rattle.phase_pick.proofs.Loops.{routers_hold, routers_more}
 use Rattle.phase_pick.proofs.routers.Goals as goal
 

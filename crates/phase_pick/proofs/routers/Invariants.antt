@@ -1,13 +1,11 @@
-use mathlib.Core.Path.{◌≡◌, refl, ◌∙◌}
-use native.Mathlib.Omega.{arith}
-use Prim.Native.Nat.{◌-◌, ◌≤◌}
+use mathlib.Core.Path.{◌≡◌}
+use Prim.Native.Nat.{◌≤◌}
 use lib.ListN.{length}
 use Rattle.basis.specs.Fold.{up_to}
 use Rattle.plan.specs.Head.{destinations}
 use Rattle.plan.specs.Tables.{table_plan}
-use Rattle.bytes_steps.specs.Acts.{Steps, steps_none, steps_done}
+use Rattle.bytes_steps.specs.Acts.{Steps}
 use Rattle.phase_pick.specs.Moments.{Picks, chooses_at}
-use Rattle.phase_pick.proofs.Loops.{routers_hold, routers_more}
 use Rattle.phase_pick.proofs.routers.Given as goal
 
 abbrev pub invariant-loop-r : goal.invariant-loop-r

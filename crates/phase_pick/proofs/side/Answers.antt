@@ -5,7 +5,6 @@ use Rattle.phase_pick.proofs.Choosing.{steps_idle}
 use Rattle.phase_pick.proofs.Asked.{side_rows, side_sends, idle_rows, holds_open, steps_open, slot_small}
 use Rattle.phase_pick.proofs.Asked.{base_asks, side_asks, side_room, side_open, side_shut}
 use native.Mathlib.Omega.{arith}
-use borrow.Author.Rules.{rules}
 use Rattle.phase_pick.proofs.side.Goals as goal
 
 pub side_idle-requires : goal.side_idle-requires

@@ -1,7 +1,5 @@
 use mathlib.Core.Bool.{false≢true}
-use native.Mathlib.Omega.{arith}
 use Rattle.phase_pick.proofs.Asked.{idle_five}
-use borrow.Author.Rules.{rules}
 use Rattle.phase_pick.proofs.side_idle.Goals as goal
 
 pub returns-then-s-at-ne0 : goal.returns-then-s-at-ne0

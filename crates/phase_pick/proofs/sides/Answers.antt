@@ -1,11 +1,5 @@
-use Rattle.phase_pick.specs.Moments.{Picks, chooses_from}
-use Rattle.bytes_steps.specs.Acts.{Steps}
-use Rattle.plan.specs.Tables.{table_plan}
-use Rattle.plan.specs.Head.{destinations}
-use lib.ListN.{length}
-use Prim.Native.Nat.{◌+◌, ◌*◌, ◌-◌, ◌≤◌}
 use native.Mathlib.Omega.{arith}
-use mathlib.Core.Path.{◌≡◌, refl, ◌∙◌}
+use mathlib.Core.Path.{refl, ◌∙◌}
 use Rattle.phase_pick.proofs.Loops.{from_none, sides_hold, sides_more, from_done}
 use Rattle.phase_pick.proofs.sides.Goals as goal
 

@@ -3,10 +3,8 @@ use Rattle.bytes_steps.specs.Acts.{Steps}
 use Rattle.plan.specs.Tables.{table_plan}
 use Rattle.plan.specs.Head.{destinations}
 use lib.ListN.{length}
-use Prim.Native.Nat.{◌+◌, ◌*◌, ◌-◌, ◌≤◌}
-use native.Mathlib.Omega.{arith}
-use mathlib.Core.Path.{◌≡◌, refl, ◌∙◌}
-use Rattle.phase_pick.proofs.Loops.{from_none, sides_hold, sides_more, from_done}
+use Prim.Native.Nat.{◌+◌, ◌*◌, ◌≤◌}
+use mathlib.Core.Path.{◌≡◌}
 use Rattle.phase_pick.proofs.sides.Given as goal
 
 abbrev pub invariant-loop-o : goal.invariant-loop-o

@@ -1,8 +1,6 @@
-use native.Mathlib.Omega.{arith}
 use Rattle.phase_pick.proofs.Tables.{range_of}
 use Rattle.phase_pick.proofs.Choosing.{turn_found, turn_again}
 use Rattle.phase_pick.proofs.Asked.{output_asks, turn_room, turn_tells}
-use borrow.Author.Rules.{rules}
 use Rattle.phase_pick.proofs.turn.Goals as goal
 
 pub turn_row-requires : goal.turn_row-requires

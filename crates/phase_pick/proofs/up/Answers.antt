@@ -4,7 +4,6 @@ use native.Mathlib.Omega.{arith}
 use Rattle.phase_pick.proofs.Tables.{range_of}
 use Rattle.phase_pick.proofs.Choosing.{steps_idle}
 use Rattle.phase_pick.proofs.Asked.{up_room, up_sends, idle_rows, holds_open, steps_open, up_open}
-use borrow.Author.Rules.{rules}
 use Rattle.phase_pick.proofs.up.Goals as goal
 
 pub idle-requires : goal.idle-requires

@@ -1,8 +1,5 @@
 use mathlib.Core.Bool.{false≢true}
-use Prim.Native.Nat.{◌*◌, ◌-◌, ◌≤◌}
 use native.Mathlib.Omega.{arith}
-use borrow.Author.Tests.{not-false}
-use Rattle.phase_read.specs.Reading.{Down}
 use Rattle.phase_read.proofs.Flags.{down_none, down_four}
 use Rattle.phase_read.proofs.all_down.Goals as goal
 

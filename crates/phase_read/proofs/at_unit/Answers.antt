@@ -1,6 +1,5 @@
 use native.Mathlib.Omega.{arith}
 use Rattle.phase_read.proofs.Awaited.{only_at}
-use borrow.Author.Rules.{rules}
 use Rattle.phase_read.proofs.at_unit.Goals as goal
 
 pub returns : goal.returns

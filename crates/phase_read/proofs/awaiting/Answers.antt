@@ -1,7 +1,6 @@
 use mathlib.Core.Path.{sym, ◌∙◌}
-use Prim.Native.Nat.{◌-◌}
 use native.Mathlib.Omega.{arith}
-use Rattle.phase_read.proofs.Awaited.{NoneBelow, none_more, found, last}
+use Rattle.phase_read.proofs.Awaited.{none_more, found, last}
 use Rattle.phase_read.proofs.awaiting.Goals as goal
 
 pub loop-i-init : goal.loop-i-init

@@ -1,7 +1,4 @@
-use mathlib.Core.Path.{sym, ◌∙◌}
-use Prim.Native.Nat.{◌-◌}
-use native.Mathlib.Omega.{arith}
-use Rattle.phase_read.proofs.Awaited.{NoneBelow, none_more, found, last}
+use Rattle.phase_read.proofs.Awaited.{NoneBelow}
 use Rattle.phase_read.proofs.awaiting.Given as goal
 
 abbrev pub invariant-loop-i : goal.invariant-loop-i

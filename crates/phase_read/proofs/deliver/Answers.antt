@@ -3,7 +3,6 @@ use Rattle.plan.specs.Tables.{table_plan}
 use Rattle.phase_read.proofs.Offsets.{table_head, range_counts}
 use Rattle.phase_read.proofs.Arrivals.{wire_within, deliver_none, pair_of, next_small, joins_within, joins_room}
 use Rattle.phase_read.proofs.Arrivals.{rows_within, unit_of, deliver_full}
-use borrow.Author.Rules.{rules}
 use Rattle.phase_read.proofs.deliver.Goals as goal
 
 pub output_row-i-requires : goal.output_row-i-requires

@@ -1,12 +1,9 @@
-use mathlib.Core.Path.{◌≡◌, refl, ap, ◌∙◌}
-use Prim.Native.Nat.{◌+◌, ◌*◌, ◌≤◌, ◌-◌}
+use mathlib.Core.Path.{refl, ap, ◌∙◌}
+use Prim.Native.Nat.{◌+◌, ◌*◌}
 use native.Mathlib.Omega.{arith}
 use lib.ListN.{length}
-use Rattle.basis.specs.Fold.{up_to}
 use Rattle.plan.specs.Tables.{table_plan}
-use Rattle.theory.specs.Invariant.{Core}
-use Rattle.bytes_steps.specs.Acts.{Steps, steps_none, steps_done}
-use Rattle.phase_read.specs.Reading.{delivery}
+use Rattle.bytes_steps.specs.Acts.{steps_none, steps_done}
 use Rattle.phase_read.proofs.Offsets.{table_head, range_counts}
 use Rattle.phase_read.proofs.Arrivals.{wire_within, deliver_idle}
 use Rattle.phase_read.proofs.Phase.{delivers_at, delivers_more}

@@ -1,6 +1,5 @@
 use mathlib.Core.Path.{refl}
 use Rattle.phase_read.proofs.Flags.{four_of}
-use borrow.Author.Rules.{rules}
 use Rattle.phase_read.proofs.four_down.Goals as goal
 
 pub returns : goal.returns

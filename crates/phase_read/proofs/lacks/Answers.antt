@@ -1,5 +1,4 @@
 use Rattle.phase_read.proofs.Awaited.{lacks_down, lacks_up}
-use borrow.Author.Rules.{rules}
 use Rattle.phase_read.proofs.lacks.Goals as goal
 
 pub returns-then-s-at-eq0 : goal.returns-then-s-at-eq0

@@ -4,7 +4,6 @@ use Rattle.phase_read.proofs.Offsets.{table_head, range_counts, header_within}
 use Rattle.phase_read.proofs.Phase.{whole_of, whole_then, read_done}
 use native.Mathlib.Omega.{arith}
 use lib.ListN.{length-set}
-use borrow.Author.Rules.{rules}
 use Rattle.phase_read.proofs.read.Goals as goal
 
 pub deliver_all-requires : goal.deliver_all-requires

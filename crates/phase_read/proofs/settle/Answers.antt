@@ -1,7 +1,6 @@
 use Rattle.phase_read.proofs.Flags.{flag_within, settle_none, credit_lacks, settle_up}
 use native.Mathlib.Omega.{arith}
 use lib.ListN.{length-set}
-use borrow.Author.Rules.{rules}
 use Rattle.phase_read.proofs.settle.Goals as goal
 
 pub bounds-s-i : goal.bounds-s-i

@@ -1,8 +1,5 @@
-use mathlib.Core.Path.{◌≡◌, refl, ◌∙◌}
-use Prim.Native.Nat.{◌≤◌, ◌-◌}
+use mathlib.Core.Path.{refl, ◌∙◌}
 use native.Mathlib.Omega.{arith}
-use lib.ListN.{length}
-use Rattle.phase_read.specs.Reading.{SettlesTo}
 use Rattle.phase_read.proofs.Flags.{settles_none, settles_at, settles_more, settles_done, down_all, settles_down}
 use Rattle.phase_read.proofs.Flags.{whole_long}
 use Rattle.phase_read.proofs.settle_all.Goals as goal

@@ -1,4 +1,3 @@
-use borrow.Author.Rules.{rules}
 use Rattle.phase_unit.proofs.book.Goals as goal
 
 pub returns : goal.returns

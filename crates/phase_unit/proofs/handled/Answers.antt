@@ -1,5 +1,4 @@
 use Rattle.phase_unit.proofs.Exits.{of_setup, of_tdown, of_ack, of_nack}
-use borrow.Author.Rules.{rules}
 use Rattle.phase_unit.proofs.handled.Goals as goal
 
 pub set_up-y-requires : goal.set_up-y-requires

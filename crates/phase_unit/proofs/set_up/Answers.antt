@@ -1,5 +1,4 @@
 use borrow.Author.Tests.{eq-eqb, ne_eqb}
-use borrow.Author.Rules.{rules}
 use Rattle.phase_unit.proofs.set_up.Goals as goal
 
 pub returns-then-may-eq0 : goal.returns-then-may-eq0

@@ -1,5 +1,4 @@
 use borrow.Author.Tests.{eq-eqb, ne_eqb}
-use borrow.Author.Rules.{rules}
 use Rattle.phase_unit.proofs.tear_down.Goals as goal
 
 pub returns-then-x-eq1 : goal.returns-then-x-eq1

@@ -1,7 +1,6 @@
 use Rattle.phase_write.proofs.Halves.{enters}
 use native.Mathlib.Omega.{arith}
 use lib.ListN.{length-set}
-use borrow.Author.Rules.{rules}
 use Rattle.phase_write.proofs.enter.Goals as goal
 
 pub credit_down-c-requires : goal.credit_down-c-requires

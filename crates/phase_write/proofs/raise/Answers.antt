@@ -1,7 +1,6 @@
 use Rattle.phase_write.proofs.Halves.{raise_none, raise_flag, raise_mark}
 use native.Mathlib.Omega.{arith}
 use lib.ListN.{length-set}
-use borrow.Author.Rules.{rules}
 use Rattle.phase_write.proofs.raise.Goals as goal
 
 pub returns-then-m-n : goal.returns-then-m-n

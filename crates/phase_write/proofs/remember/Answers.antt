@@ -1,4 +1,3 @@
-use borrow.Author.Rules.{rules}
 use Rattle.phase_write.proofs.remember.Goals as goal
 
 pub returns : goal.returns

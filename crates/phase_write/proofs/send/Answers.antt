@@ -4,7 +4,6 @@ use Rattle.phase_write.proofs.Turns.{next_small, next_within, next_credit, last_
 use Rattle.phase_write.proofs.Turns.{choice_within, send_none, sender_small, sender_within, sender_some, sender_few}
 use Rattle.phase_write.proofs.Turns.{pair_of, onward_of, wire_within}
 use native.Mathlib.Omega.{arith}
-use borrow.Author.Rules.{rules}
 use Rattle.phase_write.proofs.send.Goals as goal
 
 pub bounds-s-i : goal.bounds-s-i

@@ -1,12 +1,10 @@
-use mathlib.Core.Path.{◌≡◌, refl, sym, ap, ◌∙◌}
-use Prim.Native.Nat.{◌+◌, ◌*◌, ◌≤◌, ◌-◌}
+use mathlib.Core.Path.{refl, sym, ap, ◌∙◌}
+use Prim.Native.Nat.{◌+◌, ◌*◌}
 use native.Mathlib.Omega.{arith}
 use lib.ListN.{length}
 use borrow.Author.Tests.{not-false, eqb-true}
-use Rattle.basis.specs.Fold.{up_to}
 use Rattle.plan.specs.Tables.{table_plan}
-use Rattle.bytes_steps.specs.Acts.{Steps, steps_none, steps_done}
-use Rattle.phase_write.specs.Writing.{sending, Picked}
+use Rattle.bytes_steps.specs.Acts.{steps_none, steps_done}
 use Rattle.phase_read.proofs.Offsets.{table_head, range_counts}
 use Rattle.phase_write.proofs.Turns.{choice_within, send_none}
 use Rattle.phase_write.proofs.Phase.{sends_at, sends_more}
@@ -53,13 +51,13 @@ loop-m-preserved c =
     let at = c.output_row-from.ensures in
     let l = c.loop-m in
     elim c.if-picked.branch [
-      then-picked w ↦ (
+      | then-picked w ↦ (
         omega arith,
         sends_more (table_head _ _ _) pre.0.range pre.0.wired (omega arith) l.invariant.1
             w.send.ensures w.s-is,
         ap length w.s-is ∙ w.send.auto.s ∙ l.invariant.2,
       )
-    | else-picked w ↦ (
+      | else-picked w ↦ (
         omega arith,
         sends_more (table_head _ _ _) pre.0.range pre.0.wired (omega arith) l.invariant.1
             (send_none (table_plan _ _ _) (table_head _ _ _) l.m

@@ -1,16 +1,10 @@
-use mathlib.Core.Path.{◌≡◌, refl, sym, ap, ◌∙◌}
-use mathlib.Core.Logic.{⊎_elim}
-use Prim.Native.Nat.{◌+◌, ◌*◌, ◌≤◌, ◌-◌}
-use native.Mathlib.Omega.{arith}
+use mathlib.Core.Path.{◌≡◌}
+use Prim.Native.Nat.{◌≤◌}
 use lib.ListN.{length}
-use borrow.Author.Tests.{not-false, eqb-true}
 use Rattle.basis.specs.Fold.{up_to}
 use Rattle.plan.specs.Tables.{table_plan}
-use Rattle.bytes_steps.specs.Acts.{Steps, steps_none, steps_done}
+use Rattle.bytes_steps.specs.Acts.{Steps}
 use Rattle.phase_write.specs.Writing.{sending, Picked}
-use Rattle.phase_read.proofs.Offsets.{table_head, range_counts}
-use Rattle.phase_write.proofs.Turns.{choice_within, send_none}
-use Rattle.phase_write.proofs.Phase.{sends_at, sends_more}
 use Rattle.phase_write.proofs.send_all.Given as goal
 
 abbrev pub invariant-loop-m : goal.invariant-loop-m

@@ -1,5 +1,4 @@
 use Rattle.phase_write.proofs.Senders.{sender_out, sender_side, sender_unit, sender_from}
-use borrow.Author.Rules.{rules}
 use Rattle.phase_write.proofs.sender_of.Goals as goal
 
 pub returns-then-m-n : goal.returns-then-m-n

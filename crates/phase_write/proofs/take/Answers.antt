@@ -1,5 +1,4 @@
 use Rattle.phase_write.proofs.Halves.{takes}
-use borrow.Author.Rules.{rules}
 use Rattle.phase_write.proofs.take.Goals as goal
 
 pub returns : goal.returns

@@ -3,7 +3,6 @@ use Rattle.phase_read.proofs.Offsets.{table_head, header_within}
 use Rattle.phase_write.proofs.Phase.{write_starts, slot_below, write_done}
 use native.Mathlib.Omega.{arith}
 use lib.ListN.{length-set}
-use borrow.Author.Rules.{rules}
 use Rattle.phase_write.proofs.write.Goals as goal
 
 pub bounds-s-1 : goal.bounds-s-1

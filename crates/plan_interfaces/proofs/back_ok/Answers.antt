@@ -1,5 +1,4 @@
 use Rattle.plan.proofs.JointLaws.{back_none, back_router}
-use borrow.Author.Rules.{rules}
 use Rattle.plan_interfaces.proofs.back_ok.Goals as goal
 
 pub returns-then-v-ne-TO_ROUTER : goal.returns-then-v-ne-TO_ROUTER

@@ -1,6 +1,5 @@
 use Rattle.plan.proofs.JointLaws.{named_active, named_passive}
 use native.Mathlib.Omega.{arith}
-use borrow.Author.Rules.{rules}
 use Rattle.plan_interfaces.proofs.column.Goals as goal
 
 pub returns-then-v-eq-TO_ACTIVE : goal.returns-then-v-eq-TO_ACTIVE

@@ -1,13 +1,11 @@
-use borrow.Author.Rules.{rules}
 use mathlib.Core.Path.{◌≡◌, ◌∙◌, sym, ap}
-use mathlib.Core.List.{[]}
-use Prim.Native.Nat.{◌-◌, ◌≤◌, ◌*◌, ◌<◌}
+use Prim.Native.Nat.{◌*◌}
 use native.Mathlib.Omega.{arith}
 use Rattle.basis.specs.Fold.{up_to, up_none, up_more, up_done}
-use Rattle.basis.specs.Bounded.{all_below, all_none}
+use Rattle.basis.specs.Bounded.{all_none}
 use Rattle.plan.specs.Tables.{table_plan}
-use Rattle.plan.specs.Rules.{back_ok, joint_of_port, named_ok}
-use Rattle.plan.specs.Found.{found_step, found_of}
+use Rattle.plan.specs.Rules.{named_ok}
+use Rattle.plan.specs.Found.{found_of}
 use Rattle.plan.proofs.JointTests.{all_and, all_end, byte_fits}
 use Rattle.plan_interfaces.proofs.found.Goals as goal
 

@@ -1,13 +1,9 @@
-use borrow.Author.Rules.{rules}
 use Rattle.plan.proofs.JointTests.{all_and, all_end}
 use Rattle.plan_interfaces.proofs.PortLaws.{found_ok, found_homes}
-use Rattle.plan.specs.Found.{port_of_cell}
-use Rattle.basis.specs.Fold.{up_to, fill, up_none, up_fill, up_done}
-use Rattle.basis.specs.Bounded.{all_below, all_none}
+use Rattle.basis.specs.Fold.{up_to, up_none, up_fill, up_done}
+use Rattle.basis.specs.Bounded.{all_none}
 use native.Mathlib.Omega.{arith}
-use lib.Dec.{ltb}
-use lib.ListN.{length, get_or}
-use Prim.Native.Nat.{◌≤◌, ◌-◌, ◌+◌}
+use Prim.Native.Nat.{◌+◌}
 use mathlib.Core.Bool.{Bool, ◌&&◌}
 use mathlib.Core.Path.{◌≡◌, ◌∙◌, refl, sym, ap, ap₂}
 use Rattle.plan_interfaces.proofs.homes.Goals as goal

@@ -1,13 +1,9 @@
 use mathlib.Core.Path.{ap₂}
-use borrow.Author.Rules.{rules}
-use Rattle.plan_interfaces.proofs.PortLaws.{hit_step, hit, miss, told_none, ports_hit}
-use mathlib.Core.Logic.{⊎_elim}
-use Rattle.plan.specs.declared.Ports.TheVariants.{Missing}
+use Rattle.plan_interfaces.proofs.PortLaws.{hit, miss, told_none, ports_hit}
 use Rattle.plan.specs.Found.{told_of}
-use Rattle.basis.specs.Fold.{up_to, up_none, up_more, up_done}
+use Rattle.basis.specs.Fold.{up_none, up_more, up_done}
 use native.Mathlib.Omega.{arith}
-use Prim.Native.Nat.{◌≤◌, ◌-◌}
-use mathlib.Core.Path.{◌≡◌, ◌∙◌}
+use mathlib.Core.Path.{◌∙◌}
 use Rattle.plan_interfaces.proofs.ports.Goals as goal
 use Rattle.plan_interfaces.proofs.ports.Goals.{then-v-w, else-v-w}
 
@@ -19,12 +15,12 @@ loop-i-preserved c = let js = c.args.joints.now in
     let w = c.wanted-w.result in
     let l = c.loop-i in
     elim c.if-v-w.branch [
-      then-v-w k ↦ (
+      | then-v-w k ↦ (
         omega arith,
         omega arith,
         up_more _ _ _ l.invariant.2 (ap₂ told_of k.count-is k.at-is ∙ hit js w l.count l.at l.i k.if-v-w.true),
       )
-    | else-v-w k ↦ (
+      | else-v-w k ↦ (
         omega arith,
         omega arith,
         up_more _ _ _ l.invariant.2 (ap₂ told_of k.count-is k.at-is ∙ miss js w l.count l.at l.i k.if-v-w.false),

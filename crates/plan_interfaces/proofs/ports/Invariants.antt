@@ -1,13 +1,9 @@
-use mathlib.Core.Path.{ap₂}
-use borrow.Author.Rules.{rules}
-use Rattle.plan_interfaces.proofs.PortLaws.{hit_step, hit, miss, told_none, ports_hit}
-use mathlib.Core.Logic.{⊎_elim}
+use Rattle.plan_interfaces.proofs.PortLaws.{hit_step}
 use Rattle.plan.specs.declared.Ports.TheVariants.{Missing}
 use Rattle.plan.specs.Found.{told_of}
-use Rattle.basis.specs.Fold.{up_to, up_none, up_more, up_done}
-use native.Mathlib.Omega.{arith}
-use Prim.Native.Nat.{◌≤◌, ◌-◌}
-use mathlib.Core.Path.{◌≡◌, ◌∙◌}
+use Rattle.basis.specs.Fold.{up_to}
+use Prim.Native.Nat.{◌≤◌}
+use mathlib.Core.Path.{◌≡◌}
 use Rattle.plan_interfaces.proofs.ports.Given as goal
 
 abbrev pub invariant-loop-i : goal.invariant-loop-i

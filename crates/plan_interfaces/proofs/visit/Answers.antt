@@ -1,6 +1,5 @@
 use Rattle.plan.proofs.JointLaws.{step_none, step_some, back_none}
 use native.Mathlib.Omega.{arith}
-use borrow.Author.Rules.{rules}
 use Rattle.plan_interfaces.proofs.visit.Goals as goal
 
 pub returns-then-v-lt-ACTIVE_BYTES : goal.returns-then-v-lt-ACTIVE_BYTES

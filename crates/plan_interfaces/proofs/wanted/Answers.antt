@@ -1,6 +1,5 @@
 use Rattle.plan.specs.Found.{wanted_of}
 use borrow.Author.Tests.{lt-ltb, le-ltb}
-use borrow.Author.Rules.{rules}
 use Rattle.plan_interfaces.proofs.wanted.Goals as goal
 
 pub returns-then-d-actives : goal.returns-then-d-actives

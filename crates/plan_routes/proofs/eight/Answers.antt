@@ -4,7 +4,6 @@ use mathlib.Core.Path.{◌≡◌}
 use Prim.Native.Nat.{ℕ, ◌+◌, ◌*◌, ◌/◌}
 use Rattle.plan_routes.proofs.Marks.{group_none, group_more, side_near}
 use native.Mathlib.Omega.{arith}
-use borrow.Author.Rules.{rules}
 use Rattle.plan_routes.proofs.eight.Goals as goal
 
 pub one-s0-requires : goal.one-s0-requires

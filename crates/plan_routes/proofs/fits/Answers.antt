@@ -1,6 +1,5 @@
 use mathlib.Core.Path.{refl}
 use Rattle.plan_routes.specs.Marks.{fits_of}
-use borrow.Author.Rules.{rules}
 use Rattle.plan_routes.proofs.fits.Goals as goal
 
 pub returns : goal.returns

@@ -1,6 +1,5 @@
 use mathlib.Core.Path.{refl}
 use Rattle.plan_routes.specs.Marks.{lane_of}
-use borrow.Author.Rules.{rules}
 use Rattle.plan_routes.proofs.lane.Goals as goal
 
 pub returns : goal.returns

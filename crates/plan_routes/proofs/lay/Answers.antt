@@ -1,7 +1,6 @@
 use mathlib.Core.Path.{ap, ◌∙◌}
 use Rattle.sets.specs.Sets.{either}
 use Rattle.plan_routes.proofs.Marks.{laid}
-use borrow.Author.Rules.{rules}
 use Rattle.plan_routes.proofs.lay.Goals as goal
 
 pub returns : goal.returns

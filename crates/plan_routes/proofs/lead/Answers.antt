@@ -1,6 +1,5 @@
 use Rattle.plan_routes.proofs.Marks.{lead_ends}
 use native.Mathlib.Omega.{arith}
-use borrow.Author.Rules.{rules}
 use Rattle.plan_routes.proofs.lead.Goals as goal
 
 pub returns-then-k-n : goal.returns-then-k-n

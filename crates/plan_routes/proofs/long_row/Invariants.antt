@@ -1,12 +1,8 @@
-use borrow.Author.Rules.{rules}
-use native.Mathlib.Nat.{add-zero}
 use mathlib.Core.Path.{◌≡◌}
 use mathlib.Core.List.{List}
-use Prim.Native.Nat.{ℕ, ◌+◌, ◌-◌, ◌*◌, ◌/◌, ◌≤◌}
-use native.Mathlib.Omega.{arith}
+use Prim.Native.Nat.{ℕ, ◌+◌, ◌*◌, ◌≤◌}
 use lib.ListN.{length}
 use Rattle.plan_routes.specs.Marks.{side_at, fits_of, Row}
-use Rattle.plan_routes.proofs.Marks.{side_small, row_first, row_more}
 use Rattle.plan_routes.proofs.long_row.Given as goal
 
 abbrev pub invariant-loop-j : goal.invariant-loop-j

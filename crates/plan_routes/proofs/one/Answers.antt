@@ -1,6 +1,5 @@
 use native.Mathlib.Omega.{arith}
 use Rattle.fields.specs.Laws.{field_lt}
-use borrow.Author.Rules.{rules}
 use Rattle.plan_routes.proofs.one.Goals as goal
 
 pub put-requires : goal.put-requires

@@ -1,9 +1,8 @@
 use Rattle.plan_routes.proofs.Routing.{row_inside}
-use Prim.Native.Nat.{◌+◌, ◌-◌, ◌≤◌}
-use borrow.Author.Rules.{rules}
+use Prim.Native.Nat.{◌+◌, ◌≤◌}
 use native.Mathlib.Omega.{arith}
 use native.Mathlib.Nat.{mul-le-mul_right}
-use Rattle.plan_routes.proofs.Routing.{Rows, rows_none, rows_next, rows_more, rows_done}
+use Rattle.plan_routes.proofs.Routing.{rows_none, rows_next, rows_more, rows_done}
 use Rattle.plan_routes.proofs.routes.Goals as goal
 
 pub loop-r-init : goal.loop-r-init

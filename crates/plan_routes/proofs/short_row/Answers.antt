@@ -1,6 +1,5 @@
 use native.Mathlib.Omega.{arith}
 use Rattle.plan_routes.proofs.Marks.{side_small, row_first}
-use borrow.Author.Rules.{rules}
 use Rattle.plan_routes.proofs.short_row.Goals as goal
 
 pub returns : goal.returns

@@ -1,8 +1,6 @@
 use mathlib.Core.Path.{◌≡◌}
-use Prim.Native.Nat.{◌+◌, ◌-◌, ◌≤◌}
+use Prim.Native.Nat.{◌+◌}
 use native.Mathlib.Omega.{arith}
-use borrow.Author.Rules.{rules}
-use Rattle.plan_routes.specs.Marks.{side_at, Group}
 use Rattle.plan_routes.proofs.Marks.{group_none, group_more, side_of, side_small}
 use Rattle.plan_routes.proofs.some.Goals as goal
 

@@ -1,7 +1,6 @@
 use mathlib.Core.Path.{◌≡◌}
 use Prim.Native.Nat.{ℕ, ◌+◌, ◌*◌, ◌/◌, ◌<◌}
 use native.Mathlib.Omega.{arith}
-use borrow.Author.Rules.{rules}
 use Rattle.fields.specs.Bits.{field_of}
 use Rattle.plan_routes.specs.Marks.{side_at}
 use Rattle.plan_routes.proofs.Marks.{begun_none, begun_more, side_near}

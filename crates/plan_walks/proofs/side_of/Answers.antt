@@ -1,4 +1,3 @@
-use borrow.Author.Rules.{rules}
 use Rattle.plan_walks.proofs.Through.{same_default}
 use Rattle.plan_walks.proofs.side_of.Goals as goal
 

@@ -1,4 +1,3 @@
-use borrow.Author.Rules.{rules}
 use Rattle.plan_walks.proofs.Through.{route_is}
 use Rattle.plan_walks.proofs.side_out.Goals as goal
 

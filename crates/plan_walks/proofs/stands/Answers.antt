@@ -1,7 +1,5 @@
-use Prim.Native.Nat.{◌≤◌, ◌-◌}
 use native.Mathlib.Omega.{arith}
-use borrow.Author.Rules.{rules}
-use Rattle.plan_walks.proofs.Stood.{Stood, stood_none, stood_more}
+use Rattle.plan_walks.proofs.Stood.{stood_none, stood_more}
 use Rattle.plan_walks.proofs.Ends.{over, stands_over, stands_on_lem}
 use Rattle.plan_walks.proofs.stands.Goals as goal
 

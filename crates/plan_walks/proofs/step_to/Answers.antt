@@ -1,4 +1,3 @@
-use borrow.Author.Rules.{rules}
 use Rattle.plan_walks.proofs.Through.{step_none, step_end, step_on, step_lost}
 use Rattle.plan_walks.proofs.step_to.Goals as goal
 

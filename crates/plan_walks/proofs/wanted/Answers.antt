@@ -1,5 +1,4 @@
 use borrow.Author.Tests.{lt-ltb, le-ltb}
-use borrow.Author.Rules.{rules}
 use Rattle.plan_walks.proofs.wanted.Goals as goal
 
 pub returns-then-d-actives : goal.returns-then-d-actives

@@ -1,19 +1,17 @@
 -- The theorems of specs/Runs/BothEnds.antt, where what they evaluate is told.
-use Rattle.std.specs.Prelude.{◌≡◌, refl, List, [], ◌∷◌, ◌++◌, ℕ}
-use Rattle.packets.specs.declared.Kind.TheVariants.{Setup, Tdown, Ack, Nack}
-use Rattle.packets.specs.declared.Packet.{Packet}
+use Rattle.std.specs.Prelude.{◌≡◌, refl, [], ◌∷◌, ◌++◌}
+use Rattle.packets.specs.declared.Kind.TheVariants.{Setup, Tdown, Nack}
 use Rattle.packets.specs.Answers.{done}
-use Rattle.plan.specs.Plan.{Plan, plan_of}
+use Rattle.plan.specs.Plan.{plan_of}
 use Rattle.plan.specs.Samples.{two_to_one, wider_crossing, line_of_three, drives_around}
-use Rattle.plan_queues.specs.Queue.{ahead, back, Queue, U, Q, F, K}
-use Rattle.plan_queues.specs.Feeds.{Output, of_side, to_unit, from_unit}
-use Rattle.rules.specs.State.{State, start, with_last_sender}
-use Rattle.rules.specs.Calls.{Call, read, execute, write, launch, reply}
-use Rattle.rules.specs.Runs.Watch.{round, many_rounds, in_write, packet, entry_in, count_in, each, after}
-use Rattle.rules.specs.Runs.Watch.{ran, watching, moments}
+use Rattle.plan_queues.specs.Queue.{ahead, back, Q, F}
+use Rattle.plan_queues.specs.Feeds.{of_side, to_unit}
+use Rattle.rules.specs.Calls.{read, execute}
+use Rattle.rules.specs.Runs.Watch.{packet, after}
+use Rattle.rules.specs.Runs.Watch.{watching, moments}
 use Rattle.rules.proofs.Runs.Crossing.{crosses_both_ways}
 use Rattle.rules.specs.Runs.Watch.{once}
-use Rattle.rules.specs.Runs.BothEnds.{last_at, one_entry, side2, freed_and_booked, on_the_wire, with_u0_remembered, both_fs, slot2_and_last, nack1, setup0, from_all_sides, at_unit0, five_senders, five, setup, next_setup, nack, ack0, ack1, ack3}
+use Rattle.rules.specs.Runs.BothEnds.{last_at, one_entry, side2, freed_and_booked, with_u0_remembered, both_fs, slot2_and_last, nack1, setup0, from_all_sides, at_unit0, five_senders, five, setup, next_setup, nack, ack0, ack1, ack3}
 
 pub side_0_first : moments two_to_one side2 (Q 0 0 ∷ Q 0 1 ∷ []) one_entry
     -- round 4: active 1's first set-up, handled, waits for F; behind it is its second

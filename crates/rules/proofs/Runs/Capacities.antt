@@ -1,17 +1,14 @@
 -- The theorems of specs/Runs/Capacities.antt, where what they evaluate is told.
-use Rattle.std.specs.Prelude.{◌≡◌, refl, List, [], ◌∷◌, ◌++◌, ℕ}
-use Rattle.packets.specs.declared.Kind.TheVariants.{Setup, Tdown, Ack, Nack}
-use Rattle.packets.specs.declared.Packet.{Packet}
-use Rattle.plan_queues.specs.Queue.{ahead, Queue, active_out, active_in, passive_in, passive_out, U, Q, F, K}
-use Rattle.rules.specs.State.{State}
-use Rattle.rules.specs.Calls.{Call, read, execute, write, launch, reply, look, drop}
-use Rattle.rules.specs.Runs.Watch.{round, many_rounds, in_write, packet, allowance_in, count_in, credit_in, flag_in}
-use Rattle.rules.specs.Runs.Watch.{each, after, moments}
+use Rattle.std.specs.Prelude.{◌≡◌, refl, [], ◌∷◌, ◌++◌}
+use Rattle.packets.specs.declared.Kind.TheVariants.{Ack, Nack}
+use Rattle.plan_queues.specs.Queue.{active_out}
+use Rattle.rules.specs.Runs.Watch.{packet}
+use Rattle.rules.specs.Runs.Watch.{after, moments}
 use Rattle.plan.specs.Samples.{wider_t, narrow_unit, narrow_back}
 use Rattle.packets.specs.Answers.{refused, done, shows}
 use Rattle.rules.proofs.Runs.Turns.{skipped_changes_nothing}
 use Rattle.rules.specs.Runs.Watch.{once}
-use Rattle.rules.specs.Runs.Capacities.{fill_there, way_ahead, there, full, zeros, waiting, fill_back, back, fill_out, allowance0, tdown, setup}
+use Rattle.rules.specs.Runs.Capacities.{fill_there, there, full, zeros, waiting, fill_back, back, fill_out, allowance0, tdown, setup}
 
 pub filled_there : moments narrow_unit there [] fill_there
     -- round 0: the allowance is 6, not 7; a seventh launch finds the out-queue full too, but 11 comes before 12

@@ -1,19 +1,15 @@
 -- The theorems of specs/Runs/Closed.antt, where what they evaluate is told.
-use Rattle.std.specs.Prelude.{◌≡◌, refl, List, [], ◌∷◌, ◌++◌, ℕ}
+use Rattle.std.specs.Prelude.{◌≡◌, refl, [], ◌∷◌}
 use Rattle.packets.specs.declared.Kind.TheVariants.{Setup, Tdown, Ack}
-use Rattle.packets.specs.declared.Packet.{Packet}
-use Rattle.plan_queues.specs.Queue.{Queue, active_out, active_in, Q}
+use Rattle.plan_queues.specs.Queue.{active_out}
 use Rattle.rules.specs.Connections.{connection}
-use Rattle.rules.specs.State.{State}
-use Rattle.rules.specs.Calls.{Call, read, execute, write, launch, reply, look, drop, close}
-use Rattle.rules.specs.Runs.Watch.{many_rounds, in_write, packet, entry_in, connection_in, allowance_in}
+use Rattle.rules.specs.Runs.Watch.{packet}
 use Rattle.rules.specs.Runs.Watch.{after, moments, accepts}
-use Rattle.rules.specs.Runs.Declined.{both_sides}
 use Rattle.plan.specs.Samples.{plan_t, two_routers, all_sides}
 use Rattle.packets.specs.Answers.{refused, done, shows}
 use Rattle.rules.proofs.Runs.Capacities.{out_queue_full}
 use Rattle.rules.specs.Runs.Watch.{once}
-use Rattle.rules.specs.Runs.Closed.{other_connects, connecting, table_and_kept, both_booked, first_freed, both_freed, places, seen, quiet, ack, closing, passed_on, opened_closed_opened, connects, accepted_twice, closes_tried, allowance, closed_later, allowance_and_kept}
+use Rattle.rules.specs.Runs.Closed.{table_and_kept, both_booked, first_freed, both_freed, places, seen, quiet, ack, closing, passed_on, opened_closed_opened, accepted_twice, closes_tried, allowance, closed_later, allowance_and_kept}
 
 pub opened_closed_opened_lem : moments two_routers table_and_kept places opened_closed_opened
     ≡ after done (4 ∷ 4 ∷ 4 ∷ 4 ∷ 2 ∷ 4 ∷ 4 ∷ 4 ∷ 0 ∷ 1 ∷ []) quiet

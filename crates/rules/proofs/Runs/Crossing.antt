@@ -1,11 +1,8 @@
 -- The theorems of specs/Runs/Crossing.antt, where what they evaluate is told.
-use Rattle.std.specs.Prelude.{◌≡◌, refl, List, [], ◌∷◌, ◌++◌, ℕ}
+use Rattle.std.specs.Prelude.{◌≡◌, refl, [], ◌∷◌}
 use Rattle.packets.specs.declared.Kind.TheVariants.{Setup, Ack}
-use Rattle.packets.specs.declared.Packet.{Packet}
 use Rattle.plan_queues.specs.Queue.{Q, active_in}
-use Rattle.rules.specs.State.{State}
-use Rattle.rules.specs.Calls.{Call, read, execute, write, launch, reply, drop}
-use Rattle.rules.specs.Runs.Watch.{many_rounds, packet, entry_in, after, moments}
+use Rattle.rules.specs.Runs.Watch.{packet, after, moments}
 use Rattle.packets.specs.Answers.{done}
 use Rattle.plan.specs.Samples.{crossing}
 use Rattle.rules.proofs.Runs.Declined.{second_declines_lem}

@@ -1,11 +1,7 @@
 -- The theorems of specs/Runs/Declined.antt, where what they evaluate is told.
-use Rattle.std.specs.Prelude.{◌≡◌, refl, List, [], ◌∷◌, ◌++◌, ℕ}
-use Rattle.packets.specs.declared.Kind.TheVariants.{Setup, Tdown, Ack, Nack}
-use Rattle.packets.specs.declared.Packet.{Packet}
+use Rattle.std.specs.Prelude.{◌≡◌, refl, [], ◌∷◌, ◌++◌}
 use Rattle.plan_queues.specs.Queue.{active_out, active_in, Q}
-use Rattle.rules.specs.State.{State}
-use Rattle.rules.specs.Calls.{Call, read, execute, write, launch, reply, look, drop}
-use Rattle.rules.specs.Runs.Watch.{round, packet, entry_in, after, steady, watch}
+use Rattle.rules.specs.Runs.Watch.{after, steady, watch}
 use Rattle.plan.specs.Samples.{two_routers}
 use Rattle.packets.specs.Answers.{done, shows}
 use Rattle.rules.proofs.Runs.Looking.{both_dropped}

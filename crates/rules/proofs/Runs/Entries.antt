@@ -1,8 +1,6 @@
 -- The theorems of specs/Runs/Entries.antt, where what they evaluate is told.
-use Rattle.std.specs.Prelude.{◌≡◌, refl, List, [], ◌∷◌, ◌++◌, ℕ}
-use Rattle.rules.specs.State.{State}
-use Rattle.rules.specs.Calls.{Call, read, execute, write, launch, entry}
-use Rattle.rules.specs.Runs.Watch.{many_rounds, slot_in, after, moments}
+use Rattle.std.specs.Prelude.{◌≡◌, refl, [], ◌∷◌}
+use Rattle.rules.specs.Runs.Watch.{after, moments}
 use Rattle.plan.specs.Samples.{all_sides}
 use Rattle.packets.specs.Answers.{refused, holds}
 use Rattle.rules.proofs.Runs.Heads.{one_head_a_round}

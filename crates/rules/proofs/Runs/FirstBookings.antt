@@ -1,15 +1,11 @@
 -- The theorems of specs/Runs/FirstBookings.antt, where what they evaluate is told.
-use Rattle.std.specs.Prelude.{◌≡◌, refl, List, [], ◌∷◌, ◌++◌, ℕ}
-use Rattle.packets.specs.declared.Kind.TheVariants.{Setup, Ack}
-use Rattle.packets.specs.declared.Packet.{Packet}
+use Rattle.std.specs.Prelude.{◌≡◌, refl, [], ◌∷◌, ◌++◌}
 use Rattle.plan_queues.specs.Queue.{ahead, active_in, passive_in, F}
-use Rattle.rules.specs.State.{State}
-use Rattle.rules.specs.Calls.{Call, read, execute, write, launch, reply, look, drop}
-use Rattle.rules.specs.Runs.Watch.{round, packet, slot_in, entry_in, after, steady, watch}
+use Rattle.rules.specs.Runs.Watch.{after, steady, watch}
 use Rattle.plan.specs.Samples.{plan_t}
 use Rattle.packets.specs.Answers.{done, shows}
 use Rattle.rules.specs.Runs.Watch.{once}
-use Rattle.rules.specs.Runs.FirstBookings.{side1, free, booked_side, launched_setup, setup, ack, launch_in_round0, nowhere, waits_at_passive, waits_at_active, launch_in_round1, slot_and_side1, in_f, has_reached}
+use Rattle.rules.specs.Runs.FirstBookings.{side1, free, booked_side, ack, launch_in_round0, nowhere, waits_at_passive, waits_at_active, launch_in_round1, slot_and_side1, in_f, has_reached}
 
 pub launch_in_round_0 : watch plan_t side1 (passive_in 0 ∷ active_in 0 ∷ []) launch_in_round0
     -- round 0: the launch, then the round

@@ -1,11 +1,7 @@
 -- The theorems of specs/Runs/Heads.antt, where what they evaluate is told.
-use Rattle.std.specs.Prelude.{◌≡◌, refl, List, [], ◌∷◌, ◌++◌, ℕ}
-use Rattle.packets.specs.declared.Kind.TheVariants.{Setup, Tdown}
-use Rattle.packets.specs.declared.Packet.{Packet}
+use Rattle.std.specs.Prelude.{◌≡◌, refl, [], ◌∷◌}
 use Rattle.plan_queues.specs.Queue.{Q}
-use Rattle.rules.specs.State.{State}
-use Rattle.rules.specs.Calls.{Call, read, execute, write, launch, reply}
-use Rattle.rules.specs.Runs.Watch.{round, many_rounds, in_write, packet, entry_in, credit_in, flag_in, after}
+use Rattle.rules.specs.Runs.Watch.{after}
 use Rattle.rules.specs.Runs.Watch.{moments}
 use Rattle.plan.specs.Samples.{narrow_there}
 use Rattle.packets.specs.Answers.{done}

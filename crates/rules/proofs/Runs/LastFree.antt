@@ -1,11 +1,9 @@
 -- The theorems of specs/Runs/LastFree.antt, where what they evaluate is told.
-use Rattle.std.specs.Prelude.{◌≡◌, refl, List, [], ◌∷◌, ◌++◌}
-use Rattle.packets.specs.declared.Kind.TheVariants.{Setup, Nack}
-use Rattle.packets.specs.declared.Packet.{Packet}
+use Rattle.std.specs.Prelude.{◌≡◌, refl, [], ◌∷◌, ◌++◌}
+use Rattle.packets.specs.declared.Kind.TheVariants.{Setup}
 use Rattle.plan_queues.specs.Queue.{active_out, active_in, Q}
-use Rattle.rules.specs.Calls.{Call, read, execute, write, launch, look, drop}
-use Rattle.rules.specs.Runs.Watch.{round, many_rounds, packet, after, steady, moments, watch}
-use Rattle.rules.specs.Runs.FirstBookings.{side1, free, booked_side, launched_setup, setup, ack, launch_in_round0}
+use Rattle.rules.specs.Runs.Watch.{packet, after, steady, moments, watch}
+use Rattle.rules.specs.Runs.FirstBookings.{side1, free, booked_side, launched_setup, setup, ack}
 use Rattle.plan.specs.Samples.{plan_t}
 use Rattle.packets.specs.Answers.{done, shows}
 use Rattle.rules.proofs.Runs.Refusals.{flag_before_mark}

@@ -1,12 +1,9 @@
 -- The theorems of specs/Runs/Looking.antt, where what they evaluate is told.
-use Rattle.std.specs.Prelude.{◌≡◌, refl, List, [], ◌∷◌, ◌++◌, ℕ}
-use Rattle.packets.specs.declared.Kind.TheVariants.{Ack, Nack}
-use Rattle.packets.specs.declared.Packet.{Packet}
+use Rattle.std.specs.Prelude.{◌≡◌, refl, [], ◌∷◌, ◌++◌}
 use Rattle.plan_queues.specs.Queue.{active_in}
 use Rattle.rules.specs.Connections.{connection}
-use Rattle.rules.specs.State.{State}
-use Rattle.rules.specs.Calls.{Call, read, execute, write, launch, reply, look, drop}
-use Rattle.rules.specs.Runs.Watch.{many_rounds, in_write, packet, allowance_in, flag_in, connection_in}
+use Rattle.rules.specs.Calls.{look}
+use Rattle.rules.specs.Runs.Watch.{in_write}
 use Rattle.rules.specs.Runs.Watch.{after, moments, accepts}
 use Rattle.rules.specs.Runs.FirstBookings.{ack}
 use Rattle.plan.specs.Samples.{plan_t, wider_t}

@@ -1,14 +1,9 @@
 -- The theorems of specs/Runs/NoCredit.antt, where what they evaluate is told.
-use Rattle.std.specs.Prelude.{◌≡◌, refl, List, [], ◌∷◌, ◌++◌, ℕ}
-use Rattle.packets.specs.declared.Kind.TheVariants.{Setup, Ack}
-use Rattle.packets.specs.declared.Packet.{Packet}
+use Rattle.std.specs.Prelude.{◌≡◌, refl, [], ◌∷◌}
 use Rattle.packets.specs.Answers.{done}
 use Rattle.plan.specs.Samples.{roomy_crossing}
-use Rattle.plan_queues.specs.Queue.{ahead, U, F, K}
-use Rattle.plan_queues.specs.Feeds.{of_side}
-use Rattle.rules.specs.State.{State}
-use Rattle.rules.specs.Calls.{Call, read, execute, write, launch, reply}
-use Rattle.rules.specs.Runs.Watch.{round, many_rounds, in_write, packet, credit_in, each, after, moments}
+use Rattle.plan_queues.specs.Queue.{ahead, F, K}
+use Rattle.rules.specs.Runs.Watch.{after, moments}
 use Rattle.rules.proofs.Runs.Queues.{heads_in_order}
 use Rattle.rules.specs.Runs.Watch.{once}
 use Rattle.rules.specs.Runs.NoCredit.{row_of_set_ups, credit_and_last, setup, first, second}

@@ -1,11 +1,8 @@
 -- The theorems of specs/Runs/Order.antt, where what they evaluate is told.
-use Rattle.std.specs.Prelude.{◌≡◌, refl, List, [], ◌∷◌, ◌++◌, ℕ}
-use Rattle.packets.specs.declared.Kind.TheVariants.{Setup, Ack, Nack}
-use Rattle.packets.specs.declared.Packet.{Packet}
+use Rattle.std.specs.Prelude.{◌≡◌, refl, [], ◌∷◌}
+use Rattle.packets.specs.declared.Kind.TheVariants.{Setup, Nack}
 use Rattle.plan_queues.specs.Queue.{back, active_in, U, Q, F, K}
-use Rattle.rules.specs.State.{State}
-use Rattle.rules.specs.Calls.{Call, read, execute, write, launch, reply}
-use Rattle.rules.specs.Runs.Watch.{round, many_rounds, packet, entry_in, after, moments}
+use Rattle.rules.specs.Runs.Watch.{packet, after, moments}
 use Rattle.plan.specs.Samples.{narrow_there, narrow_back}
 use Rattle.packets.specs.Answers.{done}
 use Rattle.rules.proofs.Runs.Spent.{allowance_spent_lem}

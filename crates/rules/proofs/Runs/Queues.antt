@@ -1,13 +1,10 @@
 -- The theorems of specs/Runs/Queues.antt, where what they evaluate is told.
-use Rattle.std.specs.Prelude.{◌≡◌, refl, List, [], ◌∷◌, ◌++◌, ℕ}
-use Rattle.packets.specs.declared.Kind.{Kind}
+use Rattle.std.specs.Prelude.{◌≡◌, refl, [], ◌∷◌}
 use Rattle.packets.specs.declared.Kind.TheVariants.{Setup, Ack, Nack}
-use Rattle.packets.specs.declared.Packet.{Packet}
 use Rattle.packets.specs.Answers.{done}
 use Rattle.plan.specs.Samples.{narrow_back}
 use Rattle.plan_queues.specs.Queue.{active_in, passive_in, passive_out}
-use Rattle.rules.specs.Calls.{Call, read, execute, write, launch, reply, drop}
-use Rattle.rules.specs.Runs.Watch.{many_rounds, in_write, packet, each, after, moments}
+use Rattle.rules.specs.Runs.Watch.{after, moments}
 use Rattle.rules.proofs.Runs.Waited.{declined_out_lem}
 use Rattle.rules.specs.Runs.Watch.{once}
 use Rattle.rules.specs.Runs.Queues.{three_answers, of}

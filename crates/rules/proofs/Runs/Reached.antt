@@ -1,17 +1,16 @@
 -- The theorems of specs/Runs/Reached.antt, where what they evaluate is told.
-use Rattle.std.specs.Prelude.{◌≡◌, refl, Bool, true, false, not, List, [], ◌∷◌, ◌++◌, ℕ, eqb}
+use Rattle.std.specs.Prelude.{◌≡◌, refl, Bool, true, not, List, [], ◌∷◌, ℕ, eqb}
 use Rattle.std.proofs.Common.{sym, ap, ◌∙◌, true≢false, eq-eqb}
-use Rattle.basis.specs.Choice.{pick, also, also_true}
+use Rattle.basis.specs.Choice.{pick, also_true}
 use Rattle.packets.specs.declared.Phase.TheVariants.{Execute}
 use Rattle.plan.specs.Plan.{Plan, plan_of}
 use Rattle.plan.specs.Samples.{line_of_three, drives_around, narrow_side}
 use Rattle.plan_queues.specs.Feeds.{Output, of_side, to_unit, from_unit}
-use Rattle.rules.specs.State.{State, Choice, nobody, sender, start}
-use Rattle.rules.specs.Calls.{Outcome, Call, read, execute, write, launch, reply, call}
+use Rattle.rules.specs.State.{State, start}
+use Rattle.rules.specs.Calls.{Outcome, Call, execute, write, call}
 use Rattle.rules.specs.Progress.{turns_call}
-use Rattle.rules.specs.Ruled.{ruled_after}
 use Rattle.rules.specs.TurnAbout.{waits, Stays, others, StaysAlong}
-use Rattle.rules.specs.Runs.Watch.{round, many_rounds, in_write, each, moments}
+use Rattle.rules.specs.Runs.Watch.{many_rounds, moments}
 use Rattle.rules.specs.Runs.BothEnds.{five_senders}
 use Rattle.rules.proofs.Runs.Spoilt.{stored_choice_goes_though_booked}
 use Rattle.rules.specs.Runs.Watch.{once}

@@ -1,18 +1,15 @@
 -- The theorems of specs/Runs/Refusals.antt, where what they evaluate is told.
-use Rattle.std.specs.Prelude.{◌≡◌, refl, List, [], ◌∷◌, ◌++◌, ℕ}
-use Rattle.packets.specs.declared.Kind.TheVariants.{Setup, Tdown, Nack}
-use Rattle.packets.specs.declared.Packet.{Packet}
+use Rattle.std.specs.Prelude.{◌≡◌, refl, [], ◌∷◌}
+use Rattle.packets.specs.declared.Kind.TheVariants.{Setup}
 use Rattle.plan_queues.specs.Queue.{active_out, active_in, passive_in, passive_out, U}
-use Rattle.rules.specs.State.{State}
-use Rattle.rules.specs.Calls.{Call, read, execute, write, launch, reply, look, drop}
-use Rattle.rules.specs.Runs.Watch.{many_rounds, in_write, packet, slot_in, allowance_in, flag_in, after, moments}
+use Rattle.rules.specs.Runs.Watch.{packet, after, moments}
 use Rattle.rules.specs.Runs.Watch.{watch}
 use Rattle.rules.specs.Runs.FirstBookings.{launched_setup, setup, ack}
 use Rattle.plan.specs.Samples.{plan_t, wider_t, all_sides}
 use Rattle.packets.specs.Answers.{refused, done, shows}
 use Rattle.rules.proofs.Runs.FirstBookings.{launch_in_round_1}
 use Rattle.rules.specs.Runs.Watch.{once}
-use Rattle.rules.specs.Runs.Refusals.{phases_tried, current_slot, setup_at, launches_tried, allowances, out_queues, replies_tried, passive_flag, down, up, waits_at_passive, drops_tried, allowance_and_flag, both_declined, first, second, second_marked, tdown6, tdown7, later, waits_at_active, out_queue_full, both_wait}
+use Rattle.rules.specs.Runs.Refusals.{phases_tried, current_slot, setup_at, launches_tried, allowances, out_queues, replies_tried, passive_flag, down, up, waits_at_passive, drops_tried, allowance_and_flag, second, second_marked, tdown6, tdown7, later, waits_at_active, out_queue_full, both_wait}
 
 pub phases_in_turn : watch plan_t current_slot (active_out 0 ∷ U 0 0 ∷ []) phases_tried
     -- READ

@@ -1,11 +1,8 @@
 -- The theorems of specs/Runs/Spent.antt, where what they evaluate is told.
-use Rattle.std.specs.Prelude.{◌≡◌, refl, List, [], ◌∷◌, ◌++◌, ℕ}
+use Rattle.std.specs.Prelude.{◌≡◌, refl, [], ◌∷◌, ◌++◌}
 use Rattle.packets.specs.declared.Kind.TheVariants.{Setup}
-use Rattle.packets.specs.declared.Packet.{Packet}
 use Rattle.plan_queues.specs.Queue.{active_out, active_in}
-use Rattle.rules.specs.State.{State}
-use Rattle.rules.specs.Calls.{Call, read, execute, write, launch, reply, look, drop}
-use Rattle.rules.specs.Runs.Watch.{round, packet, allowance_in, after, steady, watch}
+use Rattle.rules.specs.Runs.Watch.{packet, after, steady, watch}
 use Rattle.rules.specs.Runs.FirstBookings.{launched_setup, ack}
 use Rattle.plan.specs.Samples.{plan_t}
 use Rattle.packets.specs.Answers.{refused, done, shows}

@@ -1,20 +1,17 @@
 -- The theorems of specs/Runs/Spoilt.antt, where what they evaluate is told.
-use Rattle.std.specs.Prelude.{◌≡◌, refl, List, [], ◌∷◌}
+use Rattle.std.specs.Prelude.{◌≡◌, refl, [], ◌∷◌}
 use Rattle.packets.specs.declared.Kind.TheVariants.{Tdown}
-use Rattle.packets.specs.declared.Entry.TheVariants.{Booked}
 use Rattle.packets.specs.Answers.{done}
-use Rattle.plan.specs.Plan.{Plan, plan_of}
+use Rattle.plan.specs.Plan.{plan_of}
 use Rattle.plan.specs.Samples.{plan_t, narrow_back}
 use Rattle.plan_queues.specs.Queue.{back, Q, F, K}
-use Rattle.plan_queues.specs.Feeds.{of_side}
-use Rattle.rules.specs.State.{State, sender, start, with_queue, with_credit, with_choice, with_entry}
-use Rattle.rules.specs.Calls.{Call, read, execute, write}
-use Rattle.rules.specs.Runs.Watch.{packet, joined, after, ran, watching, moments}
+use Rattle.rules.specs.Calls.{read, execute, write}
+use Rattle.rules.specs.Runs.Watch.{packet, after, watching, moments}
 use Rattle.rules.specs.Runs.FirstBookings.{side1}
-use Rattle.rules.specs.Runs.Turns.{last_at_side, both_wait, nack, first}
+use Rattle.rules.specs.Runs.Turns.{last_at_side, nack, first}
 use Rattle.rules.proofs.Runs.NoCredit.{passed_over}
 use Rattle.rules.specs.Runs.Watch.{once}
-use Rattle.rules.specs.Runs.Spoilt.{anothers_entry, in_round6, other_stored, write_and_one_more, booked_behind}
+use Rattle.rules.specs.Runs.Spoilt.{anothers_entry, other_stored, write_and_one_more, booked_behind}
 
 pub another_side_freed : watching (plan_of plan_t) side1 (Q 0 0 ∷ []) ((read ∷ []) ∷ (execute ∷ []) ∷ [])
     (anothers_entry (plan_of plan_t))

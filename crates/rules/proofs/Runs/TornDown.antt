@@ -1,12 +1,7 @@
 -- The theorems of specs/Runs/TornDown.antt, where what they evaluate is told.
-use Rattle.std.specs.Prelude.{◌≡◌, refl, List, [], ◌∷◌, ◌++◌, ℕ}
-use Rattle.packets.specs.declared.Kind.TheVariants.{Setup, Tdown, Nack}
-use Rattle.packets.specs.declared.Packet.{Packet}
-use Rattle.plan_queues.specs.Queue.{Queue, active_out, active_in, passive_in, Q}
-use Rattle.rules.specs.State.{State}
-use Rattle.rules.specs.Calls.{Call, read, execute, write, launch, reply, look, drop}
-use Rattle.rules.specs.Runs.Watch.{many_rounds, in_write, packet, entry_in, allowance_in, after, moments}
-use Rattle.rules.specs.Runs.Declined.{both_sides}
+use Rattle.std.specs.Prelude.{◌≡◌, refl, [], ◌∷◌}
+use Rattle.plan_queues.specs.Queue.{active_out, active_in, Q}
+use Rattle.rules.specs.Runs.Watch.{after, moments}
 use Rattle.plan.specs.Samples.{two_routers, four_routers}
 use Rattle.packets.specs.Answers.{refused, done, shows}
 use Rattle.rules.proofs.Runs.Closed.{closed_later_lem}

@@ -1,17 +1,13 @@
 -- The theorems of specs/Runs/Turns.antt, where what they evaluate is told.
-use Rattle.std.specs.Prelude.{◌≡◌, refl, List, [], ◌∷◌, ◌++◌, ℕ}
-use Rattle.packets.specs.declared.Kind.TheVariants.{Setup, Ack, Nack}
-use Rattle.packets.specs.declared.Packet.{Packet}
+use Rattle.std.specs.Prelude.{◌≡◌, refl, [], ◌∷◌}
+use Rattle.packets.specs.declared.Kind.TheVariants.{Setup, Ack}
 use Rattle.plan_queues.specs.Queue.{ahead, back, active_in, U, F, K}
-use Rattle.plan_queues.specs.Feeds.{of_side, to_unit}
-use Rattle.rules.specs.State.{State}
-use Rattle.rules.specs.Calls.{Call, read, execute, write, launch, reply}
-use Rattle.rules.specs.Runs.Watch.{round, many_rounds, in_write, packet, each, after, moments}
+use Rattle.rules.specs.Runs.Watch.{packet, after, moments}
 use Rattle.plan.specs.Samples.{narrow_there, narrow_back, long_way_back}
 use Rattle.packets.specs.Answers.{done}
 use Rattle.rules.proofs.Runs.BothEnds.{fifth_sees_four}
 use Rattle.rules.specs.Runs.Watch.{once}
-use Rattle.rules.specs.Runs.Turns.{last_at_side, last_to_unit, both_wait, two_senders, nack, first, second, other, three_senders, waiting, three_actives, of, skipped_round}
+use Rattle.rules.specs.Runs.Turns.{last_at_side, last_to_unit, two_senders, nack, first, second, other, three_senders, waiting, three_actives, of, skipped_round}
 
 pub two_in_turn : moments narrow_back (last_at_side 1) (F back 0 1 ∷ K 0 0 1 ∷ []) two_senders
     ≡ after done (4 ∷ []) ([] ∷ [] ∷ [])

@@ -1,12 +1,10 @@
 -- The theorems of specs/Runs/Waited.antt, where what they evaluate is told.
-use Rattle.std.specs.Prelude.{◌≡◌, refl, List, [], ◌∷◌, ◌++◌, ℕ}
-use Rattle.rules.specs.State.{State}
-use Rattle.rules.specs.Calls.{Call, read, execute, write, launch, reply, drop, remaining}
-use Rattle.rules.specs.Runs.Watch.{entry_in, After, after, watch, once}
+use Rattle.std.specs.Prelude.{◌≡◌, refl, [], ◌∷◌, ◌++◌}
+use Rattle.rules.specs.Runs.Watch.{after, watch, once}
 use Rattle.plan.specs.Samples.{plan_t}
-use Rattle.packets.specs.Answers.{Value, refused, done, remains}
+use Rattle.packets.specs.Answers.{refused, done, remains}
 use Rattle.rules.proofs.Runs.BothEnds.{fifth_sees_four}
-use Rattle.rules.specs.Runs.Waited.{asked, entry0, waited, neither, nothing_left, waited_out, declined_out}
+use Rattle.rules.specs.Runs.Waited.{entry0, waited, neither, nothing_left, waited_out, declined_out}
 
 pub nothing_left_lem : watch plan_t (λ s. []) [] nothing_left
     ≡ after (remains 0 0) [] [] ∷ after done [] [] ∷ after (remains 0 0) [] [] ∷ after done [] []

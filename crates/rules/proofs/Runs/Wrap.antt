@@ -1,11 +1,8 @@
 -- The theorems of specs/Runs/Wrap.antt, where what they evaluate is told.
-use Rattle.std.specs.Prelude.{◌≡◌, refl, List, [], ◌∷◌, ◌++◌, ℕ}
-use Rattle.packets.specs.declared.Kind.TheVariants.{Setup, Ack}
-use Rattle.packets.specs.declared.Packet.{Packet}
+use Rattle.std.specs.Prelude.{◌≡◌, refl, [], ◌∷◌, ◌++◌}
+use Rattle.packets.specs.declared.Kind.TheVariants.{Ack}
 use Rattle.plan_queues.specs.Queue.{passive_in, Q}
-use Rattle.rules.specs.State.{State}
-use Rattle.rules.specs.Calls.{Call, read, execute, write, launch, reply, look, drop}
-use Rattle.rules.specs.Runs.Watch.{many_rounds, in_write, packet, entry_in, after, moments, accepts}
+use Rattle.rules.specs.Runs.Watch.{packet, after, moments, accepts}
 use Rattle.plan.specs.Samples.{four_routers}
 use Rattle.packets.specs.Answers.{done, shows}
 use Rattle.rules.proofs.Runs.TornDown.{torn_over_three}

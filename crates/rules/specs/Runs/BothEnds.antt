@@ -3,19 +3,17 @@
 -- round, side 0 first, and sends one packet a round, turn about. A side's order is now set-up F, answer F, then K, so
 -- at most four others go first there.' Each run is one list of calls and one theorem that evaluates it. Rounds are
 -- counted from 0.
-use Rattle.std.specs.Prelude.{◌≡◌, refl, List, [], ◌∷◌, ◌++◌, ℕ}
-use Rattle.packets.specs.declared.Kind.TheVariants.{Setup, Tdown, Ack, Nack}
+use Rattle.std.specs.Prelude.{List, [], ◌∷◌, ◌++◌, ℕ}
+use Rattle.packets.specs.declared.Kind.TheVariants.{Setup, Ack, Nack}
 use Rattle.packets.specs.declared.Packet.{Packet}
 use Rattle.packets.specs.Answers.{done}
-use Rattle.plan.specs.Plan.{Plan, plan_of}
-use Rattle.plan.specs.Samples.{two_to_one, wider_crossing, line_of_three, drives_around}
+use Rattle.plan.specs.Plan.{Plan}
 use Rattle.plan_queues.specs.Queue.{ahead, back, Queue, U, Q, F, K}
 use Rattle.plan_queues.specs.Feeds.{Output, of_side, to_unit, from_unit}
 use Rattle.rules.specs.State.{State, start, with_last_sender}
 use Rattle.rules.specs.Calls.{Call, read, execute, write, launch, reply}
-use Rattle.rules.specs.Runs.Watch.{round, many_rounds, in_write, packet, entry_in, count_in, each, after}
-use Rattle.rules.specs.Runs.Watch.{ran, watching, moments}
-use Rattle.rules.specs.Runs.Watch.{once}
+use Rattle.rules.specs.Runs.Watch.{round, many_rounds, in_write, packet, entry_in, count_in, each}
+use Rattle.rules.specs.Runs.Watch.{ran}
 
 -- the last sender that an output served, by its rank
 abbrev pub last_at : Output → State → List ℕ

@@ -1,17 +1,14 @@
 -- Different capacities: each kind of queue is filled to its own, and beyond it a call is refused or the sender waits
 -- with credit 0. 'Each active's allowance = the smaller of its two capacities.' One list of calls and one theorem
 -- each.
-use Rattle.std.specs.Prelude.{◌≡◌, refl, List, [], ◌∷◌, ◌++◌, ℕ}
-use Rattle.packets.specs.declared.Kind.TheVariants.{Setup, Tdown, Ack, Nack}
+use Rattle.std.specs.Prelude.{List, [], ◌∷◌, ◌++◌, ℕ}
+use Rattle.packets.specs.declared.Kind.TheVariants.{Setup, Tdown}
 use Rattle.packets.specs.declared.Packet.{Packet}
 use Rattle.plan_queues.specs.Queue.{ahead, Queue, active_out, active_in, passive_in, passive_out, U, Q, F, K}
 use Rattle.rules.specs.State.{State}
 use Rattle.rules.specs.Calls.{Call, read, execute, write, launch, reply, look, drop}
 use Rattle.rules.specs.Runs.Watch.{round, many_rounds, in_write, packet, allowance_in, count_in, credit_in, flag_in}
-use Rattle.rules.specs.Runs.Watch.{each, after, moments}
-use Rattle.plan.specs.Samples.{wider_t, narrow_unit, narrow_back}
-use Rattle.packets.specs.Answers.{refused, done, shows}
-use Rattle.rules.specs.Runs.Watch.{once}
+use Rattle.rules.specs.Runs.Watch.{each}
 
 -- ---- the way to a passive. Document 02 (i) splits Q by incoming side: an active's own set-ups are to fill its Q and
 -- its U, and three Qs fill. With Q 3 and U 4, as `narrowThere` has them, an allowance of 6 does not do it; with Q 1 and

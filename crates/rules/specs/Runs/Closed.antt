@@ -1,19 +1,14 @@
 -- Document 02 (a), closing a connection: 'After the last cup the camera no longer needs its slots'. Each run is one
 -- list of calls and one theorem that evaluates it. Rounds are counted from 0: round n begins with the current slot n
 -- modulo 4.
-use Rattle.std.specs.Prelude.{◌≡◌, refl, List, [], ◌∷◌, ◌++◌, ℕ}
-use Rattle.packets.specs.declared.Kind.TheVariants.{Setup, Tdown, Ack}
+use Rattle.std.specs.Prelude.{List, [], ◌∷◌, ◌++◌, ℕ}
+use Rattle.packets.specs.declared.Kind.TheVariants.{Tdown, Ack}
 use Rattle.packets.specs.declared.Packet.{Packet}
 use Rattle.plan_queues.specs.Queue.{Queue, active_out, active_in, Q}
-use Rattle.rules.specs.Connections.{connection}
 use Rattle.rules.specs.State.{State}
 use Rattle.rules.specs.Calls.{Call, read, execute, write, launch, reply, look, drop, close}
 use Rattle.rules.specs.Runs.Watch.{many_rounds, in_write, packet, entry_in, connection_in, allowance_in}
-use Rattle.rules.specs.Runs.Watch.{after, moments, accepts}
 use Rattle.rules.specs.Runs.Declined.{both_sides}
-use Rattle.plan.specs.Samples.{plan_t, two_routers, all_sides}
-use Rattle.packets.specs.Answers.{refused, done, shows}
-use Rattle.rules.specs.Runs.Watch.{once}
 
 -- ---- two routers, S=4. Active 1, at the second router, is connected from slot 0 on; active 0, at the first, from
 -- slot 2.

@@ -1,16 +1,11 @@
 -- Document 02 (i): 'the crossing two-router plan'. Set-ups cross both ways: both are booked at both routers, both
 -- answers come back. Two routers, joined by their sides 2, each with an active on side 0 and a passive on side 1; S=4,
 -- capacities 1; active 0 to passive 1, active 1 to passive 0.
-use Rattle.std.specs.Prelude.{◌≡◌, refl, List, [], ◌∷◌, ◌++◌, ℕ}
-use Rattle.packets.specs.declared.Kind.TheVariants.{Setup, Ack}
+use Rattle.std.specs.Prelude.{List, [], ◌∷◌, ◌++◌, ℕ}
 use Rattle.packets.specs.declared.Packet.{Packet}
-use Rattle.plan_queues.specs.Queue.{Q, active_in}
 use Rattle.rules.specs.State.{State}
 use Rattle.rules.specs.Calls.{Call, read, execute, write, launch, reply, drop}
-use Rattle.rules.specs.Runs.Watch.{many_rounds, packet, entry_in, after, moments}
-use Rattle.packets.specs.Answers.{done}
-use Rattle.plan.specs.Samples.{crossing}
-use Rattle.rules.specs.Runs.Watch.{once}
+use Rattle.rules.specs.Runs.Watch.{many_rounds, entry_in}
 
 abbrev pub both_ways : List (List Call)
 both_ways =

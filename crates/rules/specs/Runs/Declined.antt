@@ -3,16 +3,12 @@
 -- 0: round n begins with the current slot n modulo 4. Request (i) of document 02 splits Q by incoming side: at the
 -- second router active 1's set-up is in Q[2] and active 0's in Q[0]; nothing else changes, for neither meets the
 -- other there.
-use Rattle.std.specs.Prelude.{◌≡◌, refl, List, [], ◌∷◌, ◌++◌, ℕ}
+use Rattle.std.specs.Prelude.{List, [], ◌∷◌, ◌++◌, ℕ}
 use Rattle.packets.specs.declared.Kind.TheVariants.{Setup, Tdown, Ack, Nack}
 use Rattle.packets.specs.declared.Packet.{Packet}
-use Rattle.plan_queues.specs.Queue.{active_out, active_in, Q}
 use Rattle.rules.specs.State.{State}
 use Rattle.rules.specs.Calls.{Call, read, execute, write, launch, reply, look, drop}
-use Rattle.rules.specs.Runs.Watch.{round, packet, entry_in, after, steady, watch}
-use Rattle.plan.specs.Samples.{two_routers}
-use Rattle.packets.specs.Answers.{done, shows}
-use Rattle.rules.specs.Runs.Watch.{once}
+use Rattle.rules.specs.Runs.Watch.{round, packet, entry_in}
 
 -- The walks to the passive leave each router by its side 1: that side's entries for slots 0 to 3, at the first router,
 -- then at the second

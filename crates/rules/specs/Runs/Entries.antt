@@ -1,12 +1,9 @@
 -- '**Entry** (router, side, slot): 9. Else the entry, 4 for free': asked in each phase, for free entries, for entries
 -- booked from each side, and out of range. One list of calls and one theorem that evaluates it.
-use Rattle.std.specs.Prelude.{◌≡◌, refl, List, [], ◌∷◌, ◌++◌, ℕ}
+use Rattle.std.specs.Prelude.{List, [], ◌∷◌, ◌++◌, ℕ}
 use Rattle.rules.specs.State.{State}
 use Rattle.rules.specs.Calls.{Call, read, execute, write, launch, entry}
-use Rattle.rules.specs.Runs.Watch.{many_rounds, slot_in, after, moments}
-use Rattle.plan.specs.Samples.{all_sides}
-use Rattle.packets.specs.Answers.{refused, holds}
-use Rattle.rules.specs.Runs.Watch.{once}
+use Rattle.rules.specs.Runs.Watch.{many_rounds, slot_in}
 
 -- active 0 comes in to router 0 by side 0, active 1 by side 1, active 2 to router 1 by side 2 and then to router 0 by
 -- side 3. All go to passive 0, at side 2 of router 0

@@ -1,15 +1,11 @@
 -- 'Runs to compare' of document 01: plan T, and its starred runs of one launch. Each is one list of calls and one
 -- theorem that evaluates it. Rounds are counted from 0: round n begins with the current slot n modulo 2.
-use Rattle.std.specs.Prelude.{◌≡◌, refl, List, [], ◌∷◌, ◌++◌, ℕ}
+use Rattle.std.specs.Prelude.{List, [], ◌∷◌, ◌++◌, ℕ}
 use Rattle.packets.specs.declared.Kind.TheVariants.{Setup, Ack}
 use Rattle.packets.specs.declared.Packet.{Packet}
-use Rattle.plan_queues.specs.Queue.{ahead, active_in, passive_in, F}
 use Rattle.rules.specs.State.{State}
 use Rattle.rules.specs.Calls.{Call, read, execute, write, launch, reply, look, drop}
-use Rattle.rules.specs.Runs.Watch.{round, packet, slot_in, entry_in, after, steady, watch}
-use Rattle.plan.specs.Samples.{plan_t}
-use Rattle.packets.specs.Answers.{done, shows}
-use Rattle.rules.specs.Runs.Watch.{once}
+use Rattle.rules.specs.Runs.Watch.{round, packet, slot_in, entry_in}
 
 -- the entries of side 1, by which the walk to the passive leaves: slot 0, slot 1
 abbrev pub side1 : State → List ℕ

@@ -3,17 +3,13 @@
 -- behind it a TDOWN that ends at this unit, behind it another set-up. Document 02 (i) splits Q by incoming side: 'a
 -- unit handles each queue's unhandled head once in a round'. So all three are active 0's, to stand in one queue,
 -- Q[1]. The figures are those of the one Q that two actives shared.
-use Rattle.std.specs.Prelude.{◌≡◌, refl, List, [], ◌∷◌, ◌++◌, ℕ}
+use Rattle.std.specs.Prelude.{List, [], ◌∷◌, ◌++◌, ℕ}
 use Rattle.packets.specs.declared.Kind.TheVariants.{Setup, Tdown}
 use Rattle.packets.specs.declared.Packet.{Packet}
 use Rattle.plan_queues.specs.Queue.{Q}
 use Rattle.rules.specs.State.{State}
 use Rattle.rules.specs.Calls.{Call, read, execute, write, launch, reply}
-use Rattle.rules.specs.Runs.Watch.{round, many_rounds, in_write, packet, entry_in, credit_in, flag_in, after}
-use Rattle.rules.specs.Runs.Watch.{moments}
-use Rattle.plan.specs.Samples.{narrow_there}
-use Rattle.packets.specs.Answers.{done}
-use Rattle.rules.specs.Runs.Watch.{once}
+use Rattle.rules.specs.Runs.Watch.{round, many_rounds, in_write, packet, entry_in, credit_in, flag_in}
 
 abbrev pub heads_in_turn : List (List Call)
 heads_in_turn =

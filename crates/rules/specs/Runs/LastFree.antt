@@ -1,15 +1,11 @@
 -- 'Runs to compare' of document 01: 'After that ACK is consumed, launch (0,0,1): last free entry, NACK with hub 0.'
 -- One list of calls and one theorem that evaluates it. Plan T; that ACK is the one of the launch in round 0.
-use Rattle.std.specs.Prelude.{◌≡◌, refl, List, [], ◌∷◌, ◌++◌}
+use Rattle.std.specs.Prelude.{List, [], ◌∷◌, ◌++◌}
 use Rattle.packets.specs.declared.Kind.TheVariants.{Setup, Nack}
 use Rattle.packets.specs.declared.Packet.{Packet}
-use Rattle.plan_queues.specs.Queue.{active_out, active_in, Q}
 use Rattle.rules.specs.Calls.{Call, read, execute, write, launch, look, drop}
-use Rattle.rules.specs.Runs.Watch.{round, many_rounds, packet, after, steady, moments, watch}
-use Rattle.rules.specs.Runs.FirstBookings.{side1, free, booked_side, launched_setup, setup, ack, launch_in_round0}
-use Rattle.plan.specs.Samples.{plan_t}
-use Rattle.packets.specs.Answers.{done, shows}
-use Rattle.rules.specs.Runs.Watch.{once}
+use Rattle.rules.specs.Runs.Watch.{round, many_rounds, packet}
+use Rattle.rules.specs.Runs.FirstBookings.{launch_in_round0}
 
 abbrev pub last_free_entry : List Call
 last_free_entry =

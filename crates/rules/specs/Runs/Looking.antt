@@ -1,18 +1,12 @@
 -- Document 02 (c), 'Look before dropping': 'The arm program wants to show the answer on the panel before it gives back
 -- the allowance'. Each run is one list of calls and one theorem that evaluates it. Rounds are counted from 0.
-use Rattle.std.specs.Prelude.{◌≡◌, refl, List, [], ◌∷◌, ◌++◌, ℕ}
+use Rattle.std.specs.Prelude.{List, [], ◌∷◌, ◌++◌, ℕ}
 use Rattle.packets.specs.declared.Kind.TheVariants.{Ack, Nack}
 use Rattle.packets.specs.declared.Packet.{Packet}
 use Rattle.plan_queues.specs.Queue.{active_in}
-use Rattle.rules.specs.Connections.{connection}
 use Rattle.rules.specs.State.{State}
 use Rattle.rules.specs.Calls.{Call, read, execute, write, launch, reply, look, drop}
 use Rattle.rules.specs.Runs.Watch.{many_rounds, in_write, packet, allowance_in, flag_in, connection_in}
-use Rattle.rules.specs.Runs.Watch.{after, moments, accepts}
-use Rattle.rules.specs.Runs.FirstBookings.{ack}
-use Rattle.plan.specs.Samples.{plan_t, wider_t}
-use Rattle.packets.specs.Answers.{refused, done, shows}
-use Rattle.rules.specs.Runs.Watch.{once}
 
 -- ---- 'Look returns the head in any phase and changes nothing .. Look gives 9 and 13'. Plan T
 abbrev pub any_phase : List (List Call)

@@ -1,16 +1,13 @@
 -- 'A candidate has a head (in Q a handled one) and its next queue has credit': a head whose next queue has none is
 -- passed over, and holds up nobody. One list of calls and one theorem that evaluates it. Rounds are counted from 0.
-use Rattle.std.specs.Prelude.{◌≡◌, refl, List, [], ◌∷◌, ◌++◌, ℕ}
+use Rattle.std.specs.Prelude.{List, [], ◌∷◌, ◌++◌, ℕ}
 use Rattle.packets.specs.declared.Kind.TheVariants.{Setup, Ack}
 use Rattle.packets.specs.declared.Packet.{Packet}
-use Rattle.packets.specs.Answers.{done}
-use Rattle.plan.specs.Samples.{roomy_crossing}
-use Rattle.plan_queues.specs.Queue.{ahead, U, F, K}
+use Rattle.plan_queues.specs.Queue.{U}
 use Rattle.plan_queues.specs.Feeds.{of_side}
 use Rattle.rules.specs.State.{State}
 use Rattle.rules.specs.Calls.{Call, read, execute, write, launch, reply}
-use Rattle.rules.specs.Runs.Watch.{round, many_rounds, in_write, packet, credit_in, each, after, moments}
-use Rattle.rules.specs.Runs.Watch.{once}
+use Rattle.rules.specs.Runs.Watch.{round, many_rounds, in_write, packet, credit_in, each}
 
 -- two routers, joined by their sides 2, each with an active on side 0 and a passive on side 1; S=8, active out 4,
 -- active in 4, all other capacities 1. Passive 1 never replies, so active 0's set-ups to it stand in a row back to

@@ -2,16 +2,12 @@
 -- order is now set-up F, answer F, then K' (both F wait in BothEnds). Who goes first where several wait: an output
 -- 'starts as if the last in order had sent' (document 02 (b)), so those that wait once each go in order, as they did
 -- when the first in order always went first. One list of calls and one theorem each.
-use Rattle.std.specs.Prelude.{◌≡◌, refl, List, [], ◌∷◌, ◌++◌, ℕ}
+use Rattle.std.specs.Prelude.{List, [], ◌∷◌, ◌++◌, ℕ}
 use Rattle.packets.specs.declared.Kind.TheVariants.{Setup, Ack, Nack}
 use Rattle.packets.specs.declared.Packet.{Packet}
-use Rattle.plan_queues.specs.Queue.{back, active_in, U, Q, F, K}
 use Rattle.rules.specs.State.{State}
 use Rattle.rules.specs.Calls.{Call, read, execute, write, launch, reply}
-use Rattle.rules.specs.Runs.Watch.{round, many_rounds, packet, entry_in, after, moments}
-use Rattle.plan.specs.Samples.{narrow_there, narrow_back}
-use Rattle.packets.specs.Answers.{done}
-use Rattle.rules.specs.Runs.Watch.{once}
+use Rattle.rules.specs.Runs.Watch.{round, many_rounds, packet, entry_in}
 
 -- ---- U[1], U[2] and U[3]: three actives launch with slot 5 in round 0, and their set-ups come to the router in round
 -- 1. (U[0] before U[1] is seen in Entries.)

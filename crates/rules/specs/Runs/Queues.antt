@@ -1,15 +1,10 @@
 -- 'Queues, first in first out': the head is answered, and a packet that stays keeps its place. One list of calls
 -- and one theorem that evaluates it. Rounds are counted from 0.
-use Rattle.std.specs.Prelude.{◌≡◌, refl, List, [], ◌∷◌, ◌++◌, ℕ}
+use Rattle.std.specs.Prelude.{List, [], ◌∷◌, ◌++◌, ℕ}
 use Rattle.packets.specs.declared.Kind.{Kind}
-use Rattle.packets.specs.declared.Kind.TheVariants.{Setup, Ack, Nack}
 use Rattle.packets.specs.declared.Packet.{Packet}
-use Rattle.packets.specs.Answers.{done}
-use Rattle.plan.specs.Samples.{narrow_back}
-use Rattle.plan_queues.specs.Queue.{active_in, passive_in, passive_out}
 use Rattle.rules.specs.Calls.{Call, read, execute, write, launch, reply, drop}
-use Rattle.rules.specs.Runs.Watch.{many_rounds, in_write, packet, each, after, moments}
-use Rattle.rules.specs.Runs.Watch.{once}
+use Rattle.rules.specs.Runs.Watch.{many_rounds, in_write, packet, each}
 
 -- three set-ups wait at passive 0. It accepts the first and declines the two others; the ACK is dropped only when all
 -- three answers are there

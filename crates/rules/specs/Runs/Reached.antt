@@ -1,20 +1,16 @@
 -- 'At most three others go before it', at a side four (documents 02 (b) and (i), `TurnAbout`): so many do go. And who
 -- does not stay a candidate is passed more often. Each run is one list of calls and one theorem that evaluates it.
-use Rattle.std.specs.Prelude.{◌≡◌, refl, Bool, true, false, not, List, [], ◌∷◌, ◌++◌, ℕ, eqb}
-use Rattle.std.proofs.Common.{sym, ap, ◌∙◌, true≢false, eq-eqb}
-use Rattle.basis.specs.Choice.{pick, also, also_true}
+use Rattle.std.specs.Prelude.{◌≡◌, Bool, true, not, List, [], ◌∷◌, ◌++◌, ℕ, eqb}
+use Rattle.basis.specs.Choice.{pick, also}
 use Rattle.packets.specs.declared.Phase.TheVariants.{Execute}
 use Rattle.plan.specs.Plan.{Plan, plan_of}
-use Rattle.plan.specs.Samples.{line_of_three, drives_around, narrow_side}
-use Rattle.plan_queues.specs.Feeds.{Output, of_side, to_unit, from_unit}
+use Rattle.plan_queues.specs.Feeds.{Output}
 use Rattle.rules.specs.State.{State, Choice, nobody, sender, start}
-use Rattle.rules.specs.Calls.{Outcome, Call, read, execute, write, launch, reply, call}
+use Rattle.rules.specs.Calls.{Outcome, Call, read, write, launch, reply, call}
 use Rattle.rules.specs.Progress.{turns_call}
 use Rattle.rules.specs.Ruled.{ruled_after}
-use Rattle.rules.specs.TurnAbout.{waits, Stays, others, StaysAlong}
-use Rattle.rules.specs.Runs.Watch.{round, many_rounds, in_write, each, moments}
-use Rattle.rules.specs.Runs.BothEnds.{five_senders}
-use Rattle.rules.specs.Runs.Watch.{once}
+use Rattle.rules.specs.TurnAbout.{waits, others, StaysAlong}
+use Rattle.rules.specs.Runs.Watch.{round, many_rounds, in_write, each}
 
 -- ---- `StaysAlong`, by a test that can be evaluated
 abbrev pub stays_by : Plan → Output → ℕ → State → Choice → Bool

@@ -1,17 +1,12 @@
 -- 'Calls, each with its refusals in order': where the conditions of two or more hold at once, the earlier number is
 -- given. One list of calls and one theorem for each call.
-use Rattle.std.specs.Prelude.{◌≡◌, refl, List, [], ◌∷◌, ◌++◌, ℕ}
+use Rattle.std.specs.Prelude.{List, [], ◌∷◌, ◌++◌, ℕ}
 use Rattle.packets.specs.declared.Kind.TheVariants.{Setup, Tdown, Nack}
 use Rattle.packets.specs.declared.Packet.{Packet}
-use Rattle.plan_queues.specs.Queue.{active_out, active_in, passive_in, passive_out, U}
+use Rattle.plan_queues.specs.Queue.{active_in, passive_in}
 use Rattle.rules.specs.State.{State}
 use Rattle.rules.specs.Calls.{Call, read, execute, write, launch, reply, look, drop}
-use Rattle.rules.specs.Runs.Watch.{many_rounds, in_write, packet, slot_in, allowance_in, flag_in, after, moments}
-use Rattle.rules.specs.Runs.Watch.{watch}
-use Rattle.rules.specs.Runs.FirstBookings.{launched_setup, setup, ack}
-use Rattle.plan.specs.Samples.{plan_t, wider_t, all_sides}
-use Rattle.packets.specs.Answers.{refused, done, shows}
-use Rattle.rules.specs.Runs.Watch.{once}
+use Rattle.rules.specs.Runs.Watch.{many_rounds, in_write, packet, slot_in, allowance_in, flag_in}
 
 -- ---- '**Read, Execute, Write**: 8 another phase'. Plan T, with a set-up on its way
 abbrev pub phases_tried : List Call

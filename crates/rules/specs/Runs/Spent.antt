@@ -1,16 +1,11 @@
 -- 'Runs to compare' of document 01: 'Second launch with the allowance spent: 11.' One list of calls and one theorem
 -- that evaluates it, on plan T: a second launch in round 0, and again as long as the answer is not dropped.
-use Rattle.std.specs.Prelude.{◌≡◌, refl, List, [], ◌∷◌, ◌++◌, ℕ}
-use Rattle.packets.specs.declared.Kind.TheVariants.{Setup}
+use Rattle.std.specs.Prelude.{List, [], ◌∷◌, ◌++◌, ℕ}
 use Rattle.packets.specs.declared.Packet.{Packet}
-use Rattle.plan_queues.specs.Queue.{active_out, active_in}
 use Rattle.rules.specs.State.{State}
 use Rattle.rules.specs.Calls.{Call, read, execute, write, launch, reply, look, drop}
-use Rattle.rules.specs.Runs.Watch.{round, packet, allowance_in, after, steady, watch}
-use Rattle.rules.specs.Runs.FirstBookings.{launched_setup, ack}
-use Rattle.plan.specs.Samples.{plan_t}
-use Rattle.packets.specs.Answers.{refused, done, shows}
-use Rattle.rules.specs.Runs.Watch.{once}
+use Rattle.rules.specs.Runs.Watch.{round, allowance_in}
+use Rattle.rules.specs.Runs.FirstBookings.{ack}
 
 abbrev pub allowance_spent : List Call
 allowance_spent =

@@ -1,20 +1,17 @@
 -- Demand 2 speaks of any bytes, and 7 ties neither a tear-down to the entry that it frees nor a choice to the order in
 -- which an output looks. So there are states that no list from Start reaches, and a rule can be wrong of them alone.
 -- Each run here begins at such a state; `valid` judges each a state (`Runs.spoilt-states`).
-use Rattle.std.specs.Prelude.{◌≡◌, refl, List, [], ◌∷◌}
+use Rattle.std.specs.Prelude.{List, [], ◌∷◌}
 use Rattle.packets.specs.declared.Kind.TheVariants.{Tdown}
 use Rattle.packets.specs.declared.Entry.TheVariants.{Booked}
 use Rattle.packets.specs.Answers.{done}
-use Rattle.plan.specs.Plan.{Plan, plan_of}
-use Rattle.plan.specs.Samples.{plan_t, narrow_back}
-use Rattle.plan_queues.specs.Queue.{back, Q, F, K}
+use Rattle.plan.specs.Plan.{Plan}
+use Rattle.plan_queues.specs.Queue.{Q}
 use Rattle.plan_queues.specs.Feeds.{of_side}
 use Rattle.rules.specs.State.{State, sender, start, with_queue, with_credit, with_choice, with_entry}
 use Rattle.rules.specs.Calls.{Call, read, execute, write}
-use Rattle.rules.specs.Runs.Watch.{packet, joined, after, ran, watching, moments}
-use Rattle.rules.specs.Runs.FirstBookings.{side1}
-use Rattle.rules.specs.Runs.Turns.{last_at_side, both_wait, nack, first}
-use Rattle.rules.specs.Runs.Watch.{once}
+use Rattle.rules.specs.Runs.Watch.{packet, joined, ran}
+use Rattle.rules.specs.Runs.Turns.{both_wait}
 
 -- ---- 'TDOWN: the entry is freed': whichever side it holds. Plan T, Start's state but for a TDOWN in Q[0] and its
 -- entry, which is booked with side 2; its walk comes in by side 0

@@ -1,16 +1,13 @@
 -- A passive declines: the set-up over two routers, and over three, is torn down to its end. One list of calls and one
 -- theorem each. Looked at: when the allowance comes back, and that every entry is free again.
-use Rattle.std.specs.Prelude.{◌≡◌, refl, List, [], ◌∷◌, ◌++◌, ℕ}
+use Rattle.std.specs.Prelude.{List, [], ◌∷◌, ◌++◌, ℕ}
 use Rattle.packets.specs.declared.Kind.TheVariants.{Setup, Tdown, Nack}
 use Rattle.packets.specs.declared.Packet.{Packet}
 use Rattle.plan_queues.specs.Queue.{Queue, active_out, active_in, passive_in, Q}
 use Rattle.rules.specs.State.{State}
 use Rattle.rules.specs.Calls.{Call, read, execute, write, launch, reply, look, drop}
-use Rattle.rules.specs.Runs.Watch.{many_rounds, in_write, packet, entry_in, allowance_in, after, moments}
+use Rattle.rules.specs.Runs.Watch.{many_rounds, in_write, packet, entry_in, allowance_in}
 use Rattle.rules.specs.Runs.Declined.{both_sides}
-use Rattle.plan.specs.Samples.{two_routers, four_routers}
-use Rattle.packets.specs.Answers.{refused, done, shows}
-use Rattle.rules.specs.Runs.Watch.{once}
 
 -- ---- two routers, S=4: active 0 launches with slot 2, and the passive declines
 abbrev pub over_two : List (List Call)

@@ -3,17 +3,13 @@
 -- theorem each. The number that is looked at is the rank that the output remembers. By document 02 (i) 'a side's
 -- order is now set-up F, answer F, then K': at a side set-up F has rank 0, answer F rank 1, K ranks 2 to 4, where F
 -- had 0 and K 1 to 3.
-use Rattle.std.specs.Prelude.{◌≡◌, refl, List, [], ◌∷◌, ◌++◌, ℕ}
+use Rattle.std.specs.Prelude.{List, [], ◌∷◌, ◌++◌, ℕ}
 use Rattle.packets.specs.declared.Kind.TheVariants.{Setup, Ack, Nack}
 use Rattle.packets.specs.declared.Packet.{Packet}
-use Rattle.plan_queues.specs.Queue.{ahead, back, active_in, U, F, K}
 use Rattle.plan_queues.specs.Feeds.{of_side, to_unit}
 use Rattle.rules.specs.State.{State}
 use Rattle.rules.specs.Calls.{Call, read, execute, write, launch, reply}
-use Rattle.rules.specs.Runs.Watch.{round, many_rounds, in_write, packet, each, after, moments}
-use Rattle.plan.specs.Samples.{narrow_there, narrow_back, long_way_back}
-use Rattle.packets.specs.Answers.{done}
-use Rattle.rules.specs.Runs.Watch.{once}
+use Rattle.rules.specs.Runs.Watch.{round, many_rounds, in_write, packet, each}
 
 -- the last sender that a side of router 0 served, and the way to its unit
 abbrev pub last_at_side : ℕ → State → List ℕ

@@ -2,12 +2,11 @@
 -- queues, wires .., the network is empty after at most 256 × S × N rounds.' Each run is one list of calls and one
 -- theorem that evaluates it, on plan T: 512 rounds for each packet. In every WRITE the passive is asked to reply and
 -- the active to drop; where it cannot, that is refused. At each round's end Remaining tells what is left.
-use Rattle.std.specs.Prelude.{◌≡◌, refl, List, [], ◌∷◌, ◌++◌, ℕ}
+use Rattle.std.specs.Prelude.{List, [], ◌∷◌, ◌++◌, ℕ}
 use Rattle.rules.specs.State.{State}
 use Rattle.rules.specs.Calls.{Call, read, execute, write, launch, reply, drop, remaining}
-use Rattle.rules.specs.Runs.Watch.{entry_in, After, after, watch, once}
-use Rattle.plan.specs.Samples.{plan_t}
-use Rattle.packets.specs.Answers.{Value, refused, done, remains}
+use Rattle.rules.specs.Runs.Watch.{entry_in, After, after}
+use Rattle.packets.specs.Answers.{Value, refused, done}
 
 -- a round in which both are asked; the passive accepts (1) or declines (0)
 abbrev pub asked : ℕ → List Call

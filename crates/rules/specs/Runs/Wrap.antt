@@ -1,15 +1,11 @@
 -- A walk of four routers with S=3: the slots that it books go round past 0 more than once, and the ACK's slot minus
 -- hub modulo S is the start slot. One list of calls; a theorem that evaluates it, and one for the connection accepted.
-use Rattle.std.specs.Prelude.{◌≡◌, refl, List, [], ◌∷◌, ◌++◌, ℕ}
-use Rattle.packets.specs.declared.Kind.TheVariants.{Setup, Ack}
+use Rattle.std.specs.Prelude.{List, [], ◌∷◌, ◌++◌, ℕ}
+use Rattle.packets.specs.declared.Kind.TheVariants.{Setup}
 use Rattle.packets.specs.declared.Packet.{Packet}
-use Rattle.plan_queues.specs.Queue.{passive_in, Q}
 use Rattle.rules.specs.State.{State}
 use Rattle.rules.specs.Calls.{Call, read, execute, write, launch, reply, look, drop}
-use Rattle.rules.specs.Runs.Watch.{many_rounds, in_write, packet, entry_in, after, moments, accepts}
-use Rattle.plan.specs.Samples.{four_routers}
-use Rattle.packets.specs.Answers.{done, shows}
-use Rattle.rules.specs.Runs.Watch.{once}
+use Rattle.rules.specs.Runs.Watch.{many_rounds, in_write, packet, entry_in}
 
 -- active 0 launches with slot 2
 abbrev pub going_round : List (List Call)

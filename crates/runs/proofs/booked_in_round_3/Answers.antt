@@ -1,5 +1,4 @@
 use mathlib.Core.Path.{◌∙◌}
-use borrow.Author.Rules.{rules}
 use Rattle.runs.proofs.booked_in_round_3.Goals as goal
 
 pub shape_of-s : goal.shape_of-s

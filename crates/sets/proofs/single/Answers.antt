@@ -1,4 +1,3 @@
-use native.Mathlib.Omega.{arith}
 use Rattle.sets.specs.Laws.{single_code}
 use borrow.Author.Rules.{rules}
 use Rattle.sets.proofs.single.Goals as goal

@@ -1,5 +1,4 @@
 use Rattle.load.specs.Lent.{lent}
-use borrow.Author.Rules.{rules}
 use Rattle.show.proofs.show.Goals as goal
 
 pub show_joints-requires : goal.show_joints-requires

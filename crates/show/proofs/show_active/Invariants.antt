@@ -1,5 +1,4 @@
-use borrow.Author.Rules.{rules}
-use Prim.Native.Nat.{◌-◌, ◌≤◌}
+use Prim.Native.Nat.{◌≤◌}
 use Rattle.show.proofs.show_active.Given as goal
 
 abbrev pub invariant-loop-p : goal.invariant-loop-p

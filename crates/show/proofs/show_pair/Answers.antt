@@ -1,6 +1,5 @@
 use Rattle.load.specs.Lent.{home_small}
 use native.Mathlib.Omega.{arith}
-use borrow.Author.Rules.{rules}
 use Rattle.show.proofs.show_pair.Goals as goal
 
 pub show_walk-requires : goal.show_walk-requires

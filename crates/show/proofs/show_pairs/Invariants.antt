@@ -1,5 +1,4 @@
-use borrow.Author.Rules.{rules}
-use Prim.Native.Nat.{◌-◌, ◌≤◌}
+use Prim.Native.Nat.{◌≤◌}
 use Rattle.show.proofs.show_pairs.Given as goal
 
 abbrev pub invariant-loop-a : goal.invariant-loop-a

@@ -1,6 +1,5 @@
 use Rattle.plan_walks.specs.Inside.{on_of_walk}
 use native.Mathlib.Omega.{arith}
-use borrow.Author.Rules.{rules}
 use Rattle.show.proofs.show_stop.Goals as goal
 
 pub side_out-requires : goal.side_out-requires

@@ -1,7 +1,6 @@
 use mathlib.Core.Path.{sym}
 use lib.Seq.{length-take-le}
 use Rattle.show.specs.Hex.{bytes_fit}
-use borrow.Author.Rules.{rules}
 use Rattle.show.proofs.show_text.Goals as goal
 
 pub slice_bounds-plan-end : goal.slice_bounds-plan-end

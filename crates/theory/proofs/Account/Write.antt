@@ -11,7 +11,6 @@ use lib.ListN.{length}
 use Rattle.basis.specs.Choice.{test}
 use Rattle.kinds.specs.declared.Credit.{Credit}
 use Rattle.packets.specs.declared.Packet.{Packet}
-use Rattle.packets.specs.declared.Wire.{Wire}
 use Rattle.packets.specs.declared.Wire.TheVariants.{Empty, Full}
 use Rattle.packets.specs.Counters.{credit_down}
 use Rattle.plan.specs.Plan.{Plan}

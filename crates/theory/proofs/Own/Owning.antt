@@ -13,7 +13,7 @@ use Rattle.basis.specs.Bounded.{lt_or_ge}
 use Rattle.kinds.specs.declared.Slot.{Slot}
 use Rattle.packets.specs.declared.Entry.TheVariants.{Free}
 use Rattle.packets.specs.Counters.{slot_after}
-use Rattle.plan.specs.Plan.{Plan, Port, active, passive, A, P, S, route_to}
+use Rattle.plan.specs.Plan.{Plan, Port, passive, A, P, S, route_to}
 use Rattle.plan_walks.specs.declared.Index.{Index}
 use Rattle.plan_walks.specs.declared.Index.TheVariants.{At, Off}
 use Rattle.plan_walks.specs.Served.{Served}

@@ -11,7 +11,7 @@ use Rattle.packets.specs.declared.Kind.{Kind}
 use Rattle.packets.specs.declared.Kind.TheVariants.{Setup, Tdown, Ack, Nack}
 use Rattle.packets.specs.declared.Packet.{Packet}
 use Rattle.packets.specs.Counters.{slot_next, start_slot}
-use Rattle.plan.specs.Plan.{Plan, active, passive, A, P, S}
+use Rattle.plan.specs.Plan.{Plan, A, P, S}
 use Rattle.plan_walks.specs.Served.{Served}
 use Rattle.plan_queues.specs.Queue.{back, Queue, active_out, active_in, passive_in, passive_out, U, Q, F, K}
 use Rattle.plan_queues.specs.Feeds.{Place, in_queue, handled_at, heading_of, ahead, leaving, next, Stands, Ahead, Fits}

@@ -1,6 +1,6 @@
 -- Where every queue and wire is empty, the table is the one that the accepted connections make.
 use mathlib.Core.Path.{◌≡◌, refl, sym, ap, ◌∙◌}
-use mathlib.Core.List.{List, []}
+use mathlib.Core.List.{List}
 use mathlib.Core.Option.{Option, none, some}
 use Prim.Native.Nat.{ℕ, ◌<◌}
 use native.Mathlib.Omega.{arith}
@@ -23,7 +23,7 @@ use Rattle.rules.proofs.Numbers.{exists_at}
 use Rattle.rules.proofs.OutNumbers.{drives_at}
 use Rattle.theory.proofs.Ground.Sums.{sum_nought}
 use Rattle.theory.specs.Weights.{Weight, in_line, on_wire, in_lines, in_wires, weighed}
-use Rattle.theory.specs.Owners.{Holder, owns, made, held_entry, holds, Owned}
+use Rattle.theory.specs.Owners.{Holder, owns, held_entry, holds, Owned}
 use Rattle.theory.proofs.Own.Owning.{holder_same}
 use Rattle.theory.proofs.Own.Made.{made_some, owns_makes, owned_booked}
 

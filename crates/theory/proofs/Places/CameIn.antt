@@ -1,24 +1,17 @@
 -- A router on a pair's walk: its sides in and out are sides of the plan, and the side in is the one that `cameIn`
 -- finds.
-use mathlib.Core.Path.{◌≡◌, refl, sym, ap, ◌∙◌}
-use mathlib.Core.Bool.{true, false}
-use Prim.Native.Nat.{ℕ, zero, suc, ◌+◌, ◌-◌, ◌<◌}
-use native.Mathlib.Omega.{arith}
-use borrow.Author.Tests.{eq-eqb, ne_eqb}
-use Rattle.basis.specs.Walk.{Spot, on, end, lost, way_on}
-use Rattle.plan.specs.Plan.{Plan, Port, Interface, active, passive, R, A, P, route_to}
+use mathlib.Core.Path.{◌≡◌}
+use Prim.Native.Nat.{ℕ, ◌<◌}
+use Rattle.basis.specs.Walk.{on}
+use Rattle.plan.specs.Plan.{Plan, Port, active, passive, R, A, P, route_to}
 use Rattle.plan.specs.Rules.{home}
-use Rattle.plan_walks.specs.declared.Index.TheVariants.{At, Off}
-use Rattle.plan_walks.specs.Walk.{onward, router_of, walked}
+use Rattle.plan_walks.specs.Walk.{walked}
 use Rattle.plan_walks.specs.Served.{Served}
-use Rattle.plan_walks.specs.Steps.{stands_on, index_in, index_on}
-use Rattle.plan_walks.proofs.Ends.{index_none, index_off, index_at, index_stays}
 use Rattle.plan_queues.specs.Feeds.{Stands}
 use Rattle.plan_facts.specs.Wired.{Wired}
 use Rattle.plan_facts.proofs.Wires.{home_inside}
 use Rattle.plan_journeys.proofs.Places.{meets_inside, exit_inside}
-use Rattle.rules.specs.Execute.{came_by, came_in}
-use Rattle.theory.proofs.Places.Closure.{stands_below, span_short}
+use Rattle.rules.specs.Execute.{came_in}
 
 module _ {pl : Plan} (wired : Wired pl) (a p : ℕ) (ha : a < A pl) (hp : p < P pl) (s : Served pl a p) where
   -- a router on the walk is the plan's, and so is the side by which the walk comes in

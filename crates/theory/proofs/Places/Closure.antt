@@ -2,7 +2,7 @@
 -- at a unit, at a passive, at an active.
 use mathlib.Core.Path.{◌≡◌, refl, sym, ◌∙◌}
 use mathlib.Core.Logic.{◌⊎◌, inl, inr}
-use mathlib.Core.Option.{Option, some}
+use mathlib.Core.Option.{some}
 use Prim.Native.Nat.{ℕ, suc, ◌+◌, ◌-◌, ◌≤◌, ◌<◌}
 use native.Mathlib.Omega.{arith}
 use Rattle.basis.specs.Walk.{on, end, spot_none, spot_next, way_on, count_is}
@@ -10,7 +10,7 @@ use Rattle.packets.specs.declared.Kind.{Kind}
 use Rattle.packets.specs.declared.Kind.TheVariants.{Setup, Tdown, Ack, Nack}
 use Rattle.plan.specs.Plan.{Plan, Port, active, passive, R, A, P}
 use Rattle.plan.specs.Rules.{home}
-use Rattle.plan_walks.specs.Walk.{onward, router_of, walked, walk_size, Walk}
+use Rattle.plan_walks.specs.Walk.{onward, router_of, walked, walk_size}
 use Rattle.plan_walks.specs.Served.{Served}
 use Rattle.plan_queues.specs.Queue.{Queue, active_out, active_in, passive_in, passive_out, U, Q, F, K}
 use Rattle.plan_queues.specs.Feeds.{ahead, back, heading_of, next, in_queue, handled_at, Stands, span}

@@ -19,10 +19,9 @@ use Rattle.plan_queues.specs.Queue.{Queue, active_out, active_in, Q}
 use Rattle.rules.specs.Store.{put, same_queue}
 use Rattle.rules.specs.Outputs.{outputs, output_at}
 use Rattle.rules.specs.State.{State, with_queue, join}
-use Rattle.rules.specs.Execute.{unit_at, booked, declined, freed, marked, tdown_of, unit, choose, undo, do_execute}
+use Rattle.rules.specs.Execute.{unit_at, booked, declined, freed, marked, tdown_of, choose, undo, do_execute}
 use Rattle.rules.specs.Progress.{Moved}
 use Rattle.theory.proofs.Ground.Cells.{queue_here, queue_away}
-use Rattle.theory.specs.Invariant.{Core}
 use Rattle.theory.proofs.Cases.{UnitDoes, rests, books, declines, ends, frees, unit_does, unit_books}
 use Rattle.theory.proofs.Cases.{unit_declines, unit_ends, unit_frees, may_book_at, after_booked}
 use Rattle.theory.proofs.Cases.{after_freed, after_ended, ActiveDoes, waits, tears, undo_does, undo_tears}

@@ -6,7 +6,7 @@ use mathlib.Core.Path.{subst, ◌≡◌, refl, sym, ap, ◌∙◌}
 use mathlib.Core.Logic.{◌⊎◌, inl, inr, ◌≢◌}
 use mathlib.Core.Bool.{Bool, true, false, not, true≢false, false≢true}
 use mathlib.Core.List.{List, [], ◌∷◌, ◌++◌}
-use mathlib.Core.Option.{Option, some}
+use mathlib.Core.Option.{some}
 use Prim.Native.Nat.{ℕ, zero, suc, ◌+◌, ◌-◌, ◌%◌, ◌≤◌, ◌<◌, ◌*◌, ◌/◌}
 use native.Mathlib.Nat.{mod-add-mod, mod-eq_of_lt, mod-eq-sub-mod, add-zero}
 use native.Mathlib.Omega.{arith}
@@ -23,10 +23,9 @@ use Rattle.packets.specs.declared.Kind.TheVariants.{Setup, Tdown, Ack, Nack}
 use Rattle.packets.specs.declared.Packet.{Packet}
 use Rattle.packets.specs.declared.Phase.{Phase}
 use Rattle.packets.specs.declared.Phase.TheVariants.{Read, Execute, Write}
-use Rattle.packets.specs.declared.Entry.{Entry}
 use Rattle.packets.specs.declared.Entry.TheVariants.{Free}
 use Rattle.plan.specs.Head.{InRange}
-use Rattle.plan.specs.Plan.{Plan, R, A, S}
+use Rattle.plan.specs.Plan.{Plan, R, S}
 use Rattle.plan_queues.specs.Queue.{ahead, back, Queue, active_out, active_in, passive_in, passive_out, U, Q, F, K, Exists}
 use Rattle.plan_queues.specs.Role.{is_out_queue}
 use Rattle.plan_queues.specs.Feeds.{Output, of_active, of_passive, of_side, to_unit, from_unit, output_of, heading_of, next}
@@ -34,7 +33,7 @@ use Rattle.plan_queues.specs.Feeds.{in_queue, FeedRing}
 use Rattle.plan_facts.specs.Wired.{Wired}
 use Rattle.rules.specs.Outputs.{next_by, senders, outputs, output_at, output_number}
 use Rattle.rules.specs.State.{State, Choice, nobody, sender, is_free}
-use Rattle.rules.specs.Execute.{unit_at, unit, may_leave, candidate, is_open, picked, do_execute}
+use Rattle.rules.specs.Execute.{unit_at, may_leave, candidate, is_open, picked, do_execute}
 use Rattle.rules.specs.Write.{of_rank, do_write}
 use Rattle.rules.specs.Read.{do_read}
 use Rattle.rules.specs.Calls.{Outcome, Call, turn, visit, read, execute, write, call}
@@ -45,7 +44,7 @@ use Rattle.rules.proofs.Apart.{read_execute, read_write, execute_write, turn_sam
 use Rattle.theory.proofs.Does.{refused_turns}
 use Rattle.rules.proofs.Numbers.{sender_exists}
 use Rattle.rules.proofs.OutNumbers.{output_at_lem, output_below, drives_at}
-use Rattle.theory.specs.Invariant.{Core, Shape, WiresEmpty, FlagsDown, NoChoices, Inv}
+use Rattle.theory.specs.Invariant.{Core, WiresEmpty, FlagsDown, NoChoices, Inv}
 use Rattle.theory.proofs.Places.Closure.{unit_no_answer}
 use Rattle.theory.proofs.Places.Lines.{output_drives}
 use Rattle.theory.proofs.Places.Senders.{candidate_ready}

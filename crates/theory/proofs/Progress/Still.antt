@@ -4,7 +4,6 @@ use mathlib.Core.Path.{◌≡◌, refl, sym, ap, ◌∙◌}
 use mathlib.Core.Logic.{◌⊎◌, inl, inr}
 use mathlib.Core.Bool.{Bool, true, false, ◌&&◌, true≢false}
 use mathlib.Core.List.{List, [], ◌∷◌, ◌++◌, append_assoc}
-use mathlib.Core.Option.{Option}
 use Prim.Native.Nat.{ℕ, suc, ◌+◌, ◌≤◌, ◌<◌, ◌*◌, ◌/◌, ◌%◌}
 use native.Mathlib.Omega.{arith}
 use Rattle.basis.specs.Choice.{pick, test}
@@ -14,8 +13,7 @@ use Rattle.packets.specs.declared.Packet.{Packet}
 use Rattle.packets.specs.declared.Kind.{Kind}
 use Rattle.packets.specs.declared.Wire.TheVariants.{Empty}
 use Rattle.packets.specs.declared.Phase.{Phase}
-use Rattle.packets.specs.declared.Phase.TheVariants.{Read, Execute, Write}
-use Rattle.packets.specs.declared.Entry.{Entry}
+use Rattle.packets.specs.declared.Phase.TheVariants.{Execute, Write}
 use Rattle.packets.specs.Counters.{slot_next}
 use Rattle.plan.specs.Plan.{Plan, R, A, S}
 use Rattle.plan_queues.specs.Queue.{Queue, active_out, active_in, passive_in, passive_out, Q, queues, queue_at}

@@ -13,14 +13,13 @@ use lib.ListN.{length}
 use borrow.Author.Tests.{eq-eqb}
 use Rattle.basis.specs.Among.{In}
 use Rattle.basis.specs.Walk.{on, end}
-use Rattle.packets.specs.declared.Kind.{Kind}
 use Rattle.packets.specs.declared.Kind.TheVariants.{Ack, Nack}
 use Rattle.packets.specs.declared.Packet.{Packet}
 use Rattle.plan.specs.declared.Head.{Head}
 use Rattle.plan.specs.Head.{InRange}
 use Rattle.plan.specs.declared.Joint.{Joint}
 use Rattle.plan.specs.declared.Joint.TheVariants.{Nothing, Router, Active, Passive}
-use Rattle.plan.specs.Plan.{Plan, Port, Interface, active, passive, R, A, P, route_to}
+use Rattle.plan.specs.Plan.{Plan, Port, Interface, active, passive, A, P, route_to}
 use Rattle.plan.specs.Rules.{home}
 use Rattle.plan_walks.specs.Walk.{onward}
 use Rattle.plan_walks.specs.Served.{Served}

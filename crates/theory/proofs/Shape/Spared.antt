@@ -13,7 +13,7 @@ use Rattle.packets.specs.declared.Packet.{Packet}
 use Rattle.packets.specs.Counters.{credit_down}
 use Rattle.plan.specs.Plan.{Plan}
 use Rattle.plan_queues.specs.Queue.{Queue}
-use Rattle.plan_queues.specs.Role.{Role, role}
+use Rattle.plan_queues.specs.Role.{role}
 use Rattle.plan_queues.specs.Feeds.{Output, output_of}
 use Rattle.rules.specs.Outputs.{next_by}
 use Rattle.rules.specs.State.{State, with_queue, with_flag, join}

@@ -10,7 +10,6 @@ use native.Mathlib.Omega.{arith}
 use Rattle.basis.specs.Bounded.{below_suc}
 use Rattle.basis.specs.Fold.{up_to, up_keeps_at}
 use Rattle.packets.specs.declared.Packet.{Packet}
-use Rattle.packets.specs.declared.Wire.{Wire}
 use Rattle.packets.specs.declared.Wire.TheVariants.{Empty, Full}
 use Rattle.plan.specs.Plan.{Plan}
 use Rattle.plan_queues.specs.Queue.{Queue}

@@ -4,7 +4,7 @@ use model::machine::Call;
 
 use super::watch::{calls, in_write, launch, launches, reply, rounds, Execute, Read, Write, ROUND};
 
-/// `Turns.bothWait`, on plan `narrow_back`, up to each of its moments: in round 6 the answer `F[1]`, of
+/// `Turns.both_wait`, on plan `narrow_back`, up to each of its moments: in round 6 the answer `F[1]`, of
 /// rank 1, and `K[0,1]`, of rank 2, both wait at side 1, and Execute picks `K[0,1]`.
 pub fn both_wait() -> Vec<Vec<Call>> {
     vec![
@@ -19,7 +19,7 @@ pub fn both_wait() -> Vec<Vec<Call>> {
     ]
 }
 
-/// `BothEnds.fiveSenders`, on plan `drives_around`, up to its first moment: in round 13 all five senders
+/// `BothEnds.five_senders`, on plan `drives_around`, up to its first moment: in round 13 all five senders
 /// of side 3 of router 0 wait.
 pub fn five_wait() -> Vec<Call> {
     calls(&[

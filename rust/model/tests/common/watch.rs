@@ -1,4 +1,4 @@
-//! The runs that are evaluated in `crates/rules/specs/Runs`: a list of calls, and what is told and
+//! The runs that are evaluated in `crates/rules/proofs/Runs`: a list of calls, and what is told and
 //! seen at some moments of it.
 
 use model::machine::{Answer, Call, Packet};

@@ -1,5 +1,4 @@
 use Rattle.bytes_rows.proofs.Joining.{joined}
-use borrow.Author.Rules.{rules}
 use Rattle.bytes_rows.proofs.starts.join.Goals as goal
 
 pub returns : goal.returns

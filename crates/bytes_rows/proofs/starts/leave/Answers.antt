@@ -1,5 +1,4 @@
 use Rattle.bytes_rows.proofs.Joining.{left}
-use borrow.Author.Rules.{rules}
 use Rattle.bytes_rows.proofs.starts.leave.Goals as goal
 
 pub returns : goal.returns

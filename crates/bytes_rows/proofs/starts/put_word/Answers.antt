@@ -1,7 +1,6 @@
 use native.Mathlib.Numerals.{add-one, add-two, add-three}
 use native.Mathlib.Omega.{arith}
 use lib.ListN.{length-set}
-use borrow.Author.Rules.{rules}
 use Rattle.bytes_rows.proofs.starts.put_word.Goals as goal
 
 pub bounds-s-at-2 : goal.bounds-s-at-2

@@ -1,4 +1,3 @@
-use borrow.Author.Rules.{rules}
 use Rattle.bytes_rows.proofs.starts.word.Goals as goal
 
 pub returns : goal.returns

@@ -1,8 +1,5 @@
 use Rattle.packets.specs.declared.Phase.TheVariants.{Read}
 use Rattle.calls.proofs.Turning.{held_long, turn_refused, turn_held, turn_done}
-use native.Mathlib.Omega.{arith}
-use lib.ListN.{length-set}
-use borrow.Author.Rules.{rules}
 use Rattle.calls.proofs.opened.read.Goals as goal
 
 pub bounds-s-0 : goal.bounds-s-0

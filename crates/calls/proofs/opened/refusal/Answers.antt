@@ -1,5 +1,4 @@
 use Rattle.calls.proofs.Tables.{refused_same, refused_not}
-use borrow.Author.Rules.{rules}
 use Rattle.calls.proofs.opened.refusal.Goals as goal
 
 pub returns-in-Accepted : goal.returns-in-Accepted

@@ -1,9 +1,5 @@
-use borrow.Author.Rules.{rules}
-use mathlib.Core.Path.{refl}
-use Prim.Native.Nat.{◌-◌, ◌≤◌}
+use Prim.Native.Nat.{◌≤◌}
 use Rattle.graph_links.specs.Starts.{Answering}
-use Rattle.graph_links.proofs.Laws.{answering_none, answering_more, answering_done}
-use native.Mathlib.Omega.{arith}
 use Rattle.graph_links.proofs.starts.answering.Given as goal
 
 abbrev pub invariant-loop-a : goal.invariant-loop-a

@@ -1,5 +1,4 @@
 use Rattle.graph_links.proofs.Laws.{answering_whole}
-use borrow.Author.Rules.{rules}
 use Rattle.graph_links.proofs.starts.answers.Goals as goal
 
 pub spread-requires : goal.spread-requires

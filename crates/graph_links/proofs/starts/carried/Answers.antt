@@ -1,5 +1,4 @@
 use Rattle.graph_links.proofs.Laws.{starts_whole}
-use borrow.Author.Rules.{rules}
 use Rattle.graph_links.proofs.starts.carried.Goals as goal
 
 pub spread-requires : goal.spread-requires

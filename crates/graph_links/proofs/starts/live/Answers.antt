@@ -1,9 +1,7 @@
-use borrow.Author.Rules.{rules}
-use Prim.Native.Nat.{◌-◌, ◌≤◌}
-use mathlib.Core.Path.{◌≡◌, ap, ◌∙◌}
+use mathlib.Core.Path.{ap, ◌∙◌}
 use Rattle.sets.specs.Sets.{either}
-use Rattle.graph_links.specs.Starts.{live_of, lives_of}
-use Rattle.basis.specs.Fold.{up_to, up_none, up_more, up_done}
+use Rattle.graph_links.specs.Starts.{lives_of}
+use Rattle.basis.specs.Fold.{up_none, up_more, up_done}
 use native.Mathlib.Omega.{arith}
 use Rattle.graph_links.proofs.starts.live.Goals as goal
 

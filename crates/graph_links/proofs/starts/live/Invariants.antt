@@ -1,10 +1,8 @@
-use borrow.Author.Rules.{rules}
-use Prim.Native.Nat.{◌-◌, ◌≤◌}
-use mathlib.Core.Path.{◌≡◌, ap, ◌∙◌}
+use Prim.Native.Nat.{◌≤◌}
+use mathlib.Core.Path.{◌≡◌}
 use Rattle.sets.specs.Sets.{either}
-use Rattle.graph_links.specs.Starts.{live_of, lives_of}
-use Rattle.basis.specs.Fold.{up_to, up_none, up_more, up_done}
-use native.Mathlib.Omega.{arith}
+use Rattle.graph_links.specs.Starts.{live_of}
+use Rattle.basis.specs.Fold.{up_to}
 use Rattle.graph_links.proofs.starts.live.Given as goal
 
 abbrev pub invariant-loop-a : goal.invariant-loop-a

@@ -1,5 +1,4 @@
 use borrow.Author.Tests.{eq-eqb, ne_eqb}
-use borrow.Author.Rules.{rules}
 use Rattle.graph_links.proofs.starts.live_bit.Goals as goal
 
 pub returns-then-served-a-eq0 : goal.returns-then-served-a-eq0

@@ -1,6 +1,5 @@
 use lib.ListN.{get_or}
 use Rattle.graph_links.proofs.Laws.{alone_whole, alone_is}
-use borrow.Author.Rules.{rules}
 use Rattle.graph_links.proofs.starts.met.Goals as goal
 
 pub spread-requires : goal.spread-requires

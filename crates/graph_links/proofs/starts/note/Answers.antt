@@ -1,9 +1,5 @@
-use borrow.Author.Rules.{rules}
-use Prim.Native.Nat.{◌-◌, ◌≤◌}
-use lib.ListN.{get_or, set}
-use mathlib.Core.Path.{◌≡◌}
-use Rattle.graph_links.specs.Starts.{note_of, notes_of}
-use Rattle.basis.specs.Fold.{up_to, up_none, up_done}
+use Rattle.graph_links.specs.Starts.{notes_of}
+use Rattle.basis.specs.Fold.{up_none, up_done}
 use Rattle.graph_links.proofs.Laws.{notes_more}
 use native.Mathlib.Omega.{arith}
 use Rattle.graph_links.proofs.starts.note.Goals as goal

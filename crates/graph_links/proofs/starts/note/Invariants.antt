@@ -1,11 +1,8 @@
-use borrow.Author.Rules.{rules}
-use Prim.Native.Nat.{◌-◌, ◌≤◌}
+use Prim.Native.Nat.{◌≤◌}
 use lib.ListN.{get_or, set}
 use mathlib.Core.Path.{◌≡◌}
-use Rattle.graph_links.specs.Starts.{note_of, notes_of}
-use Rattle.basis.specs.Fold.{up_to, up_none, up_done}
-use Rattle.graph_links.proofs.Laws.{notes_more}
-use native.Mathlib.Omega.{arith}
+use Rattle.graph_links.specs.Starts.{note_of}
+use Rattle.basis.specs.Fold.{up_to}
 use Rattle.graph_links.proofs.starts.note.Given as goal
 
 abbrev pub invariant-loop-x : goal.invariant-loop-x

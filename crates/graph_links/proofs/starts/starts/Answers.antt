@@ -1,9 +1,6 @@
-use borrow.Author.Rules.{rules}
-use Prim.Native.Nat.{◌-◌, ◌≤◌}
-use lib.ListN.{replicate}
-use mathlib.Core.Path.{◌≡◌, ◌∙◌}
-use Rattle.graph_links.specs.Starts.{start_at, starts_of}
-use Rattle.basis.specs.Fold.{up_to, up_none, up_done}
+use mathlib.Core.Path.{◌∙◌}
+use Rattle.graph_links.specs.Starts.{starts_of}
+use Rattle.basis.specs.Fold.{up_none, up_done}
 use Rattle.graph_links.proofs.Laws.{starts_more}
 use native.Mathlib.Omega.{arith}
 use Rattle.graph_links.proofs.starts.starts.Goals as goal

@@ -1,11 +1,8 @@
-use borrow.Author.Rules.{rules}
-use Prim.Native.Nat.{◌-◌, ◌≤◌}
+use Prim.Native.Nat.{◌≤◌}
 use lib.ListN.{replicate}
-use mathlib.Core.Path.{◌≡◌, ◌∙◌}
-use Rattle.graph_links.specs.Starts.{start_at, starts_of}
-use Rattle.basis.specs.Fold.{up_to, up_none, up_done}
-use Rattle.graph_links.proofs.Laws.{starts_more}
-use native.Mathlib.Omega.{arith}
+use mathlib.Core.Path.{◌≡◌}
+use Rattle.graph_links.specs.Starts.{start_at}
+use Rattle.basis.specs.Fold.{up_to}
 use Rattle.graph_links.proofs.starts.starts.Given as goal
 
 abbrev pub invariant-loop-a : goal.invariant-loop-a

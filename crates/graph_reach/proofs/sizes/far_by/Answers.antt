@@ -1,5 +1,4 @@
 use Rattle.graph_reach.proofs.Sized.{far_put}
-use borrow.Author.Rules.{rules}
 use Rattle.graph_reach.proofs.sizes.far_by.Goals as goal
 
 pub returns : goal.returns

@@ -1,6 +1,5 @@
 use Rattle.graph_reach.specs.Sizes.{longer}
 use borrow.Author.Tests.{lt-ltb, le-ltb}
-use borrow.Author.Rules.{rules}
 use Rattle.graph_reach.proofs.sizes.longer.Goals as goal
 
 pub returns-then-far-lt-MOST : goal.returns-then-far-lt-MOST

@@ -1,9 +1,7 @@
 use Rattle.graph_reach.proofs.Sized.{size_put}
-use Rattle.graph_reach.specs.Sizes.{far_by, size_of, merged_of}
-use Rattle.basis.specs.Fold.{up_to, fill, up_none, up_fill, up_done}
-use lib.ListN.{get_or, length, length-set}
-use mathlib.Core.Path.{◌≡◌}
-use Prim.Native.Nat.{◌+◌, ◌-◌, ◌≤◌}
+use Rattle.graph_reach.specs.Sizes.{merged_of}
+use Rattle.basis.specs.Fold.{up_none, up_fill, up_done}
+use lib.ListN.{length-set}
 use native.Mathlib.Omega.{arith}
 use borrow.Author.Rules.{rules}
 use Rattle.graph_reach.proofs.sizes.merged.Goals as goal

@@ -1,11 +1,8 @@
-use Rattle.graph_reach.proofs.Sized.{size_put}
-use Rattle.graph_reach.specs.Sizes.{far_by, size_of, merged_of}
-use Rattle.basis.specs.Fold.{up_to, fill, up_none, up_fill, up_done}
-use lib.ListN.{get_or, length, length-set}
+use Rattle.graph_reach.specs.Sizes.{far_by, size_of}
+use Rattle.basis.specs.Fold.{up_to, fill}
+use lib.ListN.{get_or, length}
 use mathlib.Core.Path.{◌≡◌}
-use Prim.Native.Nat.{◌+◌, ◌-◌, ◌≤◌}
-use native.Mathlib.Omega.{arith}
-use borrow.Author.Rules.{rules}
+use Prim.Native.Nat.{◌+◌, ◌≤◌}
 use Rattle.graph_reach.proofs.sizes.merged.Given as goal
 
 abbrev pub invariant-loop-p : goal.invariant-loop-p

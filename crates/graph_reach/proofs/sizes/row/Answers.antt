@@ -1,5 +1,4 @@
 use Rattle.graph_reach.specs.Sizes.{row_of}
-use borrow.Author.Rules.{rules}
 use Rattle.graph_reach.proofs.sizes.row.Goals as goal
 
 pub returns : goal.returns

@@ -1,6 +1,5 @@
 use Rattle.graph_reach.specs.Sizes.{size_of}
 use borrow.Author.Tests.{eq-eqb, ne_eqb}
-use borrow.Author.Rules.{rules}
 use Rattle.graph_reach.proofs.sizes.size_of.Goals as goal
 
 pub returns-then-far-eq0 : goal.returns-then-far-eq0

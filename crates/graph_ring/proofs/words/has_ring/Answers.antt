@@ -1,4 +1,3 @@
-use Rattle.graph_ring.specs.Words.{Left}
 use Rattle.graph_ring.proofs.Going.{left_first, ends_none, ends_still, round_less}
 use Rattle.graph_ring.proofs.words.has_ring.Goals as goal
 

@@ -1,5 +1,4 @@
 use Rattle.graph_ring.specs.Words.{Left}
-use Rattle.graph_ring.proofs.Going.{left_first, ends_none, ends_still, round_less}
 use Rattle.graph_ring.proofs.words.has_ring.Given as goal
 
 abbrev pub invariant-loop-left : goal.invariant-loop-left

@@ -1,6 +1,5 @@
 use borrow.Author.Tests.{eq-eqb, ne_eqb}
 use mathlib.Core.Path.{sym, ◌∙◌}
-use borrow.Author.Rules.{rules}
 use Rattle.graph_ring.proofs.words.lone.Goals as goal
 
 pub returns-then-both-eq0 : goal.returns-then-both-eq0

@@ -1,5 +1,4 @@
-use native.Mathlib.Omega.{arith}
-use Rattle.graph_ring.proofs.Going.{Going, taken_high, going_none, going_next, going_more, going_done}
+use Rattle.graph_ring.proofs.Going.{Going}
 use Rattle.graph_ring.proofs.words.sweep_down.Given as goal
 
 abbrev pub invariant-loop-todo : goal.invariant-loop-todo

@@ -1,5 +1,5 @@
 use native.Mathlib.Omega.{arith}
-use Rattle.graph_ring.proofs.Going.{Going, taken_low, going_none, going_next, going_more, going_done}
+use Rattle.graph_ring.proofs.Going.{taken_low, going_none, going_next, going_more, going_done}
 use Rattle.graph_ring.proofs.words.sweep_up.Goals as goal
 
 pub loop-todo-init : goal.loop-todo-init

@@ -1,5 +1,4 @@
 use Rattle.load_arrivals.specs.Pairs.{at_home}
-use borrow.Author.Rules.{rules}
 use Rattle.load_arrivals.proofs.served.at_home.Goals as goal
 
 pub returns : goal.returns

@@ -1,9 +1,5 @@
-use Rattle.load_arrivals.specs.Pairs.{at_home, at_homes}
-use Rattle.basis.specs.Fold.{up_to, fill, up_none, up_fill, up_done}
-use lib.ListN.{replicate}
-use Prim.Native.Nat.{◌-◌, ◌≤◌}
-use mathlib.Core.Path.{◌≡◌}
-use borrow.Author.Rules.{rules}
+use Rattle.load_arrivals.specs.Pairs.{at_homes}
+use Rattle.basis.specs.Fold.{up_none, up_fill, up_done}
 use native.Mathlib.Omega.{arith}
 use Rattle.load_arrivals.proofs.served.at_homes.Goals as goal
 

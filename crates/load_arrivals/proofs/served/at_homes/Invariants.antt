@@ -1,10 +1,8 @@
-use Rattle.load_arrivals.specs.Pairs.{at_home, at_homes}
-use Rattle.basis.specs.Fold.{up_to, fill, up_none, up_fill, up_done}
+use Rattle.load_arrivals.specs.Pairs.{at_home}
+use Rattle.basis.specs.Fold.{up_to, fill}
 use lib.ListN.{replicate}
-use Prim.Native.Nat.{◌-◌, ◌≤◌}
+use Prim.Native.Nat.{◌≤◌}
 use mathlib.Core.Path.{◌≡◌}
-use borrow.Author.Rules.{rules}
-use native.Mathlib.Omega.{arith}
 use Rattle.load_arrivals.proofs.served.at_homes.Given as goal
 
 abbrev pub invariant-loop-a : goal.invariant-loop-a

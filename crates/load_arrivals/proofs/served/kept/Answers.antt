@@ -1,5 +1,4 @@
 use borrow.Author.Tests.{eq-eqb, ne_eqb}
-use borrow.Author.Rules.{rules}
 use Rattle.load_arrivals.proofs.served.kept.Goals as goal
 
 pub returns-then-met-eq0 : goal.returns-then-met-eq0

@@ -1,4 +1,3 @@
-use borrow.Author.Rules.{rules}
 use Rattle.load_arrivals.proofs.served.lack.Goals as goal
 
 pub returns-else-back : goal.returns-else-back

@@ -1,7 +1,4 @@
 use Rattle.load_arrivals.proofs.Sifting.{lacking_none, lacking_more, lacking_done}
-use Rattle.load_arrivals.specs.Pairs.{Lacking}
-use Prim.Native.Nat.{◌-◌, ◌≤◌}
-use borrow.Author.Rules.{rules}
 use native.Mathlib.Omega.{arith}
 use Rattle.load_arrivals.proofs.served.missing.Goals as goal
 

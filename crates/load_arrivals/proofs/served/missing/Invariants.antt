@@ -1,8 +1,5 @@
-use Rattle.load_arrivals.proofs.Sifting.{lacking_none, lacking_more, lacking_done}
 use Rattle.load_arrivals.specs.Pairs.{Lacking}
-use Prim.Native.Nat.{◌-◌, ◌≤◌}
-use borrow.Author.Rules.{rules}
-use native.Mathlib.Omega.{arith}
+use Prim.Native.Nat.{◌≤◌}
 use Rattle.load_arrivals.proofs.served.missing.Given as goal
 
 abbrev pub invariant-loop-r : goal.invariant-loop-r

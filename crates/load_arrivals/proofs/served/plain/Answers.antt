@@ -1,6 +1,5 @@
 use Rattle.load_arrivals.specs.Pairs.{plain_of}
 use borrow.Author.Tests.{eq-eqb, ne_eqb}
-use borrow.Author.Rules.{rules}
 use Rattle.load_arrivals.proofs.served.plain.Goals as goal
 
 pub returns-then-v-eq0 : goal.returns-then-v-eq0

@@ -1,11 +1,5 @@
-use Rattle.load_arrivals.specs.Pairs.{plain_of}
-use Rattle.basis.specs.Bounded.{all_below, all_none, all_more, all_fail, all_done}
-use borrow.Author.Tests.{not-true, not-false}
-use lib.ListN.{get_or}
-use Prim.Native.Nat.{◌-◌, ◌≤◌}
-use mathlib.Core.Bool.{true}
-use mathlib.Core.Path.{◌≡◌, sym}
-use borrow.Author.Rules.{rules}
+use Rattle.basis.specs.Bounded.{all_none, all_more, all_fail, all_done}
+use mathlib.Core.Path.{sym}
 use native.Mathlib.Omega.{arith}
 use Rattle.load_arrivals.proofs.served.plains.Goals as goal
 

@@ -1,12 +1,9 @@
 use Rattle.load_arrivals.specs.Pairs.{plain_of}
-use Rattle.basis.specs.Bounded.{all_below, all_none, all_more, all_fail, all_done}
-use borrow.Author.Tests.{not-true, not-false}
+use Rattle.basis.specs.Bounded.{all_below}
 use lib.ListN.{get_or}
-use Prim.Native.Nat.{◌-◌, ◌≤◌}
+use Prim.Native.Nat.{◌≤◌}
 use mathlib.Core.Bool.{true}
-use mathlib.Core.Path.{◌≡◌, sym}
-use borrow.Author.Rules.{rules}
-use native.Mathlib.Omega.{arith}
+use mathlib.Core.Path.{◌≡◌}
 use Rattle.load_arrivals.proofs.served.plains.Given as goal
 
 abbrev pub invariant-loop-a : goal.invariant-loop-a

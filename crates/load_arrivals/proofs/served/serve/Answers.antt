@@ -1,6 +1,5 @@
 use Rattle.load_arrivals.proofs.Steps.{home_below, chosen_plain, chosen_sifted}
 use native.Mathlib.Omega.{arith}
-use borrow.Author.Rules.{rules}
 use Rattle.load_arrivals.proofs.served.serve.Goals as goal
 
 pub returns-then-plain : goal.returns-then-plain

@@ -1,5 +1,4 @@
 use Rattle.load_arrivals.proofs.Steps.{all_serve}
-use borrow.Author.Rules.{rules}
 use Rattle.load_arrivals.proofs.served.serves.Goals as goal
 
 pub returns-then-less-eq0 : goal.returns-then-less-eq0

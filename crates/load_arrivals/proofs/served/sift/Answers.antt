@@ -1,5 +1,4 @@
-use Rattle.load_arrivals.proofs.Sifting.{Sifting, sifting_none, sifting_there, sifting_more, sifting_end}
-use borrow.Author.Rules.{rules}
+use Rattle.load_arrivals.proofs.Sifting.{sifting_none, sifting_there, sifting_more, sifting_end}
 use native.Mathlib.Omega.{arith}
 use Rattle.load_arrivals.proofs.served.sift.Goals as goal
 

@@ -1,6 +1,4 @@
-use Rattle.load_arrivals.proofs.Sifting.{Sifting, sifting_none, sifting_there, sifting_more, sifting_end}
-use borrow.Author.Rules.{rules}
-use native.Mathlib.Omega.{arith}
+use Rattle.load_arrivals.proofs.Sifting.{Sifting}
 use Rattle.load_arrivals.proofs.served.sift.Given as goal
 
 abbrev pub invariant-loop-left : goal.invariant-loop-left

@@ -1,5 +1,4 @@
 use mathlib.Core.Path.{refl}
-use borrow.Author.Rules.{rules}
 use Rattle.load_arrivals.proofs.Meeting.{blank}
 use Rattle.load_arrivals.proofs.served.sifted_many.Goals as goal
 

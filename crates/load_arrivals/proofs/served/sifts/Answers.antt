@@ -1,7 +1,4 @@
 use Rattle.load_arrivals.proofs.Steps.{choices_none, choices_more, choices_done}
-use Rattle.load_arrivals.specs.Pairs.{Choices}
-use Prim.Native.Nat.{◌-◌, ◌≤◌}
-use borrow.Author.Rules.{rules}
 use native.Mathlib.Omega.{arith}
 use Rattle.load_arrivals.proofs.served.sifts.Goals as goal
 

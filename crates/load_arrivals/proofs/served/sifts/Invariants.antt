@@ -1,8 +1,5 @@
-use Rattle.load_arrivals.proofs.Steps.{choices_none, choices_more, choices_done}
 use Rattle.load_arrivals.specs.Pairs.{Choices}
-use Prim.Native.Nat.{◌-◌, ◌≤◌}
-use borrow.Author.Rules.{rules}
-use native.Mathlib.Omega.{arith}
+use Prim.Native.Nat.{◌≤◌}
 use Rattle.load_arrivals.proofs.served.sifts.Given as goal
 
 abbrev pub invariant-loop-a : goal.invariant-loop-a

@@ -3,7 +3,6 @@ use Rattle.load_arrivals.proofs.Meeting.{tracks_are}
 use Rattle.load_arrivals.proofs.Charts.{nexts_inside, first_idle, firsts_long}
 use mathlib.Core.Path.{ap, ◌∙◌}
 use lib.ListN.{length}
-use borrow.Author.Rules.{rules}
 use Rattle.load_arrivals.proofs.tracks.tracks_in.Goals as goal
 
 pub trails-requires : goal.trails-requires

@@ -1,12 +1,6 @@
-use Rattle.phase_execute.specs.Moments.{Turn}
-use Rattle.rules.specs.Execute.{unit_at}
-use Rattle.plan.specs.Tables.{table_plan}
-use Rattle.basis.specs.Fold.{up_to}
-use lib.ListN.{length}
-use Prim.Native.Nat.{◌-◌, ◌≤◌, ◌*◌}
-use mathlib.Core.Path.{◌≡◌, refl, ◌∙◌}
+use mathlib.Core.Path.{refl, ◌∙◌}
 use native.Mathlib.Omega.{arith}
-use Rattle.bytes_steps.specs.Acts.{Steps, steps_none, steps_done}
+use Rattle.bytes_steps.specs.Acts.{steps_none, steps_done}
 use Rattle.phase_execute.proofs.Needs.{units_hold, units_more}
 use Rattle.phase_execute.proofs.heads.heads.Goals as goal
 

@@ -3,11 +3,9 @@ use Rattle.rules.specs.Execute.{unit_at}
 use Rattle.plan.specs.Tables.{table_plan}
 use Rattle.basis.specs.Fold.{up_to}
 use lib.ListN.{length}
-use Prim.Native.Nat.{◌-◌, ◌≤◌, ◌*◌}
-use mathlib.Core.Path.{◌≡◌, refl, ◌∙◌}
-use native.Mathlib.Omega.{arith}
-use Rattle.bytes_steps.specs.Acts.{Steps, steps_none, steps_done}
-use Rattle.phase_execute.proofs.Needs.{units_hold, units_more}
+use Prim.Native.Nat.{◌≤◌, ◌*◌}
+use mathlib.Core.Path.{◌≡◌}
+use Rattle.bytes_steps.specs.Acts.{Steps}
 use Rattle.phase_execute.proofs.heads.heads.Given as goal
 
 abbrev pub invariant-loop-m : goal.invariant-loop-m

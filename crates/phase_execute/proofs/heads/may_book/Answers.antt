@@ -1,8 +1,3 @@
-use Rattle.phase_execute.specs.Lent.{entries_at, spares}
-use Rattle.basis.specs.Bounded.{any_below}
-use mathlib.Core.Bool.{false}
-use mathlib.Core.Path.{◌≡◌}
-use Prim.Native.Nat.{◌-◌, ◌≤◌}
 use Rattle.phase_execute.proofs.Booking.{not_free, spare_none, spare_more, spare_found, spare_done, slot_free}
 use Rattle.phase_execute.proofs.Booking.{slot_booked}
 use native.Mathlib.Omega.{arith}

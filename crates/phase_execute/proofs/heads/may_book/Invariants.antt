@@ -2,10 +2,7 @@ use Rattle.phase_execute.specs.Lent.{entries_at, spares}
 use Rattle.basis.specs.Bounded.{any_below}
 use mathlib.Core.Bool.{false}
 use mathlib.Core.Path.{◌≡◌}
-use Prim.Native.Nat.{◌-◌, ◌≤◌}
-use Rattle.phase_execute.proofs.Booking.{not_free, spare_none, spare_more, spare_found, spare_done, slot_free}
-use Rattle.phase_execute.proofs.Booking.{slot_booked}
-use native.Mathlib.Omega.{arith}
+use Prim.Native.Nat.{◌≤◌}
 use Rattle.phase_execute.proofs.heads.may_book.Given as goal
 
 abbrev pub invariant-loop-u : goal.invariant-loop-u

@@ -1,5 +1,4 @@
 use borrow.Author.Tests.{eq-eqb, ne_eqb}
-use borrow.Author.Rules.{rules}
 use Rattle.phase_execute.proofs.heads.put_back.Goals as goal
 
 pub returns-then-q-eq0 : goal.returns-then-q-eq0

@@ -1,7 +1,6 @@
 use mathlib.Core.Path.{sym, ◌∙◌}
 use Prim.Native.Nat.{◌+◌, ◌*◌}
 use native.Mathlib.Omega.{arith}
-use borrow.Author.Rules.{rules}
 use Rattle.phase_pick.proofs.Tables.{entry_is, range_of, is_router}
 use Rattle.phase_execute.proofs.Tables.{set_length, slots_are}
 use Rattle.phase_execute.proofs.Units.{steps_booked, steps_declined}

@@ -1,4 +1,3 @@
-use borrow.Author.Rules.{rules}
 use Rattle.phase_execute.proofs.heads.settle.Goals as goal
 
 pub returns : goal.returns

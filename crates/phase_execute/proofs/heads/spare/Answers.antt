@@ -1,5 +1,4 @@
 use Rattle.phase_execute.proofs.Booking.{spare_not, spare_is}
-use borrow.Author.Rules.{rules}
 use Rattle.phase_execute.proofs.heads.spare.Goals as goal
 
 pub returns-then-u-t : goal.returns-then-u-t

@@ -4,7 +4,6 @@ use Rattle.phase_execute.proofs.Tables.{set_length, slots_are}
 use Rattle.phase_execute.proofs.Units.{steps_torn}
 use Rattle.phase_pick.proofs.Tables.{is_router}
 use Rattle.phase_execute.proofs.Needs.{side_asks, side_is, entry_asks, entry_inside, settles_freed}
-use borrow.Author.Rules.{rules}
 use Rattle.phase_execute.proofs.heads.tear_down.Goals as goal
 
 pub side_of-o-requires : goal.side_of-o-requires

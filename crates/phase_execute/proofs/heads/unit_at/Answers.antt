@@ -5,7 +5,6 @@ use Rattle.phase_execute.proofs.Units.{steps_empty, steps_marked, heads_by, step
 use Rattle.phase_pick.proofs.Tables.{is_router}
 use Rattle.phase_execute.proofs.Needs.{base_asks, unit_room}
 use native.Mathlib.Omega.{arith}
-use borrow.Author.Rules.{rules}
 use Rattle.phase_execute.proofs.heads.unit_at.Goals as goal
 
 pub base_of-requires : goal.base_of-requires

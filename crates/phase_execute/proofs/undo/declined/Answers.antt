@@ -1,7 +1,6 @@
 use Rattle.rules.specs.Execute.{unmarked_kind}
 use Rattle.packets.specs.declared.Kind.{Kind}
 use mathlib.Core.Path.{sym, ap}
-use borrow.Author.Rules.{rules}
 use Rattle.phase_execute.proofs.undo.declined.Goals as goal
 
 pub returns-in-Nack : goal.returns-in-Nack

@@ -1,4 +1,3 @@
-use borrow.Author.Rules.{rules}
 use Rattle.phase_execute.proofs.undo.tdown_of.Goals as goal
 
 pub returns : goal.returns

@@ -1,10 +1,8 @@
-use borrow.Author.Tests.{not-true, not-false}
 use mathlib.Core.Path.{sym, ◌∙◌}
 use Rattle.phase_execute.proofs.Tables.{slots_are}
 use Rattle.phase_execute.proofs.Undoing.{in_small, in_room, out_room, steps_kept, steps_full, slot_asks, push_asks}
 use Rattle.phase_execute.proofs.Undoing.{steps_tears}
 use native.Mathlib.Omega.{arith}
-use borrow.Author.Rules.{rules}
 use Rattle.phase_execute.proofs.undo.tear.Goals as goal
 
 pub returns-then-not-declined : goal.returns-then-not-declined

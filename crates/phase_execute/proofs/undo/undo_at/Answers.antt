@@ -1,7 +1,6 @@
 use Rattle.phase_pick.proofs.Steps.{steps_by, holds_by}
 use Rattle.phase_execute.proofs.Undoing.{in_row, in_room, steps_none, starts_by, base_asks}
 use native.Mathlib.Omega.{arith}
-use borrow.Author.Rules.{rules}
 use Rattle.phase_execute.proofs.undo.undo_at.Goals as goal
 
 pub base_of-requires : goal.base_of-requires

@@ -1,12 +1,6 @@
-use Rattle.theory.specs.Invariant.{Core}
-use Rattle.rules.specs.Execute.{undo}
-use Rattle.plan.specs.Tables.{table_plan}
-use Rattle.basis.specs.Fold.{up_to}
-use lib.ListN.{length}
-use Prim.Native.Nat.{◌-◌, ◌≤◌}
-use mathlib.Core.Path.{◌≡◌, refl, ◌∙◌}
+use mathlib.Core.Path.{refl, ◌∙◌}
 use native.Mathlib.Omega.{arith}
-use Rattle.bytes_steps.specs.Acts.{Steps, steps_none, steps_done}
+use Rattle.bytes_steps.specs.Acts.{steps_none, steps_done}
 use Rattle.phase_execute.proofs.Undoing.{undo_hold, undo_more}
 use Rattle.phase_execute.proofs.undo.undoes.Goals as goal
 

@@ -3,11 +3,9 @@ use Rattle.rules.specs.Execute.{undo}
 use Rattle.plan.specs.Tables.{table_plan}
 use Rattle.basis.specs.Fold.{up_to}
 use lib.ListN.{length}
-use Prim.Native.Nat.{◌-◌, ◌≤◌}
-use mathlib.Core.Path.{◌≡◌, refl, ◌∙◌}
-use native.Mathlib.Omega.{arith}
-use Rattle.bytes_steps.specs.Acts.{Steps, steps_none, steps_done}
-use Rattle.phase_execute.proofs.Undoing.{undo_hold, undo_more}
+use Prim.Native.Nat.{◌≤◌}
+use mathlib.Core.Path.{◌≡◌}
+use Rattle.bytes_steps.specs.Acts.{Steps}
 use Rattle.phase_execute.proofs.undo.undoes.Given as goal
 
 abbrev pub invariant-loop-a : goal.invariant-loop-a

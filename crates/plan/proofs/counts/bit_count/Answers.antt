@@ -1,7 +1,6 @@
 use Prim.Native.Nat.{◌+◌}
 use native.Mathlib.Omega.{arith}
 use native.Mathlib.Nat.{mul-le-mul_right}
-use borrow.Author.Rules.{rules}
 use Rattle.plan.proofs.counts.bit_count.Goals as goal
 
 pub overflow_mul-result-2 : goal.overflow_mul-result-2

@@ -1,5 +1,4 @@
 use Rattle.plan.specs.Head.{capacity_at}
-use borrow.Author.Rules.{rules}
 use Rattle.plan.proofs.counts.capacity.Goals as goal
 
 pub returns : goal.returns

@@ -2,7 +2,6 @@ use Rattle.plan.proofs.Fill.{fill_is}
 use native.Mathlib.Omega.{arith}
 use lib.ListN.{length}
 use Prim.Native.Nat.{◌-◌}
-use borrow.Author.Rules.{rules}
 use Rattle.plan.proofs.counts.fill_ok.Goals as goal
 
 pub overflow_cast-last : goal.overflow_cast-last

@@ -1,5 +1,4 @@
 use Rattle.plan.specs.Head.{head_ok}
-use borrow.Author.Rules.{rules}
 use Rattle.plan.proofs.counts.head_ok.Goals as goal
 
 pub returns : goal.returns

@@ -1,5 +1,4 @@
 use Rattle.plan.specs.Head.{head_of}
-use borrow.Author.Rules.{rules}
 use Rattle.plan.proofs.counts.read_head.Goals as goal
 
 pub returns : goal.returns

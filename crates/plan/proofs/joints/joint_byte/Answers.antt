@@ -2,7 +2,6 @@ use Prim.Native.Nat.{◌<◌}
 use native.Mathlib.Omega.{arith}
 use Rattle.fields.specs.Laws.{field_lt}
 use Rattle.plan.specs.Tables.{joint_byte}
-use borrow.Author.Rules.{rules}
 use Rattle.plan.proofs.joints.joint_byte.Goals as goal
 
 pub overflow_mul-result : goal.overflow_mul-result

@@ -1,5 +1,4 @@
 use Rattle.plan.proofs.JointLaws.{byte_tested}
-use native.Mathlib.Omega.{arith}
 use borrow.Author.Rules.{rules}
 use Rattle.plan.proofs.joints.joint_byte_ok.Goals as goal
 

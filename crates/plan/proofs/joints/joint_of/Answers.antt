@@ -1,6 +1,5 @@
 use Rattle.plan.specs.Tables.{joint_of_byte}
 use borrow.Author.Tests.{eq-eqb, ne_eqb}
-use borrow.Author.Rules.{rules}
 use Rattle.plan.proofs.joints.joint_of.Goals as goal
 
 pub returns-then-kind-eq-TO_ROUTER : goal.returns-then-kind-eq-TO_ROUTER

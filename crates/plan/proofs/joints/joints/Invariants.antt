@@ -1,12 +1,9 @@
-use borrow.Author.Rules.{rules}
-use mathlib.Core.Path.{◌≡◌, ◌∙◌, refl, sym, ap}
-use Prim.Native.Nat.{◌≤◌, ◌-◌, ◌*◌}
-use native.Mathlib.Omega.{arith}
-use Rattle.basis.specs.Fold.{up_to, fill, up_none, up_fill, up_done}
-use Rattle.basis.specs.Bounded.{all_below, all_none}
+use mathlib.Core.Path.{◌≡◌}
+use Prim.Native.Nat.{◌≤◌}
+use Rattle.basis.specs.Fold.{up_to, fill}
+use Rattle.basis.specs.Bounded.{all_below}
 use Rattle.plan.specs.declared.Head.{Head}
-use Rattle.plan.specs.Tables.{joint_byte, joints_of, joint_byte_ok, joint_bytes_ok}
-use Rattle.plan.proofs.JointTests.{all_and, all_end, joints_tested}
+use Rattle.plan.specs.Tables.{joint_byte, joint_byte_ok}
 use Rattle.plan.proofs.joints.joints.Given as goal
 
 abbrev pub invariant-loop-i : goal.invariant-loop-i

@@ -1,5 +1,4 @@
 use Rattle.plan.specs.Found.{numbers_of}
-use borrow.Author.Rules.{rules}
 use Rattle.plan.proofs.joints.numbers.Goals as goal
 
 pub returns : goal.returns

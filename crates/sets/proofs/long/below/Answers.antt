@@ -1,6 +1,5 @@
 use Rattle.sets.specs.Laws.{below_code}
 use native.Mathlib.Omega.{arith}
-use borrow.Author.Rules.{rules}
 use Rattle.sets.proofs.long.below.Goals as goal
 
 pub overflow_sub-result : goal.overflow_sub-result

@@ -1,5 +1,4 @@
 use Rattle.sets.specs.Laws.{single_code}
-use native.Mathlib.Omega.{arith}
 use borrow.Author.Rules.{rules}
 use Rattle.sets.proofs.long.single.Goals as goal
 

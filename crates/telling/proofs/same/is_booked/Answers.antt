@@ -2,7 +2,6 @@ use mathlib.Core.Path.{ap, ◌∙◌}
 use mathlib.Core.Bool.{false≢true}
 use borrow.Author.Tests.{eqb-true}
 use Rattle.packets.specs.declared.Entry.TheVariants.{Booked}
-use borrow.Author.Rules.{rules}
 use Rattle.telling.proofs.same.is_booked.Goals as goal
 
 pub returns-in_default : goal.returns-in_default

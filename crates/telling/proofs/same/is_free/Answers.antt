@@ -1,5 +1,4 @@
 use mathlib.Core.Bool.{false≢true}
-use borrow.Author.Rules.{rules}
 use Rattle.telling.proofs.same.is_free.Goals as goal
 
 pub returns-in_default : goal.returns-in_default

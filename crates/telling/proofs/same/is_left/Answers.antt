@@ -1,7 +1,6 @@
 use mathlib.Core.Path.{ap, ◌∙◌}
 use mathlib.Core.Bool.{false≢true}
 use Rattle.packets.specs.declared.Answer.TheVariants.{Remains}
-use borrow.Author.Rules.{rules}
 use Rattle.telling.proofs.same.is_left.Goals as goal
 
 pub returns-in_default : goal.returns-in_default

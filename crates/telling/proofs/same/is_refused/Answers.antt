@@ -3,7 +3,6 @@ use mathlib.Core.Bool.{false≢true}
 use borrow.Author.Tests.{eqb-true}
 use Rattle.packets.specs.declared.Answer.TheVariants.{Refused}
 use Rattle.telling.proofs.Numbers.{same_number}
-use borrow.Author.Rules.{rules}
 use Rattle.telling.proofs.same.is_refused.Goals as goal
 
 pub returns-in_default : goal.returns-in_default

@@ -1,7 +1,6 @@
 use mathlib.Core.Path.{ap, ◌∙◌}
 use mathlib.Core.Bool.{false≢true}
 use Rattle.packets.specs.declared.Answer.TheVariants.{Shows}
-use borrow.Author.Rules.{rules}
 use Rattle.telling.proofs.same.is_shown.Goals as goal
 
 pub returns-in_default : goal.returns-in_default

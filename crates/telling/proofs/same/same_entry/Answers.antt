@@ -1,5 +1,4 @@
 use mathlib.Core.Path.{sym, ◌∙◌}
-use borrow.Author.Rules.{rules}
 use Rattle.telling.proofs.same.same_entry.Goals as goal
 
 pub returns-in-Free : goal.returns-in-Free

@@ -1,7 +1,6 @@
 use mathlib.Core.Path.{sym, ◌∙◌}
 use borrow.Author.Tests.{eqb-true}
 use Rattle.telling.proofs.Numbers.{same_code}
-use borrow.Author.Rules.{rules}
 use Rattle.telling.proofs.same.same_kind.Goals as goal
 
 pub returns : goal.returns

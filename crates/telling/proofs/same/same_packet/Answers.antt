@@ -1,7 +1,6 @@
 use mathlib.Core.Bool.{false≢true}
-use borrow.Author.Tests.{not-false, eqb-true}
+use borrow.Author.Tests.{eqb-true}
 use Rattle.telling.proofs.Numbers.{same_fields}
-use borrow.Author.Rules.{rules}
 use Rattle.telling.proofs.same.same_packet.Goals as goal
 
 pub returns-then-not-same_kind : goal.returns-then-not-same_kind

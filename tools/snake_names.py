@@ -17,7 +17,7 @@ import os
 import re
 import sys
 
-CUT = re.compile(r'([\s(){}\[\],;.]+)')
+CUT = re.compile(r'([\s(){}\[\],;.`]+)')
 HUMP = re.compile(r'(?<=[a-z0-9₀-₉])(?=[A-Z])')
 WORD = re.compile(r"^[a-z][A-Za-z0-9_'₀-₉≢≡≤<+*∷-]*$")
 HEAD = re.compile(r'^((?:(?:abbrev|unfoldable|pub|record|data|ruleset)\s+)*)([^\s:({]+)\s*(?::|\(|\{)')
@@ -102,10 +102,13 @@ def table(top):
     return names, theory, source
 
 
-def respell(code, names, walk):
+def respell(code, names, walk, dotted={}):
     out, before = [], ''
     for w in CUT.split(code):
         n = names.get(w, w)
+        # in a comment: `Runs.crossing-loads`
+        if n == w and before.endswith('.'):
+            n = dotted.get(w, w)
         # in a proof that walks the code a name behind a dot may be a step of the code
         if walk and before.endswith('.') and n.endswith('_lem'):
             n = w
@@ -115,8 +118,8 @@ def respell(code, names, walk):
 
 
 def turned(text, names, path):
-    """The text with its names respelled. A comment has words with a dash (`set-up`), so only names with a hump are turned
-    there; a name that a lemma gives way to is a function's in src/, and keeps its spelling; so does a string."""
+    """The text with its names respelled. A comment has words with a dash (`set-up`), so only names with a hump, or behind
+    a dot, are turned there; a name that a lemma gives way to is a function's in src/, and keeps its spelling; so does a string."""
     source = path.endswith('.rt')
     mark = '//' if source else '--'
     here = {a: b for a, b in names.items() if not (source and b.endswith('_lem'))}
@@ -127,7 +130,7 @@ def turned(text, names, path):
         at = at if at == 0 or (at > 0 and line[at - 1] == ' ') else len(line)
         for piece in re.split(r'("(?:[^"\\]|\\.)*")', line[:at]) if source else [line[:at]]:
             out.append(piece if source and piece.startswith('"') else respell(piece, here, is_walk(path)))
-        out.append(respell(line[at:], humped, False) + '\n')
+        out.append(respell(line[at:], humped, False, here) + '\n')
     return ''.join(out)[:-1]
 
 

@@ -146,7 +146,7 @@ pub joints_refused : answers bad_joints ≡ replicate 9 5
 unfolding loads
 joints_refused = refl
 
--- ---- '6 a ring': `Runs.clockwise-ring` is one of set-ups' queues; here is one of answers alone. Four routers in a
+-- ---- '6 a ring': `Runs.clockwise_ring` is one of set-ups' queues; here is one of answers alone. Four routers in a
 -- ring, at each an active whose passive is at the next one; set-ups take that one step, and all answers go on around,
 -- by the two other routers: K feeds K
 -- 21 08 21 24 92 4A 2A 64 06 62 4A 06 04 22 6A 26 24 42 0A 46 44 62 00 0F D8 60 21 F8 0C 74 38 01 FE 80

@@ -1,4 +1,4 @@
--- The side by which a pair's walk comes in to a router on it is the one that `cameIn` finds: the walk meets the router
+-- The side by which a pair's walk comes in to a router on it is the one that `came_in` finds: the walk meets the router
 -- once.
 use mathlib.Core.Path.{◌≡◌, refl, sym, ap, ◌∙◌}
 use mathlib.Core.Bool.{true, false}

@@ -26,8 +26,8 @@ const COUNTS: [(&str, usize, usize); 10] = [
     ("onTurns", 3, 6),
     ("onPairs", 2, 2),
 ];
-/// Rows of which the model's state has no word, so that their bytes are changed instead: of `on_choices`
-/// `picking 5`, a choice of no sender; of `on_flags` the handled mark on `U[3]`; of `on_numbers` the two
+/// Rows of which the model's state has no word, so that their bytes are changed instead: of `onChoices`
+/// `picking 5`, a choice of no sender; of `onFlags` the handled mark on `U[3]`; of `onNumbers` the two
 /// credits where no wire leads.
 const BY_BYTES: [(&str, usize); 4] =
     [("onChoices", 2), ("onFlags", 8), ("onNumbers", 11), ("onNumbers", 12)];

@@ -49,7 +49,7 @@ three_go_first =
     once stored_choice_goes_though_booked
     (go_first line_of_three four_arrive (to_unit 0) 3 (execute ∷ write ∷ many_rounds 2) 3 refl refl)
 
--- ---- at a side four: `BothEnds.fifth-sees-four`, rounds 13 to 16. K[2,3] sees set-up F[3], answer F[3], K[0,3] and
+-- ---- at a side four: `BothEnds.fifth_sees_four`, rounds 13 to 16. K[2,3] sees set-up F[3], answer F[3], K[0,3] and
 -- K[1,3] go
 pub four_go_first : GoFirst drives_around (up_to_first five_senders) (of_side 0 3) 4 (execute ∷ write ∷ many_rounds 3) 4
 unfolding moments

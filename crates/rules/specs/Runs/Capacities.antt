@@ -11,8 +11,8 @@ use Rattle.rules.specs.Runs.Watch.{round, many_rounds, in_write, packet, allowan
 use Rattle.rules.specs.Runs.Watch.{each}
 
 -- ---- the way to a passive. Document 02 (i) splits Q by incoming side: an active's own set-ups are to fill its Q and
--- its U, and three Qs fill. With Q 3 and U 4, as `narrowThere` has them, an allowance of 6 does not do it; with Q 1 and
--- U 4 it does, and one set-up has to wait. The router is that of `narrowThere`: side 0 to passive 0, sides 1 to 3 to
+-- its U, and three Qs fill. With Q 3 and U 4, as `narrow_there` has them, an allowance of 6 does not do it; with Q 1 and
+-- U 4 it does, and one set-up has to wait. The router is that of `narrow_there`: side 0 to passive 0, sides 1 to 3 to
 -- actives 0 to 2, S=16. Active out 6, in 7, U 4, Q 1, F 3, K 5, passive in 2, out 4.
 
 -- nobody replies before round 17

@@ -39,7 +39,7 @@ abbrev pub up_to_first : List (List Call) → List Call
 up_to_first [] = []
 up_to_first (cs ∷ more) = cs
 
--- ---- at the unit three. A line of three routers, S=8, as in `BothEnds.four-in-turn`: the set-ups of actives 0 and 1
+-- ---- at the unit three. A line of three routers, S=8, as in `BothEnds.four_in_turn`: the set-ups of actives 0 and 1
 -- come in to router 0 by sides 0 and 1, those of actives 2 and 3 by sides 2 and 3. All four arrive in round 4, and U[3]
 -- sees U[0], U[1] and U[2] go
 abbrev pub four_arrive : List Call

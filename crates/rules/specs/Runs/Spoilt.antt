@@ -1,6 +1,6 @@
 -- Demand 2 speaks of any bytes, and 7 ties neither a tear-down to the entry that it frees nor a choice to the order in
 -- which an output looks. So there are states that no list from Start reaches, and a rule can be wrong of them alone.
--- Each run here begins at such a state; `valid` judges each a state (`Runs.spoilt-states`).
+-- Each run here begins at such a state; `valid` judges each a state (`Runs.spoilt_states`).
 use Rattle.std.specs.Prelude.{List, [], ◌∷◌}
 use Rattle.packets.specs.declared.Kind.TheVariants.{Tdown}
 use Rattle.packets.specs.declared.Entry.TheVariants.{Booked}
@@ -20,7 +20,7 @@ anothers_entry pl =
     with_entry 0 1 0 (Booked 2)
     (with_queue (Q 0 0) (packet Tdown 0 0 0 1 ∷ []) (with_credit (Q 0 0) (record { 0 = 0 }) (start pl)))
 
--- ---- 'each picked head enters its wire': the one that is stored, whoever's turn it was. `Turns.two-in-turn` up to
+-- ---- 'each picked head enters its wire': the one that is stored, whoever's turn it was. `Turns.two_in_turn` up to
 -- round 6, after EXECUTE: answer F[1], of rank 1, and K[0,1], of rank 2, both wait, and K[0,1] is picked. Stored is
 -- answer F[1]
 abbrev pub in_round6 : Plan → State

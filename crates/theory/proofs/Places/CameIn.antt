@@ -1,4 +1,4 @@
--- A router on a pair's walk: its sides in and out are sides of the plan, and the side in is the one that `cameIn`
+-- A router on a pair's walk: its sides in and out are sides of the plan, and the side in is the one that `came_in`
 -- finds.
 use mathlib.Core.Path.{◌≡◌}
 use Prim.Native.Nat.{ℕ, ◌<◌}
@@ -30,6 +30,6 @@ module _ {pl : Plan} (wired : Wired pl) (a p : ℕ) (ha : a < A pl) (hp : p < P 
       → walked pl (passive p) m (home pl (active a)) ≡ on y → x.router ≡ y.router → n ≡ m
   stands_once = Rattle.plan_journeys.proofs.CameIn.stands_once wired a p ha s
 
-  -- the side by which the walk comes in to a router on it is the one that `cameIn` finds
+  -- the side by which the walk comes in to a router on it is the one that `came_in` finds
   pub came_in_lem : (n r i : ℕ) → Stands pl a p n r i → came_in pl a p r ≡ i
   came_in_lem = Rattle.plan_journeys.proofs.CameIn.came_in_lem wired a p ha s

@@ -1,8 +1,7 @@
 #!/usr/bin/env python3
-"""Gives the crates the names that show their layers, in a repository of before that: folders, crates.txt, paths of
-definitions and proofs, and paths in code. For comparisons with older commits only; it was not the way in which the crates
-were renamed (by hand, in the last commit of unfinished work that docs/PORT.md names), and gives the same but for comments
-and line breaks.
+"""Gives the crates of an older commit the names that show their layers: folders, crates.txt, paths of definitions and
+proofs, and paths in code, so that it can be laid beside today's. What it gives is what the commit that renamed them (the
+third line of docs/PORT.md) has, but for comments, the order of imports and line breaks.
 
 usage: tools/rename_crates.py TOP
 """

@@ -1,6 +1,7 @@
 -- Tests of the numbers below a bound, and what they tell: some number passes, every number passes.
 use Rattle.std.specs.Prelude.{◌≡◌, refl, ◌⊎◌, Bool, true, false, ◌||◌, ℕ, zero, suc, ◌+◌, ◌≤◌, ◌<◌, ltb}
-use Rattle.std.proofs.Common.{sym, ap₂, ◌∙◌, inl, inr, true≢false, not-suc-le-zero, eq-or-lt_of_le, le_of_suc-le-suc, add-one, arith, ltb-true, ltb-false}
+use Rattle.std.proofs.Common.{sym, ap₂, ◌∙◌, inl, inr, true≢false, not-suc-le-zero, eq-or-lt_of_le, le_of_suc-le-suc}
+use Rattle.std.proofs.Common.{add-one, arith, ltb-true, ltb-false}
 use Rattle.std.proofs.lemmas.Bool.{false≢true}
 use Rattle.basis.specs.Choice.{pick, test}
 
@@ -103,7 +104,8 @@ pub all_none : (f : ℕ → Bool) → all_below 0 f ≡ true
 unfolding all_below
 all_none f = refl
 
-pub all_more : (f : ℕ → Bool) (i : ℕ) {b : Bool} → all_below i f ≡ true → b ≡ f i → b ≡ true → all_below (i + 1) f ≡ true
+pub all_more : (f : ℕ → Bool) (i : ℕ) {b : Bool} → all_below i f ≡ true → b ≡ f i → b ≡ true → all_below (i + 1) f ≡
+    true
 unfolding all_below
 all_more f i e g h = rw (add-one, e, ← g, h)
 

@@ -17,7 +17,8 @@ pub up_more : {A : Type 0} (step : ℕ → A → A) (s : A) (i : ℕ) {t u : A} 
 unfolding up_to
 up_more step s i e f = rw add-one (f ∙ ap (step i) e)
 
-pub up_done : {A : Type 0} (step : ℕ → A → A) (s : A) {i n : ℕ} {t : A} → t ≡ up_to step i s → i ≡ n → t ≡ up_to step n s
+pub up_done : {A : Type 0} (step : ℕ → A → A) (s : A) {i n : ℕ} {t : A} → t ≡ up_to step i s → i ≡ n → t ≡ up_to step n
+    s
 up_done step s {i} {n} {t} e f = e ∙ ap (λ (k : ℕ). up_to step k s) f
 
 pub up_suc : {A : Type 0} (step : ℕ → A → A) (n : ℕ) (s : A) → up_to step (suc n) s ≡ step n (up_to step n s)

@@ -14,7 +14,8 @@ module _ {A : Type 0} where
   get_d_tab_from : (i n : ℕ) (f : ℕ → A) (k : ℕ) (d : A) → k < n → get_or (tab_from i n f) k d ≡ f (i + k)
   get_d_tab_from i zero f k d h = absurd (not-suc-le-zero h)
   get_d_tab_from i (suc n) f zero d h = rw add-zero
-  get_d_tab_from i (suc n) f (suc k) d h = rw (add-suc i k, ← suc-add i k) (get_d_tab_from (suc i) n f k d (omega arith))
+  get_d_tab_from i (suc n) f (suc k) d h = rw (add-suc i k, ← suc-add i k)
+      (get_d_tab_from (suc i) n f k d (omega arith))
 
   pub get_d_tab : (n : ℕ) (f : ℕ → A) (k : ℕ) (d : A) → k < n → get_or (tab n f) k d ≡ f k
   get_d_tab n f k d h = rw zero-add at (get_d_tab_from 0 n f k d h)

@@ -21,12 +21,17 @@ use Rattle.plan_queues.specs.Feeds.{Output}
 use Rattle.rules.specs.State.{State, blank}
 use Rattle.rules.specs.Valid.{Bounded, Drives}
 use Rattle.bytes_layout.specs.Rows.{RowStands, stands_left, stands_right, stands_get, stands_byte}
-use Rattle.bytes_layout.specs.Named.{exists_test, test_exists, exists_test_lem, drives_test, test_drives, drives_test_lem}
-use Rattle.bytes_layout.specs.Named.{is_entry, test_entry, entry_test_lem, is_connection, test_connection, connection_test}
-use Rattle.bytes_layout.specs.Offsets.{places, credit_byte, flag_byte, handled_byte, length_byte, wire_byte, choice_byte}
-use Rattle.bytes_layout.specs.Offsets.{first_place, wire_packet, slot_room, queue_row, output_row, allowance_row, entry_row}
+use Rattle.bytes_layout.specs.Named.{exists_test, test_exists, exists_test_lem, drives_test, test_drives}
+use Rattle.bytes_layout.specs.Named.{drives_test_lem}
+use Rattle.bytes_layout.specs.Named.{is_entry, test_entry, entry_test_lem, is_connection, test_connection}
+use Rattle.bytes_layout.specs.Named.{connection_test}
+use Rattle.bytes_layout.specs.Offsets.{places, credit_byte, flag_byte, handled_byte, length_byte, wire_byte}
+use Rattle.bytes_layout.specs.Offsets.{choice_byte}
+use Rattle.bytes_layout.specs.Offsets.{first_place, wire_packet, slot_room, queue_row, output_row, allowance_row}
+use Rattle.bytes_layout.specs.Offsets.{entry_row}
 use Rattle.bytes_layout.specs.Offsets.{starts_row, turn_row}
-use Rattle.bytes_layout.specs.Codes.{phase_code_lem, flag_code, flag_of, flag_code_lem, choice_code, choice_of, choice_code_lem}
+use Rattle.bytes_layout.specs.Codes.{phase_code_lem, flag_code, flag_of, flag_code_lem, choice_code, choice_of}
+use Rattle.bytes_layout.specs.Codes.{choice_code_lem}
 use Rattle.bytes_layout.specs.Codes.{entry_from, entry_code_lem}
 use Rattle.bytes_layout.specs.Places.{packet_bytes, place_bytes, packet_at, packet_read, packets_read}
 use Rattle.bytes_layout.specs.Encode.{queue_bytes, wire_bytes, output_bytes, allowance_bytes, entry_bytes, word_bytes}
@@ -45,7 +50,8 @@ module _ (s : State) (b : List ℕ) (i : ℕ) where
 
   pub flag_read : (q : Queue) → RowStands i (queue_bytes s q) b → flag_at i b ≡ s.flow.flag q
   unfolding queue_bytes
-  flag_read q t = ap flag_of (stands_get i (queue_bytes s q) b t flag_byte (omega arith)) ∙ flag_code_lem (s.flow.flag q)
+  flag_read q t = ap flag_of (stands_get i (queue_bytes s q) b t flag_byte (omega arith)) ∙ flag_code_lem
+      (s.flow.flag q)
 
   pub handled_read : (q : Queue) → RowStands i (queue_bytes s q) b → mark_at i b ≡ s.lines.handled q
   unfolding queue_bytes

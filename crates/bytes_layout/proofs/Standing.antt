@@ -18,8 +18,10 @@ use Rattle.bytes_layout.specs.Offsets.{queue_width, output_width, entry_width, r
 use Rattle.bytes_layout.specs.Offsets.{entries, queues_at, outputs_at, allowances_at, table_at, queue_row, output_row}
 use Rattle.bytes_layout.specs.Offsets.{allowance_row, entry_row, passive_room, starts_width, pairs, pair_index}
 use Rattle.bytes_layout.specs.Offsets.{connections_at, starts_row, turns_at, turn_row}
-use Rattle.bytes_layout.specs.Encode.{queue_bytes, output_bytes, allowance_bytes, entry_bytes, entry_of_number, word_bytes}
-use Rattle.bytes_layout.specs.Encode.{starts_of, starts_bytes, header, queue_part, output_part, allowance_part, table_part}
+use Rattle.bytes_layout.specs.Encode.{queue_bytes, output_bytes, allowance_bytes, entry_bytes, entry_of_number}
+use Rattle.bytes_layout.specs.Encode.{word_bytes}
+use Rattle.bytes_layout.specs.Encode.{starts_of, starts_bytes, header, queue_part, output_part, allowance_part}
+use Rattle.bytes_layout.specs.Encode.{table_part}
 use Rattle.bytes_layout.specs.Encode.{connection_part, turn_bytes, turn_part, encode, length_queue, length_output}
 use Rattle.bytes_layout.specs.Encode.{length_queues, length_outputs, length_allowances, length_table}
 use Rattle.bytes_layout.specs.Encode.{length_connections}
@@ -84,7 +86,8 @@ module _ (pl : Plan) (s : State) (rest : List ℕ) where
       subst (λ (x : Output). RowStands (output_row pl o) (output_bytes s x) bytes) (output_at_lem pl o h)
       (stands_row output_width (outputs pl) (outputs_at pl) (λ n. output_bytes s (output_at pl n)) bytes
       (λ n. length_output s (output_at pl n))
-      (stands_left (outputs_at pl) (output_part pl s) third bytes from_outputs) (output_number pl o) (output_below pl o h))
+      (stands_left (outputs_at pl) (output_part pl s) third bytes from_outputs) (output_number pl o)
+      (output_below pl o h))
 
   -- an active's allowance at the active's
   pub allowance_stands : (a : ℕ) → a < A pl → RowStands (allowance_row pl a) (allowance_bytes s a) bytes
@@ -115,7 +118,8 @@ module _ (pl : Plan) (s : State) (rest : List ℕ) where
   starts_stands a p ha hp =
       let c : pair_index a p / passive_room ≡ a = omega arith in
       let d : pair_index a p % passive_room ≡ p = omega arith in
-      let e : starts_bytes s (pair_index a p) ≡ word_bytes (starts_of s a p) = λ i. word_bytes (starts_of s (c i) (d i)) in
+      let e : starts_bytes s (pair_index a p) ≡ word_bytes (starts_of s a p) = λ i. word_bytes (starts_of s (c i) (d i))
+      in
       subst (λ (x : List ℕ). RowStands (starts_row pl a p) x bytes) e
       (stands_row starts_width (pairs pl) (connections_at pl) (starts_bytes s) bytes (λ n. refl)
       (stands_left (connections_at pl) (connection_part pl s) sixth bytes from_connections) (pair_index a p)

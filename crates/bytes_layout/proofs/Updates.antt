@@ -27,15 +27,19 @@ use Rattle.rules.specs.State.{with_choice, with_entry, with_connection, with_las
 use Rattle.rules.specs.Valid.{Drives}
 use Rattle.rules.proofs.Numbers.{at_number}
 use Rattle.rules.proofs.OutNumbers.{output_at_lem, output_below, at_output}
-use Rattle.bytes_layout.specs.Offsets.{phase_byte, slot_byte, queue_width, output_width, entry_width, credit_byte, flag_byte}
+use Rattle.bytes_layout.specs.Offsets.{phase_byte, slot_byte, queue_width, output_width, entry_width, credit_byte}
+use Rattle.bytes_layout.specs.Offsets.{flag_byte}
 use Rattle.bytes_layout.specs.Offsets.{handled_byte, first_place, choice_byte, slot_room, router_entries, entry_index}
-use Rattle.bytes_layout.specs.Offsets.{queues_at, outputs_at, allowances_at, table_at, queue_row, output_row, allowance_row}
+use Rattle.bytes_layout.specs.Offsets.{queues_at, outputs_at, allowances_at, table_at, queue_row, output_row}
+use Rattle.bytes_layout.specs.Offsets.{allowance_row}
 use Rattle.bytes_layout.specs.Offsets.{entry_row, entries, places, passive_room, starts_width, pairs, pair_index}
 use Rattle.bytes_layout.specs.Offsets.{connections_at, starts_row, turns_at, turn_row}
 use Rattle.bytes_layout.specs.Codes.{phase_code, flag_code, choice_code, entry_code}
 use Rattle.bytes_layout.specs.Places.{packet_bytes, place_bytes}
-use Rattle.bytes_layout.specs.Encode.{queue_bytes, wire_bytes, output_bytes, allowance_bytes, entry_bytes, entry_of_number}
-use Rattle.bytes_layout.specs.Encode.{word_bytes, starts_of, starts_bytes, header, queue_part, output_part, allowance_part}
+use Rattle.bytes_layout.specs.Encode.{queue_bytes, wire_bytes, output_bytes, allowance_bytes, entry_bytes}
+use Rattle.bytes_layout.specs.Encode.{entry_of_number}
+use Rattle.bytes_layout.specs.Encode.{word_bytes, starts_of, starts_bytes, header, queue_part, output_part}
+use Rattle.bytes_layout.specs.Encode.{allowance_part}
 use Rattle.bytes_layout.specs.Encode.{table_part, connection_part, turn_bytes, turn_part, encode, length_queue}
 use Rattle.bytes_layout.specs.Encode.{length_wire, length_output, length_queues, length_outputs, length_allowances}
 use Rattle.bytes_layout.specs.Encode.{length_table, length_connections}
@@ -125,8 +129,10 @@ module _ (pl : Plan) (s : State) (rest : List ℕ) where
       let past : List ℕ =
       output_part pl s
       ++ (allowance_part pl s ++ (table_part pl s ++ (connection_part pl s ++ (turn_part pl s ++ rest)))) in
-      changes_store same_queue queue_same same_queue_lem (number pl) (queue_at pl) row m q v queue_width (queues pl) queues_at
-      (queue_bytes s) (queue_bytes t) bytes (encode pl t rest) was is (length_queue s) (at_number pl) (queue_at_lem pl q h)
+      changes_store same_queue queue_same same_queue_lem (number pl) (queue_at pl) row m q v queue_width (queues pl)
+      queues_at
+      (queue_bytes s) (queue_bytes t) bytes (encode pl t rest) was is (length_queue s) (at_number pl)
+      (queue_at_lem pl q h)
       (number_below pl q h)
       (changes_left queues_at (queue_part pl s) (queue_part pl t) past bytes (encode pl t rest)
       (from_queues (queue_part pl s ++ past) (queue_part pl t ++ past)))
@@ -239,7 +245,8 @@ module _ (pl : Plan) (s : State) (rest : List ℕ) where
         → sets (encode pl s rest) (output_row pl o) (wire_bytes w) ≡ encode pl (with_wire o w s) rest
     unfolding output_bytes
     put_wire w =
-        store_row (output_row pl o) (wire_bytes (s.links.wire o)) (wire_bytes w) bytes (encode pl (with_wire o w s) rest)
+        store_row (output_row pl o) (wire_bytes (s.links.wire o)) (wire_bytes w) bytes
+        (encode pl (with_wire o w s) rest)
         (length_wire w ∙ sym (length_wire (s.links.wire o)))
         (changes_left (output_row pl o) (wire_bytes (s.links.wire o)) (wire_bytes w)
         (choice_code (s.links.choice o) ∷ []) bytes (encode pl (with_wire o w s) rest)
@@ -298,7 +305,8 @@ module _ (pl : Plan) (s : State) (rest : List ℕ) where
       let past : List ℕ = connection_part pl s ++ (turn_part pl s ++ rest) in
       store_row (entry_row pl r o t) (entry_code old ∷ []) (entry_code x ∷ []) bytes (encode pl u rest) refl
       (changes_left (entry_row pl r o t) (entry_code old ∷ []) (entry_code x ∷ []) (0 ∷ []) bytes (encode pl u rest)
-      (subst (λ (y : Entry). RowChanges (entry_row pl r o t) (entry_bytes old) (entry_bytes y) bytes (encode pl u rest)) e
+      (subst (λ (y : Entry). RowChanges (entry_row pl r o t) (entry_bytes old) (entry_bytes y) bytes (encode pl u rest))
+      e
       (changes_row entry_width (entries pl) (table_at pl) (λ j. entry_bytes (entry_of_number s j))
       (λ j. entry_bytes (entry_of_number u j)) bytes (encode pl u rest) (λ j. refl) n (omega arith)
       (λ j k ne. ap entry_bytes
@@ -328,7 +336,8 @@ module _ (pl : Plan) (s : State) (rest : List ℕ) where
       let past : List ℕ = turn_part pl s ++ rest in
       store_row (starts_row pl a p) (starts_bytes s n) (word_bytes (starts_of u a p)) bytes (encode pl u rest) refl
       (subst (λ (y : List ℕ). RowChanges (starts_row pl a p) (starts_bytes s n) y bytes (encode pl u rest)) e
-      (changes_row starts_width (pairs pl) (connections_at pl) (starts_bytes s) (starts_bytes u) bytes (encode pl u rest)
+      (changes_row starts_width (pairs pl) (connections_at pl) (starts_bytes s) (starts_bytes u) bytes
+      (encode pl u rest)
       (λ j. refl) n (omega arith)
       (λ j k ne. ap (λ (f : ℕ → Bool). word_bytes (those slot_room f))
       (starts_away a p t x (j / passive_room) (j % passive_room)

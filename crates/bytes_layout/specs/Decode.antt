@@ -19,7 +19,8 @@ use Rattle.rules.specs.Valid.{Valid, Bounded}
 use Rattle.bytes_layout.specs.Named.{exists_test, test_exists, exists_test_lem, drives_test, test_drives, is_entry}
 use Rattle.bytes_layout.specs.Named.{test_entry, is_connection, test_connection}
 use Rattle.bytes_layout.specs.Offsets.{phase_byte, slot_byte, places, credit_byte, flag_byte, handled_byte, length_byte}
-use Rattle.bytes_layout.specs.Offsets.{first_place, wire_byte, wire_packet, choice_byte, queue_row, output_row, allowance_row}
+use Rattle.bytes_layout.specs.Offsets.{first_place, wire_byte, wire_packet, choice_byte, queue_row, output_row}
+use Rattle.bytes_layout.specs.Offsets.{allowance_row}
 use Rattle.bytes_layout.specs.Offsets.{entry_row, starts_row, turn_row}
 use Rattle.bytes_layout.specs.Codes.{phase_of, flag_of, choice_of, entry_from}
 use Rattle.bytes_layout.specs.Places.{packet_at, packets_at, packets_few}
@@ -128,5 +129,6 @@ unfolding decode
 decode_small pl b =
     record {
       few = λ q h.
-          rw (exists_test_lem pl q h) (packets_few places (length_at (queue_row pl q) b) (queue_row pl q + first_place) b);
+          rw (exists_test_lem pl q h) (packets_few places (length_at (queue_row pl q) b) (queue_row pl q + first_place)
+          b);
     }

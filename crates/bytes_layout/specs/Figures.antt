@@ -5,7 +5,8 @@ use Rattle.sets.specs.Sets.{has, those}
 use Rattle.fields.specs.Bits.{bit_at, field_of}
 use Rattle.plan.specs.Head.{capacity_at, head_of}
 use Rattle.plan.specs.Plan.{Plan, joint_in, plan_of}
-use Rattle.plan_queues.specs.Queue.{ahead, back, Queue, active_out, active_in, passive_in, passive_out, U, Q, F, K, number}
+use Rattle.plan_queues.specs.Queue.{ahead, back, Queue, active_out, active_in, passive_in, passive_out, U, Q, F, K}
+use Rattle.plan_queues.specs.Queue.{number}
 use Rattle.plan_queues.specs.Queue.{queues, queue_at}
 use Rattle.plan_queues.specs.Feeds.{Output, of_active, of_passive, of_side, to_unit, from_unit}
 use Rattle.rules.specs.Outputs.{output_at, output_number}
@@ -43,7 +44,8 @@ abbrev pub turns_of : List Output → List ℕ
 turns_of [] = []
 turns_of (o ∷ os) = turn_row wired_t o ∷ turns_of os
 
-pub t_interfaces : queues_of (active_out 0 ∷ passive_out 0 ∷ active_in 0 ∷ passive_in 0 ∷ []) ≡ 2 ∷ 41 ∷ 1172 ∷ 1211 ∷ []
+pub t_interfaces : queues_of (active_out 0 ∷ passive_out 0 ∷ active_in 0 ∷ passive_in 0 ∷ []) ≡ 2 ∷ 41 ∷ 1172 ∷ 1211 ∷
+    []
 unfolding wired_t queue_row number
 t_interfaces = refl
 
@@ -61,7 +63,8 @@ pub t_sides : queues_of (F ahead 0 0 ∷ F back 0 0 ∷ K 0 1 0 ∷ K 0 2 0 ∷ 
 unfolding wired_t queue_row number
 t_sides = refl
 
-pub t_outputs : outputs_of (of_active 0 ∷ of_passive 0 ∷ of_side 0 0 ∷ of_side 0 1 ∷ of_side 0 2 ∷ of_side 0 3 ∷ to_unit 0
+pub t_outputs : outputs_of (of_active 0 ∷ of_passive 0 ∷ of_side 0 0 ∷ of_side 0 1 ∷ of_side 0 2 ∷ of_side 0 3 ∷ to_unit
+    0
     ∷ from_unit 0 ∷ []) ≡ 1250 ∷ 1257 ∷ 1264 ∷ 1271 ∷ 1278 ∷ 1285 ∷ 1292 ∷ 1299 ∷ []
 unfolding wired_t queues output_row output_number
 t_outputs = refl
@@ -86,9 +89,9 @@ unfolding wired_t rows queues queue_at output_at start blank place_bytes queue_b
 start_t = encode wired_t (start wired_t) []
 
 unfoldable pub is_state_t : List ℕ → Bool
-unfolding wired_t rows front size queues queue_at number queue_row output_at output_number output_row allowance_row entry_row
-    starts_row turn_row start blank place_bytes packet_at packets_at four_at has those queue_bytes output_bytes encode decode
-    same_bytes canonical
+unfolding wired_t rows front size queues queue_at number queue_row output_at output_number output_row allowance_row
+    entry_row starts_row turn_row start blank place_bytes packet_at packets_at four_at has those queue_bytes
+    output_bytes encode decode same_bytes canonical
 is_state_t b = canonical wired_t b
 
 -- the offsets of the bytes that are not 0, from i on
@@ -126,7 +129,8 @@ unfolding start_t is_state_t
 t_short = refl
 
 -- a packet's byte past the length, the length 8, a flag 2, the table's second byte, an entry from S on
-pub t_others : (is_state_t (set start_t 8 1) ≡ false) × (is_state_t (set start_t 5 8) ≡ false) × (is_state_t (set start_t 3 2)
+pub t_others : (is_state_t (set start_t 8 1) ≡ false) × (is_state_t (set start_t 5 8) ≡ false) ×
+    (is_state_t (set start_t 3 2)
     ≡ false) × (is_state_t (set start_t 1308 1) ≡ false) × (is_state_t (set start_t 1311 1) ≡ false)
 unfolding start_t is_state_t
 t_others = (refl, refl, refl, refl, refl)

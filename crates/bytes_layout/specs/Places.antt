@@ -4,7 +4,8 @@ use Rattle.std.specs.Prelude.{◌≡◌, refl, List, [], ◌∷◌, ◌++◌, �
 use Rattle.std.proofs.Common.{ap₂, arith}
 use Rattle.packets.specs.declared.Packet.{Packet}
 use Rattle.bytes_layout.specs.Rows.{RowStands, stands_left, stands_right, stands_get}
-use Rattle.bytes_layout.specs.Offsets.{packet_kind, packet_active, packet_passive, packet_slot, packet_hub, packet_width}
+use Rattle.bytes_layout.specs.Offsets.{packet_kind, packet_active, packet_passive, packet_slot, packet_hub}
+use Rattle.bytes_layout.specs.Offsets.{packet_width}
 use Rattle.bytes_layout.specs.Codes.{kind_code, kind_of, kind_code_lem}
 
 -- kind, active, passive, slot, hub

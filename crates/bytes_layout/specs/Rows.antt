@@ -1,7 +1,9 @@
 -- Rows of bytes one behind the other, and a row that stands at an offset in a list of bytes: for every width, count
 -- and offset.
-use Rattle.std.specs.Prelude.{◌≡◌, refl, List, [], ◌++◌, ℕ, zero, suc, ◌+◌, ◌*◌, ◌-◌, ◌<◌, ◌≤◌, length, get_or, take, drop}
-use Rattle.std.proofs.Common.{sym, ap, ap₂, ◌∙◌, append_assoc, append-nil, add-zero, zero-add, mul-zero, mul-suc, arith, take-append-drop, length-append, get_or-append-add, take_at, drop_at}
+use Rattle.std.specs.Prelude.{◌≡◌, refl, List, [], ◌++◌, ℕ, zero, suc, ◌+◌, ◌*◌, ◌-◌, ◌<◌, ◌≤◌, length, get_or, take}
+use Rattle.std.specs.Prelude.{drop}
+use Rattle.std.proofs.Common.{sym, ap, ap₂, ◌∙◌, append_assoc, append-nil, add-zero, zero-add, mul-zero, mul-suc, arith}
+use Rattle.std.proofs.Common.{take-append-drop, length-append, get_or-append-add, take_at, drop_at}
 use Rattle.std.proofs.Math.ListN.{get_or-append}
 
 -- the n rows g i, g (i + 1), ..

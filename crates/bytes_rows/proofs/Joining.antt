@@ -18,7 +18,8 @@ module _ (b : List ℕ) (at k : ℕ) where
   unfolding push_at
   pushed x c e f = rw (f, e)
 
-  pub popped : (c d : List ℕ) → k ≡ length_at at b - 1 → c ≡ close_up (at + 4) k b → d ≡ sets c (at + 4 + 5 * k) no_packet
+  pub popped : (c d : List ℕ) → k ≡ length_at at b - 1 → c ≡ close_up (at + 4) k b → d ≡ sets c (at + 4 + 5 * k)
+      no_packet
       → set d (at + 3) (length_at at b - 1) ≡ pop_at at b
   unfolding pop_at
   popped c d e f g = rw (g, f, e)

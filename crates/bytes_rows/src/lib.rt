@@ -6,7 +6,8 @@ pub mod starts;
 
 ghost use Rattle.std.specs.Prelude.{◌≡◌, ◌+◌, ◌*◌, ◌<◌, ◌≤◌, length};
 ghost use Rattle.std.proofs.lemmas.List.Edits.{sets};
-ghost use Rattle.bytes_layout.specs.Codes.{phase_code, phase_of, kind_code, kind_of, flag_code, flag_of, entry_code, entry_from};
+ghost use Rattle.bytes_layout.specs.Codes.{phase_code, phase_of, kind_code, kind_of, flag_code, flag_of, entry_code};
+ghost use Rattle.bytes_layout.specs.Codes.{entry_from};
 ghost use Rattle.bytes_layout.specs.Places.{packet_bytes, no_packet, packet_at};
 ghost use Rattle.bytes_layout.specs.Encode.{wire_bytes};
 ghost use Rattle.bytes_layout.specs.Decode.{length_at, wire_at, entry_at};

@@ -23,7 +23,8 @@ use Rattle.rules.specs.Calls.{of_close, close, guards}
 use Rattle.bytes_layout.specs.Encode.{encode}
 use Rattle.bytes_layout.specs.Decode.{length_at, four_at}
 use Rattle.call_common.specs.Visits.{Walked, active_out_row, starts_byte}
-use Rattle.call_common.proofs.Rows.{active_out_row_lem, starts_byte_lem, active_there, passive_there, range_of, passive_few}
+use Rattle.call_common.proofs.Rows.{active_out_row_lem, starts_byte_lem, active_there, passive_there, range_of}
+use Rattle.call_common.proofs.Rows.{passive_few}
 use Rattle.call_common.proofs.Rows.{slot_few}
 use Rattle.call_common.proofs.Refuse.{Finds, passed, here, later, refuses, accepts}
 use Rattle.call_common.proofs.Tests.{queued, full_tells, room_tells, accepted_tells}

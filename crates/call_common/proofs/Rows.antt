@@ -10,8 +10,10 @@ use Rattle.plan.specs.Plan.{Plan, R, A, P, S}
 use Rattle.plan_queues.specs.Queue.{active_out, active_in, passive_in, passive_out, number}
 use Rattle.bytes_layout.specs.Offsets.{queue_row, allowance_row, entry_row, starts_row}
 use Rattle.bytes_layout.proofs.Readings.{length_bytes}
-use Rattle.bytes_steps.specs.Counts.{state_size, table_from, size_by, allowances_at_lem, table_at_lem, connections_at_lem}
-use Rattle.call_common.specs.Visits.{Ready, active_out_row, passive_out_row, active_in_row, passive_in_row, allowance_byte}
+use Rattle.bytes_steps.specs.Counts.{state_size, table_from, size_by, allowances_at_lem, table_at_lem}
+use Rattle.bytes_steps.specs.Counts.{connections_at_lem}
+use Rattle.call_common.specs.Visits.{Ready, active_out_row, passive_out_row, active_in_row, passive_in_row}
+use Rattle.call_common.specs.Visits.{allowance_byte}
 use Rattle.call_common.specs.Visits.{starts_byte}
 
 -- ---- rows by the head alone

@@ -48,7 +48,8 @@ module _ (pl : Plan) (range : InRange pl.head) (a p : ℕ) where
       where
         by : (served pl a p ≡ true) ⊎ (served pl a p ≡ false) → served pl a p ≡ false
         by (inl e) =
-            let w : get_or (get_or lengths a []) p 0 ≡ walk_size pl (passive p) (home pl (active a)) = rw e at walk_is in
+            let w : get_or (get_or lengths a []) p 0 ≡ walk_size pl (passive p) (home pl (active a)) = rw e at walk_is
+            in
             let l = size_some in
             absurd (omega arith)
         by (inr e) = e

@@ -5,7 +5,8 @@
 ghost use Rattle.std.specs.Prelude.{◌≡◌, ◌+◌, ◌≤◌, ◌<◌, [], get_or, length};
 ghost use Rattle.plan.specs.Head.{Counts};
 ghost use Rattle.bytes_layout.specs.Decode.{flag_at, length_at};
-ghost use Rattle.call_common.specs.Visits.{active_out_row, passive_out_row, active_in_row, passive_in_row, allowance_byte};
+ghost use Rattle.call_common.specs.Visits.{active_out_row, passive_out_row, active_in_row, passive_in_row};
+ghost use Rattle.call_common.specs.Visits.{allowance_byte};
 ghost use Rattle.call_common.specs.Visits.{starts_byte, taken_at};
 
 use plan::Head;

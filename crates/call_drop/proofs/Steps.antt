@@ -31,7 +31,8 @@ use Rattle.bytes_layout.proofs.Updates.{put_allowance}
 use Rattle.bytes_layout.proofs.Connections.{join_connection}
 use Rattle.bytes_steps.specs.Counts.{state_size}
 use Rattle.call_common.specs.Visits.{Ready, taken_at, active_in_row, allowance_byte, starts_byte}
-use Rattle.call_common.proofs.Rows.{active_there, active_in_inside, allowance_inside, active_in_row_lem, allowance_byte_lem}
+use Rattle.call_common.proofs.Rows.{active_there, active_in_inside, allowance_inside, active_in_row_lem}
+use Rattle.call_common.proofs.Rows.{allowance_byte_lem}
 use Rattle.call_common.proofs.Rows.{starts_byte_lem, few_counts}
 use Rattle.call_common.proofs.Tests.{Headed, has_head, head_is, allowed}
 use Rattle.call_common.proofs.Steps.{allowance_few, taken, in_range, in_few}

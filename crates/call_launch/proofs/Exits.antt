@@ -53,7 +53,8 @@ module _ (h : Head) (lengths : List (List ℕ)) (b : List ℕ) (a p t : ℕ) (ph
       record {
         acts = λ pl e w. refuses pl (launch a p t) b NoAllowance
             (λ s rest g k. opens pl e w s rest k
-            (here (none_tells pl s rest b k a (active_there pl e a active) byte (byted ∙ allowance_byte_lem pl e a) z)));
+            (here (none_tells pl s rest b k a (active_there pl e a active) byte (byted ∙ allowance_byte_lem pl e a)
+            z)));
       }
 
   module _ (left : get_or b byte 0 ≡ 0 → ⊥) (row : ℕ) (at : row ≡ active_out_row a) where
@@ -62,7 +63,8 @@ module _ (h : Head) (lengths : List (List ℕ)) (b : List ℕ) (a p t : ℕ) (ph
         record {
           acts = λ pl e w. refuses pl (launch a p t) b QueueFull
               (λ s rest g k. opens pl e w s rest k
-              (later (left_tells pl s rest b k a (active_there pl e a active) byte (byted ∙ allowance_byte_lem pl e a) left)
+              (later (left_tells pl s rest b k a (active_there pl e a active) byte (byted ∙ allowance_byte_lem pl e a)
+              left)
               (here (full_tells pl s rest b k (active_out a) (active_there pl e a active) row
               (at ∙ active_out_row_lem pl e a) (let m = ap (λ (x : Head). x.aout.0) e in omega arith)))));
         }
@@ -76,12 +78,14 @@ module _ (h : Head) (lengths : List (List ℕ)) (b : List ℕ) (a p t : ℕ) (ph
               let few = range.aout.1 in
               accepts pl (launch a p t) b
               (λ s rest g k. opens pl e w s rest k
-              (later (left_tells pl s rest b k a (active_there pl e a active) byte (byted ∙ allowance_byte_lem pl e a) left)
+              (later (left_tells pl s rest b k a (active_there pl e a active) byte (byted ∙ allowance_byte_lem pl e a)
+              left)
               (later (room_tells pl s rest b k (active_out a) (active_there pl e a active) row
               (at ∙ active_out_row_lem pl e a) (omega arith)) passed)))
               (λ s rest g k. refl)
               (λ s rest g k. made
-              ∙ launched_bytes pl s rest b k a (active_there pl e a active) byte (byted ∙ allowance_byte_lem pl e a) p t row
+              ∙ launched_bytes pl s rest b k a (active_there pl e a active) byte (byted ∙ allowance_byte_lem pl e a) p t
+              row
               (at ∙ active_out_row_lem pl e a)
               (let q = queued pl s rest b k (active_out a) (active_there pl e a active) row
               (at ∙ active_out_row_lem pl e a) in omega arith));

@@ -42,7 +42,8 @@ module _ (h : Head) (b : List ℕ) (a : ℕ) where
               (at ∙ active_in_row_lem pl e a) z)));
         }
 
-    pub looked : (length_at row b ≡ 0 → ⊥) → (x : Packet) → x ≡ packet_at (row + 4) b → Visits h (of_look a) b (Shows x) b
+    pub looked : (length_at row b ≡ 0 → ⊥) → (x : Packet) → x ≡ packet_at (row + 4) b → Visits h (of_look a) b (Shows x)
+        b
     looked filled x read =
         record {
           acts = λ pl e.

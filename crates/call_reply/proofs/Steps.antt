@@ -20,7 +20,8 @@ use Rattle.bytes_layout.specs.Updates.{push_at}
 use Rattle.bytes_layout.proofs.Readings.{length_at_lem}
 use Rattle.bytes_layout.proofs.Updates.{push_queue}
 use Rattle.call_common.specs.Visits.{Ready, taken_at, passive_out_row, passive_in_row}
-use Rattle.call_common.proofs.Rows.{passive_there, passive_out_inside, passive_in_inside, passive_out_row_lem, passive_in_row_lem}
+use Rattle.call_common.proofs.Rows.{passive_there, passive_out_inside, passive_in_inside, passive_out_row_lem}
+use Rattle.call_common.proofs.Rows.{passive_in_row_lem}
 use Rattle.call_common.proofs.Tests.{Headed, queued, has_head, head_is}
 use Rattle.call_common.proofs.Steps.{few, taken, in_range, in_few}
 use Rattle.call_reply.specs.Replying.{replied_at}
@@ -52,7 +53,8 @@ module _ (pl : Plan) (s : State) (rest b : List ℕ) (same : b ≡ encode pl s r
 
 -- ---- what the step asks
 module _ {h : Head} {b : List ℕ} (range : InRange h) (ready : Ready h b) where
-  pub reply_ready : (p from to : ℕ) → p < h.passives → from < 20000 → from ≡ passive_in_row h p → to ≡ passive_out_row h p
+  pub reply_ready : (p from to : ℕ) → p < h.passives → from < 20000 → from ≡ passive_in_row h p → to ≡ passive_out_row h
+      p
       → (length_at from b ≡ 0 → ⊥) → length_at to b < h.pout.0
       → (from < 20000) × (from + 39 ≤ length b) × (1 ≤ length_at from b) × (length_at from b ≤ 7) × (to + 39 ≤ length b)
       × (length_at to (taken_at from b) < 7)

@@ -12,7 +12,8 @@ use Rattle.basis.specs.Fold.{up_to, up_same, fill, fill_at, length_fill}
 use Rattle.plan.specs.declared.Head.{Head}
 use Rattle.plan.specs.Head.{destinations}
 use Rattle.plan.specs.Plan.{Plan, A}
-use Rattle.plan_queues.specs.Queue.{Queue, active_out, active_in, passive_in, passive_out, U, Q, outs, in_base, sender_at}
+use Rattle.plan_queues.specs.Queue.{Queue, active_out, active_in, passive_in, passive_out, U, Q, outs, in_base}
+use Rattle.plan_queues.specs.Queue.{sender_at}
 use Rattle.plan_queues.specs.Queue.{in_router, queue_at}
 use Rattle.rules.specs.Capacity.{capacity}
 use Rattle.bytes_layout.specs.Rows.{rows, RowStands, stands_row, stands_get}
@@ -40,7 +41,8 @@ pub credit_of_lem : (pl : Plan) (n : ℕ) → credit_of pl.head n ≡ capacity p
 unfolding credit_of queue_at
 credit_of_lem pl n =
     let h : Head = pl.head in
-    let last : Queue = pick (ltb n (in_base pl + A pl)) (active_in (n - in_base pl)) (passive_in (n - in_base pl - A pl)) in
+    let last : Queue = pick (ltb n (in_base pl + A pl)) (active_in (n - in_base pl))
+    (passive_in (n - in_base pl - A pl)) in
     let inner : Queue = in_router ((n - outs pl) / 28) ((n - outs pl) % 28) in
     let third : Queue = pick (ltb n (in_base pl)) inner last in
     let second : Queue = pick (ltb n (outs pl)) (passive_out (n - A pl)) third in
@@ -49,7 +51,8 @@ credit_of_lem pl n =
     ap (λ (x : ℕ). a (b (pick (ltb n (in_base pl)) x (pick (ltb n (in_base pl + A pl)) h.ain.0 h.pin.0))))
     (router_credit_lem h ((n - outs pl) / 28) ((n - outs pl) % 28))
     ∙ ap (λ (x : ℕ). a (b (pick (ltb n (in_base pl)) (capacity h inner) x)))
-    (pick_out (capacity h) (ltb n (in_base pl + A pl)) (active_in (n - in_base pl)) (passive_in (n - in_base pl - A pl)))
+    (pick_out (capacity h) (ltb n (in_base pl + A pl)) (active_in (n - in_base pl))
+    (passive_in (n - in_base pl - A pl)))
     ∙ ap (λ (x : ℕ). a (b x)) (pick_out (capacity h) (ltb n (in_base pl)) inner last)
     ∙ ap a (pick_out (capacity h) (ltb n (outs pl)) (passive_out (n - A pl)) third)
     ∙ pick_out (capacity h) (ltb n (A pl)) (active_out n) second

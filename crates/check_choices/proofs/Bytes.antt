@@ -73,7 +73,8 @@ module _ (pl : Plan) (h : Head) (eh : pl.head ≡ h) where
   pub outputs_are : outputs pl ≡ output_count h
   outputs_are = outputs_by pl ∙ ap output_count eh
 
-  pub output_row_lem : (m : ℕ) → m < outputs pl → (i : ℕ) → i ≡ outputs_from h + 7 * m → output_row pl (output_at pl m) ≡ i
+  pub output_row_lem : (m : ℕ) → m < outputs pl → (i : ℕ) → i ≡ outputs_from h + 7 * m → output_row pl (output_at pl m)
+      ≡ i
   unfolding output_row
   output_row_lem m l i ei =
       rw (at_output pl m l) (ap (λ (k : ℕ). k + 7 * m) (outputs_at_lem pl ∙ ap outputs_from eh) ∙ sym ei)

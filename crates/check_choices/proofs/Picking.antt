@@ -34,7 +34,8 @@ use Rattle.theory.proofs.Places.Lines.{head_leaves, belongs_exists}
 use Rattle.theory.proofs.Places.Makes.{next_belongs}
 use Rattle.valid.specs.Test.{lined_test, wire_test, may_test, down_test}
 use Rattle.valid.proofs.Packets.{lined_decides}
-use Rattle.bytes_layout.specs.Offsets.{phase_byte, places, credit_byte, flag_byte, handled_byte, length_byte, first_place}
+use Rattle.bytes_layout.specs.Offsets.{phase_byte, places, credit_byte, flag_byte, handled_byte, length_byte}
+use Rattle.bytes_layout.specs.Offsets.{first_place}
 use Rattle.bytes_layout.specs.Offsets.{packet_width, queue_row, output_row, choice_byte}
 use Rattle.bytes_layout.specs.Codes.{flag_of, choice_of}
 use Rattle.bytes_layout.specs.Places.{packet_at, packets_at}
@@ -298,7 +299,8 @@ nobody_passes pl b o p e =
     by nobody t = refl
     by (sender k) t = absurd (false≢true t)
 
-pub picks_none : (pl : Plan) (b : List ℕ) → get_or b phase_byte 0 < 2 → outputs_part pl b ≡ true → picks_part pl b ≡ true
+pub picks_none : (pl : Plan) (b : List ℕ) → get_or b phase_byte 0 < 2 → outputs_part pl b ≡ true → picks_part pl b ≡
+    true
 unfolding outputs_part picks_part
 picks_none pl b l e =
     all_of (outputs pl) (λ n. pick_test pl (decode pl b) (output_at pl n))

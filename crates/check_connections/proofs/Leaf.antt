@@ -28,5 +28,6 @@ module _ (b : List ℕ) (i side k t : ℕ) (c : List ℕ) {v : ℕ} (e : v ≡ g
     pub claim_shared : r ≡ true → {d : List ℕ} → Claimed b i side k t false c d
     claim_shared h = record { test = rw (← e, eq-eqb v (side + 1) f, ← g, h); grown = λ q. absurd (false≢true q) }
 
-    pub claim_made : r ≡ false → {w : ℕ} → w ≡ either (get_or c k 0) (single t) → Claimed b i side k t true c (set c k w)
+    pub claim_made : r ≡ false → {w : ℕ} → w ≡ either (get_or c k 0) (single t) → Claimed b i side k t true c
+        (set c k w)
     claim_made h m = record { test = rw (← e, eq-eqb v (side + 1) f, ← g, h); grown = λ q. ap (set c k) m }

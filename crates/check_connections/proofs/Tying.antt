@@ -17,7 +17,8 @@ use Rattle.plan.specs.Plan.{Plan, Port, Interface, R, S, route_to}
 use Rattle.plan.specs.Rules.{port_of}
 use Rattle.plan.specs.Tables.{table_plan, interface_at}
 use Rattle.rules.specs.State.{State}
-use Rattle.valid.specs.Ties.{numbered, standing, side_of, slot_of, length_of, makes_at, claimed_before, booked_by, entry_tie}
+use Rattle.valid.specs.Ties.{numbered, standing, side_of, slot_of, length_of, makes_at, claimed_before, booked_by}
+use Rattle.valid.specs.Ties.{entry_tie}
 use Rattle.valid.specs.Ties.{tie_test}
 use Rattle.bytes_layout.specs.Named.{entry_test_lem}
 use Rattle.bytes_layout.specs.Offsets.{entry_row}

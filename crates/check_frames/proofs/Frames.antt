@@ -24,7 +24,8 @@ use Rattle.rules.specs.Valid.{fed, is_joined}
 use Rattle.bytes_layout.specs.Codes.{flag_of}
 use Rattle.check_rule.specs.Parts.{frame_test}
 use Rattle.check_frames.specs.Frame.{of_head}
-use Rattle.check_frames.specs.Frame.{flag_fits, mark_fits, flags_of, frame_of, joined_by, cross_side, fed_in_router, fed_of}
+use Rattle.check_frames.specs.Frame.{flag_fits, mark_fits, flags_of, frame_of, joined_by, cross_side, fed_in_router}
+use Rattle.check_frames.specs.Frame.{fed_of}
 use Rattle.check_frames.specs.Frame.{unit_of, place_in, router_in}
 
 also_assoc : (a b c : Bool) → also (also a b) c ≡ also a (also b c)

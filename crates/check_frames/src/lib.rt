@@ -5,7 +5,8 @@ ghost use Rattle.std.specs.Prelude.{◌≡◌, Bool, ℕ, ◌+◌, ◌*◌, ◌�
 ghost use Rattle.plan.specs.Head.{Counts, destinations};
 ghost use Rattle.rules.specs.Valid.{spends_kind};
 ghost use Rattle.check_frames.specs.Tally.{counted};
-ghost use Rattle.check_frames.specs.Frame.{flag_fits, mark_fits, flags_of, frame_of, joined_at, cross_side, fed_in_router};
+ghost use Rattle.check_frames.specs.Frame.{flag_fits, mark_fits, flags_of, frame_of, joined_at, cross_side};
+ghost use Rattle.check_frames.specs.Frame.{fed_in_router};
 ghost use Rattle.check_frames.specs.Frame.{fed_of, unit_of, of_head};
 
 use packets::Kind;

@@ -14,7 +14,8 @@ use Rattle.basis.specs.Bounded.{all_below, any_below, Found, all_at, all_of, all
 use Rattle.basis.specs.Bounded.{or_right}
 use Rattle.packets.specs.declared.Packet.{Packet}
 use Rattle.plan.specs.Plan.{Plan, R, A, S}
-use Rattle.plan_queues.specs.Queue.{ahead, back, Queue, active_out, active_in, passive_in, passive_out, U, Q, F, K, Exists}
+use Rattle.plan_queues.specs.Queue.{ahead, back, Queue, active_out, active_in, passive_in, passive_out, U, Q, F, K}
+use Rattle.plan_queues.specs.Queue.{Exists}
 use Rattle.plan_queues.specs.Queue.{number, queue_at}
 use Rattle.plan_queues.specs.Queue.{queues}
 use Rattle.plan_queues.specs.Feeds.{Output}
@@ -27,7 +28,8 @@ use Rattle.rules.proofs.OutNumbers.{drives_at, output_below}
 use Rattle.valid.specs.Test.{entry_test, allowances_test}
 use Rattle.bytes_layout.specs.Named.{entry_test_lem}
 use Rattle.bytes_layout.specs.Codes.{entry_from}
-use Rattle.bytes_layout.specs.Offsets.{queue_row, output_row, allowance_row, entry_row, outputs_at, allowances_at, table_at}
+use Rattle.bytes_layout.specs.Offsets.{queue_row, output_row, allowance_row, entry_row, outputs_at, allowances_at}
+use Rattle.bytes_layout.specs.Offsets.{table_at}
 use Rattle.bytes_layout.specs.Decode.{decode}
 use Rattle.bytes_steps.specs.Counts.{outputs_from, output_count, outputs_at_lem, outputs_by}
 use Rattle.check_rule.specs.Forms.{zeros, side_form}
@@ -72,11 +74,13 @@ module _ (pl : Plan) (b : List ℕ) (quiet : QuietBytes pl.head b) where
   pub quiet_parts : (outputs_part pl b ≡ true) × (queues_part pl b ≡ true) × (picks_part pl b ≡ true)
   unfolding outputs_part queues_part picks_part
   quiet_parts = (
-    all_of (outputs pl) _ (λ n l. (zeros_output pl b (output_at pl n) (quiet_outputs (output_at pl n) (drives_at pl n l))
+    all_of (outputs pl) _ (λ n l. (zeros_output pl b (output_at pl n)
+        (quiet_outputs (output_at pl n) (drives_at pl n l))
         (drives_at pl n l)).0),
     all_of (queues pl) _ (λ n l. let h = exists_at pl n l in let i = quiet_row (queue_at pl n) h in
         (zeros_row pl b (queue_at pl n) i.credit i.rest (quiet_wires pl b quiet_outputs (queue_at pl n)) h).0),
-    all_of (outputs pl) _ (λ n l. (zeros_output pl b (output_at pl n) (quiet_outputs (output_at pl n) (drives_at pl n l))
+    all_of (outputs pl) _ (λ n l. (zeros_output pl b (output_at pl n)
+        (quiet_outputs (output_at pl n) (drives_at pl n l))
         (drives_at pl n l)).1),
   )
 

@@ -46,7 +46,8 @@ rank_between false x =
     (λ e. let q = eqb-true x 4 e in also_of (le-leb x 4 (omega arith)) (le-leb 4 x (omega arith)))
 
 -- a side's rank, as the code joins its two tests
-pub side_rank_lem : (j x : ℕ) {l : ℕ} {a b t : Bool} → l ≡ pick (is_joined (joint_of_byte j)) 0 4 → a ≡ leb x 4 → b ≡ leb l x
+pub side_rank_lem : (j x : ℕ) {l : ℕ} {a b t : Bool} → l ≡ pick (is_joined (joint_of_byte j)) 0 4 → a ≡ leb x 4 → b ≡
+    leb l x
     → t ≡ also a b → t ≡ side_rank j x
 unfolding side_rank
 side_rank_lem j x e p q r =
@@ -65,7 +66,8 @@ module _ (i k : ℕ) (joints b : List ℕ) where
   sides_first = sym (all_none _)
 
   pub sides_joined : (o : ℕ) {x y z : Bool} → x ≡ side_ranks i k o joints b
-      → z ≡ side_rank (get_or joints (k + o) 0) (get_or b (i + o) 0) → y ≡ also x z → y ≡ side_ranks i k (o + 1) joints b
+      → z ≡ side_rank (get_or joints (k + o) 0) (get_or b (i + o) 0) → y ≡ also x z → y ≡ side_ranks i k (o + 1) joints
+      b
   unfolding side_ranks all_below
   sides_joined o {x} {y} {z} e g h = rw (add-one, ← e, ← g) (h ∙ same_pick x z)
     where

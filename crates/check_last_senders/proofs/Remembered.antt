@@ -102,7 +102,8 @@ module _ (h : Head) (routes : List (List ℕ)) (joints b : List ℕ) where
       at_passive p l ∙ eq-eqb _ 0 (zeros_get (turns_from h) (destinations h) b z (h.actives + p) (omega arith))
   fits_pass z e (of_side r o) (l, k) =
       at_side r l o k
-      ∙ all_at 4 (λ j. side_rank (get_or joints (4 * r + j) 0) (get_or b (from + 6 * r + j) 0)) (router_parts e r l).0 o k
+      ∙ all_at 4 (λ j. side_rank (get_or joints (4 * r + j) 0) (get_or b (from + 6 * r + j) 0)) (router_parts e r l).0 o
+      k
   fits_pass z e (to_unit r) l = at_unit r l ∙ (router_parts e r l).1
   fits_pass z e (from_unit r) l = at_back r l ∙ (router_parts e r l).2
 

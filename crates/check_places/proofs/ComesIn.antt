@@ -138,7 +138,8 @@ module _ {pl : Plan} {by : List (List ℕ)} {joints homes : List ℕ} (chart : C
       leads_later later_leads
 
   -- the walk comes in by y, at its start or later
-  pub comes_decides : (from : ℕ) → port_of from ≡ x → Decides (comes_by joints by up from d (port_number y)) (Meets pl e x
+  pub comes_decides : (from : ℕ) → port_of from ≡ x → Decides (comes_by joints by up from d (port_number y))
+      (Meets pl e x
       y)
   unfolding comes_by
   comes_decides from start =

@@ -29,7 +29,8 @@ use Rattle.theory.proofs.Places.Closure.{stands_below, span_is}
 use Rattle.theory.proofs.Places.CameIn.{stands_inside, stands_exit}
 use Rattle.valid.proofs.Decides.{Decides, like, never, less, same, both}
 use Rattle.check_places.specs.declared.Trip.{Trip}
-use Rattle.check_places.specs.Look.{track_at, onward_of, nth_of, next_by, comes_by, nack_by, answer_as, answer_by, cross_by}
+use Rattle.check_places.specs.Look.{track_at, onward_of, nth_of, next_by, comes_by, nack_by, answer_as, answer_by}
+use Rattle.check_places.specs.Look.{cross_by}
 use Rattle.check_places.proofs.OnTrack.{active_at, passive_at, told, Trips}
 use Rattle.check_places.proofs.ComesIn.{byte_router, later_front, front_later, next_decides, comes_decides}
 

@@ -15,9 +15,12 @@ use Rattle.packets.specs.declared.Kind.TheVariants.{Setup, Tdown, Ack, Nack}
 use Rattle.packets.specs.declared.Packet.{Packet}
 use Rattle.check_places.specs.declared.Trip.{Trip}
 use Rattle.check_places.specs.declared.Standing.{Standing}
-use Rattle.check_places.specs.Look.{track_at, track_of, trip_of, standing_of, frees_up_to, coming, leaving, unit_by, next_by}
-use Rattle.check_places.specs.Look.{comes_by, side_by, column_of, out_by, onward_of, nth_of, nack_by, answer_by, cross_by}
-use Rattle.check_places.specs.Look.{active_out_as, passive_out_as, active_in_as, passive_in_as, sent_by, received_by, sender_by}
+use Rattle.check_places.specs.Look.{track_at, track_of, trip_of, standing_of, frees_up_to, coming, leaving, unit_by}
+use Rattle.check_places.specs.Look.{next_by}
+use Rattle.check_places.specs.Look.{comes_by, side_by, column_of, out_by, onward_of, nth_of, nack_by, answer_by}
+use Rattle.check_places.specs.Look.{cross_by}
+use Rattle.check_places.specs.Look.{active_out_as, passive_out_as, active_in_as, passive_in_as, sent_by, received_by}
+use Rattle.check_places.specs.Look.{sender_by}
 use Rattle.check_places.specs.Look.{router_by, fits_by, Marked, Led, answers}
 
 -- ---- a pair's walk

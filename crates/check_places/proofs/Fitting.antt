@@ -14,7 +14,8 @@ use Rattle.plan.specs.Plan.{Plan, active, passive, A, P, route_to}
 use Rattle.plan.specs.Rules.{home}
 use Rattle.plan_walks.specs.Served.{Served}
 use Rattle.plan_queues.specs.Queue.{Heading, ahead, back, active_out, active_in, passive_in, passive_out, U, Q, F}
-use Rattle.plan_queues.specs.Feeds.{heading_of, destination, in_queue, handled_at, Meets, Stands, span, Ahead, Back, Fits}
+use Rattle.plan_queues.specs.Feeds.{heading_of, destination, in_queue, handled_at, Meets, Stands, span, Ahead, Back}
+use Rattle.plan_queues.specs.Feeds.{Fits}
 use Rattle.plan_queues.specs.Feeds.{head_place}
 use Rattle.plan_facts.specs.Wired.{Wired}
 use Rattle.plan_facts.proofs.Wires.{home_inside}
@@ -96,7 +97,8 @@ module _ {pl : Plan} (wired : Wired pl) (a p : ℕ) (ha : a < A pl) (hp : p < P 
 
   -- ---- interfaces' queues; n is the walk's length
   module _ (n : ℕ) (long : n ≡ span pl a p) (x hub : ℕ) where
-    pub active_out_lem : (k : Kind) → Decides (also (eqb x a) (active_out_as n hub k)) (Fits pl k a p hub (in_queue (active_out
+    pub active_out_lem : (k : Kind) → Decides (also (eqb x a) (active_out_as n hub k))
+        (Fits pl k a p hub (in_queue (active_out
         x)))
     unfolding active_out_as Ahead Back
     active_out_lem Setup = both (same x a) (λ e. same hub 0)
@@ -119,7 +121,8 @@ module _ {pl : Plan} (wired : Wired pl) (a p : ℕ) (ha : a < A pl) (hp : p < P 
           long,
     ))
 
-    pub active_in_lem : (k : Kind) → Decides (also (eqb x a) (active_in_as n hub k)) (Fits pl k a p hub (in_queue (active_in
+    pub active_in_lem : (k : Kind) → Decides (also (eqb x a) (active_in_as n hub k))
+        (Fits pl k a p hub (in_queue (active_in
         x)))
     unfolding active_in_as Ahead Back
     active_in_lem Setup = like (both (same x a) (λ e. never (λ (f : ⊥). f))) (λ f. absurd f.1) (λ f. absurd f)
@@ -252,7 +255,8 @@ module _ {pl : Plan} {by : List (List ℕ)} {joints homes : List ℕ} (chart : C
       few : A pl + P pl ≤ 32
       few = chart.few
 
-      given : (k : Kind) → get_or (get_or routes r []) (column_of t a k) 0 ≡ route_to pl (destination (heading_of k) a p) r
+      given : (k : Kind) → get_or (get_or routes r []) (column_of t a k) 0 ≡ route_to pl
+          (destination (heading_of k) a p) r
       given Setup = rw trip.column (sym (routed (A pl + p) (omega arith)))
       given Tdown = rw trip.column (sym (routed (A pl + p) (omega arith)))
       given Ack = sym (routed a (omega arith))

@@ -19,7 +19,8 @@ use Rattle.plan.specs.Plan.{active, R, A, P}
 use Rattle.plan.specs.Tables.{table_plan}
 use Rattle.plan_walks.specs.Served.{Served}
 use Rattle.plan_walks.proofs.Through.{same_default}
-use Rattle.plan_queues.specs.Queue.{Heading, ahead, back, Queue, active_out, active_in, passive_in, passive_out, U, Q, F, K}
+use Rattle.plan_queues.specs.Queue.{Heading, ahead, back, Queue, active_out, active_in, passive_in, passive_out, U, Q}
+use Rattle.plan_queues.specs.Queue.{F, K}
 use Rattle.plan_queues.specs.Queue.{sender_at, in_router, queue_at}
 use Rattle.plan_queues.specs.Feeds.{heading_of, Place, in_queue, Fits, head_place}
 use Rattle.plan_journeys.proofs.Walks.{served_of}
@@ -36,7 +37,8 @@ use Rattle.check_places.specs.Look.{track_at, track_of, trip_of, out_by, cross_b
 use Rattle.check_places.specs.Look.{sent_by, received_by, sender_by}
 use Rattle.check_places.specs.Look.{router_by, fits_by, answers}
 use Rattle.check_places.proofs.OnTrack.{active_at, Trips, on_track, rest_is}
-use Rattle.check_places.proofs.Fitting.{active_out_lem, passive_out_lem, active_in_lem, passive_in_lem, unit_decides, side_decides}
+use Rattle.check_places.proofs.Fitting.{active_out_lem, passive_out_lem, active_in_lem, passive_in_lem, unit_decides}
+use Rattle.check_places.proofs.Fitting.{side_decides}
 use Rattle.check_places.proofs.Fitting.{out_decides, other_decides}
 use Rattle.check_places.proofs.Crossing.{home_at, nth_inside, cross_decides}
 

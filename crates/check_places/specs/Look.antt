@@ -1,5 +1,6 @@
 -- May a packet stand in a queue? As the code looks it up: for each kind of place a test over the tables.
-use Rattle.std.specs.Prelude.{◌≡◌, ◌⊎◌, Bool, true, false, ◌||◌, List, [], ℕ, ◌+◌, ◌*◌, ◌-◌, ◌/◌, ◌%◌, ◌≤◌, ◌<◌, eqb, ltb, leb, get_or}
+use Rattle.std.specs.Prelude.{◌≡◌, ◌⊎◌, Bool, true, false, ◌||◌, List, [], ℕ, ◌+◌, ◌*◌, ◌-◌, ◌/◌, ◌%◌, ◌≤◌, ◌<◌, eqb}
+use Rattle.std.specs.Prelude.{ltb, leb, get_or}
 use Rattle.basis.specs.Choice.{pick, also}
 use Rattle.basis.specs.Fold.{up_to}
 use Rattle.sets.specs.Sets.{has}

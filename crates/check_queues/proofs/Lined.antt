@@ -46,7 +46,8 @@ module _ (b : List ℕ) where
       let f : i + packet_width * 0 + packet_kind ≡ i + packet_kind = omega arith in
       rw f (left_true (kind_test i) (places_form c n (i + packet_width) b) e)
   form_kinds (suc c) (suc n) i l e (suc k) h =
-      let f : i + packet_width * suc k + packet_kind ≡ i + packet_width + packet_width * k + packet_kind = omega arith in
+      let f : i + packet_width * suc k + packet_kind ≡ i + packet_width + packet_width * k + packet_kind = omega arith
+      in
       rw f (form_kinds c n (i + packet_width) (omega arith)
       (right_true (kind_test i) (places_form c n (i + packet_width) b) e) k (omega arith))
 
@@ -83,10 +84,12 @@ module _ (b : List ℕ) where
       (all_of packet_width (λ j. eqb (get_or b (i + j) 0) 0)
       (λ k h. let f : i + packet_width * 0 + k ≡ i + k = omega arith in rw f at (y k (omega arith))))
       (form_of c zero (i + packet_width) (omega arith) (λ k h. absurd (omega arith))
-      (λ k h. let f : i + packet_width * 0 + (packet_width + k) ≡ i + packet_width + packet_width * 0 + k = omega arith in
+      (λ k h. let f : i + packet_width * 0 + (packet_width + k) ≡ i + packet_width + packet_width * 0 + k = omega arith
+      in
       rw f at (y (packet_width + k) (omega arith))))
   form_of (suc c) (suc n) i l x y =
-      also_of (let f : i + packet_width * 0 + packet_kind ≡ i + packet_kind = omega arith in rw f at (x 0 (omega arith)))
+      also_of (let f : i + packet_width * 0 + packet_kind ≡ i + packet_kind = omega arith in rw f
+      at (x 0 (omega arith)))
       (form_of c n (i + packet_width) (omega arith)
       (λ k h. let f : i + packet_width * suc k + packet_kind
       ≡ i + packet_width + packet_width * k + packet_kind = omega arith in
@@ -167,7 +170,8 @@ module _ (pl : Plan) (q : Queue) (done : Bool) (b : List ℕ) where
   places_law c n i l = same_test _ _ to from
     where
       to : also (places_form c n i b) (lined_test pl q done (packets_at c n i b)) ≡ true
-          → also (zeros (i + packet_width * n) (packet_width * c - packet_width * n) b) (places_test pl q done n i b) ≡ true
+          → also (zeros (i + packet_width * n) (packet_width * c - packet_width * n) b) (places_test pl q done n i b) ≡
+          true
       to e =
           let f = left_true (places_form c n i b) (lined_test pl q done (packets_at c n i b)) e in
           let g = right_true (places_form c n i b) (lined_test pl q done (packets_at c n i b)) e in

@@ -18,7 +18,8 @@ use Rattle.rules.specs.Capacity.{capacity}
 use Rattle.rules.specs.Calls.{is_phase}
 use Rattle.rules.specs.Valid.{fed, on_wires, in_all, spends, sum}
 use Rattle.valid.specs.Test.{lined_test}
-use Rattle.bytes_layout.specs.Offsets.{phase_byte, places, credit_byte, flag_byte, handled_byte, length_byte, first_place}
+use Rattle.bytes_layout.specs.Offsets.{phase_byte, places, credit_byte, flag_byte, handled_byte, length_byte}
+use Rattle.bytes_layout.specs.Offsets.{first_place}
 use Rattle.bytes_layout.specs.Offsets.{packet_width, queue_row}
 use Rattle.bytes_layout.specs.Codes.{phase_of, flag_of}
 use Rattle.bytes_layout.specs.Places.{packet_at, packets_at}
@@ -87,7 +88,8 @@ module _ (pl : Plan) (b : List ℕ) (q : Queue) (h : Exists pl q) where
 
   abbrev frame : Bool
   frame =
-      frame_of (capacity pl.head q) (fed pl q) (is_unit q) (eqb (get_or b phase_byte 0) 1) (get_or b (i + credit_byte) 0)
+      frame_of (capacity pl.head q) (fed pl q) (is_unit q) (eqb (get_or b phase_byte 0) 1)
+      (get_or b (i + credit_byte) 0)
       (get_or b (i + flag_byte) 0) m n (on_wires pl q (decode pl b))
 
   abbrev rest : Bool
@@ -113,12 +115,15 @@ module _ (pl : Plan) (b : List ℕ) (q : Queue) (h : Exists pl q) where
   few l =
       rw (packets_length places n (i + first_place) b l, le-leb n places l)
       (shuffled (leb (get_or b (i + flag_byte) 0) 1) (leb m 1) (places_form places n (i + first_place) b)
-      (frame_test pl (phase_of (get_or b phase_byte 0)) q (get_or b (i + credit_byte) 0) (flag_of (get_or b (i + flag_byte) 0))
-      (flag_of m) n (on_wires pl q (decode pl b))) (lined_test pl q (flag_of m) (packets_at places n (i + first_place) b))
+      (frame_test pl (phase_of (get_or b phase_byte 0)) q (get_or b (i + credit_byte) 0)
+      (flag_of (get_or b (i + flag_byte) 0))
+      (flag_of m) n (on_wires pl q (decode pl b))) (lined_test pl q (flag_of m)
+      (packets_at places n (i + first_place) b))
       (zeros (i + first_place + packet_width * n) (packet_width * places - packet_width * n) b)
       (places_test pl q (flag_of m) n (i + first_place) b) (places_law pl q (flag_of m) b places n (i + first_place) l)
       ∙ ap (λ (t : Bool). also t rest)
-      (sym (frame_law pl (phase_of (get_or b phase_byte 0)) q (get_or b (i + credit_byte) 0) n (on_wires pl q (decode pl b))
+      (sym (frame_law pl (phase_of (get_or b phase_byte 0)) q (get_or b (i + credit_byte) 0) n
+      (on_wires pl q (decode pl b))
       (get_or b (i + flag_byte) 0) m)
       ∙ ap (λ (x : Bool). frame_of (capacity pl.head q) (fed pl q) (is_unit q) x (get_or b (i + credit_byte) 0)
       (get_or b (i + flag_byte) 0) m n (on_wires pl q (decode pl b))) (executes (get_or b phase_byte 0))))

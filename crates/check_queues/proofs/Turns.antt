@@ -348,7 +348,8 @@ module _ (pl : Plan) (range : InRange pl.head) (b : List ℕ) (n : ℕ) (l : n <
       record {
         test = c.test ∙ sym (row_is ∙ rw (← e, f, ← g, h));
         count = λ x. tallied_like
-            (λ a k. ap (λ (j : ℕ). sum (get_or b (j + 3) 0) (λ d. spends a (packet_at (j + 4 + 5 * d) b))) (sym row_at_lem)
+            (λ a k. ap (λ (j : ℕ). sum (get_or b (j + 3) 0) (λ d. spends a (packet_at (j + 4 + 5 * d) b)))
+            (sym row_at_lem)
             ∙ row_spent pl b q exists a (rw row_at_lem (few e f)))
             (c.count x);
       }
@@ -417,7 +418,8 @@ module _ (h : Head) (routes : List (List ℕ)) (joints : List ℕ) where
       (f : room ≡ capacity h (queue_at (table_plan h routes joints) n))
       (g : w ≡ on_wires (table_plan h routes joints) (queue_at (table_plan h routes joints) n)
       (decode (table_plan h routes joints) b)) {x : Bool}
-      (known : x ≡ frame_of room (fed_of h joints n) (unit_of h n) (eqb (get_or b 0 0) 1) (get_or b j 0) (get_or b (j + 1) 0)
+      (known : x ≡ frame_of room (fed_of h joints n) (unit_of h n) (eqb (get_or b 0 0) 1) (get_or b j 0)
+      (get_or b (j + 1) 0)
       (get_or b (j + 2) 0) (get_or b (j + 3) 0) w) where
     pub code_frame : (t u : List ℕ) → x ≡ false → RowChecked (table_plan h routes joints) b n false t u
     code_frame t u v =

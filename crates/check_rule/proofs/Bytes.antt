@@ -7,7 +7,8 @@ use native.Mathlib.Omega.{arith}
 use lib.ListN.{get_or}
 use borrow.Author.Tests.{eqb-true}
 use Rattle.basis.specs.Bounded.{all_at}
-use Rattle.bytes_layout.specs.Codes.{phase_code, phase_of, kind_code, kind_of, flag_code, flag_of, choice_code, choice_of, entry_code}
+use Rattle.bytes_layout.specs.Codes.{phase_code, phase_of, kind_code, kind_of, flag_code, flag_of, choice_code}
+use Rattle.bytes_layout.specs.Codes.{choice_of, entry_code}
 use Rattle.bytes_layout.specs.Codes.{entry_from}
 use Rattle.check_rule.specs.Forms.{zeros}
 

@@ -22,7 +22,8 @@ use Rattle.bytes_layout.specs.Decode.{decode}
 use Rattle.bytes_layout.specs.Canonical.{canonical}
 use Rattle.check_rule.specs.Forms.{header_form, queue_form, output_form, side_form, starts_form}
 use Rattle.check_rule.specs.Parts.{queue_test, output_test, pick_test, side_test}
-use Rattle.check_rule.specs.Check.{output_row_test, queue_row_test, side_row_test, outputs_part, queues_part, picks_part}
+use Rattle.check_rule.specs.Check.{output_row_test, queue_row_test, side_row_test, outputs_part, queues_part}
+use Rattle.check_rule.specs.Check.{picks_part}
 use Rattle.check_rule.specs.Check.{allowances_part, tables_part, pair_test, connections_part, turns_part, check_of}
 use Rattle.check_rule.proofs.Forms.{Formed, formed_canonical}
 use Rattle.check_rule.proofs.Standing.{canonical_formed}
@@ -69,7 +70,8 @@ module _ (pl : Plan) (b : List ℕ) where
       ((n : ℕ) → n < pairs pl → (starts_form pl b n ≡ true) × (pair_ties pl (decode pl b) n ≡ true))
   unfolding connections_part pair_test
   connections_decide =
-      all_below_lem (pairs pl) (pair_test pl b) (λ n. (starts_form pl b n ≡ true) × (pair_ties pl (decode pl b) n ≡ true))
+      all_below_lem (pairs pl) (pair_test pl b) (λ n. (starts_form pl b n ≡ true) ×
+      (pair_ties pl (decode pl b) n ≡ true))
       (λ n h. both (so (starts_form pl b n)) (λ x. so (pair_ties pl (decode pl b) n)))
 
   turns_decide : Decides (turns_part pl b) (turns_test pl (decode pl b) ≡ true)

@@ -15,11 +15,15 @@ use Rattle.rules.specs.Valid.{Drives}
 use Rattle.rules.proofs.Numbers.{exists_at, at_number}
 use Rattle.rules.proofs.OutNumbers.{drives_at, at_output}
 use Rattle.bytes_layout.specs.Rows.{front}
-use Rattle.bytes_layout.specs.Offsets.{phase_byte, queue_width, output_width, entry_width, router_entries, slot_room, entries}
-use Rattle.bytes_layout.specs.Offsets.{queues_at, outputs_at, allowances_at, table_at, size, queue_row, output_row, allowance_row}
+use Rattle.bytes_layout.specs.Offsets.{phase_byte, queue_width, output_width, entry_width, router_entries, slot_room}
+use Rattle.bytes_layout.specs.Offsets.{entries}
+use Rattle.bytes_layout.specs.Offsets.{queues_at, outputs_at, allowances_at, table_at, size, queue_row, output_row}
+use Rattle.bytes_layout.specs.Offsets.{allowance_row}
 use Rattle.bytes_layout.specs.Offsets.{entry_row, connections_at, starts_width, pairs, starts_row, turns_at, turn_row}
-use Rattle.bytes_layout.specs.Encode.{queue_bytes, output_bytes, allowance_bytes, entry_bytes, entry_of_number, header, queue_part}
-use Rattle.bytes_layout.specs.Encode.{starts_bytes, turn_bytes, output_part, allowance_part, table_part, connection_part}
+use Rattle.bytes_layout.specs.Encode.{queue_bytes, output_bytes, allowance_bytes, entry_bytes, entry_of_number, header}
+use Rattle.bytes_layout.specs.Encode.{queue_part}
+use Rattle.bytes_layout.specs.Encode.{starts_bytes, turn_bytes, output_part, allowance_part, table_part}
+use Rattle.bytes_layout.specs.Encode.{connection_part}
 use Rattle.bytes_layout.specs.Encode.{turn_part, encode}
 use Rattle.bytes_layout.specs.Encode.{length_queue, length_output, length_queues, length_outputs, length_allowances}
 use Rattle.bytes_layout.specs.Encode.{length_table, length_connections, length_turns, length_encode}
@@ -72,13 +76,15 @@ module _ (pl : Plan) (b : List ℕ) (f : Formed pl b) where
   unfolding allowance_row
   allowances_agree =
       agrees_all 1 (A pl) (allowances_at pl) (allowance_bytes (decode pl b)) b (λ n. refl)
-      (λ n h. agrees_at (allowance_row pl n) (allowances_at pl + 1 * n) (allowance_bytes (decode pl b) n) b (omega arith)
+      (λ n h. agrees_at (allowance_row pl n) (allowances_at pl + 1 * n) (allowance_bytes (decode pl b) n) b
+      (omega arith)
       (allowance_agrees pl b n h))
 
   table_agrees : Agrees (table_at pl) (table_part pl (decode pl b)) b
   unfolding entry_row
   table_agrees =
-      agrees_all entry_width (entries pl) (table_at pl) (λ n. entry_bytes (entry_of_number (decode pl b) n)) b (λ n. refl)
+      agrees_all entry_width (entries pl) (table_at pl) (λ n. entry_bytes (entry_of_number (decode pl b) n)) b
+      (λ n. refl)
       (λ n h. let e = entry_named pl n h in
       agrees_at (entry_row pl (n / router_entries) (n % router_entries / slot_room) (n % slot_room))
       (table_at pl + entry_width * n) (entry_bytes (entry_of_number (decode pl b) n)) b (rw e.3)
@@ -144,7 +150,8 @@ module _ (pl : Plan) (b : List ℕ) (f : Formed pl b) where
 
   from_queues : Agrees queues_at (queue_part pl (decode pl b) ++ second) b
   from_queues =
-      agrees_append queues_at (outputs_at pl) (queue_part pl (decode pl b)) second b (rw (length_queues pl (decode pl b)))
+      agrees_append queues_at (outputs_at pl) (queue_part pl (decode pl b)) second b
+      (rw (length_queues pl (decode pl b)))
       queues_agree from_outputs
 
   state_agrees : Agrees 0 (encode pl (decode pl b) []) b

@@ -14,7 +14,8 @@ use Rattle.rules.specs.Valid.{Drives}
 use Rattle.valid.specs.Ties.{passive_room, pair_ties, ties_test}
 use Rattle.valid.specs.Test.{wire_test, choice_test, picked_test, entry_test, every_queue, every_output, slot_test}
 use Rattle.valid.specs.Test.{entries_test, capacities_test, places_test, wires_test, wires_empty_test, choices_test}
-use Rattle.valid.specs.Test.{flags_down_test, picked_down_test, out_flags_test, marks_test, free_entry_test, credits_test}
+use Rattle.valid.specs.Test.{flags_down_test, picked_down_test, out_flags_test, marks_test, free_entry_test}
+use Rattle.valid.specs.Test.{credits_test}
 use Rattle.valid.specs.Test.{out_credits_test, allowances_test, turns_test, valid_test}
 use Rattle.valid.proofs.Decides.{Decides, like, so, all_below_lem}
 use Rattle.valid.proofs.Parts.{every_queue_lem, every_output_lem}
@@ -126,7 +127,8 @@ module _ (pl : Plan) (s : State) where
 
   ties_each : Decides (ties_test pl s) ((n : ℕ) → n < passive_room * A pl → pair_ties pl s n ≡ true)
   unfolding ties_test
-  ties_each = all_below_lem (passive_room * A pl) (pair_ties pl s) (λ n. pair_ties pl s n ≡ true) (λ n h. so (pair_ties pl s n))
+  ties_each = all_below_lem (passive_room * A pl) (pair_ties pl s) (λ n. pair_ties pl s n ≡ true)
+      (λ n h. so (pair_ties pl s n))
 
 -- the test of a state tells what is asked of each place
 module _ (pl : Plan) (s : State) where

@@ -23,7 +23,8 @@ use Rattle.rules.specs.Valid.{Drives, sum, brings, on_wires, in_all, in_wire, to
 use Rattle.rules.proofs.Numbers.{exists_at}
 use Rattle.rules.proofs.OutNumbers.{drives_at}
 use Rattle.bytes_layout.specs.Named.{exists_test_lem, drives_test_lem}
-use Rattle.bytes_layout.specs.Offsets.{places, packet_width, first_place, wire_byte, wire_packet, choice_byte, output_width}
+use Rattle.bytes_layout.specs.Offsets.{places, packet_width, first_place, wire_byte, wire_packet, choice_byte}
+use Rattle.bytes_layout.specs.Offsets.{output_width}
 use Rattle.bytes_layout.specs.Offsets.{queue_row, output_row}
 use Rattle.bytes_layout.specs.Decode.{decode}
 use Rattle.check_rule.specs.Forms.{zeros, places_form, queue_form, output_form}

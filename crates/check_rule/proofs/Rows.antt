@@ -19,15 +19,20 @@ use Rattle.plan_queues.specs.Feeds.{Output}
 use Rattle.rules.specs.State.{blank}
 use Rattle.rules.specs.Valid.{Drives}
 use Rattle.bytes_layout.specs.Named.{exists_test_lem, drives_test_lem, is_connection}
-use Rattle.bytes_layout.specs.Offsets.{places, packet_kind, packet_width, flag_byte, handled_byte, first_place, wire_byte}
-use Rattle.bytes_layout.specs.Offsets.{wire_packet, choice_byte, slot_room, queue_row, output_row, allowance_row, entry_row}
+use Rattle.bytes_layout.specs.Offsets.{places, packet_kind, packet_width, flag_byte, handled_byte, first_place}
+use Rattle.bytes_layout.specs.Offsets.{wire_byte}
+use Rattle.bytes_layout.specs.Offsets.{wire_packet, choice_byte, slot_room, queue_row, output_row, allowance_row}
+use Rattle.bytes_layout.specs.Offsets.{entry_row}
 use Rattle.bytes_layout.specs.Offsets.{passive_room, turn_row}
 use Rattle.bytes_layout.specs.Codes.{flag_code, flag_of, choice_code}
 use Rattle.bytes_layout.specs.Places.{packet_bytes, no_packet, place_bytes, packet_at, packets_at}
-use Rattle.bytes_layout.specs.Encode.{queue_bytes, wire_bytes, output_bytes, allowance_bytes, entry_bytes, word_bytes, starts_of}
+use Rattle.bytes_layout.specs.Encode.{queue_bytes, wire_bytes, output_bytes, allowance_bytes, entry_bytes, word_bytes}
+use Rattle.bytes_layout.specs.Encode.{starts_of}
 use Rattle.bytes_layout.specs.Encode.{starts_bytes, turn_bytes, length_wire}
-use Rattle.bytes_layout.specs.Decode.{flag_at, mark_at, length_at, queue_in, wire_from, wire_at, choice_at, four_at, decode}
-use Rattle.check_rule.specs.Forms.{zeros, places_form, queue_form, output_form, side_form, pair_row, word_form, start_form}
+use Rattle.bytes_layout.specs.Decode.{flag_at, mark_at, length_at, queue_in, wire_from, wire_at, choice_at, four_at}
+use Rattle.bytes_layout.specs.Decode.{decode}
+use Rattle.check_rule.specs.Forms.{zeros, places_form, queue_form, output_form, side_form, pair_row, word_form}
+use Rattle.check_rule.specs.Forms.{start_form}
 use Rattle.check_rule.specs.Forms.{starts_form}
 use Rattle.check_rule.proofs.Agree.{Agrees, agrees_none, agrees_append}
 use Rattle.check_rule.proofs.Bytes.{kind_byte, flag_byte_lem, choice_byte_lem, entry_byte, zeros_get}
@@ -77,7 +82,8 @@ places_agree (suc c) zero i b e =
     (rw (packets_none c (i + packet_width) b) at (places_agree c zero (i + packet_width) b p.1))
 places_agree (suc c) (suc n) i b e =
     let p = also_true e in
-    agrees_append i (i + packet_width) (packet_bytes (packet_at i b)) (place_bytes c (packets_at c n (i + packet_width) b)) b
+    agrees_append i (i + packet_width) (packet_bytes (packet_at i b))
+    (place_bytes c (packets_at c n (i + packet_width) b)) b
     refl
     (packet_agrees i b (leb-true (get_or b (i + packet_kind) 0) 3 p.0))
     (places_agree c n (i + packet_width) b p.1)
@@ -125,11 +131,13 @@ wire_agrees i b e =
     let p = also_true e in by (get_or b (i + wire_byte) 0) refl (leb-true (get_or b (i + wire_byte) 0) 1 p.0) p.1
   where
     by : (n : ℕ) → get_or b (i + wire_byte) 0 ≡ n → n ≤ 1
-        → pick (eqb n 1) (leb (get_or b (i + wire_packet + packet_kind) 0) 3) (zeros (i + wire_packet) packet_width b) ≡ true
+        → pick (eqb n 1) (leb (get_or b (i + wire_packet + packet_kind) 0) 3) (zeros (i + wire_packet) packet_width b) ≡
+        true
         → Agrees i (wire_bytes (wire_from (flag_of n) (packet_at (i + wire_packet) b))) b
     by zero w h t = agrees_append i (i + wire_packet) (0 ∷ []) no_packet b refl (byte_agrees i 0 b w)
         (nothing_agrees (i + wire_packet) b t)
-    by (suc zero) w h t = agrees_append i (i + wire_packet) (1 ∷ []) (packet_bytes (packet_at (i + wire_packet) b)) b refl
+    by (suc zero) w h t = agrees_append i (i + wire_packet) (1 ∷ []) (packet_bytes (packet_at (i + wire_packet) b)) b
+        refl
         (byte_agrees i 1 b w)
         (packet_agrees (i + wire_packet) b (leb-true (get_or b (i + wire_packet + packet_kind) 0) 3 t))
     by (suc (suc n)) w h t = absurd (omega arith)
@@ -142,7 +150,8 @@ output_agrees pl b o h e =
     (wire_bytes (wire_at (output_row pl o) b)) (choice_code (choice_at (output_row pl o) b) ∷ []) b
     (rw (length_wire (wire_at (output_row pl o) b))) (wire_agrees (output_row pl o) b e)
     (byte_agrees (output_row pl o + choice_byte) _ b
-    (rw (add-zero (output_row pl o + choice_byte)) (sym (choice_byte_lem (get_or b (output_row pl o + choice_byte) 0))))))
+    (rw (add-zero (output_row pl o + choice_byte)) (sym
+    (choice_byte_lem (get_or b (output_row pl o + choice_byte) 0))))))
 
 -- ---- an active's allowance
 pub allowance_agrees : (pl : Plan) (b : List ℕ) (a : ℕ) → a < A pl
@@ -231,7 +240,8 @@ starts_parts pl b n e = also_true e
 start_read : (pl : Plan) (b : List ℕ) (n t : ℕ) → start_form pl b n t ≡ true
     → (decode pl b).connections (n / passive_room) (n % passive_room) t ≡ has (four_at (pair_row pl n) b) t
 unfolding decode blank
-start_read pl b n t e = by (is_connection pl (n / passive_room) (n % passive_room) t) (has (four_at (pair_row pl n) b) t) e
+start_read pl b n t e = by (is_connection pl (n / passive_room) (n % passive_room) t)
+    (has (four_at (pair_row pl n) b) t) e
   where
     by : (c h : Bool) → (c || not h) ≡ true → pick c h false ≡ h
     by true h q = refl

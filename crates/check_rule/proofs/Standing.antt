@@ -22,8 +22,10 @@ use Rattle.rules.specs.State.{State, blank}
 use Rattle.rules.specs.Valid.{Bounded}
 use Rattle.bytes_layout.specs.Rows.{RowStands, stands_left, stands_right, stands_get, stands_byte}
 use Rattle.bytes_layout.specs.Named.{is_connection, connection_test}
-use Rattle.bytes_layout.specs.Offsets.{phase_byte, places, packet_kind, packet_width, flag_byte, handled_byte, length_byte}
-use Rattle.bytes_layout.specs.Offsets.{first_place, wire_byte, wire_packet, slot_room, size, entry_row, passive_room, pairs}
+use Rattle.bytes_layout.specs.Offsets.{phase_byte, places, packet_kind, packet_width, flag_byte, handled_byte}
+use Rattle.bytes_layout.specs.Offsets.{length_byte}
+use Rattle.bytes_layout.specs.Offsets.{first_place, wire_byte, wire_packet, slot_room, size, entry_row, passive_room}
+use Rattle.bytes_layout.specs.Offsets.{pairs}
 use Rattle.bytes_layout.specs.Codes.{flag_code, choice_code, entry_code, phase_small, kind_small, flag_small}
 use Rattle.bytes_layout.specs.Places.{packet_bytes, no_packet, place_bytes}
 use Rattle.bytes_layout.specs.Encode.{queue_bytes, wire_bytes, output_bytes, entry_bytes, word_bytes, starts_of, encode}
@@ -97,7 +99,8 @@ wire_form (Full x) i b s =
     rw (stands_get i (wire_bytes (Full x)) b s wire_byte (omega arith))
     (packet_form (i + wire_packet) x b (stands_right i (i + wire_packet) (1 ∷ []) (packet_bytes x) b refl s))
 
-output_form_lem : (s : State) (o : Output) (i : ℕ) (b : List ℕ) → RowStands i (output_bytes s o) b → output_form i b ≡ true
+output_form_lem : (s : State) (o : Output) (i : ℕ) (b : List ℕ) → RowStands i (output_bytes s o) b → output_form i b ≡
+    true
 unfolding output_bytes
 output_form_lem s o i b t = wire_form (s.links.wire o) i b
     (stands_left i (wire_bytes (s.links.wire o)) (choice_code (s.links.choice o) ∷ []) b t)

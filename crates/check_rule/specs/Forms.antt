@@ -5,7 +5,8 @@ use Rattle.basis.specs.Bounded.{all_below}
 use Rattle.sets.specs.Sets.{has}
 use Rattle.plan.specs.Plan.{Plan, S}
 use Rattle.bytes_layout.specs.Named.{is_connection}
-use Rattle.bytes_layout.specs.Offsets.{phase_byte, slot_byte, places, packet_kind, packet_width, flag_byte, handled_byte}
+use Rattle.bytes_layout.specs.Offsets.{phase_byte, slot_byte, places, packet_kind, packet_width, flag_byte}
+use Rattle.bytes_layout.specs.Offsets.{handled_byte}
 use Rattle.bytes_layout.specs.Offsets.{length_byte, first_place, wire_byte, wire_packet, slot_room, entry_row}
 use Rattle.bytes_layout.specs.Offsets.{passive_room, starts_width, starts_row}
 use Rattle.bytes_layout.specs.Decode.{four_at}

@@ -7,7 +7,8 @@ ghost use Rattle.plan.specs.Tables.{table_plan};
 ghost use Rattle.bytes_steps.specs.Counts.{state_size};
 ghost use Rattle.next_queue.specs.Lent.{Lent};
 ghost use Rattle.check_rule.specs.Check.{check_of};
-ghost use Rattle.check_state.specs.Inspect.{header_fits, Passed, checked_of, whole_of, no_tracks, none_coming, none_spent};
+ghost use Rattle.check_state.specs.Inspect.{header_fits, Passed, checked_of, whole_of, no_tracks, none_coming};
+ghost use Rattle.check_state.specs.Inspect.{none_spent};
 
 use plan::Head;
 

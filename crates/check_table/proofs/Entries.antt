@@ -15,7 +15,8 @@ use Rattle.basis.specs.Bounded.{all_below, any_below, Found, all_at, all_of, all
 use Rattle.basis.specs.Bounded.{any_of, lt_or_ge}
 use Rattle.check_rule.specs.Forms.{zeros}
 use Rattle.check_rule.proofs.Bytes.{zeros_byte}
-use Rattle.check_idle.specs.Bytes.{entry_fits, entry_free, side_fits, sides_fit, limit_at, Limits, bytes_within, byte_open}
+use Rattle.check_idle.specs.Bytes.{entry_fits, entry_free, side_fits, sides_fit, limit_at, Limits, bytes_within}
+use Rattle.check_idle.specs.Bytes.{byte_open}
 use Rattle.check_idle.specs.Bytes.{sides_zero, allowances_fit}
 
 -- ---- digits
@@ -210,7 +211,8 @@ module _ (i slots : ℕ) (l b : List ℕ) (m : Limits slots l) where
       from (t, h, p) =
           let u = (free_both t p).0 in
           let z = eqb-true (get_or b (i + 2 * t) 0) 0 (free_both t p).1 in
-          any_of 64 (λ k. also (ltb (get_or b (i + k) 0) (get_or l k 0)) (eqb (get_or b (i + k) 0) 0)) (2 * t) (omega arith)
+          any_of 64 (λ k. also (ltb (get_or b (i + k) 0) (get_or l k 0)) (eqb (get_or b (i + k) 0) 0)) (2 * t)
+          (omega arith)
           (rw (even t h, u, z))
 
   pub side_by : {r : Bool} → r ≡ also (bytes_within i 64 l b) (byte_open i 64 l b) → r ≡ side_fits i slots b

@@ -4,7 +4,8 @@
 ghost use Rattle.std.specs.Prelude.{◌≡◌, true, not, ◌+◌, ◌*◌, ◌≤◌, ◌<◌, ltb, eqb, length};
 ghost use Rattle.basis.specs.Choice.{pick, also};
 ghost use Rattle.check_rule.specs.Forms.{zeros};
-ghost use Rattle.check_idle.specs.Bytes.{side_fits, sides_fit, Limits, bytes_within, byte_open, sides_zero, allowances_fit};
+ghost use Rattle.check_idle.specs.Bytes.{side_fits, sides_fit, Limits, bytes_within, byte_open, sides_zero};
+ghost use Rattle.check_idle.specs.Bytes.{allowances_fit};
 
 // Not zero where a zero byte has a limit that is not.
 fn vacant(x: u8, m: u8) -> u8

@@ -59,7 +59,8 @@ module _ (p : List ℕ) (h : Head) (loads : load_of p ≡ Accepted h) (ruled : R
       → is_state (plan_of p) (bytes_after p cs (encode (plan_of p) s rest)) ≡ true
   state_reached cs s rest g =
       rw (run_encode p h loads ruled cs s rest g)
-      (state_encode (plan_of p) (accepted_wired p h loads) (accepted_range p h loads) (ruled_after (plan_of p) cs s) rest
+      (state_encode (plan_of p) (accepted_wired p h loads) (accepted_range p h loads) (ruled_after (plan_of p) cs s)
+      rest
       (good_after p h loads ruled cs s g))
 
   -- a move of the rules is one in the bytes

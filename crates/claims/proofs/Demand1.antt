@@ -105,7 +105,8 @@ decided_by pl gs cs b a g t e n k =
 -- where Load's conditions do not hold the plan loads
 loaded : (p : List ℕ) → NoneHolds (load_conditions p) → load_of p ≡ Accepted (head_of p)
 loaded p n = load_first p
-    ∙ ap (λ (o : Option Refusal). loaded_as o (head_of p)) (none_told (load_guards p) (load_conditions p) (load_tells p) n)
+    ∙ ap (λ (o : Option Refusal). loaded_as o (head_of p)) (none_told (load_guards p) (load_conditions p) (load_tells p)
+    n)
 
 -- a call's answer, Load's guards before what its own give
 load_answer : (p b : List ℕ) (go : Plan → Given) (hs : List Guard) (a : Answer)
@@ -115,7 +116,8 @@ load_answer p b go hs a e =
     ap (λ (l : Loaded). (on_plan p b go l).answer) (load_first p) ∙ by (refusal_of (load_guards p))
     ∙ ap (λ (o : Option Refusal). answer_as o a) (sym (refusal_more (load_guards p) hs))
   where
-    by : (o : Option Refusal) → (on_plan p b go (loaded_as o (head_of p))).answer ≡ answer_as (or_else o (refusal_of hs)) a
+    by : (o : Option Refusal) → (on_plan p b go (loaded_as o (head_of p))).answer ≡ answer_as
+        (or_else o (refusal_of hs)) a
     by none = e
     by (some w) = refl
 
@@ -156,7 +158,8 @@ unfolding on_state call
 state_answer p c b = by (is_state (plan_of p) b) (refusal_of (guards (plan_of p) c (decode (plan_of p) b)))
   where
     by : (t : Bool) (o : Option Refusal)
-        → (pick t (stored (plan_of p) b (decided o (decode (plan_of p) b) (accepted (plan_of p) c (decode (plan_of p) b))))
+        → (pick t (stored (plan_of p) b (decided o (decode (plan_of p) b)
+        (accepted (plan_of p) c (decode (plan_of p) b))))
         (given (Refused NotState) b)).answer
         ≡ answer_as (pick (not t) (some NotState) o) (accepted (plan_of p) c (decode (plan_of p) b)).answer
     by true none = refl

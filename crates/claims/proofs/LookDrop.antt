@@ -51,7 +51,8 @@ look_before_drop_on_bytes p b h loads a between within done =
     let e : List ℕ = bytes_after p between b in
     let d = drop_on p h loads a e done in
     let k = still_down a between (state_of p b) (state_of p e) (list_on p h loads a between b within) d.down in
-    let first = states_before p h loads between b (state_of_lem p h loads (drop a) e (λ f. done_not (sym done ∙ f))) in (
+    let first =
+    states_before p h loads between b (state_of_lem p h loads (drop a) e (λ f. done_not (sym done ∙ f))) in (
       d.packet,
       on_answer p h loads (look a) b first
           ∙ look_shows (plan_of p) a (state_of p b) d.packet d.removes.rest d.active

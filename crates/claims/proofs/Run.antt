@@ -34,7 +34,8 @@ use Rattle.claims.proofs.Exact.{accepted_wired, accepted_range, read_back, state
 -- ---- one call, and Start, on a plan that Load accepts
 module _ (p : List ℕ) (h : Head) (loads : load_of p ≡ Accepted h) where
   -- what is read from a good state's bytes is that state
-  pub decode_good : (s : State) (rest : List ℕ) → Good (plan_of p) s → decode (plan_of p) (encode (plan_of p) s rest) ≡ s
+  pub decode_good : (s : State) (rest : List ℕ) → Good (plan_of p) s → decode (plan_of p) (encode (plan_of p) s rest) ≡
+      s
   decode_good = read_back (plan_of p) (accepted_wired p h loads) (accepted_range p h loads)
 
   -- a call on a good state's bytes gives the rule's answer and the bytes of the rule's state; those past them stay

@@ -29,7 +29,8 @@ use Rattle.rules.specs.Capacity.{capacity}
 use Rattle.rules.specs.State.{State}
 use Rattle.rules.specs.Visits.{is_empty, head_unmarked}
 use Rattle.rules.specs.Guards.{Guard, guard}
-use Rattle.rules.specs.Calls.{of_launch, of_reply, of_look, of_drop, of_close, of_entry, of_remaining, Call, turn, visit}
+use Rattle.rules.specs.Calls.{of_launch, of_reply, of_look, of_drop, of_close, of_entry, of_remaining, Call, turn}
+use Rattle.rules.specs.Calls.{visit}
 use Rattle.rules.specs.Calls.{is_phase}
 use Rattle.rules.specs.Calls.{guards}
 use Rattle.rules.specs.Conditions.{QueueIsFull, UnmarkedHead, conditions}

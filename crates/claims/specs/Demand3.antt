@@ -79,7 +79,8 @@ pub record Claim (p b : List ℕ) (cs : List Call) : Type 0 where
       → Within (plan_of p) (state_of p (bytes_after p before b))
   -- 'Whenever every queue and wire is empty, the slot table equals, entry by entry, the one that the connections
   -- accepted so far make'; from document 02 (a) on, 'that of connections accepted and not closed since'
-  pub table : (before after : List Call) → cs ≡ before ++ after → Quiet (plan_of p) (state_of p (bytes_after p before b))
+  pub table : (before after : List Call) → cs ≡ before ++ after → Quiet (plan_of p)
+      (state_of p (bytes_after p before b))
       → MadeBy (plan_of p) (accepted_by p before b []) (state_of p (bytes_after p before b)).table
   -- 'The state now keeps the accepted connections': those told by the calls and the states before them are the state's
   -- marks, after each call

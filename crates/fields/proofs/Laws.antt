@@ -51,7 +51,8 @@ held_by_one s p w h =
 
 -- it is the last bits of that byte and the first ones of the next
 pub held_by_two : (s : List ℕ) (p w more : ℕ) → more ≡ p % 8 + w - 8 → 8 ≤ p % 8 + w → w ≤ 8
-    → get_or s (p / 8) 0 % 2 ^ (w - more) * 2 ^ more + get_or s (p / 8 + 1) 0 / 2 ^ (8 - more) % 2 ^ more ≡ field_of s p w
+    → get_or s (p / 8) 0 % 2 ^ (w - more) * 2 ^ more + get_or s (p / 8 + 1) 0 / 2 ^ (8 - more) % 2 ^ more ≡ field_of s p
+    w
 held_by_two s p w more m h l =
     let end : 8 - (p % 8 + (w - more)) ≡ 0 = omega arith in
     let place : 8 * (p / 8) + p % 8 ≡ p = omega arith in

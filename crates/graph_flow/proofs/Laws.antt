@@ -96,7 +96,8 @@ module _ (by : List (List ℕ)) (joints : List ℕ) where
     long = length-set t n v;
     keeps = λ y d a. kept y d a (test (eqb y n));
     fair = λ k f h a y d b. came k f h a y d b (test (eqb y n));
-    gone = λ d a b. rw (← en, row) (rw ev (in_right (get_or t n 0) m d (rw em (in_both (side x o) (get_or t x 0) d a b))));
+    gone = λ d a b. rw (← en, row) (rw ev (in_right (get_or t n 0) m d
+        (rw em (in_both (side x o) (get_or t x 0) d a b))));
     same = λ y a. get_or-set_other t n y v 0 (λ q. not_both (rw es (has_single n y ∙ eq-eqb y n q)) a);
   }
     where

@@ -1,5 +1,6 @@
 -- What is carried from router to router by tables of sets, and what the sweeps that find it keep.
-use Rattle.std.specs.Prelude.{◌≡◌, true, false, List, [], ℕ, zero, suc, ◌+◌, ◌*◌, ◌/◌, ◌%◌, ◌≤◌, ◌<◌, eqb, get_or, length}
+use Rattle.std.specs.Prelude.{◌≡◌, true, false, List, [], ℕ, zero, suc, ◌+◌, ◌*◌, ◌/◌, ◌%◌, ◌≤◌, ◌<◌, eqb, get_or}
+use Rattle.std.specs.Prelude.{length}
 use Rattle.basis.specs.Choice.{pick}
 use Rattle.sets.specs.Sets.{has}
 

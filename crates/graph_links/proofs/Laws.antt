@@ -137,7 +137,8 @@ unfolding note_of
 note_new a m s n = rw (ne_eqb m 0 n) (in_right s (single a) a (has_single a a ∙ eq-eqb a a refl))
 
 pub notes_more : (a : ℕ) (m first : List ℕ) (x : ℕ) {t : List ℕ} {v : ℕ}
-    → t ≡ up_to (λ x u. set u x (note_of a (get_or m x 0) (get_or u x 0))) x first → v ≡ note_of a (get_or m x 0) (get_or t x 0)
+    → t ≡ up_to (λ x u. set u x (note_of a (get_or m x 0) (get_or u x 0))) x first → v ≡ note_of a (get_or m x 0)
+    (get_or t x 0)
     → set t x v ≡ up_to (λ x u. set u x (note_of a (get_or m x 0) (get_or u x 0))) (x + 1) first
 notes_more a m first x {t} e f =
     up_more (λ x u. set u x (note_of a (get_or m x 0) (get_or u x 0))) first x e (ap (set t x) f)
@@ -180,13 +181,15 @@ noted a m n first room =
         at_row d (inl h) = later (s.only i d h)
         at_row d (inr (q, k)) = inr (q, omega arith, k)
 
-        was : (x d : ℕ) → In (set t i (note_of a (get_or m i 0) (get_or t i 0))) x d → (eqb x i ≡ true) ⊎ (eqb x i ≡ false)
+        was : (x d : ℕ) → In (set t i (note_of a (get_or m i 0) (get_or t i 0))) x d → (eqb x i ≡ true) ⊎
+            (eqb x i ≡ false)
             → In first x d ⊎ ((d ≡ a) × (x < suc i) × (get_or m x 0 ≢ 0))
         was x d h (inl q) =
             let e = eqb-true x i q in
             rw e (at_row d (note_more a (get_or m i 0) (get_or t i 0) d (rw (e, same) at h)))
         was x d h (inr q) = later
-            (s.only x d (rw (get_or-set_other t i x (note_of a (get_or m i 0) (get_or t i 0)) 0 (eqb-false x i q)) at h))
+            (s.only x d (rw (get_or-set_other t i x (note_of a (get_or m i 0) (get_or t i 0)) 0 (eqb-false x i q))
+            at h))
 
         kept : (x d : ℕ) → In t x d → (eqb x i ≡ true) ⊎ (eqb x i ≡ false)
             → In (set t i (note_of a (get_or m i 0) (get_or t i 0))) x d
@@ -195,7 +198,8 @@ noted a m n first room =
             rw (e, same) (note_keeps a (get_or m i 0) (get_or t i 0) d (rw e at h))
         kept x d h (inr q) = rw (get_or-set_other t i x (note_of a (get_or m i 0) (get_or t i 0)) 0 (eqb-false x i q)) h
 
-        fresh : (x : ℕ) → get_or m x 0 ≢ 0 → (x < i) ⊎ (x ≡ i) → In (set t i (note_of a (get_or m i 0) (get_or t i 0))) x a
+        fresh : (x : ℕ) → get_or m x 0 ≢ 0 → (x < i) ⊎ (x ≡ i) → In (set t i (note_of a (get_or m i 0) (get_or t i 0)))
+            x a
         fresh x k (inl h) = kept x a (s.new x h k) (test (eqb x i))
         fresh x k (inr e) = rw (e, same) (note_new a (get_or m i 0) (get_or t i 0) (rw e at k))
 

@@ -106,8 +106,11 @@ alone_in homes served a y d h = by (test (eqb y (home_row homes a)))
     by : (eqb y (home_row homes a) ≡ true) ⊎ (eqb y (home_row homes a) ≡ false)
         → (home_row homes a ≡ y) × (has (get_or served a 0) d ≡ true)
     by (inl q) =
-        let e = eqb-true y (home_row homes a) q in
-        (sym e, rw (e, get_or-set_same (replicate 32 0) (home_row homes a) (get_or served a 0) 0 (row_small homes a)) at h)
+        let e = eqb-true y (home_row homes a) q in (
+          sym e,
+          rw (e, get_or-set_same (replicate 32 0) (home_row homes a) (get_or served a 0) 0 (row_small homes a))
+              at h,
+        )
     by (inr q) =
         absurd (not_empty _ d (rw (get_or-set_other (replicate 32 0) (home_row homes a) y (get_or served a 0) 0
         (eqb-false y (home_row homes a) q)) at h) (empty_at 32 y))
@@ -169,7 +172,8 @@ leave_in by t limit k d h =
     both_in (get_or (get_or by (k / 4) []) (k % 4) 0) (get_or t (k / 4) 0) d
     (both_in (both (get_or (get_or by (k / 4) []) (k % 4) 0) (get_or t (k / 4) 0)) limit d h).0
 
-pub in_leave : (by : List (List ℕ)) (t : List ℕ) (limit k d : ℕ) → has (get_or (get_or by (k / 4) []) (k % 4) 0) d ≡ true
+pub in_leave : (by : List (List ℕ)) (t : List ℕ) (limit k d : ℕ) → has (get_or (get_or by (k / 4) []) (k % 4) 0) d ≡
+    true
     → In t (k / 4) d
     → has limit d ≡ true → has (leave_of by t limit k) d ≡ true
 unfolding leave_of

@@ -46,7 +46,8 @@ module _ (by : List (List ℕ)) (joints homes served : List ℕ) (n : ℕ) where
     pub long : length t ≡ 32
     pub sound : (x a : ℕ) → In t x a → (a < i) × (x < n) × Comes a x
     pub complete : (a : ℕ) → a < i
-        → (m : List ℕ) × Spread by joints n (alone_of homes served a) m × ((x : ℕ) → x < n → get_or m x 0 ≢ 0 → In t x a)
+        → (m : List ℕ) × Spread by joints n (alone_of homes served a) m ×
+        ((x : ℕ) → x < n → get_or m x 0 ≢ 0 → In t x a)
 
   -- by router: the actives whose answers come to it, or set out there
   pub record Answers (actives : ℕ) (t : List ℕ) : Type 0 where

@@ -1,7 +1,8 @@
 // What is where at first, and what comes to each router: passives by served walks, actives by answers.
 ghost use Rattle.std.specs.Prelude.{◌≡◌, List, ℕ, ◌≤◌, ◌<◌, replicate};
 ghost use Rattle.graph_flow.specs.Carried.{Spread};
-ghost use Rattle.graph_links.specs.Starts.{home_row, starts_of, alone_of, live_of, lives_of, note_of, notes_of, Answering};
+ghost use Rattle.graph_links.specs.Starts.{home_row, starts_of, alone_of, live_of, lives_of, note_of, notes_of};
+ghost use Rattle.graph_links.specs.Starts.{Answering};
 ghost use Rattle.graph_links.specs.Starts.{Answers};
 
 use graph_flow::spread;

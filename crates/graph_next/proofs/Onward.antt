@@ -96,7 +96,8 @@ module _ (by : List (List ℕ)) (joints t : List ℕ) where
       at (inr e) (inl f) = (
         eqb-false _ 0 e,
         ltb-true _ 64 f,
-        eqb-true y (beyond_of joints (4 * x + o)) (sym (has_single (beyond_of joints (4 * x + o)) y) ∙ (rw (e, f) at u)),
+        eqb-true y (beyond_of joints (4 * x + o)) (sym (has_single (beyond_of joints (4 * x + o)) y) ∙
+            (rw (e, f) at u)),
       )
 
   in_toward : (x o : ℕ) → gone_by x o ≢ 0 → partner_of joints (4 * x + o) < 64
@@ -198,7 +199,8 @@ module _ (l joints : List ℕ) where
   unfolding links_of link_of
   links_in n k y h m u = at (rw (fill_at {A = ℕ} (link_of l joints) n (replicate 64 0) k 0 h m) at u)
     where
-      four : partner_of joints k < 64 → has (four_of (onto_of l (get_or l k 0) (beyond_of joints k))) y ≡ true → Linked k y
+      four : partner_of joints k < 64 → has (four_of (onto_of l (get_or l k 0) (beyond_of joints k))) y ≡ true → Linked
+          k y
       four p v = made (four_in (onto_of l (get_or l k 0) (beyond_of joints k)) y v)
         where
           made : (j : ℕ) × (j < 4) × (has (onto_of l (get_or l k 0) (beyond_of joints k) j) y ≡ true) → Linked k y

@@ -207,7 +207,8 @@ module _ (by : List (List ℕ)) (next : List ℕ) (routes : List (List ℕ)) (s 
       dark is i m a =
           let same : i ≡ o = sym (eqb-true side i a) ∙ eqb-true side o q in ap far same ∙ sym e ∙ is
 
-      go : (eqb n 0 ≡ true) ⊎ (eqb n 0 ≡ false) → Right (get_or (get_or z x []) p 0) ⊎ Blank (get_or (get_or z x []) p 0)
+      go : (eqb n 0 ≡ true) ⊎ (eqb n 0 ≡ false) → Right (get_or (get_or z x []) p 0) ⊎ Blank
+          (get_or (get_or z x []) p 0)
           → Right (size_of n (get_or (get_or z x []) p 0)) ⊎ (Blank (size_of n (get_or (get_or z x []) p 0)) × Dark)
       go (inl a) (inl r) = rw a (inl r)
       go (inl a) (inr k) = rw a (inr (k, dark (eqb-true n 0 a)))
@@ -327,7 +328,8 @@ module _ (by : List (List ℕ)) (next : List ℕ) (routes : List (List ℕ)) (s 
 
       none' : (r p : ℕ) → p < 16 → (has s.sized (s.column + p) && has (get_or (sweep_at by next x t) r 0)
           (s.column + p)) ≡ false
-          → (r ≡ x) ⊎ (r ≡ x → ⊥) → get_or (get_or (set z x (row_of (get_or routes x []) s.column next z x)) r []) p 0 ≡ 0
+          → (r ≡ x) ⊎ (r ≡ x → ⊥) → get_or (get_or (set z x (row_of (get_or routes x []) s.column next z x)) r []) p 0 ≡
+          0
       none' r p l q (inl same) = rw (same, here) (row_none by next routes s first t z told w x inside p l
           (rw (same, swept) at q))
       none' r p l q (inr other) =

@@ -12,7 +12,8 @@ use Rattle.basis.specs.Fold.{up_to, up_none, up_more, up_done, up_keeps, up_keep
 use lib.Bits.{bit_or, or_add_and, and_le_l, and_le_r}
 use Rattle.sets.specs.Sets.{has, either, less}
 use Rattle.sets.specs.Laws.{has_both, has_either, either_grows}
-use Rattle.graph_reach.specs.Reach.{side_set, beyond, reach_in, Idle, through_of, pull_of, sweep_at, change_of, up_of, down_of}
+use Rattle.graph_reach.specs.Reach.{side_set, beyond, reach_in, Idle, through_of, pull_of, sweep_at, change_of, up_of}
+use Rattle.graph_reach.specs.Reach.{down_of}
 use Rattle.graph_reach.specs.Reach.{Closed, Reached, common_of}
 
 -- ---- truth tables
@@ -53,7 +54,8 @@ module _ (by : List (List ℕ)) (next : List ℕ) where
   -- ---- what a pull has
   pub has_pull : (t : List ℕ) (x d : ℕ)
       → has (pull_of by next t x) d
-      ≡ (has (get_or t x 0) d || any_below 4 (λ o. has (side_set by next x o) d && has (get_or t (beyond by next x o) 0) d))
+      ≡ (has (get_or t x 0) d || any_below 4 (λ o. has (side_set by next x o) d && has (get_or t (beyond by next x o) 0)
+      d))
   unfolding pull_of through_of any_below
   has_pull t x d = five (get_or t x 0) (through_of by next t x 0) (through_of by next t x 1) (through_of by next t x 2)
       (through_of by next t x 3) (q 0) (q 1) (q 2) (q 3)

@@ -1,5 +1,6 @@
 -- How many routers a walk has, by tables of sets; and the table of sizes that grows with what is reached.
-use Rattle.std.specs.Prelude.{◌≡◌, Bool, true, false, ◌&&◌, List, [], ℕ, zero, suc, ◌+◌, ◌*◌, ◌<◌, eqb, ltb, get_or, length, replicate}
+use Rattle.std.specs.Prelude.{◌≡◌, Bool, true, false, ◌&&◌, List, [], ℕ, zero, suc, ◌+◌, ◌*◌, ◌<◌, eqb, ltb, get_or}
+use Rattle.std.specs.Prelude.{length, replicate}
 use Rattle.basis.specs.Choice.{pick}
 use Rattle.basis.specs.Bounded.{any_below}
 use Rattle.basis.specs.Fold.{up_to, fill}

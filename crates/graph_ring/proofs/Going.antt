@@ -265,7 +265,8 @@ module _ (succ : List ℕ) (n : ℕ) where
           by : (d : ℕ) × (has (both (get_or succ x 0) left) d ≡ true)
               → ((y : ℕ) × (has left y ≡ true) × (leads_to succ x y ≡ true)) ⊎ ⊥
           by (y, v) =
-              let b = (and-eq-true_iff (leads_to succ x y) (has left y)).0 (sym (has_both (get_or succ x 0) left y) ∙ v) in
+              let b = (and-eq-true_iff (leads_to succ x y) (has left y)).0 (sym (has_both (get_or succ x 0) left y) ∙ v)
+              in
               inl (y, b.1, b.0)
 
       none : ring_test n (leads_to succ) ≡ false → (x : ℕ) × (has left x ≡ true) → ⊥

@@ -19,7 +19,8 @@ use Rattle.basis.specs.Fold.{length_fill}
 use Rattle.basis.specs.Ring.{Ring, Leads, Chain, ring_in, still, longer, follow, ring_test, ring_of_test, test_of_ring}
 use Rattle.sets.specs.Sets.{has, single, both, either, less, below}
 use Rattle.sets.specs.Laws.{has_both, has_either, has_single, has_below, none_has, no_member, both_none}
-use Rattle.graph_ring.specs.Cells.{group_of, edge, is_left, stays_of, keep_of, judge_of, judge_at, up_of, down_of, rest_of}
+use Rattle.graph_ring.specs.Cells.{group_of, edge, is_left, stays_of, keep_of, judge_of, judge_at, up_of, down_of}
+use Rattle.graph_ring.specs.Cells.{rest_of}
 use Rattle.graph_ring.specs.Cells.{first_of}
 
 -- ---- members
@@ -391,7 +392,8 @@ module _ (cells : List ℕ) where
 
     rest_some : (left : List ℕ) → rest_of n left ≢ 0 → (g : ℕ) × (get_or left g 0 ≢ 0)
     unfolding rest_of
-    rest_some left h = up_keeps (λ s. s ≢ 0 → (g : ℕ) × (get_or left g 0 ≢ 0)) (λ g s. either s (get_or left g 0)) n 0 step
+    rest_some left h = up_keeps (λ s. s ≢ 0 → (g : ℕ) × (get_or left g 0 ≢ 0)) (λ g s. either s (get_or left g 0)) n 0
+        step
         (λ q. absurd (q refl)) h
       where
         step : (i s : ℕ) → i < n → (s ≢ 0 → (g : ℕ) × (get_or left g 0 ≢ 0)) → either s (get_or left i 0) ≢ 0

@@ -311,7 +311,8 @@ module _ (b : List ℕ) where
 module _ (b : List ℕ) where
   abbrev Lends : Loaded → List (List ℕ) → List ℕ → List ℕ → List (List ℕ) → List (List ℕ) → Type 0
   Lends l routes joints homes lengths sides =
-      (l ≡ load_of b) × (routes ≡ load_routes b no_routes (load_of b)) × (joints ≡ load_joints b (replicate 64 0) (load_of b))
+      (l ≡ load_of b) × (routes ≡ load_routes b no_routes (load_of b)) ×
+      (joints ≡ load_joints b (replicate 64 0) (load_of b))
       × (homes ≡ load_homes b (replicate 32 0) (load_of b)) × (lengths ≡ load_lengths b no_walks (load_of b))
       × (sides ≡ load_sides b no_destinations (load_of b))
 

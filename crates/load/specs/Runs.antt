@@ -11,19 +11,22 @@ use Rattle.plan.specs.Plan.{joint_in, plan_of}
 use Rattle.plan.specs.Rules.{fill_ok, joint_ok, route_ok, fields_ok, named_ok, ports_of, home, interfaces_ok}
 use Rattle.plan_walks.specs.Walk.{onward, arrives}
 use Rattle.plan_walks.specs.Served.{backs_arrive, served_from}
-use Rattle.load_rings.specs.RingTest.{way_meets, walk_meets, walk_leaves, trail_edge, answered, answer_leaves, answers_pass}
+use Rattle.load_rings.specs.RingTest.{way_meets, walk_meets, walk_leaves, trail_edge, answered, answer_leaves}
+use Rattle.load_rings.specs.RingTest.{answers_pass}
 use Rattle.load_rings.specs.RingTest.{hand_edge, has_ring}
 use Rattle.load.specs.Load.{length_ok, joints_ok, load_of, load_number}
-use Rattle.plan.specs.Samples.{plan_t, two_routers, wider_t, narrow_there, narrow_back, all_sides, long_way_back, four_routers}
-use Rattle.plan.specs.Samples.{narrow_unit, two_to_one, crossing, wider_crossing, line_of_three, drives_around, clockwise}
+use Rattle.plan.specs.Samples.{plan_t, two_routers, wider_t, narrow_there, narrow_back, all_sides, long_way_back}
+use Rattle.plan.specs.Samples.{four_routers}
+use Rattle.plan.specs.Samples.{narrow_unit, two_to_one, crossing, wider_crossing, line_of_three, drives_around}
+use Rattle.plan.specs.Samples.{clockwise}
 use Rattle.plan.specs.Samples.{roomy_crossing, narrow_side}
 
 -- Load's number, computed from the bytes
 unfoldable pub loads : List ℕ → ℕ
-unfolding any_below all_below up_to any_next live ring_test spot bit_at field_of capacity_at head_of counts_ok capacities_ok
-    head_ok joint_in plan_of fill_ok joint_ok route_ok named_ok ports_of home interfaces_ok fields_ok onward arrives backs_arrive
-    served_from way_meets walk_meets walk_leaves trail_edge answered answer_leaves answers_pass hand_edge has_ring length_ok
-    joints_ok load_of
+unfolding any_below all_below up_to any_next live ring_test spot bit_at field_of capacity_at head_of counts_ok
+    capacities_ok head_ok joint_in plan_of fill_ok joint_ok route_ok named_ok ports_of home interfaces_ok fields_ok
+    onward arrives backs_arrive served_from way_meets walk_meets walk_leaves trail_edge answered answer_leaves
+    answers_pass hand_edge has_ring length_ok joints_ok load_of
 loads b = load_number (load_of b)
 
 pub t_loads : loads plan_t ≡ 0

@@ -126,9 +126,11 @@ module _ (by : List (List ℕ)) (homes : List ℕ) where
           ap (λ (s : List ℕ). get_or s (get_or homes n 0 / 4) 0) turn
           ∙ get_or-set_same (firsts_of by homes n) (get_or homes n 0 / 4) _ 0 (rw (firsts_long n) (omega arith))
 
-      there : (r ≡ get_or homes n 0 / 4 → ⊥) → get_or (firsts_of by homes (suc n)) r 0 ≡ get_or (firsts_of by homes n) r 0
+      there : (r ≡ get_or homes n 0 / 4 → ⊥) → get_or (firsts_of by homes (suc n)) r 0 ≡ get_or (firsts_of by homes n) r
+          0
       there h =
-          ap (λ (s : List ℕ). get_or s r 0) turn ∙ get_or-set_other (firsts_of by homes n) (get_or homes n 0 / 4) r _ 0 h
+          ap (λ (s : List ℕ). get_or s r 0) turn ∙ get_or-set_other (firsts_of by homes n) (get_or homes n 0 / 4) r _ 0
+          h
 
       members : has (either (get_or (firsts_of by homes n) (get_or homes n 0 / 4) 0)
           (both (get_or (get_or by (get_or homes n 0 / 4) []) (get_or homes n 0 % 4) 0) (single n))) d
@@ -154,7 +156,8 @@ module _ (by : List (List ℕ)) (homes : List ℕ) where
           ≡ (ltb d n && (eqb r (get_or homes d 0 / 4) && has (get_or (get_or by r []) (get_or homes d 0 % 4) 0) d))
           → (d ≡ n) ⊎ (d ≡ n → ⊥) → (r ≡ get_or homes n 0 / 4) ⊎ (r ≡ get_or homes n 0 / 4 → ⊥)
           → has (get_or (firsts_of by homes (suc n)) r 0) d
-          ≡ (ltb d (suc n) && (eqb r (get_or homes d 0 / 4) && has (get_or (get_or by r []) (get_or homes d 0 % 4) 0) d))
+          ≡ (ltb d (suc n) && (eqb r (get_or homes d 0 / 4) && has (get_or (get_or by r []) (get_or homes d 0 % 4) 0)
+          d))
       go rec (inl e) (inl f) =
           let old : has (get_or (firsts_of by homes n) (get_or homes n 0 / 4) 0) n ≡ false =
           rw (e, f, le-ltb n n (omega arith)) at rec in

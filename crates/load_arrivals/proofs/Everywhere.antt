@@ -142,7 +142,8 @@ module _ (pl : Plan) (wired : Wired pl) (a p : ℕ) (ha : a < A pl) where
     pub served_sifted : eqb (both (get_or (get_or up (home pl (active a)).router []) (A pl + p) 0) m) 0 ≡ served pl a p
     served_sifted = same_test _ _ to from'
       where
-        to : eqb (both (get_or (get_or up (home pl (active a)).router []) (A pl + p) 0) m) 0 ≡ true → served pl a p ≡ true
+        to : eqb (both (get_or (get_or up (home pl (active a)).router []) (A pl + p) 0) m) 0 ≡ true → served pl a p ≡
+            true
         to e = served_met (λ u k y q. none_met (eqb-true _ 0 e) k y q) ∙ t
 
         from' : served pl a p ≡ true

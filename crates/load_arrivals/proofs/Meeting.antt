@@ -46,7 +46,8 @@ blank n e = rw e record {
 pub rows : (n : ℕ) {up : List (List ℕ)} → up ≡ replicate n (replicate 32 0) → length up ≡ n
 rows n e = ap length e ∙ length-replicate n (replicate 32 zero)
 
-pub stands_at_lem : (r : ℕ) (s : Spot Port) → stands_on r s ≡ true → (i : ℕ) × (s ≡ on (record { router = r; side = i }))
+pub stands_at_lem : (r : ℕ) (s : Spot Port) → stands_on r s ≡ true → (i : ℕ) ×
+    (s ≡ on (record { router = r; side = i }))
 stands_at_lem r (on x) t = (x.side, ap (λ (n : ℕ). on (record { router = n; side = x.side })) (eqb-true x.router r t))
 stands_at_lem r end t = absurd (false≢true t)
 stands_at_lem r lost t = absurd (false≢true t)

@@ -100,7 +100,8 @@ home_below homes arrive h a {k} {v} only e f d q = by' (lt_or_ge (k / 4) h.route
     there : has (get_or arrive (k / 4) 0) d ≡ true
     there =
         rw f
-        (and_parts _ _ (sym (has_both (get_or arrive (get_or homes a 0 / 4) 0) (far_of h) d) ∙ sym (ap (λ (u : ℕ). has u d)
+        (and_parts _ _ (sym (has_both (get_or arrive (get_or homes a 0 / 4) 0) (far_of h) d) ∙ sym
+        (ap (λ (u : ℕ). has u d)
         e) ∙ q)).0
 
     by' : (k / 4 < h.routers) ⊎ (h.routers ≤ k / 4) → k / 4 < h.routers
@@ -153,8 +154,10 @@ module _ (by : List (List ℕ)) (joints homes arrive : List ℕ) (h : Head) (all
           ∙ ap (λ (u : ℕ). has u a) (sym (f ∙ ap (λ (u : ℕ). less u all) e) ∙ g) ∙ none_has a))
 
 pub length_step : (z : List (List ℕ)) (arrive served homes : List ℕ) (a column far : ℕ) {k v : ℕ} {row : List ℕ}
-    → k ≡ get_or homes a 0 → v ≡ both (get_or arrive (k / 4) 0) far → row ≡ length_of z (k / 4) (get_or served a 0) v column
-    → row ≡ length_of z (get_or homes a 0 / 4) (get_or served a 0) (both (get_or arrive (get_or homes a 0 / 4) 0) far) column
+    → k ≡ get_or homes a 0 → v ≡ both (get_or arrive (k / 4) 0) far → row ≡ length_of z (k / 4) (get_or served a 0) v
+    column
+    → row ≡ length_of z (get_or homes a 0 / 4) (get_or served a 0) (both (get_or arrive (get_or homes a 0 / 4) 0) far)
+    column
 length_step z arrive served homes a column far {k} e f g =
     g ∙ ap (λ (x : ℕ). length_of z (k / 4) (get_or served a 0) x column) f
     ∙ ap (λ (k : ℕ). length_of z (k / 4) (get_or served a 0) (both (get_or arrive (k / 4) 0) far) column) e

@@ -1,5 +1,6 @@
 -- Which pairs are served and how long their walks are: what the code computes, and what it means.
-use Rattle.std.specs.Prelude.{◌≡◌, ◌⊎◌, Bool, true, not, ◌&&◌, List, [], ℕ, ◌+◌, ◌/◌, ◌^◌, ◌≤◌, ◌<◌, eqb, ltb, get_or, length, replicate}
+use Rattle.std.specs.Prelude.{◌≡◌, ◌⊎◌, Bool, true, not, ◌&&◌, List, [], ℕ, ◌+◌, ◌/◌, ◌^◌, ◌≤◌, ◌<◌, eqb, ltb, get_or}
+use Rattle.std.specs.Prelude.{length, replicate}
 use Rattle.basis.specs.Choice.{pick}
 use Rattle.basis.specs.Fold.{up_to, fill}
 use Rattle.sets.specs.Sets.{has, both}
@@ -95,7 +96,8 @@ unfoldable pub lengths_by : List (List ℕ) → List ℕ → List ℕ → List �
 lengths_by z arrive serve homes h =
     up_to
     (fill
-    (λ a. length_of z (get_or homes a 0 / 4) (get_or serve a 0) (both (get_or arrive (get_or homes a 0 / 4) 0) (far_of h))
+    (λ a. length_of z (get_or homes a 0 / 4) (get_or serve a 0) (both (get_or arrive (get_or homes a 0 / 4) 0)
+    (far_of h))
     h.actives))
     h.actives (replicate 16 (replicate 16 0))
 

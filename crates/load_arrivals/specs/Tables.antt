@@ -26,7 +26,8 @@ unfoldable pub first_of : List (List ℕ) → ℕ → ℕ → ℕ → ℕ
 first_of by t k d = either t (both (get_or (get_or by (k / 4) []) (k % 4) 0) (single d))
 
 unfoldable pub first_step : List (List ℕ) → List ℕ → ℕ → List ℕ → List ℕ
-first_step by homes d t = set t (get_or homes d 0 / 4) (first_of by (get_or t (get_or homes d 0 / 4) 0) (get_or homes d 0) d)
+first_step by homes d t = set t (get_or homes d 0 / 4) (first_of by (get_or t (get_or homes d 0 / 4) 0)
+    (get_or homes d 0) d)
 
 -- by router: the destinations one step away
 unfoldable pub firsts_of : List (List ℕ) → List ℕ → ℕ → List ℕ

@@ -83,7 +83,8 @@ module _ (t homes : List ℕ) (actives : ℕ) where
   row_else : (m p : ℕ) → (p ≡ m → ⊥) → get_or (row m) p 0 ≡ get_or
       (get_or (nears_of t homes actives m) (get_or homes (actives + m) 0 / 4) []) p 0
   unfolding row
-  row_else m p f = get_or-set_other (get_or (nears_of t homes actives m) (get_or homes (actives + m) 0 / 4) []) m p _ 0 f
+  row_else m p f = get_or-set_other (get_or (nears_of t homes actives m) (get_or homes (actives + m) 0 / 4) []) m p _ 0
+      f
 
   module _ (most : ℕ) (fit : most ≤ 16) (ports : (p : ℕ) → p < most → get_or homes (actives + p) 0 < 64) where
     here : (m : ℕ) → m < most → get_or (nears_of t homes actives (suc m)) (get_or homes (actives + m) 0 / 4) [] ≡ row m
@@ -130,7 +131,8 @@ module _ (t homes : List ℕ) (actives : ℕ) where
 
         go : get_or (get_or (nears_of t homes actives m) r []) p 0
             ≡ pick (ltb p m && (eqb r (get_or homes (actives + p) 0 / 4) && has (get_or t r 0) (actives + p))) 1 0
-            → (r ≡ get_or homes (actives + m) 0 / 4) ⊎ (r ≡ get_or homes (actives + m) 0 / 4 → ⊥) → (p ≡ m) ⊎ (p ≡ m → ⊥)
+            → (r ≡ get_or homes (actives + m) 0 / 4) ⊎ (r ≡ get_or homes (actives + m) 0 / 4 → ⊥) → (p ≡ m) ⊎
+            (p ≡ m → ⊥)
             → get_or (get_or (nears_of t homes actives (suc m)) r []) p 0
             ≡ pick (ltb p (suc m) && (eqb r (get_or homes (actives + p) 0 / 4) && has (get_or t r 0) (actives + p))) 1 0
         go rec (inl e) (inl f) =
@@ -151,7 +153,8 @@ module _ (t homes : List ℕ) (actives : ℕ) where
             at_row wide = row_at_lem m (rw wide (omega arith))
         go rec (inl e) (inr f) = rw (e, here m (omega arith), unlike f) (row_else m p f ∙ rw e at rec)
         go rec (inr e) (inl f) =
-            let old : get_or (get_or (nears_of t homes actives m) r []) m 0 ≡ 0 = rw (f, le-ltb m m (omega arith)) at rec in
+            let old : get_or (get_or (nears_of t homes actives m) r []) m 0 ≡ 0 = rw (f, le-ltb m m (omega arith))
+            at rec in
             rw (f, there m r e, lt-ltb m (suc m) (omega arith), ne_eqb r (get_or homes (actives + m) 0 / 4) e) old
         go rec (inr e) (inr f) = rw (there m r e, unlike f) rec
 

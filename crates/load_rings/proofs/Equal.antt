@@ -353,7 +353,8 @@ module _ {pl : Plan} (wired : Wired pl) where
           made (u, s, walk) = (
             (n, u, s),
             subst (λ (k : Queue). Trails pl (link_of pl k) (link_of pl z)) (sym e)
-                (subst (λ (k : Queue). Trails pl (record { router = r; side = o }) (link_of pl k)) (sym s) (walk r o j)),
+                (subst (λ (k : Queue). Trails pl (record { router = r; side = o }) (link_of pl k)) (sym s)
+                (walk r o j)),
           )
 
           go : y ≡ Q n t → AtOut pl z × Trails pl (link_of pl w) (link_of pl z)

@@ -153,7 +153,8 @@ module _ {pl : Plan} {h : Head} {by : List (List ℕ)} {joints homes arrive serv
                 (not_empty (get_or gone x 0) (A pl + p) first) (omega (arith, n, room)) (rw (bq, ey) m) in
                 rw (bq, ey) at z
 
-    pub walks_found : {r : Bool} → r ≡ ring_test (4 * R pl) (leads_to trailed) → r ≡ ring_test (4 * R pl) (trail_edge pl)
+    pub walks_found : {r : Bool} → r ≡ ring_test (4 * R pl) (leads_to trailed) → r ≡ ring_test (4 * R pl)
+        (trail_edge pl)
     walks_found e = e ∙ ring_alike (4 * R pl) (leads_to trailed) (trail_edge pl) trail_edges
 
     -- ---- by routers: where they have no ring the links have none
@@ -185,7 +186,8 @@ module _ {pl : Plan} {h : Head} {by : List (List ℕ)} {joints homes arrive serv
               });
         }
 
-    pub walks_clear : {r : Bool} → r ≡ ring_test (R pl) by_router → r ≡ false → false ≡ ring_test (4 * R pl) (trail_edge pl)
+    pub walks_clear : {r : Bool} → r ≡ ring_test (R pl) by_router → r ≡ false → false ≡ ring_test (4 * R pl)
+        (trail_edge pl)
     walks_clear e f =
         walks_found (sym (refuted (ring_test (4 * R pl) (leads_to trailed)) (λ u. not_both (round u) (sym e ∙ f))))
       where

@@ -199,7 +199,8 @@ module _ {pl : Plan} (wired : Wired pl) where
   unfolding answered
   answered_by a r ha t =
       by (any_true (P pl) (λ p.
-      also (served pl a p) (any_below (R pl) (λ k. back_meets pl a r (walked pl (passive p) k (home pl (active a)))))) t)
+      also (served pl a p) (any_below (R pl) (λ k. back_meets pl a r (walked pl (passive p) k (home pl (active a))))))
+      t)
     where
       at : (p k : ℕ) → p < P pl → Served pl a p → (s : Spot Port) → walked pl (passive p) k (home pl (active a)) ≡ s
           → back_meets pl a r s ≡ true → (i : ℕ) × Answers pl a (record { router = r; side = i })

@@ -106,7 +106,8 @@ module _ (h : Head) (routes : List (List ℕ)) (joints homes : List ℕ) (w : Wi
 
   -- a packet that leaves by a joint whose numbers are the plan's
   joint_number : (v : ℕ) (k : Kind) (a p : ℕ) → ((n t : ℕ) → joint_of_byte v ≡ Router n t → n < h.routers)
-      → ((n : ℕ) → joint_of_byte v ≡ Active n → n < h.actives) → ((n : ℕ) → joint_of_byte v ≡ Passive n → n < h.passives)
+      → ((n : ℕ) → joint_of_byte v ≡ Active n → n < h.actives) → ((n : ℕ) → joint_of_byte v ≡ Passive n → n <
+      h.passives)
       → across_of h routes v (goes_back k) a ≡ number_or net (across net (heading_of k) a p (joint_of_byte v))
   unfolding across_of joint_of_byte table_plan number
   joint_number v k a p fr fa fp = by (test (eqb (v / 64) 1)) (test (eqb (v / 64) 2)) (test (eqb (v / 64) 3))
@@ -144,14 +145,16 @@ module _ (h : Head) (routes : List (List ℕ)) (joints homes : List ℕ) (w : Wi
 
   -- from a unit
   column_side : (k : Kind) (a p r : ℕ)
-      → get_or (get_or routes r []) (column_of h (goes_back k) a p) no_side ≡ route_to net (destination (heading_of k) a p) r
+      → get_or (get_or routes r []) (column_of h (goes_back k) a p) no_side ≡ route_to net
+      (destination (heading_of k) a p) r
   unfolding table_plan column_of
   column_side Setup a p r = refl
   column_side Tdown a p r = refl
   column_side Ack a p r = refl
   column_side Nack a p r = refl
 
-  home_is : (e : Interface) (d : ℕ) → d < destinations h → interface_at h d ≡ e → port_of (get_or homes d 0) ≡ home net e
+  home_is : (e : Interface) (d : ℕ) → d < destinations h → interface_at h d ≡ e → port_of (get_or homes d 0) ≡ home net
+      e
   unfolding home
   home_is e d l q = ap port_of (w.ports d l ∙ ap (λ (x : Interface). port_or0 (ports_of net x)) q)
 

@@ -7,9 +7,11 @@ use Rattle.packets.specs.declared.Kind.{Kind}
 use Rattle.packets.specs.declared.Kind.TheVariants.{Setup, Tdown, Ack, Nack}
 use Rattle.packets.specs.declared.Packet.{Packet}
 use Rattle.plan.specs.Plan.{Plan}
-use Rattle.plan_queues.specs.Queue.{Queue, active_out, active_in, passive_in, passive_out, U, Q, F, K, Exists, number, queues}
+use Rattle.plan_queues.specs.Queue.{Queue, active_out, active_in, passive_in, passive_out, U, Q, F, K, Exists, number}
+use Rattle.plan_queues.specs.Queue.{queues}
 use Rattle.plan_queues.specs.Queue.{queue_at}
-use Rattle.plan_queues.specs.Feeds.{Output, to_unit, output_of, in_queue, leaves_from, Stands, Ahead, Back, Fits, came_in}
+use Rattle.plan_queues.specs.Feeds.{Output, to_unit, output_of, in_queue, leaves_from, Stands, Ahead, Back, Fits}
+use Rattle.plan_queues.specs.Feeds.{came_in}
 use Rattle.plan_facts.specs.Wired.{Wired}
 use Rattle.plan_journeys.proofs.CameIn.{came_in_lem}
 use Rattle.rules.specs.Valid.{Belongs}

@@ -180,7 +180,8 @@ module _ {h : Head} {routes : List (List ℕ)} {joints homes : List ℕ} (w : Wi
       rw (turn_is r) (holds_then pl k x (λ s t. turns w.wired (range_of w) r s (has_routers (omega arith)) t))
 
   pub units_more : {r : ℕ} {b c d : List ℕ} → r < 4 * h.routers → Steps pl (Turn pl 0) (up_to (unit_at pl) r) b c
-      → Steps pl (Turn pl (4 * (r / 4) + r % 4)) (unit_at pl r) c d → Steps pl (Turn pl 0) (up_to (unit_at pl) (r + 1)) b d
+      → Steps pl (Turn pl (4 * (r / 4) + r % 4)) (unit_at pl r) c d → Steps pl (Turn pl 0) (up_to (unit_at pl) (r + 1))
+      b d
   units_more {r} l x y =
       steps_more pl (unit_at pl) r x (λ s t. turns w.wired (range_of w) r s (has_routers (omega arith)) t)
       (rw (turn_is r) at y)

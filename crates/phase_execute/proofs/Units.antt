@@ -190,7 +190,8 @@ module _ {pl : Plan} (wired : Wired pl) (range : InRange pl.head) (r i : ℕ) (h
             (handled_ends (queue_of (queue_row pl (Q r i)) x (set b (entry_row pl r side slot) 0)) (S pl) q t)
             ∙ ap (λ (t : State). encode pl t rest) (sym (unit_ends pl r i s x g.rest g.line g.fresh q t))
         by s rest g w (inr t) =
-            settle_stays pl r i hr x 0 (S pl) (with_entry r side slot Free s) rest (set b (entry_row pl r side slot) 0) w
+            settle_stays pl r i hr x 0 (S pl) (with_entry r side slot Free s) rest (set b (entry_row pl r side slot) 0)
+            w
             (g.turn.down r i (omega arith) hr) g.rest g.line (freed (S pl) x)
             (handled_freed (queue_of (queue_row pl (Q r i)) x (set b (entry_row pl r side slot) 0)) (S pl) q t)
             ∙ ap (λ (t : State). encode pl t rest) (sym (unit_frees pl r i s x g.rest g.line g.fresh q t))

@@ -7,7 +7,8 @@ use Rattle.packets.specs.declared.Entry.{Entry}
 use Rattle.rules.specs.State.{is_free}
 use Rattle.phase_unit.specs.declared.Queue.{Queue}
 use Rattle.phase_unit.specs.Handled.{Ready, handled_of}
-use Rattle.bytes_layout.specs.Offsets.{flag_byte, handled_byte, length_byte, first_place, places, queue_width, entry_width}
+use Rattle.bytes_layout.specs.Offsets.{flag_byte, handled_byte, length_byte, first_place, places, queue_width}
+use Rattle.bytes_layout.specs.Offsets.{entry_width}
 use Rattle.bytes_layout.specs.Places.{packet_bytes}
 use Rattle.bytes_layout.specs.Decode.{length_at, entry_at}
 use Rattle.bytes_layout.specs.Updates.{pop_at}

@@ -32,7 +32,8 @@ use Rattle.bytes_layout.specs.Decode.{length_at, entry_at}
 use Rattle.bytes_layout.specs.Encode.{encode}
 use Rattle.bytes_layout.proofs.Readings.{slot_at, entry_at_lem, last_sender_at}
 use Rattle.bytes_steps.specs.Acts.{Holds, Steps}
-use Rattle.bytes_steps.specs.Counts.{queue_count, output_count, outputs_from, outputs_at_lem, table_from, turns_from, turns_at_lem}
+use Rattle.bytes_steps.specs.Counts.{queue_count, output_count, outputs_from, outputs_at_lem, table_from, turns_from}
+use Rattle.bytes_steps.specs.Counts.{turns_at_lem}
 use Rattle.next_queue.specs.Wiring.{Wiring}
 use Rattle.next_queue.specs.Next.{number_or, AtUnit}
 use Rattle.next_queue.proofs.Onward.{onward_at}
@@ -113,7 +114,8 @@ module _ {h : Head} {routes : List (List ℕ)} {joints homes : List ℕ} (w : Wi
       (queue_room pl k.state k.rest b k.same (queue_at pl n) (exists_at pl n hn))
 
   -- ---- a head that may leave
-  module _ (m : ℕ) {n : ℕ} {b : List ℕ} (hn : n < queue_count h) (eo : output_of (queue_at pl n) ≡ some (output_at pl m))
+  module _ (m : ℕ) {n : ℕ} {b : List ℕ} (hn : n < queue_count h)
+      (eo : output_of (queue_at pl n) ≡ some (output_at pl m))
       (k : Holds pl (Leaves pl n) b) {x : Packet} (ex : x ≡ packet_at (2 + 39 * n + 4) b) where
     goes : Going w.wired (range_of w) m n b k.state
     goes = going w.wired (range_of w) m n k.state k.rest b (is_queue hn) eo k.fit k.same

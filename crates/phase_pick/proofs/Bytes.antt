@@ -21,7 +21,8 @@ use Rattle.bytes_layout.specs.Offsets.{size, outputs_at, table_at, turns_at, que
 use Rattle.bytes_layout.specs.Codes.{flag_of, entry_from}
 use Rattle.bytes_layout.specs.Decode.{length_at}
 use Rattle.bytes_layout.specs.Encode.{encode}
-use Rattle.bytes_layout.proofs.Readings.{length_bytes, queue_inside, output_inside, turn_inside, entry_inside, mark_at_lem}
+use Rattle.bytes_layout.proofs.Readings.{length_bytes, queue_inside, output_inside, turn_inside, entry_inside}
+use Rattle.bytes_layout.proofs.Readings.{mark_at_lem}
 use Rattle.bytes_layout.proofs.Readings.{length_at_lem}
 
 -- a line of no packets is empty, and another has a head

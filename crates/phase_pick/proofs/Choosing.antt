@@ -16,7 +16,8 @@ use Rattle.kinds.specs.declared.Credit.{Credit}
 use Rattle.packets.specs.declared.Packet.{Packet}
 use Rattle.plan.specs.Head.{InRange}
 use Rattle.plan.specs.Plan.{Plan}
-use Rattle.plan_queues.specs.Queue.{Queue, active_out, active_in, passive_in, passive_out, U, Q, F, K, Exists, number, queues}
+use Rattle.plan_queues.specs.Queue.{Queue, active_out, active_in, passive_in, passive_out, U, Q, F, K, Exists, number}
+use Rattle.plan_queues.specs.Queue.{queues}
 use Rattle.plan_queues.specs.Queue.{queue_at}
 use Rattle.plan_queues.specs.Role.{is_unit}
 use Rattle.plan_queues.specs.Feeds.{Output, heading_of, output_of, next, leaves_from}
@@ -100,7 +101,8 @@ module _ {pl : Plan} (wired : Wired pl) (range : InRange pl.head) where
     pub goes : next_by pl (output_at pl m) head ≡ some onto
     pub there : Exists pl onto
 
-  pub going : (m n : ℕ) (s : State) (rest b : List ℕ) → n < queues pl → output_of (queue_at pl n) ≡ some (output_at pl m)
+  pub going : (m n : ℕ) (s : State) (rest b : List ℕ) → n < queues pl → output_of (queue_at pl n) ≡ some
+      (output_at pl m)
       → Leaves pl n s → b ≡ encode pl s rest → Going m n b s
   unfolding next
   going m n s rest b hn eo l e = by (line_some (s.lines.queue (queue_at pl n)) l.some)
@@ -339,7 +341,8 @@ module _ {pl : Plan} (wired : Wired pl) (range : InRange pl.head) where
       next_nobody pl (candidate pl s (output_at pl m)) (s.last_sender (output_at pl m)) n c
       (λ j l. empty_not s (output_at pl m) (queue_at pl (n + j))
       (let hn : n + j < queues pl = below j l in
-      no_packet pl s rest b e (queue_at pl (n + j)) (exists_at pl (n + j) hn) (rw (row_at_lem pl (n + j) hn) (z j l)))) in
+      no_packet pl s rest b e (queue_at pl (n + j)) (exists_at pl (n + j) hn) (rw (row_at_lem pl (n + j) hn) (z j l))))
+      in
       let g : picked pl s (output_at pl m) ≡ nobody =
       ap (λ (qs : List Queue). pick (is_open s (output_at pl m))
       (next_of (candidate pl s (output_at pl m)) (s.last_sender (output_at pl m)) qs) nobody) ss.are

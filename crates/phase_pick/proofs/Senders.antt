@@ -127,9 +127,11 @@ module _ (pl : Plan) where
       by (inr g) = rw (le-ltb j o g) (hr, omega arith, ho, λ z. omega arith)
 
   -- the sender of rank k at a side, and U[k], by their numbers
-  sender_at_lem : (r o k n : ℕ) → r < R pl → o < 4 → k < 5 → n ≡ base r + 8 + 5 * o + k → queue_at pl n ≡ sender_at r o k
+  sender_at_lem : (r o k n : ℕ) → r < R pl → o < 4 → k < 5 → n ≡ base r + 8 + 5 * o + k → queue_at pl n ≡ sender_at r o
+      k
   sender_at_lem r o k n hr ho hk e =
-      ap (queue_at pl) (e ∙ sym (sender_number r o k ho)) ∙ queue_at_lem pl (sender_at r o k) (sender_here r o k hr ho hk)
+      ap (queue_at pl) (e ∙ sym (sender_number r o k ho)) ∙ queue_at_lem pl (sender_at r o k)
+      (sender_here r o k hr ho hk)
 
   up_at : (r k n : ℕ) → r < R pl → k < 4 → n ≡ base r + k → queue_at pl n ≡ U r k
   unfolding number

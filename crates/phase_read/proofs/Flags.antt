@@ -81,7 +81,8 @@ module _ (n i : ℕ) (b : List ℕ) (at : i ≡ 2 + 39 * n) where
         ∙ flag_at_lem pl s rest b e (queue_at pl n) (exists_at pl n l)
 
     credit_is : ◌≡◌ {A = Credit} (record { 0 = get_or b i 0 }) (s.flow.credit (queue_at pl n))
-    credit_is = ap (λ (k : ℕ). record { 0 = get_or b k 0 }) (first i) ∙ ap (λ (k : ℕ). credit_at k b) (row_of pl n i l at)
+    credit_is = ap (λ (k : ℕ). record { 0 = get_or b k 0 }) (first i) ∙ ap (λ (k : ℕ). credit_at k b)
+        (row_of pl n i l at)
         ∙ credit_at_lem pl s rest b e (queue_at pl n) (exists_at pl n l)
 
   -- a flag that is down: nothing is done

@@ -19,7 +19,8 @@ use Rattle.bytes_layout.specs.Named.{exists_test_lem}
 use Rattle.bytes_layout.specs.Offsets.{credit_byte, queue_row, output_row, turn_row, size}
 use Rattle.bytes_layout.proofs.Readings.{length_bytes, queue_inside, output_inside, turn_inside}
 use Rattle.bytes_steps.specs.Acts.{Holds}
-use Rattle.bytes_steps.specs.Counts.{queue_count, output_count, outputs_from, turns_from, queues_by, outputs_at_lem, turns_at_lem}
+use Rattle.bytes_steps.specs.Counts.{queue_count, output_count, outputs_from, turns_from, queues_by, outputs_at_lem}
+use Rattle.bytes_steps.specs.Counts.{turns_at_lem}
 use Rattle.next_queue.specs.Next.{number_or}
 
 -- the head of the plan that tables give

@@ -11,7 +11,8 @@ use Rattle.basis.specs.Bounded.{lt_or_ge}
 use Rattle.plan.specs.declared.Head.{Head}
 use Rattle.plan.specs.Head.{destinations}
 use Rattle.plan.specs.Plan.{Plan, A, P}
-use Rattle.plan_queues.specs.Queue.{Queue, active_out, active_in, passive_in, passive_out, U, Q, F, K, number, rank, sender_at}
+use Rattle.plan_queues.specs.Queue.{Queue, active_out, active_in, passive_in, passive_out, U, Q, F, K, number, rank}
+use Rattle.plan_queues.specs.Queue.{sender_at}
 use Rattle.plan_queues.specs.Role.{Role, sending, handling, passing, role}
 use Rattle.plan_queues.specs.Feeds.{Output, of_active, of_passive, of_side, to_unit, from_unit, output_of}
 use Rattle.plan_journeys.proofs.Places.{some_same, some_not_none}

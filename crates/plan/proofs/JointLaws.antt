@@ -77,7 +77,8 @@ router_at i w h = by (kind_of w)
     by (to_none e f g) = rw (of_none w e f g) (sym (ne_eqb w (64 + i) (λ q. e (omega arith))))
 
 module _ (h : Head) (js : List ℕ) (i : ℕ) where
-  pub back_none : (get_or js i 0 / 64 ≡ 1 → ⊥) → true ≡ back_ok (table_plan h [] js) i (joint_of_port (table_plan h [] js) i)
+  pub back_none : (get_or js i 0 / 64 ≡ 1 → ⊥) → true ≡ back_ok (table_plan h [] js) i
+      (joint_of_port (table_plan h [] js) i)
   back_none n = rw (port_joint h [] js i) (by (kind_of (get_or js i 0)))
     where
       by : Kind (get_or js i 0) → true ≡ back_ok (table_plan h [] js) i (joint_of_byte (get_or js i 0))

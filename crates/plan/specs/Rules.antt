@@ -1,5 +1,6 @@
 -- The plan rules behind refusals 3, 4 and 5, each as what document 01 says, and as a test.
-use Rattle.std.specs.Prelude.{◌≡◌, ◌⊎◌, ◌≢◌, Bool, true, false, not, ◌&&◌, ◌||◌, List, ℕ, ◌+◌, ◌*◌, ◌-◌, ◌/◌, ◌%◌, ◌≤◌, ◌<◌, eqb, ltb, length}
+use Rattle.std.specs.Prelude.{◌≡◌, ◌⊎◌, ◌≢◌, Bool, true, false, not, ◌&&◌, ◌||◌, List, ℕ, ◌+◌, ◌*◌, ◌-◌, ◌/◌, ◌%◌, ◌≤◌}
+use Rattle.std.specs.Prelude.{◌<◌, eqb, ltb, length}
 use Rattle.basis.specs.Choice.{pick}
 use Rattle.basis.specs.Bounded.{all_below}
 use Rattle.basis.specs.Fold.{up_to}

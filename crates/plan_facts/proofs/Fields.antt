@@ -16,7 +16,8 @@ use Rattle.fields.specs.Laws.{field_lt}
 use Rattle.plan.specs.declared.Head.{Head}
 use Rattle.plan.specs.Head.{head_of, destinations, bit_count}
 use Rattle.plan.specs.Plan.{joint_at, route_at, no_side}
-use Rattle.plan.specs.Rules.{Filled, fill_ok, JointFits, joint_ok, RouteFits, route_ok, FieldsFit, joint_there, route_there}
+use Rattle.plan.specs.Rules.{Filled, fill_ok, JointFits, joint_ok, RouteFits, route_ok, FieldsFit, joint_there}
+use Rattle.plan.specs.Rules.{route_there}
 use Rattle.plan.specs.Rules.{fields_ok}
 use Rattle.plan_facts.proofs.Heads.{and_both, and_of}
 
@@ -122,7 +123,8 @@ fields_ok_lem b e = let parts = and_both e in record { joints = joints' parts.0;
         → RouteFits (field_of b (route_at (head_of b) r d) 3)
     routes' t r d l m =
         let row = all_at (head_of b).routers (λ q. all_below (destinations (head_of b)) (route_there b q)) t r l in
-        route_ok_lem (field_of b (route_at (head_of b) r d) 3) (all_at (destinations (head_of b)) (route_there b r) row d m)
+        route_ok_lem (field_of b (route_at (head_of b) r d) 3) (all_at (destinations (head_of b)) (route_there b r) row
+        d m)
 
 -- Later fields in their ranges pass the test.
 pub ok_fields : (b : List ℕ) → FieldsFit b → fields_ok b ≡ true

@@ -18,9 +18,11 @@ use Rattle.plan.specs.declared.Joint.{Joint}
 use Rattle.plan.specs.declared.Joint.TheVariants.{Nothing, Router, Active, Passive}
 use Rattle.plan.specs.Head.{InRange, head_of, destinations, routes_at}
 use Rattle.plan.specs.Plan.{no_side, joint_at, route_at, joint_from, joint_in, plan_of}
-use Rattle.plan.specs.Rules.{joint_ok, route_ok, joint_there, route_there, fields_ok, joint_of_port, back_ok, named_ok, ports_of}
+use Rattle.plan.specs.Rules.{joint_ok, route_ok, joint_there, route_there, fields_ok, joint_of_port, back_ok, named_ok}
+use Rattle.plan.specs.Rules.{ports_of}
 use Rattle.plan.specs.Rules.{interfaces_ok}
-use Rattle.plan.specs.Tables.{joint_byte, joint_of_byte, joint_byte_ok, joints_of, row_of, routes_of, table_plan, joint_bytes_ok}
+use Rattle.plan.specs.Tables.{joint_byte, joint_of_byte, joint_byte_ok, joints_of, row_of, routes_of, table_plan}
+use Rattle.plan.specs.Tables.{joint_bytes_ok}
 use Rattle.plan.specs.Tables.{row_ok, routes_ok}
 use Rattle.plan_facts.proofs.Heads.{counts_most}
 use Rattle.fields.specs.Laws.{field_lt}
@@ -33,7 +35,8 @@ replicate_at (suc n) a zero = refl
 replicate_at (suc n) a (suc i) = replicate_at n a i
 
 -- Every entry of every row is the one value, also past the rows.
-pub replicate_row : {A : Type 0} (m n : ℕ) (a : A) (r d : ℕ) → get_or (get_or (replicate m (replicate n a)) r []) d a ≡ a
+pub replicate_row : {A : Type 0} (m n : ℕ) (a : A) (r d : ℕ) → get_or (get_or (replicate m (replicate n a)) r []) d a ≡
+    a
 replicate_row zero n a r d = refl
 replicate_row (suc m) n a zero d = replicate_at n a d
 replicate_row (suc m) n a (suc r) d = replicate_row m n a r d
@@ -81,7 +84,8 @@ module _ (b : List ℕ) (range : InRange (head_of b)) where
 
   -- ---- refusal 4 over the tables
   -- The tables pass their test where the bytes' later fields pass theirs.
-  pub tables_ok : (joint_bytes_ok (head_of b) (joints_of b (head_of b)) && routes_ok (head_of b) (routes_of b (head_of b)))
+  pub tables_ok : (joint_bytes_ok (head_of b) (joints_of b (head_of b)) && routes_ok (head_of b)
+      (routes_of b (head_of b)))
       ≡ fields_ok b
   unfolding fields_ok joint_bytes_ok joint_byte_ok routes_ok row_ok
   tables_ok =
@@ -95,9 +99,11 @@ module _ (b : List ℕ) (range : InRange (head_of b)) where
           → joint_byte_ok (head_of b) (get_or (joints_of b (head_of b)) i 0) ≡ joint_there b (45 + 8 * i)
       joint' i l = ap (joint_byte_ok (head_of b)) (joints_at i l) ∙ joint_parts b i (joint_ok (head_of b))
 
-      row' : (r : ℕ) → r < (head_of b).routers → row_ok (get_or (routes_of b (head_of b)) r []) (destinations (head_of b))
+      row' : (r : ℕ) → r < (head_of b).routers → row_ok (get_or (routes_of b (head_of b)) r [])
+          (destinations (head_of b))
           ≡ all_below (destinations (head_of b)) (route_there b r)
-      row' r l = all_same (destinations (head_of b)) (λ d. route_ok (get_or (get_or (routes_of b (head_of b)) r []) d no_side))
+      row' r l = all_same (destinations (head_of b)) (λ d. route_ok
+          (get_or (get_or (routes_of b (head_of b)) r []) d no_side))
           (route_there b r) (λ d m. ap route_ok (routes_at_lem r d l m))
 
   -- ---- the plan of the tables
@@ -166,7 +172,8 @@ module _ (h : Head) (routes other : List (List ℕ)) (joints : List ℕ) where
   pub named_alike : named_ok (table_plan h routes joints) ≡ named_ok (table_plan h other joints)
   unfolding named_ok table_plan
   named_alike =
-      all_same (4 * h.routers) (λ i. back_ok (table_plan h routes joints) i (joint_of_port (table_plan h routes joints) i))
+      all_same (4 * h.routers) (λ i. back_ok (table_plan h routes joints) i
+      (joint_of_port (table_plan h routes joints) i))
       (λ i. back_ok (table_plan h other joints) i (joint_of_port (table_plan h other joints) i))
       (λ i l. alike i (joint_of_port (table_plan h routes joints) i))
     where

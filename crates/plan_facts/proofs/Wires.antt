@@ -29,7 +29,8 @@ home_inside {pl} e w h =
 
 -- ---- the joints of a plan's bytes
 -- The joint of a side inside the plan is the one that its bits give.
-pub plan_joint : (b : List ℕ) (r s : ℕ) → r < (head_of b).routers → s < 4 → (plan_of b).joint r s ≡ joint_in b (joint_at r s)
+pub plan_joint : (b : List ℕ) (r s : ℕ) → r < (head_of b).routers → s < 4 → (plan_of b).joint r s ≡ joint_in b
+    (joint_at r s)
 unfolding plan_of
 plan_joint b r s l m = rw (lt-ltb r (head_of b).routers l, lt-ltb s 4 m)
 
@@ -80,7 +81,8 @@ fits_known pl kind number side e f q = by f
     by (inr (inr (inr (k, n, s)))) = subst (Has pl) (interface_same (passive number) e (at 3 k)) n
 
 -- The plan of bytes whose later fields are in range, and whose joints pass both tests, is wired.
-pub wired : (b : List ℕ) → FieldsFit b → named_ok (plan_of b) ≡ true → interfaces_ok (plan_of b) ≡ true → Wired (plan_of b)
+pub wired : (b : List ℕ) → FieldsFit b → named_ok (plan_of b) ≡ true → interfaces_ok (plan_of b) ≡ true → Wired
+    (plan_of b)
 unfolding joint_in plan_of
 wired b f n i =
     record {
@@ -103,5 +105,6 @@ pub plan_match : (b : List ℕ) → named_ok (plan_of b) ≡ true → interfaces
 plan_match b = joints_ok (plan_of b) (plan_inside b) (plan_sided b)
 
 -- Joints of the plan that bytes give that match pass both tests.
-pub match_plan : (b : List ℕ) → JointsMatch (plan_of b) → (named_ok (plan_of b) ≡ true) × (interfaces_ok (plan_of b) ≡ true)
+pub match_plan : (b : List ℕ) → JointsMatch (plan_of b) → (named_ok (plan_of b) ≡ true) ×
+    (interfaces_ok (plan_of b) ≡ true)
 match_plan b = ok_joints (plan_of b) (plan_inside b)

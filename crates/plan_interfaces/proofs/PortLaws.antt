@@ -98,7 +98,8 @@ module _ (h : Head) (js : List ℕ) where
     ports_hit d w l e =
         up_same (hit_step js w) (port_step pl (interface_at h d)) (4 * h.routers) Missing
         (λ i t k. rw e
-        (sym (port_step_lem (interface_at h d) i t ∙ ap (λ (b : Bool). meet b i t) (leads h act pas d l (get_or js i 0)))))
+        (sym (port_step_lem (interface_at h d) i t ∙ ap (λ (b : Bool). meet b i t)
+        (leads h act pas d l (get_or js i 0)))))
         ∙ sym (ports_up (interface_at h d))
 
     -- ---- one pass: each column's cell is that of the interface's ports so far
@@ -145,7 +146,8 @@ module _ (h : Head) (js : List ℕ) where
             ap (λ (k : ℕ). get_or (set t c x) k 0) q
             ∙ get_or-set_same t c x 0 (rw len k)
             ∙ ap (λ (k : ℕ). mark_of k i) (ap (λ (k : ℕ). get_or t k 0) (sym q) ∙ cells d m)
-            ∙ mark_cell i (up_to (port_step pl (interface_at h d)) i Missing) (omega (arith, small (interface_at h d) i))
+            ∙ mark_cell i (up_to (port_step pl (interface_at h d)) i Missing)
+            (omega (arith, small (interface_at h d) i))
             ∙ ap cell_of (sym (next d m true e))
         at k d m (inr e) = get_or-set_other t c d x 0 (eqb-false d c e) ∙ miss_cell d m e
 

@@ -41,7 +41,8 @@ module _ (pl : Plan) (a p : ℕ) where
   back_visits (passive_in x) n f = f
   back_visits (U r i) n f = f
 
-  pub fits_visits : (k : Kind) (hub : ℕ) (x : Queue) → Fits pl k a p hub (leaves_from x) → Visits pl (heading_of k) a p x
+  pub fits_visits : (k : Kind) (hub : ℕ) (x : Queue) → Fits pl k a p hub (leaves_from x) → Visits pl (heading_of k) a p
+      x
   fits_visits Setup hub x f = ahead_visits x hub f
   fits_visits Tdown hub x (n, f, h, l) = ahead_visits x n f
   fits_visits Ack hub x (f, e) = back_visits x hub f

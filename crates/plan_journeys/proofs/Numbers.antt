@@ -6,7 +6,8 @@ use native.Mathlib.Omega.{arith}
 use borrow.Author.Tests.{lt-ltb, le-ltb}
 use Rattle.basis.specs.Bounded.{lt_or_ge}
 use Rattle.plan.specs.Plan.{Plan, R, A}
-use Rattle.plan_queues.specs.Queue.{Queue, active_out, active_in, passive_in, passive_out, U, Q, F, K, Exists, ahead, back}
+use Rattle.plan_queues.specs.Queue.{Queue, active_out, active_in, passive_in, passive_out, U, Q, F, K, Exists, ahead}
+use Rattle.plan_queues.specs.Queue.{back}
 use Rattle.plan_queues.specs.Queue.{rank}
 use Rattle.plan_queues.specs.Queue.{outs, router_base, in_base, number, queues, sender_at, in_router, queue_at}
 
@@ -28,7 +29,8 @@ module _ (pl : Plan) where
       )
 
   -- the sender of rank j at side o
-  sender_queue : (r o j : ℕ) → r < R pl → o < 4 → j < 5 → queue_at pl (router_base pl r + 8 + 5 * o + j) ≡ sender_at r o j
+  sender_queue : (r o j : ℕ) → r < R pl → o < 4 → j < 5 → queue_at pl (router_base pl r + 8 + 5 * o + j) ≡ sender_at r o
+      j
   sender_queue r o j h ho hj =
       let at : router_base pl r + 8 + 5 * o + j ≡ router_base pl r + (8 + 5 * o + j) = omega arith in
       let d : (8 + 5 * o + j - 8) / 5 ≡ o = omega arith in
@@ -72,7 +74,8 @@ module _ (pl : Plan) where
       ∙ rw (le-ltb (4 + i) 4 (omega arith), lt-ltb (4 + i) 8 (omega arith), m)
   queue_at_lem (F ahead r o) (h, l) = sender_queue r o 0 h l (omega arith)
   queue_at_lem (F back r o) (h, l) = sender_queue r o 1 h l (omega arith)
-  queue_at_lem (K r i o) (h, hi, ho, ne) = sender_queue r o (rank i o) h ho (rank_small i o hi ho ne) ∙ crossing r i o ne
+  queue_at_lem (K r i o) (h, hi, ho, ne) = sender_queue r o (rank i o) h ho (rank_small i o hi ho ne) ∙ crossing r i o
+      ne
   queue_at_lem (active_in a) h =
       rw (
         le-ltb (in_base pl + a) (A pl) (omega arith),

@@ -93,7 +93,8 @@ module _ {pl : Plan} (wired : Wired pl) where
 
   pub walk_of : (e : Interface) (from : Port) → arrives pl e from ≡ true → Walk pl e from
   unfolding arrives
-  walk_of e from t = (way_of_end (onward pl e) router_of (alike pl e) (R pl) from (end_of (walked pl e (R pl) from) t)).0
+  walk_of e from t = (way_of_end (onward pl e) router_of (alike pl e) (R pl) from
+      (end_of (walked pl e (R pl) from) t)).0
 
   -- a walk has at most R routers
   pub walk_short : (e : Interface) (from : Port) → from.router < R pl → (w : Walk pl e from) → w.size ≤ R pl

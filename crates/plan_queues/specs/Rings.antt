@@ -13,7 +13,8 @@ use Rattle.plan.specs.Rules.{ports_of, home}
 use Rattle.plan_walks.specs.Walk.{onward}
 use Rattle.plan_walks.specs.Steps.{index_in, index_on}
 use Rattle.plan.specs.Samples.{crossing}
-use Rattle.plan_queues.specs.Queue.{Heading, ahead, back, Queue, active_out, active_in, passive_in, passive_out, U, Q, F}
+use Rattle.plan_queues.specs.Queue.{Heading, ahead, back, Queue, active_out, active_in, passive_in, passive_out, U, Q}
+use Rattle.plan_queues.specs.Queue.{F}
 use Rattle.plan_queues.specs.Queue.{K}
 use Rattle.plan_queues.specs.Queue.{number}
 use Rattle.plan_queues.specs.Role.{is_unit}
@@ -106,8 +107,8 @@ one_f (K r i o) = K r i o
 -- the pairs of the crossing plan, all of which are served: set-ups cross both ways, and each active reaches the passive
 -- at its own router
 unfoldable pub crossing_ring : (Queue → Queue) → Bool
-unfolding up_to spot bit_at field_of capacity_at head_of joint_in plan_of ports_of home onward index_in index_on came_in next
-    number
+unfolding up_to spot bit_at field_of capacity_at head_of joint_in plan_of ports_of home onward index_in index_on came_in
+    next number
 crossing_ring m = ring_in (of_pairs (plan_of crossing) (λ q. number (plan_of crossing) (m q)))
   where
     of_pairs : Plan → (Queue → ℕ) → List Edge

@@ -341,7 +341,8 @@ module _ (g : ℕ → ℕ) where
 
 -- ---- the four sides
 pub laid : (s d : ℕ) (l : List ℕ) → length l ≡ 4 → {a b c e : ℕ} → a ≡ either (get_or l 0 0) (lane_of s 0 d)
-    → b ≡ either (get_or (set l 0 a) 1 0) (lane_of s 1 d) → c ≡ either (get_or (set (set l 0 a) 1 b) 2 0) (lane_of s 2 d)
+    → b ≡ either (get_or (set l 0 a) 1 0) (lane_of s 1 d) → c ≡ either (get_or (set (set l 0 a) 1 b) 2 0)
+    (lane_of s 2 d)
     → e ≡ either (get_or (set (set (set l 0 a) 1 b) 2 c) 3 0) (lane_of s 3 d)
     → Laid s d l (set (set (set (set l 0 a) 1 b) 2 c) 3 e)
 laid s d [] h p q r t = absurd (omega arith)

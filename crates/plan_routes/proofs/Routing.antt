@@ -113,7 +113,8 @@ rows_done b h few routers r {t} {by} {ok} e w = record { table = table'; sides =
     table' = up_done (fill (λ x. row_of b (destinations h) (at b (destinations h) (routes_at h) x)))
         (replicate 16 (replicate 32 no_side)) w.table e
 
-    row_at_lem : (x : ℕ) → x < h.routers → get_or t x [] ≡ row_of b (destinations h) (at b (destinations h) (routes_at h) x)
+    row_at_lem : (x : ℕ) → x < h.routers → get_or t x [] ≡ row_of b (destinations h)
+        (at b (destinations h) (routes_at h) x)
     row_at_lem x l =
         ap (λ (y : List (List ℕ)). get_or y x []) table'
         ∙ fill_at (λ q. row_of b (destinations h) (at b (destinations h) (routes_at h) q)) h.routers

@@ -1,5 +1,6 @@
 -- How the code reads routes: row by row, into the table and into sets of columns by side.
-use Rattle.std.specs.Prelude.{◌≡◌, Bool, ◌&&◌, List, ℕ, ◌+◌, ◌*◌, ◌/◌, ◌%◌, ◌^◌, ◌≤◌, ◌<◌, eqb, ltb, get_or, set, length, replicate}
+use Rattle.std.specs.Prelude.{◌≡◌, Bool, ◌&&◌, List, ℕ, ◌+◌, ◌*◌, ◌/◌, ◌%◌, ◌^◌, ◌≤◌, ◌<◌, eqb, ltb, get_or, set}
+use Rattle.std.specs.Prelude.{length, replicate}
 use Rattle.basis.specs.Bounded.{all_below}
 use Rattle.basis.specs.Fold.{up_to, fill}
 use Rattle.sets.specs.Sets.{has, single, either}

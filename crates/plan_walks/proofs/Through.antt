@@ -30,7 +30,8 @@ same_default (x ∷ l) (suc i) a b h = same_default l i a b (le_of_suc-le-suc h)
 -- ---- a joint's byte v tells where the walk to the interface of column d goes through it
 module _ (h : Head) (d v : ℕ) where
   -- it is there where v / 4 is what is wanted
-  pub through_end : h.actives ≤ 16 → v < 256 → v / 4 ≡ wanted_of h d → through (interface_at h d) (joint_of_byte v) ≡ end
+  pub through_end : h.actives ≤ 16 → v < 256 → v / 4 ≡ wanted_of h d → through (interface_at h d) (joint_of_byte v) ≡
+      end
   unfolding wanted_of joint_of_byte
   through_end k b e = by (test (ltb d h.actives))
     where
@@ -63,7 +64,8 @@ module _ (h : Head) (d v : ℕ) where
       rw (eq-eqb (v / 64) 1 e, r, s)
 
   -- and else nowhere
-  pub through_lost : (v / 4 ≡ wanted_of h d → ⊥) → (v / 64 ≡ 1 → ⊥) → through (interface_at h d) (joint_of_byte v) ≡ lost
+  pub through_lost : (v / 4 ≡ wanted_of h d → ⊥) → (v / 64 ≡ 1 → ⊥) → through (interface_at h d) (joint_of_byte v) ≡
+      lost
   unfolding wanted_of joint_of_byte
   through_lost f g = by (test (ltb d h.actives)) (test (eqb (v / 64) 2)) (test (eqb (v / 64) 3))
     where

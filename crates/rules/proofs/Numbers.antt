@@ -13,7 +13,8 @@ use borrow.Author.Tests.{ltb-true, ltb-false, lt-ltb, le-ltb}
 use Rattle.basis.specs.Choice.{pick}
 use Rattle.basis.specs.Bounded.{lt_or_ge}
 use Rattle.plan.specs.Plan.{Plan, R, A}
-use Rattle.plan_queues.specs.Queue.{Queue, K, Exists, outs, router_base, in_base, sender, number, queues, sender_at, in_router}
+use Rattle.plan_queues.specs.Queue.{Queue, K, Exists, outs, router_base, in_base, sender, number, queues, sender_at}
+use Rattle.plan_queues.specs.Queue.{in_router}
 use Rattle.plan_queues.specs.Queue.{queue_at}
 use Rattle.plan_queues.specs.Feeds.{Output, of_active, of_passive, of_side, to_unit, from_unit}
 use Rattle.plan_journeys.proofs.Places.{some_same, some_not_none}

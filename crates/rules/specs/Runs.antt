@@ -1,5 +1,5 @@
--- 'Runs to compare' of document 01, and more of the same kind: each is one list of calls. proofs/Runs has the theorems that
--- evaluate them.
+-- 'Runs to compare' of document 01, and more of the same kind: each is one list of calls. proofs/Runs has the theorems
+-- that evaluate them.
 pub mod Watch
 pub mod FirstBookings
 pub mod LastFree

@@ -15,8 +15,10 @@ use Rattle.plan.specs.declared.Joint.{Joint}
 use Rattle.plan.specs.declared.Joint.TheVariants.{Nothing, Router, Active, Passive}
 use Rattle.plan.specs.Plan.{Plan, R, A, P, S}
 use Rattle.plan_walks.specs.Served.{Served}
-use Rattle.plan_queues.specs.Queue.{Queue, active_out, active_in, passive_in, passive_out, U, Q, F, K, Exists, queues, queue_at}
-use Rattle.plan_queues.specs.Feeds.{Output, of_active, of_passive, of_side, to_unit, from_unit, Place, in_queue, Fits, head_place}
+use Rattle.plan_queues.specs.Queue.{Queue, active_out, active_in, passive_in, passive_out, U, Q, F, K, Exists, queues}
+use Rattle.plan_queues.specs.Queue.{queue_at}
+use Rattle.plan_queues.specs.Feeds.{Output, of_active, of_passive, of_side, to_unit, from_unit, Place, in_queue, Fits}
+use Rattle.plan_queues.specs.Feeds.{head_place}
 use Rattle.rules.specs.Capacity.{capacity}
 use Rattle.rules.specs.Store.{same_queue}
 use Rattle.rules.specs.Outputs.{next_by, senders, last_in_order, outputs, output_at}

@@ -24,9 +24,11 @@ use Rattle.plan_journeys.proofs.Places.{some_not_none}
 use Rattle.rules.specs.State.{State}
 use Rattle.rules.specs.Visits.{removed, noted, dropped, closed, is_empty, head_unmarked}
 use Rattle.rules.specs.Guards.{Guard, refusal_of, Passed}
-use Rattle.rules.specs.Calls.{Visit, of_launch, of_reply, of_look, of_drop, of_close, of_entry, of_remaining, Call, turn}
+use Rattle.rules.specs.Calls.{Visit, of_launch, of_reply, of_look, of_drop, of_close, of_entry, of_remaining, Call}
+use Rattle.rules.specs.Calls.{turn}
 use Rattle.rules.specs.Calls.{visit, drop}
-use Rattle.rules.specs.Calls.{close, Outcome, is_phase, launch_guards, reply_guards, look_guards, drop_guards, close_guards}
+use Rattle.rules.specs.Calls.{close, Outcome, is_phase, launch_guards, reply_guards, look_guards, drop_guards}
+use Rattle.rules.specs.Calls.{close_guards}
 use Rattle.rules.specs.Calls.{entry_guards, guards, accepted, decided, call}
 use Rattle.theory.specs.Does.{MayLaunch, MayDrop, MayClose, MayTell, Visited, launches, replies, looks, drops}
 use Rattle.theory.specs.Does.{closes, tells, counts, Does, refuses, turns, visits}
@@ -222,7 +224,8 @@ module _ (pl : Plan) (c : Call) (s : State) (e : refusal_of (guards pl c s) ≡ 
 -- ---- a call that is done
 module _ (pl : Plan) (s : State) where
   -- passed its guards, and gives what the rule gives
-  pub done_accepted : (c : Call) → (call pl c s).answer ≡ Done → Passed (guards pl c s) × (call pl c s ≡ accepted pl c s)
+  pub done_accepted : (c : Call) → (call pl c s).answer ≡ Done → Passed (guards pl c s) ×
+      (call pl c s ≡ accepted pl c s)
   unfolding call
   done_accepted c f = by (refusal_of (guards pl c s)) refl f
     where

@@ -22,7 +22,8 @@ use Rattle.rules.specs.Read.{deliver, settle, do_read}
 use Rattle.rules.specs.Execute.{unit, choose, undo, do_execute}
 use Rattle.rules.specs.Write.{send, do_write}
 use Rattle.rules.specs.Visits.{launched, reply_kind, replied, removed}
-use Rattle.rules.specs.Calls.{Visit, of_launch, of_reply, of_look, of_drop, of_close, of_entry, of_remaining, Call, turn}
+use Rattle.rules.specs.Calls.{Visit, of_launch, of_reply, of_look, of_drop, of_close, of_entry, of_remaining, Call}
+use Rattle.rules.specs.Calls.{turn}
 use Rattle.rules.specs.Calls.{visit, reply, look, entry, remaining, Outcome, gives, phase_step, call}
 use Rattle.rules.specs.Remaining.{remaining_in}
 use Rattle.theory.specs.Does.{Visited, launches, replies, looks, drops, closes, tells, counts, Does, refuses}

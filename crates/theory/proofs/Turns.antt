@@ -109,7 +109,8 @@ module _ (pl : Plan) where
           let ranks' = put_cases same_output output_same same_output_lem (λ (v : Output) (n : ℕ). Drives pl v
           → n < length (senders v)) s.last_sender o k (λ d. rank_below (senders o) k g.queue g.rank)
           (λ v ne. u.ranks v) in
-          let joined' = put_cases same_output output_same same_output_lem (λ (v : Output) (n : ℕ). (r i : ℕ) → v ≡ of_side r i
+          let joined' = put_cases same_output output_same same_output_lem
+          (λ (v : Output) (n : ℕ). (r i : ℕ) → v ≡ of_side r i
           → r < R pl → i < 4 → is_joined (pl.joint r i) ≡ false → n ≡ last_in_order v) s.last_sender o k
           (λ r i same hr hi z. absurd (unjoined_waits s r i k z (subst (λ (v : Output). Sendable pl s v k) same g)))
           (λ v ne r i same hr hi z. subst (λ (v : Output). s.last_sender v ≡ last_in_order v) (sym same)

@@ -13,7 +13,8 @@ use Rattle.plan_queues.specs.Queue.{active_out, active_in, passive_in, passive_o
 use Rattle.rules.specs.State.{State}
 use Rattle.rules.specs.Execute.{has_room, unmarked}
 use Rattle.rules.specs.Visits.{launched, reply_kind, replied, removed, noted, closed}
-use Rattle.rules.specs.Calls.{Visit, of_launch, of_reply, of_look, of_drop, of_close, of_entry, of_remaining, Call, turn}
+use Rattle.rules.specs.Calls.{Visit, of_launch, of_reply, of_look, of_drop, of_close, of_entry, of_remaining, Call}
+use Rattle.rules.specs.Calls.{turn}
 use Rattle.rules.specs.Calls.{visit, Outcome, gives, phase_step}
 use Rattle.rules.specs.Remaining.{remaining_in}
 

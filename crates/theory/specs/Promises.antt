@@ -7,7 +7,8 @@ use Rattle.packets.specs.declared.Phase.TheVariants.{Read}
 use Rattle.packets.specs.declared.Entry.TheVariants.{Booked}
 use Rattle.packets.specs.declared.Answer.TheVariants.{Done}
 use Rattle.plan.specs.Plan.{Plan, passive, R, S, route_to}
-use Rattle.plan_queues.specs.Queue.{ahead, back, Queue, active_out, active_in, passive_in, passive_out, U, Q, F, K, Exists}
+use Rattle.plan_queues.specs.Queue.{ahead, back, Queue, active_out, active_in, passive_in, passive_out, U, Q, F, K}
+use Rattle.plan_queues.specs.Queue.{Exists}
 use Rattle.plan_queues.specs.Feeds.{in_queue}
 use Rattle.rules.specs.State.{State, start, has_connection}
 use Rattle.rules.specs.Execute.{came_in}

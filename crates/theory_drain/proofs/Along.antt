@@ -138,7 +138,8 @@ module _ (pl : Plan) where
         → Spent pl x (after (of_rules pl) (cs ++ ds) s) → Own (cs ++ ds) s
     own_from e [] ds s now n can k = by (own_or_stays ds s now n)
       where
-        by : Own ds s ⊎ ((e : ℕ) → (call pl (asks x e) (after (of_rules pl) ds s)).answer ≡ (call pl (asks x e) s).answer)
+        by : Own ds s ⊎ ((e : ℕ) → (call pl (asks x e) (after (of_rules pl) ds s)).answer ≡
+            (call pl (asks x e) s).answer)
             → Own ds s
         by (inl o) = o
         by (inr h) = absurd (k e (h e ∙ can))

@@ -150,7 +150,8 @@ module _ (pl : Plan) where
   module _ {cs : List Call} {s : State} (k : Waiting pl cs s) where
     none_added : (c : Call) → adds c ≡ true → Made (of_rules pl) c cs s → ⊥
     none_added c a m =
-        (waiting_behind m.before (c ∷ m.behind) s (subst (λ (l : List Call). Waiting pl l s) m.split k)).0.none_added a m.done
+        (waiting_behind m.before (c ∷ m.behind) s (subst (λ (l : List Call). Waiting pl l s) m.split k)).0.none_added a
+        m.done
 
     -- at the end of a WRITE
     end_spent : (w : WriteIn (of_rules pl) cs s) (x : Interface)

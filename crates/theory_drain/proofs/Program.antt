@@ -104,7 +104,8 @@ module _ (pl : Plan) (c : ℕ → ℕ) (few : (p : ℕ) → c p ≤ 1) where
   all_asked (active a) h = (
     0,
     omega arith,
-    in_right (drop a) (replies_from c 0 (P pl)) (drops_from 0 (A pl)) (drop_among (A pl) 0 a (omega arith) (omega arith)),
+    in_right (drop a) (replies_from c 0 (P pl)) (drops_from 0 (A pl))
+        (drop_among (A pl) 0 a (omega arith) (omega arith)),
   )
   all_asked (passive p) h = (
     c p,

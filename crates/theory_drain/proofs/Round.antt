@@ -221,6 +221,7 @@ module _ {pl : Plan} (wired : Wired pl) (range : InRange pl.head) where
                 absurd (omega arith)
 
         first : SomePacket (λ p. e.lines.queue (passive_in p)) (P pl)
-            ⊎ ((p : ℕ) → p < P pl → e.lines.queue (passive_in p) ≡ []) → all_left pl (ruled_after pl cs e) < all_left pl e
+            ⊎ ((p : ℕ) → p < P pl → e.lines.queue (passive_in p) ≡ []) → all_left pl (ruled_after pl cs e) < all_left pl
+            e
         first (inl (p, l, y, ys, z)) = passive_now p l y ys z
         first (inr none) = any_now none q h x rest g

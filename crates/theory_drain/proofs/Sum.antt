@@ -17,7 +17,8 @@ use Rattle.plan.specs.Head.{InRange}
 use Rattle.plan.specs.Plan.{Plan, Port, active, passive, R}
 use Rattle.plan.specs.Rules.{home}
 use Rattle.plan_walks.specs.Walk.{onward, walk_size}
-use Rattle.plan_queues.specs.Queue.{Queue, active_out, active_in, passive_in, passive_out, U, Q, F, K, Exists, queues, queue_at}
+use Rattle.plan_queues.specs.Queue.{Queue, active_out, active_in, passive_in, passive_out, U, Q, F, K, Exists, queues}
+use Rattle.plan_queues.specs.Queue.{queue_at}
 use Rattle.plan_queues.specs.Queue.{ahead, back}
 use Rattle.plan_queues.specs.Feeds.{Output, Place, in_queue, handled_at}
 use Rattle.plan_queues.specs.Feeds.{Ahead, Back, Fits, head_place}

@@ -6,7 +6,8 @@ use Rattle.packets.specs.declared.Answer.{Answer}
 use Rattle.packets.specs.declared.Answer.TheVariants.{Done}
 use Rattle.plan.specs.Plan.{Plan}
 use Rattle.rules.specs.State.{State}
-use Rattle.rules.specs.Calls.{Visit, of_launch, of_reply, of_look, of_drop, of_close, of_entry, of_remaining, Call, turn}
+use Rattle.rules.specs.Calls.{Visit, of_launch, of_reply, of_look, of_drop, of_close, of_entry, of_remaining, Call}
+use Rattle.rules.specs.Calls.{turn}
 use Rattle.rules.specs.Calls.{visit, execute, write, reply, drop, call}
 
 -- 'stops launching, closing': the calls that add a packet

@@ -34,7 +34,8 @@ stands_at_lem r i end = never (λ e. on_end (sym e))
 stands_at_lem r i lost = never (λ e. on_lost (sym e))
 
 -- on router r
-pub stands_on_lem : (r : ℕ) (t : Spot Port) → Decides (stands_on r t) ((i : ℕ) × (t ≡ on (record { router = r; side = i })))
+pub stands_on_lem : (r : ℕ) (t : Spot Port) → Decides (stands_on r t)
+    ((i : ℕ) × (t ≡ on (record { router = r; side = i })))
 stands_on_lem r (on x) =
     like (same x.router r) (λ e. (x.side, λ j. on (record { router = e j; side = x.side })))
     (λ q. ap (λ (y : Port). y.router) (on_same q.1))

@@ -24,7 +24,8 @@ use Rattle.rules.specs.Valid.{Lined, Drives, Carries, bit, on_wires, total, spen
 use Rattle.plan_facts.specs.Wired.{Wired}
 use Rattle.valid.proofs.Decides.{Decides, like, not_so, less, most, same, if_so, if_not, all_below_lem, any_below_lem}
 use Rattle.valid.specs.Test.{slot_test, entries_test, capacities_test, places_test, wires_test, wires_empty_test}
-use Rattle.valid.specs.Test.{choices_test, flags_down_test, picked_down_test, out_flags_test, marks_test, free_entry_test}
+use Rattle.valid.specs.Test.{choices_test, flags_down_test, picked_down_test, out_flags_test, marks_test}
+use Rattle.valid.specs.Test.{free_entry_test}
 use Rattle.valid.specs.Test.{credits_test, out_credits_test, allowances_test, valid_test}
 use Rattle.valid.proofs.Packets.{lined_decides, wire_decides}
 use Rattle.valid.proofs.Parts.{every_queue_lem, every_output_lem, in_phase, out_of_phase, empty_decides, choice_decides}

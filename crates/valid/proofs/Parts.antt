@@ -66,7 +66,8 @@ is_phase_lem Write Write = always refl
 
 -- a claim that is made in one phase, or in the others
 pub in_phase : (x y : Phase) {t : Bool} {Y : Type 0} → Decides t Y → Decides (not (is_phase x y) || t) (x ≡ y → Y)
-in_phase x y d = like (if_so (is_phase x y) d) (λ f e. f ((is_phase_lem x y).passes e)) (λ f e. f ((is_phase_lem x y).holds e))
+in_phase x y d = like (if_so (is_phase x y) d) (λ f e. f ((is_phase_lem x y).passes e))
+    (λ f e. f ((is_phase_lem x y).holds e))
 
 pub out_of_phase : (x y : Phase) {t : Bool} {Y : Type 0} → Decides t Y → Decides (is_phase x y || t) (x ≢ y → Y)
 out_of_phase x y d =

@@ -20,7 +20,8 @@ use Rattle.rules.specs.State.{with_allowance, with_last_sender}
 use Rattle.rules.specs.Valid.{fed}
 use Rattle.rules.specs.Runs.Watch.{packet, each}
 use Rattle.valid.specs.Test.{slot_test, entries_test, capacities_test, places_test, wires_test, wires_empty_test}
-use Rattle.valid.specs.Test.{choices_test, flags_down_test, picked_down_test, out_flags_test, marks_test, free_entry_test}
+use Rattle.valid.specs.Test.{choices_test, flags_down_test, picked_down_test, out_flags_test, marks_test}
+use Rattle.valid.specs.Test.{free_entry_test}
 use Rattle.valid.specs.Test.{credits_test, out_credits_test, allowances_test, turns_test, valid_test}
 use Rattle.valid.specs.Ties.{ties_test}
 use Rattle.valid.specs.Runs.{valid}
@@ -212,7 +213,8 @@ answers =
     ∷ broken places (λ s. handled (Q 0 3) (holding (Q 0 3) (of Nack 1 ∷ of Nack 1 ∷ []) 2 s))
     ∷ []
 
-pub places_judged : each (judged around) (set_ups ++ tear_downs ++ answers) ≡ each stated (set_ups ++ tear_downs ++ answers)
+pub places_judged : each (judged around) (set_ups ++ tear_downs ++ answers) ≡ each stated
+    (set_ups ++ tear_downs ++ answers)
 unfolding judged
 places_judged = refl
 

@@ -36,7 +36,8 @@ use Rattle.rules.specs.Valid.{bit, sum, on_wires, total}
 use Rattle.valid.specs.Ties.{numbered, makes_test, claimed_before, tie_test, pair_ties, ties_test}
 use Rattle.valid.specs.Test.{meets_test, ahead_test, returns_test, back_test, fits_test, packet_test, belongs_test}
 use Rattle.valid.specs.Test.{slot_test, entries_test, capacities_test, places_test, wires_test, wires_empty_test}
-use Rattle.valid.specs.Test.{choices_test, flags_down_test, picked_down_test, out_flags_test, marks_test, free_entry_test}
+use Rattle.valid.specs.Test.{choices_test, flags_down_test, picked_down_test, out_flags_test, marks_test}
+use Rattle.valid.specs.Test.{free_entry_test}
 use Rattle.valid.specs.Test.{credits_test, out_credits_test, allowances_test, turns_test, valid_test}
 use Rattle.plan.specs.Samples.{plan_t as bytesT, all_sides, two_to_one, narrow_back}
 use Rattle.rules.specs.Runs.BothEnds.{with_u0_remembered}
@@ -64,14 +65,14 @@ all_valid pl (c ∷ cs) s =
 
 -- from Start on plan T
 unfoldable pub valid : List Call → Bool
-unfolding any_below all_below up_to spot on_count bit_at field_of capacity_at head_of joint_in plan_of ports_of home onward
-    arrives walk_size backs_arrive served_from index_in index_on queues queue_at output_at launched removed noted closed call
-    arrive deliver lower settle do_read start blank join came_in other_free may_book set_up tear_one tear_down handle at_unit
-    unit candidate first_of next_of picked choose answer at_active undo do_execute send_head send_by send do_write sum on_wires
-    total meets_test ahead_test returns_test back_test fits_test packet_test belongs_test slot_test entries_test capacities_test
-    places_test wires_test wires_empty_test choices_test flags_down_test picked_down_test out_flags_test marks_test free_entry_test
-    credits_test out_credits_test allowances_test numbered makes_test claimed_before tie_test pair_ties ties_test turns_test
-    valid_test all_valid
+unfolding any_below all_below up_to spot on_count bit_at field_of capacity_at head_of joint_in plan_of ports_of home
+    onward arrives walk_size backs_arrive served_from index_in index_on queues queue_at output_at launched removed noted
+    closed call arrive deliver lower settle do_read start blank join came_in other_free may_book set_up tear_one
+    tear_down handle at_unit unit candidate first_of next_of picked choose answer at_active undo do_execute send_head
+    send_by send do_write sum on_wires total meets_test ahead_test returns_test back_test fits_test packet_test
+    belongs_test slot_test entries_test capacities_test places_test wires_test wires_empty_test choices_test
+    flags_down_test picked_down_test out_flags_test marks_test free_entry_test credits_test out_credits_test
+    allowances_test numbered makes_test claimed_before tie_test pair_ties ties_test turns_test valid_test all_valid
 valid cs = all_valid plan_t cs (start plan_t)
 
 -- 'Launch (0,0,0) in round 0: booked in round 2, waits at the passive from round 4; accepted there, consumed in

@@ -17,10 +17,12 @@ use Rattle.plan.specs.Rules.{home}
 use Rattle.plan_walks.specs.Walk.{onward, walked}
 use Rattle.plan_walks.specs.Served.{served}
 use Rattle.plan_walks.specs.Steps.{stands_on}
-use Rattle.plan_queues.specs.Queue.{ahead, back, Queue, active_out, active_in, passive_in, passive_out, U, Q, F, K, queues}
+use Rattle.plan_queues.specs.Queue.{ahead, back, Queue, active_out, active_in, passive_in, passive_out, U, Q, F, K}
+use Rattle.plan_queues.specs.Queue.{queues}
 use Rattle.plan_queues.specs.Queue.{queue_at}
 use Rattle.plan_queues.specs.Role.{is_unit}
-use Rattle.plan_queues.specs.Feeds.{Output, of_active, of_passive, of_side, to_unit, from_unit, Place, in_queue, handled_at, span}
+use Rattle.plan_queues.specs.Feeds.{Output, of_active, of_passive, of_side, to_unit, from_unit, Place, in_queue}
+use Rattle.plan_queues.specs.Feeds.{handled_at, span}
 use Rattle.plan_queues.specs.Feeds.{head_place}
 use Rattle.rules.specs.Capacity.{capacity}
 use Rattle.rules.specs.Outputs.{next_by, senders, last_in_order, outputs, output_at}
@@ -90,7 +92,8 @@ nack_meets pl a y lost = false
 
 unfoldable pub returns_test : Plan → ℕ → ℕ → ℕ → Port → Bool
 returns_test pl a p n y =
-    also (eqb n (span pl a p)) (meets_test pl (active a) (home pl (passive p)) y) || nack_meets pl a y (reached pl a p n)
+    also (eqb n (span pl a p)) (meets_test pl (active a) (home pl (passive p)) y) || nack_meets pl a y
+    (reached pl a p n)
 
 unfoldable pub back_test : Plan → ℕ → ℕ → Place → ℕ → Bool
 back_test pl a p (in_queue (passive_out x)) n = also (eqb x p) (eqb n (span pl a p))
@@ -128,7 +131,8 @@ belongs_test pl at x =
 -- the head where it may be, and all behind it in the queue itself
 abbrev pub lined_test : Plan → Queue → Bool → List Packet → Bool
 lined_test pl q done [] = true
-lined_test pl q done (x ∷ rest) = also (belongs_test pl (head_place done q) x) (all_in (belongs_test pl (in_queue q)) rest)
+lined_test pl q done (x ∷ rest) = also (belongs_test pl (head_place done q) x)
+    (all_in (belongs_test pl (in_queue q)) rest)
 
 -- a packet on a wire belongs in the queue that it goes to
 abbrev pub bound_test : Plan → Packet → Option Queue → Bool

@@ -6,4 +6,5 @@ use Rattle.bytes_layout.specs.Updates.{move_place}
 use Rattle.bytes_rows.proofs.close_up.Given as goal
 
 abbrev pub invariant-loop-j : goal.invariant-loop-j
-invariant-loop-j l = (l.j ≤ l.n) × (l.s ≡ up_to (λ i. move_place (l.at + 5 * i)) l.j l.initial.s) × (length l.s ≡ length l.initial.s)
+invariant-loop-j l = (l.j ≤ l.n) × (l.s ≡ up_to (λ i. move_place (l.at + 5 * i)) l.j l.initial.s) ×
+    (length l.s ≡ length l.initial.s)

@@ -7,4 +7,5 @@ use Rattle.call_start.proofs.inner_credits.Given as goal
 
 abbrev pub invariant-loop-r : goal.invariant-loop-r
 invariant-loop-r l =
-    (l.r ≤ l.n) × (l.t ≡ up_to (λ k x. router_credits l.h (28 * k) x) l.r l.initial.t) × (length l.t ≡ length l.initial.t)
+    (l.r ≤ l.n) × (l.t ≡ up_to (λ k x. router_credits l.h (28 * k) x) l.r l.initial.t) ×
+    (length l.t ≡ length l.initial.t)

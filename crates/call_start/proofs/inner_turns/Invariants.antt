@@ -7,4 +7,5 @@ use Rattle.call_start.proofs.inner_turns.Given as goal
 
 abbrev pub invariant-loop-r : goal.invariant-loop-r
 invariant-loop-r l =
-    (l.r ≤ l.n) × (l.s ≡ up_to (λ k x. router_turns (l.at + 6 * k) x) l.r l.initial.s) × (length l.s ≡ length l.initial.s)
+    (l.r ≤ l.n) × (l.s ≡ up_to (λ k x. router_turns (l.at + 6 * k) x) l.r l.initial.s) ×
+    (length l.s ≡ length l.initial.s)

@@ -6,4 +6,5 @@ use Rattle.call_start.proofs.lay.Given as goal
 
 abbrev pub invariant-loop-i : goal.invariant-loop-i
 invariant-loop-i l =
-    (l.i ≤ l.n) × (l.s ≡ up_to (λ k c. set c (l.at + k) (get_or l.t k 0)) l.i l.initial.s) × (length l.s ≡ length l.initial.s)
+    (l.i ≤ l.n) × (l.s ≡ up_to (λ k c. set c (l.at + k) (get_or l.t k 0)) l.i l.initial.s) ×
+    (length l.s ≡ length l.initial.s)

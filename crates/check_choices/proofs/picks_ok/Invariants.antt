@@ -10,5 +10,6 @@ use Rattle.check_choices.proofs.picks_ok.Given as goal
 
 abbrev pub invariant-loop-m : goal.invariant-loop-m
 invariant-loop-m l =
-    (l.m ≤ l.n) × (all_below l.m (λ k. pick_test (table_plan l.h l.routes l.joints) (decode (table_plan l.h l.routes l.joints) l.s) (output_at
+    (l.m ≤ l.n) × (all_below l.m (λ k. pick_test (table_plan l.h l.routes l.joints)
+    (decode (table_plan l.h l.routes l.joints) l.s) (output_at
     (table_plan l.h l.routes l.joints) k)) ≡ true)

@@ -6,4 +6,5 @@ returns-then-t-hub c = nack_none _ _ _ _ _ _ _ _ c.wide-hub.ensures.0 c.if-t-hub
 
 pub returns : goal.returns
 returns c =
-    nack_some _ _ _ _ _ _ _ _ c.wide-hub.ensures.0 c.if-t-hub.false c.wide-a.ensures.0 c.nth-r.ensures.0 c.next_by.ensures
+    nack_some _ _ _ _ _ _ _ _ c.wide-hub.ensures.0 c.if-t-hub.false c.wide-a.ensures.0 c.nth-r.ensures.0
+    c.next_by.ensures

@@ -52,5 +52,6 @@ interfaces_ok-requires-2 c =
 
 pub returns : goal.returns
 returns c =
-    lines_all _ _ _ _ (rw (c.if-not-interfaces_ok.false) at c.interfaces_ok.ensures) (rw (c.if-not-routers_ok.false) at c.routers_ok.ensures)
+    lines_all _ _ _ _ (rw (c.if-not-interfaces_ok.false) at c.interfaces_ok.ensures)
+    (rw (c.if-not-routers_ok.false) at c.routers_ok.ensures)
     c.interfaces_ok-2.ensures

@@ -6,4 +6,5 @@ use Rattle.check_queues.proofs.places_ok.Given as goal
 
 abbrev pub invariant-loop-k : goal.invariant-loop-k
 invariant-loop-k l =
-    (l.k ≤ l.m) × Seen (table_plan l.h l.routes l.joints) (queue_at (table_plan l.h l.routes l.joints) l.n) l.done l.i l.s l.initial.spent l.k l.spent
+    (l.k ≤ l.m) × Seen (table_plan l.h l.routes l.joints) (queue_at (table_plan l.h l.routes l.joints) l.n) l.done l.i
+    l.s l.initial.spent l.k l.spent

@@ -7,4 +7,5 @@ use Rattle.check_queues.proofs.routers_ok.Given as goal
 
 abbrev pub invariant-loop-r : goal.invariant-loop-r
 invariant-loop-r l =
-    (l.r ≤ l.n) × RowsChecked (table_plan l.h l.routes l.joints) l.s (destinations l.h) (28 * l.r) true l.initial.spent l.spent
+    (l.r ≤ l.n) × RowsChecked (table_plan l.h l.routes l.joints) l.s (destinations l.h) (28 * l.r) true l.initial.spent
+    l.spent

@@ -67,4 +67,5 @@ returns c =
     let p = c.requires in
     let r = p.0 in
     code_places _ _ _ r.lent.range _ _ p.1 _ _ _ c.queue_row-i.ensures p.3 p.4
-    c.row_frame.ensures _ _ (c.if-not-row_frame.false) c.index-m.ensures.0 c.zeros.ensures (c.if-not-zeros.false) c.flag_of-done.ensures c.places_ok.ensures
+    c.row_frame.ensures _ _ (c.if-not-row_frame.false) c.index-m.ensures.0 c.zeros.ensures (c.if-not-zeros.false)
+    c.flag_of-done.ensures c.places_ok.ensures

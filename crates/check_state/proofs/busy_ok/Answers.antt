@@ -1,7 +1,8 @@
 use lib.ListN.{length}
 use Rattle.check_wires.proofs.Bringing.{coming_is}
 use mathlib.Core.Path.{◌∙◌, sym, ap}
-use Rattle.check_state.proofs.Together.{none_coming_lem, coming_long, no_tracks_lem, busy_outputs, busy_lines, busy_picks}
+use Rattle.check_state.proofs.Together.{none_coming_lem, coming_long, no_tracks_lem, busy_outputs, busy_lines}
+use Rattle.check_state.proofs.Together.{busy_picks}
 use Rattle.check_state.proofs.Together.{busy_else, lent_wired}
 use Rattle.check_state.proofs.busy_ok.Goals as goal
 
@@ -61,9 +62,11 @@ picks_ok-requires c =
 pub returns-then-s-eq2 : goal.returns-then-s-eq2
 returns-then-s-eq2 c =
     let p = c.requires in
-    busy_picks _ _ _ p.0.range _ p.3 c.outputs_ok.ensures (c.if-not-outputs_ok.false) c.lines_ok.ensures (c.if-not-lines_ok.false) c.picks_ok.ensures
+    busy_picks _ _ _ p.0.range _ p.3 c.outputs_ok.ensures (c.if-not-outputs_ok.false) c.lines_ok.ensures
+    (c.if-not-lines_ok.false) c.picks_ok.ensures
 
 pub returns : goal.returns
 returns c =
     let p = c.requires in
-    busy_else _ _ _ p.0.range _ p.3 c.outputs_ok.ensures (c.if-not-outputs_ok.false) c.lines_ok.ensures (c.if-not-lines_ok.false) p.2 c.if-s-eq2.false
+    busy_else _ _ _ p.0.range _ p.3 c.outputs_ok.ensures (c.if-not-outputs_ok.false) c.lines_ok.ensures
+    (c.if-not-lines_ok.false) p.2 c.if-s-eq2.false

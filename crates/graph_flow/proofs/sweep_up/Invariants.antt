@@ -8,4 +8,5 @@ use Rattle.graph_flow.proofs.sweep_up.Given as goal
 
 abbrev pub invariant-loop-x : goal.invariant-loop-x
 invariant-loop-x l = (l.x ≤ l.n) × (length l.t ≡ 32)
-    × ((first : List ℕ) (k : ℕ) → Round l.by l.joints l.n first k l.work l.initial.t → Turned l.by l.joints l.n first k l.initial.t l.x l.left l.t)
+    × ((first : List ℕ) (k : ℕ) → Round l.by l.joints l.n first k l.work l.initial.t → Turned l.by l.joints l.n first k
+    l.initial.t l.x l.left l.t)

@@ -6,4 +6,5 @@ use Rattle.graph_links.proofs.cross_cells.Given as goal
 
 abbrev pub invariant-loop-x : goal.invariant-loop-x
 invariant-loop-x l =
-    (l.x ≤ l.n) × (length l.cells ≡ length l.initial.cells) × ((k : ℕ) → k < l.x → get_or l.cells k 0 ≡ cross_of l.l l.joints k)
+    (l.x ≤ l.n) × (length l.cells ≡ length l.initial.cells) × ((k : ℕ) → k < l.x → get_or l.cells k 0 ≡ cross_of l.l
+    l.joints k)

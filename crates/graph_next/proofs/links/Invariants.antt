@@ -8,4 +8,5 @@ use Rattle.graph_next.proofs.links.Given as goal
 
 abbrev pub invariant-loop-k : goal.invariant-loop-k
 invariant-loop-k l =
-    (l.k ≤ l.n) × (l.to ≡ up_to (fill (link_of l.l l.joints)) l.k (replicate 64 0)) × (l.s ≡ somes_of (link_of l.l l.joints) l.k)
+    (l.k ≤ l.n) × (l.to ≡ up_to (fill (link_of l.l l.joints)) l.k (replicate 64 0)) ×
+    (l.s ≡ somes_of (link_of l.l l.joints) l.k)

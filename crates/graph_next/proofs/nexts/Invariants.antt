@@ -8,4 +8,5 @@ use Rattle.graph_next.proofs.nexts.Given as goal
 
 abbrev pub invariant-loop-x : goal.invariant-loop-x
 invariant-loop-x l =
-    (l.x ≤ l.n) × (l.to ≡ up_to (fill (next_of l.by l.joints l.t)) l.x (replicate 16 0)) × (l.s ≡ somes_of (next_of l.by l.joints l.t) l.x)
+    (l.x ≤ l.n) × (l.to ≡ up_to (fill (next_of l.by l.joints l.t)) l.x (replicate 16 0)) ×
+    (l.s ≡ somes_of (next_of l.by l.joints l.t) l.x)

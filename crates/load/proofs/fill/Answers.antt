@@ -20,7 +20,8 @@ length_ok-requires c =
 
 pub returns-then-not-length_ok : goal.returns-then-not-length_ok
 returns-then-not-length_ok c =
-    wrong_length _ c.if-plan-lt-HEAD_BYTES.false c.read_head-h.ensures c.head_ok.ensures c.if-not-head_ok.false c.length_ok.ensures c.if-not-length_ok.true _ _ _ _ _
+    wrong_length _ c.if-plan-lt-HEAD_BYTES.false c.read_head-h.ensures c.head_ok.ensures c.if-not-head_ok.false
+    c.length_ok.ensures c.if-not-length_ok.true _ _ _ _ _
 
 pub joints-joined-requires : goal.joints-joined-requires
 joints-joined-requires c = (
@@ -39,8 +40,10 @@ routes-fit-requires c = (
 
 pub returns-then-not-joined-fit : goal.returns-then-not-joined-fit
 returns-then-not-joined-fit c =
-    bad_field _ c.if-plan-lt-HEAD_BYTES.false c.read_head-h.ensures c.head_ok.ensures c.if-not-head_ok.false c.length_ok.ensures
-    c.if-not-length_ok.false c.joints-joined.ensures.0 c.routes-fit.ensures.table (ap₂ ◌&&◌ c.joints-joined.ensures.1 c.routes-fit.ensures.fit) c.if-not-joined-fit.true _ _ _ _ _
+    bad_field _ c.if-plan-lt-HEAD_BYTES.false c.read_head-h.ensures c.head_ok.ensures c.if-not-head_ok.false
+    c.length_ok.ensures
+    c.if-not-length_ok.false c.joints-joined.ensures.0 c.routes-fit.ensures.table
+    (ap₂ ◌&&◌ c.joints-joined.ensures.1 c.routes-fit.ensures.fit) c.if-not-joined-fit.true _ _ _ _ _
 
 pub homes-requires : goal.homes-requires
 homes-requires c = (
@@ -51,14 +54,20 @@ homes-requires c = (
 
 pub returns-then-not-homes : goal.returns-then-not-homes
 returns-then-not-homes c =
-    bad_joint _ c.if-plan-lt-HEAD_BYTES.false c.read_head-h.ensures c.head_ok.ensures c.if-not-head_ok.false c.length_ok.ensures c.if-not-length_ok.false c.joints-joined.ensures.0 c.routes-fit.ensures.table (ap₂ ◌&&◌ c.joints-joined.ensures.1 c.routes-fit.ensures.fit) c.if-not-joined-fit.false c.homes.ensures.1 c.if-not-homes.true _ _ _ _ _
+    bad_joint _ c.if-plan-lt-HEAD_BYTES.false c.read_head-h.ensures c.head_ok.ensures c.if-not-head_ok.false
+    c.length_ok.ensures c.if-not-length_ok.false c.joints-joined.ensures.0 c.routes-fit.ensures.table
+    (ap₂ ◌&&◌ c.joints-joined.ensures.1 c.routes-fit.ensures.fit) c.if-not-joined-fit.false c.homes.ensures.1
+    c.if-not-homes.true _ _ _ _ _
 
 pub walks-served-requires : goal.walks-served-requires
 walks-served-requires c =
     let ready = sweeps_ready _ _ _ _ _
     (range_counts _ (head_range _ c.head_ok.ensures
     c.if-not-head_ok.false))
-    (tables _ c.if-plan-lt-HEAD_BYTES.false c.read_head-h.ensures c.head_ok.ensures c.if-not-head_ok.false c.length_ok.ensures c.if-not-length_ok.false c.joints-joined.ensures.0 c.routes-fit.ensures.table (ap₂ ◌&&◌ c.joints-joined.ensures.1 c.routes-fit.ensures.fit) c.if-not-joined-fit.false c.homes.ensures.1 c.if-not-homes.false c.homes.ensures.0 c.routes-fit.ensures) in
+    (tables _ c.if-plan-lt-HEAD_BYTES.false c.read_head-h.ensures c.head_ok.ensures c.if-not-head_ok.false
+    c.length_ok.ensures c.if-not-length_ok.false c.joints-joined.ensures.0 c.routes-fit.ensures.table
+    (ap₂ ◌&&◌ c.joints-joined.ensures.1 c.routes-fit.ensures.fit) c.if-not-joined-fit.false c.homes.ensures.1
+    c.if-not-homes.false c.homes.ensures.0 c.routes-fit.ensures) in
     (ready.0, ready.1, ready.2, refl, c.requires.3)
 
 pub ring_found-requires : goal.ring_found-requires
@@ -67,8 +76,16 @@ ring_found-requires c =
 
 pub returns-then-ring_found : goal.returns-then-ring_found
 returns-then-ring_found c =
-    has_ring_lem _ c.if-plan-lt-HEAD_BYTES.false c.read_head-h.ensures c.head_ok.ensures c.if-not-head_ok.false c.length_ok.ensures c.if-not-length_ok.false c.joints-joined.ensures.0 c.routes-fit.ensures.table (ap₂ ◌&&◌ c.joints-joined.ensures.1 c.routes-fit.ensures.fit) c.if-not-joined-fit.false c.homes.ensures.1 c.if-not-homes.false c.homes.ensures.0 c.routes-fit.ensures c.walks-served.ensures c.ring_found.ensures c.if-ring_found.true _ _ _ _ _
+    has_ring_lem _ c.if-plan-lt-HEAD_BYTES.false c.read_head-h.ensures c.head_ok.ensures c.if-not-head_ok.false
+    c.length_ok.ensures c.if-not-length_ok.false c.joints-joined.ensures.0 c.routes-fit.ensures.table
+    (ap₂ ◌&&◌ c.joints-joined.ensures.1 c.routes-fit.ensures.fit) c.if-not-joined-fit.false c.homes.ensures.1
+    c.if-not-homes.false c.homes.ensures.0 c.routes-fit.ensures c.walks-served.ensures c.ring_found.ensures
+    c.if-ring_found.true _ _ _ _ _
 
 pub returns : goal.returns
 returns c =
-    accepted _ c.if-plan-lt-HEAD_BYTES.false c.read_head-h.ensures c.head_ok.ensures c.if-not-head_ok.false c.length_ok.ensures c.if-not-length_ok.false c.joints-joined.ensures.0 c.routes-fit.ensures.table (ap₂ ◌&&◌ c.joints-joined.ensures.1 c.routes-fit.ensures.fit) c.if-not-joined-fit.false c.homes.ensures.1 c.if-not-homes.false c.homes.ensures.0 c.routes-fit.ensures c.walks-served.ensures c.ring_found.ensures c.if-ring_found.false
+    accepted _ c.if-plan-lt-HEAD_BYTES.false c.read_head-h.ensures c.head_ok.ensures c.if-not-head_ok.false
+    c.length_ok.ensures c.if-not-length_ok.false c.joints-joined.ensures.0 c.routes-fit.ensures.table
+    (ap₂ ◌&&◌ c.joints-joined.ensures.1 c.routes-fit.ensures.fit) c.if-not-joined-fit.false c.homes.ensures.1
+    c.if-not-homes.false c.homes.ensures.0 c.routes-fit.ensures c.walks-served.ensures c.ring_found.ensures
+    c.if-ring_found.false

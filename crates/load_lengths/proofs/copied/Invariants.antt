@@ -6,4 +6,5 @@ use Rattle.basis.specs.Fold.{up_to, fill}
 use Rattle.load_lengths.proofs.copied.Given as goal
 
 abbrev pub invariant-loop-p : goal.invariant-loop-p
-invariant-loop-p l = (l.p ≤ 16) × (l.t ≡ up_to (fill (λ i. get_or (get_or l.z l.x []) i 0)) l.p l.initial.t) × (length l.t ≡ 16)
+invariant-loop-p l = (l.p ≤ 16) × (l.t ≡ up_to (fill (λ i. get_or (get_or l.z l.x []) i 0)) l.p l.initial.t) ×
+    (length l.t ≡ 16)

@@ -9,4 +9,5 @@ use Rattle.load_lengths.proofs.masked.Given as goal
 
 abbrev pub invariant-loop-p : goal.invariant-loop-p
 invariant-loop-p l =
-    (l.p ≤ 16) × (l.t ≡ up_to (fill (λ i. pick (has l.w (l.column + i)) (get_or (get_or l.z l.x []) i 0) 0)) l.p l.initial.t) × (length l.t ≡ 16)
+    (l.p ≤ 16) × (l.t ≡ up_to (fill (λ i. pick (has l.w (l.column + i)) (get_or (get_or l.z l.x []) i 0) 0)) l.p
+    l.initial.t) × (length l.t ≡ 16)

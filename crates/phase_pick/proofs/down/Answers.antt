@@ -13,7 +13,8 @@ idle-requires c =
 pub returns-then-idle : goal.returns-then-idle
 returns-then-idle c =
     let p = c.requires in steps_idle p.0.wired (range_of p.0) _ _ _
-    (down_sends p.0 p.1 c.base_of-n.ensures.0 refl) (idle_rows c.args.s.now _ c.queue_row.ensures (c.idle.ensures c.if-idle.true))
+    (down_sends p.0 p.1 c.base_of-n.ensures.0 refl) (idle_rows c.args.s.now _ c.queue_row.ensures
+    (c.idle.ensures c.if-idle.true))
 
 pub pick-requires : goal.pick-requires
 pick-requires c =

@@ -18,11 +18,13 @@ overflow_add-n c =
 
 pub next-y-requires : goal.next-y-requires
 next-y-requires c =
-    let p = c.requires in let q = next_asks p.0 _ p.2 p.3 p.4 (read_at _ _ c.packet_at-x.ensures c.queue_row-at.ensures) in (p.0, p.1, q.0, q.1, q.2)
+    let p = c.requires in let q = next_asks p.0 _ p.2 p.3 p.4 (read_at _ _ c.packet_at-x.ensures c.queue_row-at.ensures)
+    in (p.0, p.1, q.0, q.1, q.2)
 
 pub queue_row-requires : goal.queue_row-requires
 queue_row-requires c =
-    let p = c.requires in onto_asks p.0 _ p.2 p.3 p.4 (read_at _ _ c.packet_at-x.ensures c.queue_row-at.ensures) c.next-y.ensures
+    let p = c.requires in onto_asks p.0 _ p.2 p.3 p.4 (read_at _ _ c.packet_at-x.ensures c.queue_row-at.ensures)
+    c.next-y.ensures
 
 pub bounds-s-queue_row : goal.bounds-s-queue_row
 bounds-s-queue_row c =
@@ -32,4 +34,5 @@ bounds-s-queue_row c =
 pub returns : goal.returns
 returns c =
     let p = c.requires in credit_tells p.0.wired (range_of p.0) _ _
-    (is_queue p.0 p.2) p.3 (read_at _ _ c.packet_at-x.ensures c.queue_row-at.ensures) c.next-y.ensures c.queue_row.ensures
+    (is_queue p.0 p.2) p.3 (read_at _ _ c.packet_at-x.ensures c.queue_row-at.ensures) c.next-y.ensures
+    c.queue_row.ensures

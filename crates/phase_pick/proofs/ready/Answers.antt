@@ -33,12 +33,14 @@ may_go-requires c =
       p.2,
       p.3,
       holds_by _
-          (leaves_handled p.0.wired (range_of p.0) _ (is_queue p.0 p.2) c.queue_row-at.ensures c.if-s-at-eq0.false c.if-s-at-eq0-2.false) p.5,
+          (leaves_handled p.0.wired (range_of p.0) _ (is_queue p.0 p.2) c.queue_row-at.ensures c.if-s-at-eq0.false
+          c.if-s-at-eq0-2.false) p.5,
     )
 
 pub returns-then-unit : goal.returns-then-unit
 returns-then-unit c =
-    let p = c.requires in tells_by _ (leaves_handled p.0.wired (range_of p.0) _ (is_queue p.0 p.2) c.queue_row-at.ensures c.if-s-at-eq0.false c.if-s-at-eq0-2.false) c.may_go.ensures
+    let p = c.requires in tells_by _ (leaves_handled p.0.wired (range_of p.0) _ (is_queue p.0 p.2)
+    c.queue_row-at.ensures c.if-s-at-eq0.false c.if-s-at-eq0-2.false) c.may_go.ensures
 
 pub may_go-requires-2 : goal.may_go-requires-2
 may_go-requires-2 c =
@@ -47,10 +49,12 @@ may_go-requires-2 c =
       p.1,
       p.2,
       p.3,
-      holds_by _ (leaves_passing p.0.wired (range_of p.0) _ (is_queue p.0 p.2) (p.4 ∙ c.if-unit.false) c.queue_row-at.ensures c.if-s-at-eq0.false) p.5,
+      holds_by _ (leaves_passing p.0.wired (range_of p.0) _ (is_queue p.0 p.2) (p.4 ∙ c.if-unit.false)
+          c.queue_row-at.ensures c.if-s-at-eq0.false) p.5,
     )
 
 pub returns : goal.returns
 returns c =
     let p = c.requires in tells_by _ (leaves_passing p.0.wired
-    (range_of p.0) _ (is_queue p.0 p.2) (p.4 ∙ c.if-unit.false) c.queue_row-at.ensures c.if-s-at-eq0.false) c.may_go-2.ensures
+    (range_of p.0) _ (is_queue p.0 p.2) (p.4 ∙ c.if-unit.false) c.queue_row-at.ensures c.if-s-at-eq0.false)
+    c.may_go-2.ensures

@@ -14,7 +14,8 @@ side_idle-requires c =
 pub returns-then-side_idle : goal.returns-then-side_idle
 returns-then-side_idle c =
     let p = c.requires in steps_idle p.0.wired (range_of p.0) _ _ _
-    (side_sends p.0 p.1 p.2 c.base_of.ensures.0 refl) (idle_rows c.args.s.now _ c.queue_row.ensures (c.side_idle.ensures c.if-side_idle.true))
+    (side_sends p.0 p.1 p.2 c.base_of.ensures.0 refl) (idle_rows c.args.s.now _ c.queue_row.ensures
+    (c.side_idle.ensures c.if-side_idle.true))
 
 pub bounds-s-1 : goal.bounds-s-1
 bounds-s-1 c =
@@ -32,7 +33,8 @@ bounds-s-entry_row c =
 pub returns-then-s-entry_row-ne0 : goal.returns-then-s-entry_row-ne0
 returns-then-s-entry_row-ne0 c =
     let p = c.requires in side_shut
-    p.0 p.1 p.2 (slot_small p.0 p.1 _ p.3 c.index-t.ensures.0) c.index-t.ensures.0 c.entry_row.ensures c.if-s-entry_row-ne0.true
+    p.0 p.1 p.2 (slot_small p.0 p.1 _ p.3 c.index-t.ensures.0) c.index-t.ensures.0 c.entry_row.ensures
+    c.if-s-entry_row-ne0.true
 
 pub first_of-requires : goal.first_of-requires
 first_of-requires c =
@@ -46,11 +48,14 @@ pick-requires c =
       omega arith,
       side_sends p.0 p.1 p.2 c.base_of.ensures.0 c.first_of.ensures.0,
       holds_open p.0
-          (ap (λ (k : ℕ). k + c.args.o) c.first_of.ensures.0) (side_open p.0 p.1 p.2 (slot_small p.0 p.1 _ p.3 c.index-t.ensures.0) c.index-t.ensures.0 c.entry_row.ensures c.if-s-entry_row-ne0.false)
+          (ap (λ (k : ℕ). k + c.args.o) c.first_of.ensures.0) (side_open p.0 p.1 p.2
+          (slot_small p.0 p.1 _ p.3 c.index-t.ensures.0) c.index-t.ensures.0 c.entry_row.ensures
+          c.if-s-entry_row-ne0.false)
           p.3,
     )
 
 pub returns : goal.returns
 returns c =
-    let p = c.requires in steps_open p.0 (ap (λ (k : ℕ). k + c.args.o) c.first_of.ensures.0) (side_open p.0 p.1 p.2 (slot_small p.0 p.1 _ p.3
+    let p = c.requires in steps_open p.0 (ap (λ (k : ℕ). k + c.args.o) c.first_of.ensures.0)
+    (side_open p.0 p.1 p.2 (slot_small p.0 p.1 _ p.3
     c.index-t.ensures.0) c.index-t.ensures.0 c.entry_row.ensures c.if-s-entry_row-ne0.false) c.pick.ensures

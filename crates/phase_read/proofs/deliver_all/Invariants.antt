@@ -10,6 +10,7 @@ use Rattle.phase_read.proofs.deliver_all.Given as goal
 
 abbrev pub invariant-loop-m : goal.invariant-loop-m
 invariant-loop-m l =
-    (l.m ≤ l.count) × Steps (table_plan l.h l.routes l.joints) (Core (table_plan l.h l.routes l.joints)) (up_to (delivery
+    (l.m ≤ l.count) × Steps (table_plan l.h l.routes l.joints) (Core (table_plan l.h l.routes l.joints))
+    (up_to (delivery
     (table_plan l.h l.routes l.joints)) l.m) l.initial.s l.s
     × (length l.s ≡ length l.initial.s)

@@ -9,6 +9,7 @@ use Rattle.phase_write.proofs.send_all.Given as goal
 
 abbrev pub invariant-loop-m : goal.invariant-loop-m
 invariant-loop-m l =
-    (l.m ≤ l.count) × Steps (table_plan l.h l.routes l.joints) (Picked (table_plan l.h l.routes l.joints)) (up_to (sending
+    (l.m ≤ l.count) × Steps (table_plan l.h l.routes l.joints) (Picked (table_plan l.h l.routes l.joints))
+    (up_to (sending
     (table_plan l.h l.routes l.joints)) l.m) l.initial.s l.s
     × (length l.s ≡ length l.initial.s)

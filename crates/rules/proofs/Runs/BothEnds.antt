@@ -11,7 +11,9 @@ use Rattle.rules.specs.Runs.Watch.{packet, after}
 use Rattle.rules.specs.Runs.Watch.{watching, moments}
 use Rattle.rules.proofs.Runs.Crossing.{crosses_both_ways}
 use Rattle.rules.specs.Runs.Watch.{once}
-use Rattle.rules.specs.Runs.BothEnds.{last_at, one_entry, side2, freed_and_booked, with_u0_remembered, both_fs, slot2_and_last, nack1, setup0, from_all_sides, at_unit0, five_senders, five, setup, next_setup, nack, ack0, ack1, ack3}
+use Rattle.rules.specs.Runs.BothEnds.{last_at, one_entry, side2, freed_and_booked, with_u0_remembered, both_fs}
+use Rattle.rules.specs.Runs.BothEnds.{slot2_and_last, nack1, setup0, from_all_sides, at_unit0, five_senders, five}
+use Rattle.rules.specs.Runs.BothEnds.{setup, next_setup, nack, ack0, ack1, ack3}
 
 pub side_0_first : moments two_to_one side2 (Q 0 0 ∷ Q 0 1 ∷ []) one_entry
     -- round 4: active 1's first set-up, handled, waits for F; behind it is its second

@@ -8,7 +8,8 @@ use Rattle.plan.specs.Samples.{wider_t, narrow_unit, narrow_back}
 use Rattle.packets.specs.Answers.{refused, done, shows}
 use Rattle.rules.proofs.Runs.Turns.{skipped_changes_nothing}
 use Rattle.rules.specs.Runs.Watch.{once}
-use Rattle.rules.specs.Runs.Capacities.{fill_there, there, full, zeros, waiting, fill_back, back, fill_out, allowance0, tdown, setup}
+use Rattle.rules.specs.Runs.Capacities.{fill_there, there, full, zeros, waiting, fill_back, back, fill_out, allowance0}
+use Rattle.rules.specs.Runs.Capacities.{tdown, setup}
 
 pub filled_there : moments narrow_unit there [] fill_there
     -- round 0: the allowance is 6, not 7; a seventh launch finds the out-queue full too, but 11 comes before 12

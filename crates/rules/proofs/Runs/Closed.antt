@@ -9,7 +9,9 @@ use Rattle.plan.specs.Samples.{plan_t, two_routers, all_sides}
 use Rattle.packets.specs.Answers.{refused, done, shows}
 use Rattle.rules.proofs.Runs.Capacities.{out_queue_full}
 use Rattle.rules.specs.Runs.Watch.{once}
-use Rattle.rules.specs.Runs.Closed.{table_and_kept, both_booked, first_freed, both_freed, places, seen, quiet, ack, closing, passed_on, opened_closed_opened, accepted_twice, closes_tried, allowance, closed_later, allowance_and_kept}
+use Rattle.rules.specs.Runs.Closed.{table_and_kept, both_booked, first_freed, both_freed, places, seen, quiet, ack}
+use Rattle.rules.specs.Runs.Closed.{closing, passed_on, opened_closed_opened, accepted_twice, closes_tried, allowance}
+use Rattle.rules.specs.Runs.Closed.{closed_later, allowance_and_kept}
 
 pub opened_closed_opened_lem : moments two_routers table_and_kept places opened_closed_opened
     ≡ after done (4 ∷ 4 ∷ 4 ∷ 4 ∷ 2 ∷ 4 ∷ 4 ∷ 4 ∷ 0 ∷ 1 ∷ []) quiet

@@ -6,15 +6,19 @@ use Rattle.plan.specs.Samples.{two_routers}
 use Rattle.packets.specs.Answers.{done, shows}
 use Rattle.rules.proofs.Runs.Looking.{both_dropped}
 use Rattle.rules.specs.Runs.Watch.{once}
-use Rattle.rules.specs.Runs.Declined.{both_sides, free, second, both, second_declines, seen, quiet, in_out, in_first, in_second, in_second_by2, in_in, setup, passed_on, nack, marked_nack, tdown, other, other_booked, other_ack}
+use Rattle.rules.specs.Runs.Declined.{both_sides, free, second, both, second_declines, seen, quiet, in_out, in_first}
+use Rattle.rules.specs.Runs.Declined.{in_second, in_second_by2, in_in, setup, passed_on, nack, marked_nack, tdown}
+use Rattle.rules.specs.Runs.Declined.{other, other_booked, other_ack}
 
-pub second_declines_lem : watch two_routers both_sides (active_out 0 ∷ Q 0 0 ∷ Q 1 0 ∷ Q 1 2 ∷ active_in 0 ∷ []) second_declines
+pub second_declines_lem : watch two_routers both_sides (active_out 0 ∷ Q 0 0 ∷ Q 1 0 ∷ Q 1 2 ∷ active_in 0 ∷ [])
+    second_declines
     -- round 0: active 1 launches, then the round
     ≡ after done free quiet ∷ steady free quiet
     -- round 1
     ++ steady free quiet
     -- round 2: the second router books slot 0 for active 1
-    ++ after done free (in_second_by2 other) ∷ after done second (in_second_by2 other_booked) ∷ after done second quiet ∷ []
+    ++ after done free (in_second_by2 other) ∷ after done second (in_second_by2 other_booked) ∷ after done second quiet
+    ∷ []
     -- round 3
     ++ steady second quiet
     -- round 4: accepted; four calls

@@ -5,7 +5,8 @@ use Rattle.rules.specs.Runs.Watch.{after, steady, watch}
 use Rattle.plan.specs.Samples.{plan_t}
 use Rattle.packets.specs.Answers.{done, shows}
 use Rattle.rules.specs.Runs.Watch.{once}
-use Rattle.rules.specs.Runs.FirstBookings.{side1, free, booked_side, ack, launch_in_round0, nowhere, waits_at_passive, waits_at_active, launch_in_round1, slot_and_side1, in_f, has_reached}
+use Rattle.rules.specs.Runs.FirstBookings.{side1, free, booked_side, ack, launch_in_round0, nowhere, waits_at_passive}
+use Rattle.rules.specs.Runs.FirstBookings.{waits_at_active, launch_in_round1, slot_and_side1, in_f, has_reached}
 
 pub launch_in_round_0 : watch plan_t side1 (passive_in 0 ∷ active_in 0 ∷ []) launch_in_round0
     -- round 0: the launch, then the round

@@ -10,7 +10,8 @@ use Rattle.plan.specs.Samples.{plan_t, wider_t}
 use Rattle.packets.specs.Answers.{refused, done, shows}
 use Rattle.rules.proofs.Runs.Entries.{entries_told}
 use Rattle.rules.specs.Runs.Watch.{once}
-use Rattle.rules.specs.Runs.Looking.{any_phase, panel, both_accepted, next_head, first, second, both_panel, across_the_phase, unmarked_nack, marked_nack}
+use Rattle.rules.specs.Runs.Looking.{any_phase, panel, both_accepted, next_head, first, second, both_panel}
+use Rattle.rules.specs.Runs.Looking.{across_the_phase, unmarked_nack, marked_nack}
 
 pub any_phase_lem : moments plan_t panel (active_in 0 ∷ []) any_phase
     ≡ after done (0 ∷ 0 ∷ 0 ∷ []) ([] ∷ [])

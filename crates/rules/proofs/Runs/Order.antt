@@ -7,7 +7,8 @@ use Rattle.plan.specs.Samples.{narrow_there, narrow_back}
 use Rattle.packets.specs.Answers.{done}
 use Rattle.rules.proofs.Runs.Spent.{allowance_spent_lem}
 use Rattle.rules.specs.Runs.Watch.{once}
-use Rattle.rules.specs.Runs.Order.{three_launch, slot5, free, booked_side, seen, of, three_answers, nothing, waiting, nack, ack0, ack1}
+use Rattle.rules.specs.Runs.Order.{three_launch, slot5, free, booked_side, seen, of, three_answers, nothing, waiting}
+use Rattle.rules.specs.Runs.Order.{nack, ack0, ack1}
 
 pub lower_side_first : moments narrow_there slot5 (U 0 1 ∷ U 0 2 ∷ U 0 3 ∷ Q 0 1 ∷ Q 0 2 ∷ Q 0 3 ∷ []) three_launch
     -- round 1: all wait; U[1] goes first
@@ -25,7 +26,8 @@ pub lower_side_first : moments narrow_there slot5 (U 0 1 ∷ U 0 2 ∷ U 0 3 ∷
 unfolding moments
 lower_side_first = once allowance_spent_lem refl
 
-pub unit_first_then_sides : moments narrow_back nothing (F back 0 1 ∷ K 0 0 1 ∷ K 0 3 1 ∷ active_in 0 ∷ []) three_answers
+pub unit_first_then_sides : moments narrow_back nothing (F back 0 1 ∷ K 0 0 1 ∷ K 0 3 1 ∷ active_in 0 ∷ [])
+    three_answers
     ≡ after done [] (waiting [] [] [] [])
     -- round 9: all three wait; answer F[1] goes first
     ∷ after done [] (waiting (nack ∷ []) (ack0 ∷ []) (ack1 ∷ []) [])

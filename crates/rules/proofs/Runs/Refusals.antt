@@ -9,7 +9,10 @@ use Rattle.plan.specs.Samples.{plan_t, wider_t, all_sides}
 use Rattle.packets.specs.Answers.{refused, done, shows}
 use Rattle.rules.proofs.Runs.FirstBookings.{launch_in_round_1}
 use Rattle.rules.specs.Runs.Watch.{once}
-use Rattle.rules.specs.Runs.Refusals.{phases_tried, current_slot, setup_at, launches_tried, allowances, out_queues, replies_tried, passive_flag, down, up, waits_at_passive, drops_tried, allowance_and_flag, second, second_marked, tdown6, tdown7, later, waits_at_active, out_queue_full, both_wait}
+use Rattle.rules.specs.Runs.Refusals.{phases_tried, current_slot, setup_at, launches_tried, allowances, out_queues}
+use Rattle.rules.specs.Runs.Refusals.{replies_tried, passive_flag, down, up, waits_at_passive, drops_tried}
+use Rattle.rules.specs.Runs.Refusals.{allowance_and_flag, second, second_marked, tdown6, tdown7, later, waits_at_active}
+use Rattle.rules.specs.Runs.Refusals.{out_queue_full, both_wait}
 
 pub phases_in_turn : watch plan_t current_slot (active_out 0 ∷ U 0 0 ∷ []) phases_tried
     -- READ

@@ -6,7 +6,10 @@ use Rattle.plan.specs.Samples.{two_routers, four_routers}
 use Rattle.packets.specs.Answers.{refused, done, shows}
 use Rattle.rules.proofs.Runs.Closed.{closed_later_lem}
 use Rattle.rules.specs.Runs.Watch.{once}
-use Rattle.rules.specs.Runs.TornDown.{over_two, allowance_and_both, both, second, all_free, seen, places, quiet, setup, nack, marked_nack, tdown, tdown_on, over_three, allowance_and_three, three, last_two, last_one, none_booked, watched, still, nack3, marked3, tdown3, tdown2, tdown1}
+use Rattle.rules.specs.Runs.TornDown.{over_two, allowance_and_both, both, second, all_free, seen, places, quiet, setup}
+use Rattle.rules.specs.Runs.TornDown.{nack, marked_nack, tdown, tdown_on, over_three, allowance_and_three, three}
+use Rattle.rules.specs.Runs.TornDown.{last_two, last_one, none_booked, watched, still, nack3, marked3, tdown3, tdown2}
+use Rattle.rules.specs.Runs.TornDown.{tdown1}
 
 pub torn_over_two : moments two_routers allowance_and_both places over_two
     -- round 6: both routers have booked; round 7: declined

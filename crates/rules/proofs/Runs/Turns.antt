@@ -7,7 +7,8 @@ use Rattle.plan.specs.Samples.{narrow_there, narrow_back, long_way_back}
 use Rattle.packets.specs.Answers.{done}
 use Rattle.rules.proofs.Runs.BothEnds.{fifth_sees_four}
 use Rattle.rules.specs.Runs.Watch.{once}
-use Rattle.rules.specs.Runs.Turns.{last_at_side, last_to_unit, two_senders, nack, first, second, other, three_senders, waiting, three_actives, of, skipped_round}
+use Rattle.rules.specs.Runs.Turns.{last_at_side, last_to_unit, two_senders, nack, first, second, other, three_senders}
+use Rattle.rules.specs.Runs.Turns.{waiting, three_actives, of, skipped_round}
 
 pub two_in_turn : moments narrow_back (last_at_side 1) (F back 0 1 ∷ K 0 0 1 ∷ []) two_senders
     ≡ after done (4 ∷ []) ([] ∷ [] ∷ [])
@@ -31,7 +32,8 @@ pub two_in_turn : moments narrow_back (last_at_side 1) (F back 0 1 ∷ K 0 0 1 �
 unfolding moments
 two_in_turn = once fifth_sees_four refl
 
-pub three_in_turn : moments narrow_back (last_at_side 1) (F back 0 1 ∷ K 0 0 1 ∷ K 0 3 1 ∷ active_in 0 ∷ []) three_senders
+pub three_in_turn : moments narrow_back (last_at_side 1) (F back 0 1 ∷ K 0 0 1 ∷ K 0 3 1 ∷ active_in 0 ∷ [])
+    three_senders
     ≡ after done (4 ∷ []) (waiting [] [] [] [])
     -- round 6: 'as if the last in order had sent': answer F[1] goes first
     ∷ after done (4 ∷ []) (waiting (nack ∷ []) (first ∷ []) [] [])

@@ -11,9 +11,9 @@ use Rattle.rules.specs.Runs.Watch.{round, many_rounds, in_write, packet, allowan
 use Rattle.rules.specs.Runs.Watch.{each}
 
 -- ---- the way to a passive. Document 02 (i) splits Q by incoming side: an active's own set-ups are to fill its Q and
--- its U, and three Qs fill. With Q 3 and U 4, as `narrow_there` has them, an allowance of 6 does not do it; with Q 1 and
--- U 4 it does, and one set-up has to wait. The router is that of `narrow_there`: side 0 to passive 0, sides 1 to 3 to
--- actives 0 to 2, S=16. Active out 6, in 7, U 4, Q 1, F 3, K 5, passive in 2, out 4.
+-- its U, and three Qs fill. With Q 3 and U 4, as `narrow_there` has them, an allowance of 6 does not do it; with Q 1
+-- and U 4 it does, and one set-up has to wait. The router is that of `narrow_there`: side 0 to passive 0, sides 1 to 3
+-- to actives 0 to 2, S=16. Active out 6, in 7, U 4, Q 1, F 3, K 5, passive in 2, out 4.
 
 -- nobody replies before round 17
 abbrev pub fill_there : List (List Call)
@@ -90,7 +90,8 @@ fill_back =
 -- 0's in-queue; then the credits of passive 1's in-queue, of K[3,1] and of active 0's in-queue
 abbrev pub back : State → List ℕ
 back s =
-    allowance_in s 0 ∷ each (count_in s) (active_out 0 ∷ passive_in 1 ∷ passive_out 1 ∷ K 0 0 1 ∷ K 0 3 1 ∷ active_in 0 ∷ [])
+    allowance_in s 0 ∷ each (count_in s) (active_out 0 ∷ passive_in 1 ∷ passive_out 1 ∷ K 0 0 1 ∷ K 0 3 1 ∷ active_in 0
+    ∷ [])
     ++ each (credit_in s) (passive_in 1 ∷ K 0 3 1 ∷ active_in 0 ∷ [])
 
 -- ---- an out-queue of 2 that holds a TDOWN, with an allowance left: Launch gives 12

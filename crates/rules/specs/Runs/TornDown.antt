@@ -102,7 +102,8 @@ over_three =
 abbrev pub allowance_and_three : State → List ℕ
 allowance_and_three s =
     allowance_in s 1 ∷ entry_in s 1 1 0 ∷ entry_in s 1 1 1 ∷ entry_in s 1 1 2
-    ∷ entry_in s 2 1 0 ∷ entry_in s 2 1 1 ∷ entry_in s 2 1 2 ∷ entry_in s 3 1 0 ∷ entry_in s 3 1 1 ∷ entry_in s 3 1 2 ∷ []
+    ∷ entry_in s 2 1 0 ∷ entry_in s 2 1 1 ∷ entry_in s 2 1 2 ∷ entry_in s 3 1 0 ∷ entry_in s 3 1 1 ∷ entry_in s 3 1 2 ∷
+    []
 
 -- with that allowance: all three booked, slots 1, 2 and 0; the last two; the last; none
 abbrev pub three : ℕ → List ℕ

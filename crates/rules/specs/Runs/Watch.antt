@@ -130,11 +130,11 @@ watching pl look qs (cs ∷ more) s =
 -- a run from Start of the plan that the bytes give: what numbers and what queues are looked at, and the calls, up to
 -- each moment at which they are looked at
 unfoldable pub moments : List ℕ → (State → List ℕ) → List Queue → List (List Call) → List After
-unfolding any_below all_below up_to spot on_count walk_size bit_at field_of capacity_at head_of joint_in plan_of ports_of home
-    onward arrives backs_arrive served_from index_in index_on queue_at queues output_at start blank join arrive deliver
-    lower settle do_read came_in other_free may_book set_up tear_one tear_down handle at_unit unit candidate first_of next_of
-    picked choose answer at_active undo do_execute send_head send_by send do_write launched removed noted closed sum
-    total call
+unfolding any_below all_below up_to spot on_count walk_size bit_at field_of capacity_at head_of joint_in plan_of
+    ports_of home onward arrives backs_arrive served_from index_in index_on queue_at queues output_at start blank join
+    arrive deliver lower settle do_read came_in other_free may_book set_up tear_one tear_down handle at_unit unit
+    candidate first_of next_of picked choose answer at_active undo do_execute send_head send_by send do_write launched
+    removed noted closed sum total call
 moments b look qs css = let pl : Plan = plan_of b in watching pl look qs css (start pl)
 
 -- the same, looked at after each call

@@ -34,7 +34,8 @@ going_round =
 abbrev pub sides1 : State → List ℕ
 sides1 s =
     entry_in s 0 1 0 ∷ entry_in s 0 1 1 ∷ entry_in s 0 1 2 ∷ entry_in s 1 1 0 ∷ entry_in s 1 1 1 ∷ entry_in s 1 1 2
-    ∷ entry_in s 2 1 0 ∷ entry_in s 2 1 1 ∷ entry_in s 2 1 2 ∷ entry_in s 3 1 0 ∷ entry_in s 3 1 1 ∷ entry_in s 3 1 2 ∷ []
+    ∷ entry_in s 2 1 0 ∷ entry_in s 2 1 1 ∷ entry_in s 2 1 2 ∷ entry_in s 3 1 0 ∷ entry_in s 3 1 1 ∷ entry_in s 3 1 2 ∷
+    []
 
 -- a router's three: free, or booked in slot 0, 1 or 2 with side 0, by which the walk comes in
 abbrev pub free : List ℕ

@@ -24,7 +24,8 @@ module _ {pl : Plan} (s : State) (c : Core pl s) where
   -- ---- a unit: Q's head changes, or ends; the table may change
   handled_paid : (r i : ℕ) (x y : Packet) (rest : List Packet) → s.lines.queue (Q r i) ≡ x ∷ rest
       → Paid pl (handled_as r i y rest s)
-  handled_paid r i x y rest e = paid_alike (with_queue (Q r i) (y ∷ rest) s) (handled_as r i y rest s) refl refl refl refl
+  handled_paid r i x y rest e = paid_alike (with_queue (Q r i) (y ∷ rest) s) (handled_as r i y rest s) refl refl refl
+      refl
       (head_paid s (paid_of c) (Q r i) x y rest refl e)
 
   entry_paid : (t : State) (r o k : ℕ) (e : Entry) → Paid pl t → Paid pl (with_entry r o k e t)

@@ -9,7 +9,8 @@ use Rattle.basis.specs.Choice.{test, same_test}
 use Rattle.plan.specs.Plan.{Plan}
 use Rattle.plan_queues.specs.Queue.{Queue}
 use Rattle.plan_queues.specs.Feeds.{Output}
-use Rattle.rules.specs.Store.{put, same_queue, same_queue_lem, queue_same, same_output, same_output_lem, output_same, put_here}
+use Rattle.rules.specs.Store.{put, same_queue, same_queue_lem, queue_same, same_output, same_output_lem, output_same}
+use Rattle.rules.specs.Store.{put_here}
 use Rattle.rules.specs.Store.{put_away}
 use Rattle.rules.specs.Outputs.{outputs, output_at, output_number}
 use Rattle.rules.specs.Valid.{Drives, bit, sum, fed}
@@ -73,11 +74,13 @@ pub outputs_put : {X : Type 0} (pl : Plan) (w : Output → X → ℕ) (m : Outpu
     → sum (outputs pl) (λ n. w (output_at pl n) (put same_output m o a (output_at pl n))) + w o (m o)
     ≡ sum (outputs pl) (λ n. w (output_at pl n) (m (output_at pl n))) + w o a
 outputs_put {X} pl w m o a d =
-    let one = sum_but (outputs pl) (output_number pl o) (λ n. w (output_at pl n) (put same_output m o a (output_at pl n)))
+    let one = sum_but (outputs pl) (output_number pl o) (λ n. w (output_at pl n)
+    (put same_output m o a (output_at pl n)))
     (λ n. w (output_at pl n) (m (output_at pl n))) (output_below pl o d) away in
     let old : w (output_at pl (output_number pl o)) (m (output_at pl (output_number pl o))) ≡ w o (m o) =
     ap (λ (u : Output). w u (m u)) (output_at_lem pl o d) in
-    let new : w (output_at pl (output_number pl o)) (put same_output m o a (output_at pl (output_number pl o))) ≡ w o a =
+    let new : w (output_at pl (output_number pl o)) (put same_output m o a (output_at pl (output_number pl o))) ≡ w o a
+    =
     ap (λ (u : Output). w u (put same_output m o a u)) (output_at_lem pl o d) ∙ ap (w o) (output_here m o a) in
     omega arith
   where

@@ -37,7 +37,8 @@ module _ {pl : Plan} (wired : Wired pl) (range : InRange pl.head) where
       → Kept pl (launched a p t s)
   unfolding launched
   launched_kept a p t s ha hp ht served k =
-      allowance_kept (join_kept k (active_out a) (setup_of a p t) ha (setup_belongs wired range a p t ha hp ht served)) a
+      allowance_kept (join_kept k (active_out a) (setup_of a p t) ha (setup_belongs wired range a p t ha hp ht served))
+      a
       (s.flow.allowance a - 1) ha
 
   -- Reply: the head of a passive's in-queue becomes an answer in its out-queue

@@ -102,7 +102,8 @@ module _ {pl : Plan} (wired : Wired pl) (range : InRange pl.head) where
             (λ j c. rw (← booked_same c) (side_in wired range x (in_queue (Q r i)) here r i refl)) u hu
             (put_away eqb number_one eqb-true (s.table r side) x.slot.0
             (Booked (came_in pl x.active x.passive r)) u ne ∙ free)
-    set_up_lem false m q = handled_as_lem k (declined x) (declined_belongs wired range x (in_queue (Q r i)) here r i refl q)
+    set_up_lem false m q = handled_as_lem k (declined x) (declined_belongs wired range x (in_queue (Q r i)) here r i
+        refl q)
 
     tear_down_lem : x.kind ≡ Tdown → Kept pl (tear_down pl r i side x rest s)
     unfolding tear_down tear_one

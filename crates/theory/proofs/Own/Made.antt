@@ -154,7 +154,8 @@ unfolding owning
 owning_tells pl r o t v a p start first past h =
     let b = picked_some (also (eqb o (route_to pl (passive p) r))
     (reaches (S pl) t start first past (index_of pl a p r))) (bit (same_holder (holder_of pl a p r) v)) h in
-    let d = also_true {a = eqb o (route_to pl (passive p) r)} {b = reaches (S pl) t start first past (index_of pl a p r)}
+    let d = also_true {a = eqb o (route_to pl (passive p) r)} {b = reaches (S pl) t start first past
+    (index_of pl a p r)}
     b.0 in
     let g = reached (S pl) t start first past (index_of pl a p r) d.1 in
     record {

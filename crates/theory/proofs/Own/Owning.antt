@@ -141,7 +141,8 @@ module _ (pl : Plan) (r o t : ℕ) (v : Holder) (a p : ℕ) (start : Slot) where
   pub owning_none : (first past : ℕ) → past ≤ first → owning pl r o t v a p start first past ≡ 0
   unfolding owning
   owning_none first past h =
-      piece_none (S pl) t start (eqb o (route_to pl (passive p) r)) (bit (same_holder (holder_of pl a p r) v)) first past
+      piece_none (S pl) t start (eqb o (route_to pl (passive p) r)) (bit (same_holder (holder_of pl a p r) v)) first
+      past
       (index_of pl a p r) (λ k e l m. omega arith)
 
   -- An entry is owned once at most.
@@ -187,5 +188,6 @@ module _ {pl : Plan} (wired : Wired pl) (a p : ℕ) (ha : a < A pl) (hp : p < P 
           ap (λ (n : ℕ). owning pl n o t v a p start k (k + 1)) q
           ∙ rw (index_is wired a p ha hp s k i j f, le-ltb k k (omega arith), lt-ltb k (k + 1) (omega arith), e)
       by (inr g) =
-          rw g (piece_none (S pl) t start (eqb o (route_to pl (passive p) r)) (bit (same_holder (holder_of pl a p r) v)) k
+          rw g (piece_none (S pl) t start (eqb o (route_to pl (passive p) r)) (bit (same_holder (holder_of pl a p r) v))
+          k
           (k + 1) (index_of pl a p r) (there g))

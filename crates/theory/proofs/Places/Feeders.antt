@@ -13,7 +13,8 @@ use Rattle.plan.specs.Rules.{home}
 use Rattle.plan_walks.specs.Served.{Served}
 use Rattle.plan_queues.specs.Queue.{Queue, active_out, active_in, passive_in, passive_out, U, Q, F, K}
 use Rattle.plan_queues.specs.Role.{is_out_queue}
-use Rattle.plan_queues.specs.Feeds.{Heading, ahead, back, heading_of, Output, of_active, of_passive, of_side, to_unit, from_unit}
+use Rattle.plan_queues.specs.Feeds.{Heading, ahead, back, heading_of, Output, of_active, of_passive, of_side, to_unit}
+use Rattle.plan_queues.specs.Feeds.{from_unit}
 use Rattle.plan_queues.specs.Feeds.{enters, across, beyond, output_of, leaves_from}
 use Rattle.plan_facts.specs.Wired.{Wired}
 use Rattle.plan_journeys.specs.Visits.{Visits}

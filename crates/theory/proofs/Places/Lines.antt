@@ -16,7 +16,8 @@ use Rattle.plan.specs.Plan.{Plan, R, A, P}
 use Rattle.plan_walks.specs.Served.{Served}
 use Rattle.plan_queues.specs.Queue.{Queue, active_out, active_in, passive_in, passive_out, U, Q, F, K, Exists}
 use Rattle.plan_queues.specs.Role.{Role, sending, receiving, handling, passing, role, is_unit_as, is_unit, unit_or}
-use Rattle.plan_queues.specs.Feeds.{Output, heading_of, output_of, in_queue, Ahead, Back, Fits, head_place_as, head_place}
+use Rattle.plan_queues.specs.Feeds.{Output, heading_of, output_of, in_queue, Ahead, Back, Fits, head_place_as}
+use Rattle.plan_queues.specs.Feeds.{head_place}
 use Rattle.plan_queues.specs.Feeds.{leaves_from}
 use Rattle.plan_facts.specs.Wired.{Wired}
 use Rattle.plan_journeys.proofs.Places.{may_exist, some_same, some_not_none}

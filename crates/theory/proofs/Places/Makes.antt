@@ -15,7 +15,8 @@ use Rattle.plan.specs.Head.{InRange}
 use Rattle.plan.specs.Plan.{Plan, passive, A, P, S, route_to}
 use Rattle.plan_walks.specs.Served.{Served}
 use Rattle.plan_queues.specs.Queue.{Queue, active_out, active_in, passive_in, passive_out, Q}
-use Rattle.plan_queues.specs.Feeds.{Output, next, output_of, Place, in_queue, handled_at, Stands, span, Fits, leaves_from}
+use Rattle.plan_queues.specs.Feeds.{Output, next, output_of, Place, in_queue, handled_at, Stands, span, Fits}
+use Rattle.plan_queues.specs.Feeds.{leaves_from}
 use Rattle.plan_facts.specs.Wired.{Wired}
 use Rattle.rules.specs.Outputs.{next_by}
 use Rattle.rules.specs.Execute.{came_in, declined, booked, freed, marked, tdown_of}
@@ -81,7 +82,8 @@ module _ {pl : Plan} (wired : Wired pl) (range : InRange pl.head) where
     served = here.serves
 
     -- a packet that belongs where it leaves a queue from belongs in the queue that it goes to by that queue's output
-    pub next_belongs : (q y : Queue) (o : Output) → from ≡ leaves_from q → output_of q ≡ some o → next_by pl o x ≡ some y
+    pub next_belongs : (q y : Queue) (o : Output) → from ≡ leaves_from q → output_of q ≡ some o → next_by pl o x ≡ some
+        y
         → Belongs pl (in_queue y) x
     unfolding next
     next_belongs q y o f e n =

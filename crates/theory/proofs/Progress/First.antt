@@ -321,7 +321,8 @@ module _ (pl : Plan) (e : State) (r : ℕ) (x : Ends e r) where
   ends_moves h =
       let u : State = up_to (unit_at pl) (4 * R pl) e in
       let c = all_chosen pl (up_to (unit_at pl) (4 * R pl) e) in
-      let a : (up_to (λ n. choose pl (output_at pl n)) (outputs pl) (up_to (unit_at pl) (4 * R pl) e)).lines.queue (q_at r)
+      let a : (up_to (λ n. choose pl (output_at pl n)) (outputs pl) (up_to (unit_at pl) (4 * R pl) e)).lines.queue
+      (q_at r)
       ≡ x.rest
       = ap (λ (s : State). s.lines.queue (q_at r)) c.state ∙ after_units h in
       let b : (up_to (undo pl) (A pl)

@@ -15,7 +15,8 @@ use Rattle.packets.specs.declared.Wire.TheVariants.{Empty, Full}
 use Rattle.packets.specs.declared.Phase.TheVariants.{Read, Execute, Write}
 use Rattle.plan.specs.Head.{InRange}
 use Rattle.plan.specs.Plan.{Plan, S}
-use Rattle.plan_queues.specs.Queue.{Queue, active_out, active_in, passive_in, passive_out, U, Q, F, K, Exists, queues, queue_at}
+use Rattle.plan_queues.specs.Queue.{Queue, active_out, active_in, passive_in, passive_out, U, Q, F, K, Exists, queues}
+use Rattle.plan_queues.specs.Queue.{queue_at}
 use Rattle.plan_queues.specs.Feeds.{Output, FeedRing}
 use Rattle.plan_facts.specs.Wired.{Wired}
 use Rattle.rules.specs.Store.{put, same_queue, same_queue_lem}

@@ -26,9 +26,11 @@ use Rattle.packets.specs.declared.Phase.TheVariants.{Read, Execute, Write}
 use Rattle.packets.specs.declared.Entry.TheVariants.{Free}
 use Rattle.plan.specs.Head.{InRange}
 use Rattle.plan.specs.Plan.{Plan, R, S}
-use Rattle.plan_queues.specs.Queue.{ahead, back, Queue, active_out, active_in, passive_in, passive_out, U, Q, F, K, Exists}
+use Rattle.plan_queues.specs.Queue.{ahead, back, Queue, active_out, active_in, passive_in, passive_out, U, Q, F, K}
+use Rattle.plan_queues.specs.Queue.{Exists}
 use Rattle.plan_queues.specs.Role.{is_out_queue}
-use Rattle.plan_queues.specs.Feeds.{Output, of_active, of_passive, of_side, to_unit, from_unit, output_of, heading_of, next}
+use Rattle.plan_queues.specs.Feeds.{Output, of_active, of_passive, of_side, to_unit, from_unit, output_of, heading_of}
+use Rattle.plan_queues.specs.Feeds.{next}
 use Rattle.plan_queues.specs.Feeds.{in_queue, FeedRing}
 use Rattle.plan_facts.specs.Wired.{Wired}
 use Rattle.rules.specs.Outputs.{next_by, senders, outputs, output_at, output_number}
@@ -450,7 +452,8 @@ module _ {pl : Plan} (wired : Wired pl) (range : InRange pl.head) (free : FeedRi
             → p.lines.queue q ≡ x ∷ rest → (more : List Packet) × (d.lines.queue q ≡ x ∷ more)
         head_in d k q x rest ni g = by (test (is_out_queue q))
           where
-            by : (is_out_queue q ≡ true) ⊎ (is_out_queue q ≡ false) → (more : List Packet) × (d.lines.queue q ≡ x ∷ more)
+            by : (is_out_queue q ≡ true) ⊎ (is_out_queue q ≡ false) → (more : List Packet) ×
+                (d.lines.queue q ≡ x ∷ more)
             by (inl b) = let o = k.outs q b in (rest ++ o.0, o.1 ∙ ap (λ (l : List Packet). l ++ o.0) g)
             by (inr b) = (rest, k.inner q b ni ∙ g)
 

@@ -62,7 +62,8 @@ same_self pl p w =
 -- ---- changes that keep it
 module _ (pl : Plan) (p s : State) (same : Same pl p s) where
   -- an in-queue's contents are changed
-  pub in_same : (k : Queue) (l : List Packet) → is_out_queue k ≡ false → is_in_queue k ≡ true → Same pl p (with_queue k l s)
+  pub in_same : (k : Queue) (l : List Packet) → is_out_queue k ≡ false → is_in_queue k ≡ true → Same pl p
+      (with_queue k l s)
   in_same k l f i =
       record {
         inner = λ q g j. queue_away s.lines.queue k l q (λ e. true≢false (sym i ∙ ap is_in_queue (sym e) ∙ j))
@@ -154,7 +155,8 @@ settles pl p s t q k = by (t.flow.flag q) refl
 settled_all : (pl : Plan) (p s : State) → Same pl p s
     → Settled pl p s (up_to (λ n. settle (queue_at pl n)) (queues pl) s)
 settled_all pl p s k =
-    up_keeps (Settled pl p s) (λ n. settle (queue_at pl n)) (queues pl) s (λ n t h d. settles pl p s t (queue_at pl n) d)
+    up_keeps (Settled pl p s) (λ n. settle (queue_at pl n)) (queues pl) s
+    (λ n t h d. settles pl p s t (queue_at pl n) d)
     (record { same = k; slot = refl })
 
 -- the outcome of a phase in which nothing moves

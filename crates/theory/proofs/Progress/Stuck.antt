@@ -23,7 +23,8 @@ use Rattle.plan.specs.Plan.{Plan, Port, Interface, active, passive, A, P, route_
 use Rattle.plan.specs.Rules.{home}
 use Rattle.plan_walks.specs.Walk.{onward}
 use Rattle.plan_walks.specs.Served.{Served}
-use Rattle.plan_queues.specs.Queue.{Queue, active_out, active_in, passive_in, passive_out, U, Q, F, K, Exists, number, queues}
+use Rattle.plan_queues.specs.Queue.{Queue, active_out, active_in, passive_in, passive_out, U, Q, F, K, Exists, number}
+use Rattle.plan_queues.specs.Queue.{queues}
 use Rattle.plan_queues.specs.Queue.{queue_at}
 use Rattle.plan_queues.specs.Feeds.{Heading, ahead, back, heading_of, destination, Output, output_of, leaving, enters}
 use Rattle.plan_queues.specs.Feeds.{came_in, Meets, across, next, span, leaves_from, Fits, in_queue, Feeds, FeedRing}
@@ -186,7 +187,8 @@ module _ {pl : Plan} (wired : Wired pl) (range : InRange pl.head) (free : FeedRi
       at (x ∷ l) (g, k) z (inl e) = rw e g
       at (x ∷ l) (g, k) z (inr i) = k z i
 
-  room_at_active : (q : Queue) (x : Packet) (rest : List Packet) (b : ℕ) → b < A pl → Exists pl q → is_in_queue q ≡ false
+  room_at_active : (q : Queue) (x : Packet) (rest : List Packet) (b : ℕ) → b < A pl → Exists pl q → is_in_queue q ≡
+      false
       → s.lines.queue q ≡ x ∷ rest → spends b x ≡ 1
       → length (s.lines.queue (active_in b)) ≡ capacity pl.head (active_in b) → ⊥
   unfolding total

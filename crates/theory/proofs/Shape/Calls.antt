@@ -73,10 +73,12 @@ module _ {pl : Plan} (s : State) where
       spares o =
           spares_then s (with_queue (passive_in p) rest s) (replied p k (x ∷ rest) s)
           (turn_spares (passive_in p) (λ z. some_not_none z) rest s)
-          (spares_then (with_queue (passive_in p) rest s) (with_flag (passive_in p) true (with_queue (passive_in p) rest s))
+          (spares_then (with_queue (passive_in p) rest s) (with_flag (passive_in p) true
+          (with_queue (passive_in p) rest s))
           (replied p k (x ∷ rest) s)
           (flag_spares (passive_in p) (λ z. some_not_none z) true (with_queue (passive_in p) rest s))
-          (join_spares (passive_out p) (replied_as k x) (with_flag (passive_in p) true (with_queue (passive_in p) rest s))))
+          (join_spares (passive_out p) (replied_as k x) (with_flag (passive_in p) true
+          (with_queue (passive_in p) rest s))))
 
   -- Drop, in WRITE
   pub removed_shape : (a : ℕ) (rest : List Packet) → s.clock.phase ≡ Write → Shape pl s → Shape pl (removed a rest s)
@@ -87,10 +89,12 @@ module _ {pl : Plan} (s : State) where
       spares o =
           spares_then s (with_queue (active_in a) rest s) (removed a rest s)
           (turn_spares (active_in a) (λ z. some_not_none z) rest s)
-          (spares_then (with_queue (active_in a) rest s) (with_flag (active_in a) true (with_queue (active_in a) rest s))
+          (spares_then (with_queue (active_in a) rest s) (with_flag (active_in a) true
+          (with_queue (active_in a) rest s))
           (removed a rest s)
           (flag_spares (active_in a) (λ z. some_not_none z) true (with_queue (active_in a) rest s))
-          (spares_alike (with_flag (active_in a) true (with_queue (active_in a) rest s)) (removed a rest s) refl refl refl
+          (spares_alike (with_flag (active_in a) true (with_queue (active_in a) rest s)) (removed a rest s) refl refl
+          refl
           refl))
 
   -- what it notes

@@ -18,7 +18,8 @@ use Rattle.plan_journeys.proofs.Places.{some_not_none}
 use Rattle.rules.specs.Store.{put, same_queue}
 use Rattle.rules.specs.Outputs.{outputs, output_at, output_number}
 use Rattle.rules.specs.State.{State, Choice, sender, with_queue, with_flag, with_entry, join}
-use Rattle.rules.specs.Execute.{unit_at, handled_as, unit, may_leave, picked, choose, marked, tdown_of, undo, do_execute}
+use Rattle.rules.specs.Execute.{unit_at, handled_as, unit, may_leave, picked, choose, marked, tdown_of, undo}
+use Rattle.rules.specs.Execute.{do_execute}
 use Rattle.rules.specs.Valid.{Drives}
 use Rattle.rules.proofs.Apart.{unit_same}
 use Rattle.rules.proofs.Numbers.{sender_exists}
@@ -99,7 +100,8 @@ module _ (pl : Plan) where
   unit_quiet n s g =
       unit_by pl s (FlagsBehind pl (suc n)) (n / 4) (n % 4) (quiet_more n s g)
       (λ x y rest e m. quiet_handled n s (handled_as (n / 4) (n % 4) y rest s) refl refl g)
-      (λ x y rest o t b e m. quiet_handled n s (handled_as (n / 4) (n % 4) y rest (with_entry (n / 4) o t b s)) refl refl
+      (λ x y rest o t b e m. quiet_handled n s (handled_as (n / 4) (n % 4) y rest (with_entry (n / 4) o t b s)) refl
+      refl
       g)
       (λ x rest o t b e m. quiet_ended n s (with_flag (q_at n) true (with_queue (q_at n) rest
       (with_entry (n / 4) o t b s))) refl refl m g)

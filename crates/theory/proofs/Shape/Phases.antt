@@ -47,8 +47,10 @@ module _ (pl : Plan) (P : State → Type 0) (s : State) where
       → FlagsDown pl s → P s → P (do_execute pl s)
   unfolding do_execute
   execute_keeps units chooses undoes ends f p =
-      ends (up_to (undo pl) (A pl) (up_to (λ n. choose pl (output_at pl n)) (outputs pl) (up_to (unit_at pl) (4 * R pl) s)))
-      (up_keeps P (undo pl) (A pl) (up_to (λ n. choose pl (output_at pl n)) (outputs pl) (up_to (unit_at pl) (4 * R pl) s))
+      ends (up_to (undo pl) (A pl) (up_to (λ n. choose pl (output_at pl n)) (outputs pl)
+      (up_to (unit_at pl) (4 * R pl) s)))
+      (up_keeps P (undo pl) (A pl) (up_to (λ n. choose pl (output_at pl n)) (outputs pl)
+      (up_to (unit_at pl) (4 * R pl) s))
       (λ i t h q. undoes i t h q)
       (up_keeps P (λ n. choose pl (output_at pl n)) (outputs pl) (up_to (unit_at pl) (4 * R pl) s)
       (λ i t h q. chooses (output_at pl i) t (drives_at pl i h) q)

@@ -98,7 +98,8 @@ module _ (pl : Plan) where
   -- after WRITE no output has a choice
   pub write_choices : (s : State) → NoChoices pl (do_write pl s)
   unfolding do_write
-  write_choices s o d = subst (λ (u : Output). (up_to sends (outputs pl) s).links.choice u ≡ nobody) (output_at_lem pl o d)
+  write_choices s o d = subst (λ (u : Output). (up_to sends (outputs pl) s).links.choice u ≡ nobody)
+      (output_at_lem pl o d)
       (all (output_number pl o) (output_below pl o d))
     where
       step : (i : ℕ) (t : State) → i < outputs pl → ((j : ℕ) → j < i → t.links.choice (output_at pl j) ≡ nobody)

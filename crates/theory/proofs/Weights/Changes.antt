@@ -57,7 +57,8 @@ module _ (pl : Plan) (w : Weight) where
         (f : s.lines.handled (Q r i) ≡ false) where
       -- A set-up is booked.
       pub booked_weighed : x.kind ≡ Setup → may_book_at pl r s x ≡ true
-          → weighed pl w (unit pl r i s) + w (in_queue (Q r i)) x ≡ weighed pl w s + w (handled_at r i) (booked (S pl) x)
+          → weighed pl w (unit pl r i s) + w (in_queue (Q r i)) x ≡ weighed pl w s + w (handled_at r i)
+          (booked (S pl) x)
       unfolding weighed
       booked_weighed k t =
           ap (λ (u : State). weighed pl w u + w (in_queue (Q r i)) x) (unit_books pl r i s x rest e f k t)
@@ -95,7 +96,8 @@ module _ (pl : Plan) (w : Weight) where
         + w (in_queue (active_in a)) (marked x) + w (in_queue (active_out a)) (tdown_of (S pl) x)
     unfolding weighed
     torn_weighed a h x rest e u g =
-        let joined = weighed_join pl w (active_out a) h (tdown_of (S pl) x) (with_queue (active_in a) (marked x ∷ rest) s)
+        let joined = weighed_join pl w (active_out a) h (tdown_of (S pl) x)
+        (with_queue (active_in a) (marked x ∷ rest) s)
         (λ m. (c.marks (active_out a) h m).3) in
         let swapped = swapped_weighed (active_in a) h s refl x (marked x) rest e in
         let is : weighed pl w (undo pl a s)
@@ -107,7 +109,8 @@ module _ (pl : Plan) (w : Weight) where
     pub launched_weighed : (a p t : ℕ) → a < A pl
         → weighed pl w (launched a p t s) ≡ weighed pl w s + w (in_queue (active_out a)) (setup_of a p t)
     unfolding launched weighed
-    launched_weighed a p t h = weighed_join pl w (active_out a) h (setup_of a p t) s (λ m. (c.marks (active_out a) h m).3)
+    launched_weighed a p t h = weighed_join pl w (active_out a) h (setup_of a p t) s
+        (λ m. (c.marks (active_out a) h m).3)
 
     -- A closing tear-down joins the out-queue.
     pub closed_weighed : (a p t : ℕ) → a < A pl

@@ -15,7 +15,8 @@ use Rattle.plan.specs.Plan.{Plan}
 use Rattle.plan_queues.specs.Queue.{Queue, Exists, number, queues, queue_at}
 use Rattle.plan_queues.specs.Feeds.{Output, in_queue, head_place}
 use Rattle.plan_journeys.proofs.Numbers.{queue_at_lem, number_below}
-use Rattle.rules.specs.Store.{put, same_queue, same_queue_lem, queue_same, same_output, same_output_lem, output_same, put_here}
+use Rattle.rules.specs.Store.{put, same_queue, same_queue_lem, queue_same, same_output, same_output_lem, output_same}
+use Rattle.rules.specs.Store.{put_here}
 use Rattle.rules.specs.Store.{put_away}
 use Rattle.rules.specs.Outputs.{next_by, outputs, output_at, output_number}
 use Rattle.rules.specs.State.{State, blank, start, with_queue, with_wire, with_handled, join}

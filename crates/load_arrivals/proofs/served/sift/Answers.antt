@@ -11,7 +11,8 @@ bounds-up-x c =
     c.requires.1 _ (sifting_there (omega arith) c.lowest-d.ensures.0 inv)
 
 pub loop-left-preserved : goal.loop-left-preserved
-loop-left-preserved c = sifting_more (omega arith) c.lowest-d.ensures.0 c.rest-left.ensures.0 c.both.ensures c.kept-w.ensures c.loop-left.invariant
+loop-left-preserved c = sifting_more (omega arith) c.lowest-d.ensures.0 c.rest-left.ensures.0 c.both.ensures
+    c.kept-w.ensures c.loop-left.invariant
 
 pub returns : goal.returns
 returns c = sifting_end (omega arith) c.loop-left.invariant

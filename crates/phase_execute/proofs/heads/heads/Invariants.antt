@@ -11,6 +11,7 @@ use Rattle.phase_execute.proofs.heads.heads.Given as goal
 abbrev pub invariant-loop-m : goal.invariant-loop-m
 invariant-loop-m l =
     (l.m ≤ l.n) × (l.n ≡ 4 * l.h.routers)
-    × Steps (table_plan l.h l.routes l.joints) (Turn (table_plan l.h l.routes l.joints) 0) (up_to (unit_at (table_plan l.h l.routes l.joints))
+    × Steps (table_plan l.h l.routes l.joints) (Turn (table_plan l.h l.routes l.joints) 0)
+    (up_to (unit_at (table_plan l.h l.routes l.joints))
     l.m) l.initial.s l.s
     × (length l.s ≡ length l.initial.s)

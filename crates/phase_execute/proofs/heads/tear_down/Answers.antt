@@ -32,4 +32,5 @@ pub returns : goal.returns
 returns c =
     let p = c.requires in steps_torn p.0.wired
     (range_of p.0) _ _ (is_router p.0 p.1, p.2) _ p.4 (side_is p.0 p.1 p.2 p.5
-    c.side_of-o.ensures) (entry_is _ _ _ _ _ _ c.entry_row-near.ensures) c.index.ensures.0 (slots_are _ _ _) p.3 c.settle.ensures
+    c.side_of-o.ensures) (entry_is _ _ _ _ _ _ c.entry_row-near.ensures) c.index.ensures.0 (slots_are _ _ _) p.3
+    c.settle.ensures

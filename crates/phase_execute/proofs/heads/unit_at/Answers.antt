@@ -73,23 +73,27 @@ tear_down-requires c =
 pub returns-in-Setup : goal.returns-in-Setup
 returns-in-Setup c =
     let p = c.requires in steps_by _ (heads_by p.0.wired (range_of p.0) _ _ (is_router p.0 p.1, p.2)
-    (unit_at _ _ _ _ _ c.base_of.ensures.0 c.queue_row-at.ensures) c.if-s-at-eq0.false c.if-s-at-ne0.false c.packet_at-x.ensures) c.set_up.ensures
+    (unit_at _ _ _ _ _ c.base_of.ensures.0 c.queue_row-at.ensures) c.if-s-at-eq0.false c.if-s-at-ne0.false
+    c.packet_at-x.ensures) c.set_up.ensures
 
 pub returns-in-Tdown : goal.returns-in-Tdown
 returns-in-Tdown c =
     let p = c.requires in steps_by _ (heads_by p.0.wired (range_of p.0) _ _ (is_router p.0 p.1, p.2)
-    (unit_at _ _ _ _ _ c.base_of.ensures.0 c.queue_row-at.ensures) c.if-s-at-eq0.false c.if-s-at-ne0.false c.packet_at-x.ensures) c.tear_down.ensures
+    (unit_at _ _ _ _ _ c.base_of.ensures.0 c.queue_row-at.ensures) c.if-s-at-eq0.false c.if-s-at-ne0.false
+    c.packet_at-x.ensures) c.tear_down.ensures
 
 pub returns-in-Ack : goal.returns-in-Ack
 returns-in-Ack c =
     let p = c.requires in steps_by
     _ (heads_by p.0.wired (range_of p.0) _ _ (is_router p.0 p.1, p.2) (unit_at _ _ _ _ _
-    c.base_of.ensures.0 c.queue_row-at.ensures) c.if-s-at-eq0.false c.if-s-at-ne0.false c.packet_at-x.ensures) (steps_ack p.0.wired
+    c.base_of.ensures.0 c.queue_row-at.ensures) c.if-s-at-eq0.false c.if-s-at-ne0.false c.packet_at-x.ensures)
+    (steps_ack p.0.wired
     (range_of p.0) _ _ (is_router p.0 p.1, p.2) _ c.in-Ack.is)
 
 pub returns-in-Nack : goal.returns-in-Nack
 returns-in-Nack c =
     let p = c.requires in steps_by
     _ (heads_by p.0.wired (range_of p.0) _ _ (is_router p.0 p.1, p.2) (unit_at _ _ _ _ _
-    c.base_of.ensures.0 c.queue_row-at.ensures) c.if-s-at-eq0.false c.if-s-at-ne0.false c.packet_at-x.ensures) (steps_nack p.0.wired
+    c.base_of.ensures.0 c.queue_row-at.ensures) c.if-s-at-eq0.false c.if-s-at-ne0.false c.packet_at-x.ensures)
+    (steps_nack p.0.wired
     (range_of p.0) _ _ (is_router p.0 p.1, p.2) _ c.in-Nack.is)

@@ -31,8 +31,11 @@ tdown_of-requires c =
 
 pub push-requires : goal.push-requires
 push-requires c =
-    let p = c.requires in push_asks p.0 p.1 p.2 c.queue_row-to.ensures c.mark.ensures c.put_packet.ensures c.if-h-s.false p.3
+    let p = c.requires in push_asks p.0 p.1 p.2 c.queue_row-to.ensures c.mark.ensures c.put_packet.ensures
+    c.if-h-s.false p.3
 
 pub returns : goal.returns
 returns c =
-    let p = c.requires in steps_tears p.0 p.1 p.2 c.queue_row-to.ensures (slots_are _ _ _) (sym c.declined.ensures ∙ c.if-not-declined.false) c.if-h-s.false c.mark.ensures c.put_packet.ensures c.tdown_of.ensures c.push.ensures
+    let p = c.requires in steps_tears p.0 p.1 p.2 c.queue_row-to.ensures (slots_are _ _ _)
+    (sym c.declined.ensures ∙ c.if-not-declined.false) c.if-h-s.false c.mark.ensures c.put_packet.ensures
+    c.tdown_of.ensures c.push.ensures

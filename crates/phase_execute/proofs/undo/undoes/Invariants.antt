@@ -11,6 +11,7 @@ use Rattle.phase_execute.proofs.undo.undoes.Given as goal
 abbrev pub invariant-loop-a : goal.invariant-loop-a
 invariant-loop-a l =
     (l.a ≤ l.a-end) × (l.a-end ≡ l.h.actives)
-    × Steps (table_plan l.h l.routes l.joints) (Core (table_plan l.h l.routes l.joints)) (up_to (undo (table_plan l.h l.routes l.joints)) l.a)
+    × Steps (table_plan l.h l.routes l.joints) (Core (table_plan l.h l.routes l.joints))
+    (up_to (undo (table_plan l.h l.routes l.joints)) l.a)
     l.initial.s l.s
     × (length l.s ≡ length l.initial.s)

@@ -36,5 +36,6 @@ returns c =
     let read : c.loop-i.t ≡ joints_of c.args.plan.now c.args.h =
     up_done _ _ c.loop-i.invariant.1 end ∙ ap (up_to _ _) c.requires.2 in (
       read,
-      all_end _ (c.loop-i.invariant.2 c.args.h refl refl refl) end ∙ joints_tested c.args.plan.now c.args.h c.requires.0.0 ∙ ap (joint_bytes_ok _) (sym read),
+      all_end _ (c.loop-i.invariant.2 c.args.h refl refl refl) end ∙ joints_tested c.args.plan.now c.args.h
+          c.requires.0.0 ∙ ap (joint_bytes_ok _) (sym read),
     )

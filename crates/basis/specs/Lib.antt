@@ -6,3 +6,4 @@ pub mod Tab
 pub mod Ring
 pub mod Walk
 pub mod Among
+pub mod Ranges

@@ -1,3 +1,4 @@
 pub mod Codes
 pub mod Wires
 pub mod Joining
+pub mod Part

@@ -8,11 +8,31 @@ ghost use Rattle.bytes_steps.specs.Counts.{connections_from, turns_from, state_s
 
 use plan::Head;
 
+// The first bytes of a state: the phase and the current slot.
+pub const PHASE_BYTE: usize = 0;
+
+pub const SLOT_BYTE: usize = 1;
+
 // A queue's row: credit, flag, mark, length and seven places of five bytes.
 pub const QUEUE_WIDTH: usize = 39;
 
+// Where in a queue's row the flag, the mark and the length stand, behind the credit, and the first place.
+pub const FLAG_BYTE: usize = 1;
+
+pub const MARK_BYTE: usize = 2;
+
+pub const LENGTH_BYTE: usize = 3;
+
+pub const FIRST_PLACE: usize = 4;
+
+// A place: a packet's five bytes.
+pub const PLACE_WIDTH: usize = 5;
+
 // An output's row: a wire's six bytes and the choice.
 pub const OUTPUT_WIDTH: usize = 7;
+
+// Where in an output's row the choice stands.
+pub const CHOICE_BYTE: usize = 6;
 
 // How many queues there are.
 pub fn queue_count(h: Head) -> usize

@@ -7,33 +7,24 @@ ghost use Rattle.plan.specs.Head.{InRange};
 ghost use Rattle.rules.specs.Calls.{of_close};
 ghost use Rattle.bytes_layout.specs.Decode.{length_at};
 ghost use Rattle.call_common.specs.Visits.{Ready, Walked};
-ghost use Rattle.call_close.specs.Closing.{whole, tdown_with, closed_at};
+ghost use Rattle.call_close.specs.Closing.{tdown_with, closed_at};
 
-use call_common::{PHASE_BYTE, READ, active_out, index, queued, small, starts, walk_length};
+use call_common::{active_out, open_pair, queued, starts};
 use kinds::{Hub, Refusal, Slot};
 use packets::{Answer, Kind, Packet};
 use plan::Head;
 
-// 'hub the number of routers on the walk'
-fn whole(n: u8) -> Hub
-    ensures { result ≡ whole n }
-{
-    Hub(n)
-}
-
-// A TDOWN that has the whole walk ahead.
+// A TDOWN that has the whole walk ahead: 'hub the number of routers on the walk'.
 fn tear_down(a: usize, p: usize, t: Slot, n: u8) -> Packet
     requires { (a < 256) × (p < 256) }
     ensures { result ≡ tdown_with a p t.0 n }
 {
-    let k = Kind::Tdown;
-    let hub = whole(n);
     Packet {
-        kind: k,
-        active: small(a),
-        passive: small(p),
+        kind: Kind::Tdown,
+        active: a as u8,
+        passive: p as u8,
         slot: t,
-        hub: hub,
+        hub: Hub(n),
     }
 }
 
@@ -62,24 +53,12 @@ pub fn close(
     ensures { Walked h lengths.now (of_close active passive slot) s.old result
         s.new }
 {
-    if s[PHASE_BYTE] != READ {
-        return Answer::Refused(Refusal::WrongPhase);
-    }
-    if h.actives <= active {
-        return Answer::Refused(Refusal::BadNumber);
-    }
-    if h.passives <= passive {
-        return Answer::Refused(Refusal::BadNumber);
-    }
-    if index(h.slots) <= slot {
-        return Answer::Refused(Refusal::BadNumber);
-    }
-    let n = walk_length(lengths, active, passive);
-    if n == 0 {
-        return Answer::Refused(Refusal::NotServed);
-    }
+    let n = match open_pair(h, lengths, s, active, passive, slot) {
+        Ok(n) => n,
+        Err(w) => return Answer::Refused(w),
+    };
     let at = starts(h, active, passive);
-    let t = Slot(small(slot));
+    let t = Slot(slot as u8);
     if !bytes_rows::starts::has(s, at, t) {
         return Answer::Refused(Refusal::NotAccepted);
     }

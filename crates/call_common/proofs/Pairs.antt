@@ -2,7 +2,7 @@
 -- each from the tests that led to it, and what the tests behind find once these are passed.
 use mathlib.Core.Path.{◌≡◌, sym, ap, subst}
 use mathlib.Core.Bool.{false, not, ◌&&◌}
-use mathlib.Core.List.{List, [], ◌∷◌}
+use mathlib.Core.List.{List, []}
 use mathlib.Core.Option.{Option, some}
 use Prim.Native.Nat.{ℕ, ◌≤◌, ◌<◌}
 use lib.Dec.{ltb}
@@ -10,36 +10,22 @@ use lib.ListN.{get_or}
 use borrow.Author.Tests.{lt-ltb, le-ltb}
 use Rattle.kinds.specs.declared.Refusal.{Refusal}
 use Rattle.kinds.specs.declared.Refusal.TheVariants.{WrongPhase, BadNumber, NotServed}
-use Rattle.packets.specs.declared.Phase.TheVariants.{Read}
 use Rattle.packets.specs.declared.Answer.TheVariants.{Refused}
 use Rattle.plan.specs.declared.Head.{Head}
 use Rattle.plan.specs.Head.{InRange}
 use Rattle.plan.specs.Plan.{Plan, A, P, S}
-use Rattle.plan_walks.specs.Served.{served}
 use Rattle.load_arrivals.specs.Pairs.{lengths_of}
 use Rattle.rules.specs.State.{State}
-use Rattle.rules.specs.Guards.{Guard, guard}
-use Rattle.rules.specs.Calls.{Visit, visit, is_phase, guards}
+use Rattle.rules.specs.Guards.{Guard}
+use Rattle.rules.specs.Calls.{Visit, visit, guards}
 use Rattle.bytes_layout.specs.Encode.{encode}
 use Rattle.call_common.specs.Visits.{Walked}
+use Rattle.call_common.specs.Pairs.{opening, Begins}
 use Rattle.call_common.proofs.Rows.{active_there, active_past, passive_there, passive_past, slot_there, slot_past}
 use Rattle.call_common.proofs.Rows.{range_of}
 use Rattle.call_common.proofs.Refuse.{Finds, here, later, Each, refuses}
 use Rattle.call_common.proofs.Tests.{read_wrong, read_right}
 use Rattle.call_common.proofs.Served.{not_served, is_served}
-
--- 8, 9, 10, and then other tests
-abbrev pub opening : Plan → ℕ → ℕ → ℕ → State → List Guard → List Guard
-opening pl a p t s gs =
-    guard WrongPhase (not (is_phase s.clock.phase Read))
-    ∷ guard BadNumber (not (ltb a (A pl) && ltb p (P pl) && ltb t (S pl)))
-    ∷ guard NotServed (not (served pl a p))
-    ∷ gs
-
--- a call that begins so: the tests behind
-pub record Begins (v : Visit) (a p t : ℕ) : Type 0 where
-  pub more : Plan → State → List Guard
-  pub begins : (pl : Plan) (s : State) → guards pl (visit v) s ≡ opening pl a p t s (more pl s)
 
 module _ {v : Visit} {a p t : ℕ} (of : Begins v a p t) (h : Head) (lengths : List (List ℕ)) (b : List ℕ) where
   finds : (pl : Plan) (s : State) {o : Option Refusal} → Finds (opening pl a p t s (of.more pl s)) o

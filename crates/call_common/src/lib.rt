@@ -1,44 +1,21 @@
 // What Launch, Reply, Look, Drop, Close and Entry share on the bytes of a good state: the rows of the interfaces'
-// queues, what is read of them, the head that leaves a queue, and the walks' lengths.
+// queues, what is read of them, the head that leaves a queue, and how Launch and Close begin.
 #![tactic(auto)]
 
-ghost use Rattle.std.specs.Prelude.{◌≡◌, ◌+◌, ◌≤◌, ◌<◌, [], get_or, length};
-ghost use Rattle.plan.specs.Head.{Counts};
+ghost use Rattle.std.specs.Prelude.{◌≡◌, ◌+◌, ◌≤◌, ◌<◌, length, MatchResult};
+ghost use Rattle.packets.specs.declared.Answer.TheVariants.{Refused};
+ghost use Rattle.plan.specs.Head.{InRange, Counts};
+ghost use Rattle.rules.specs.Calls.{Visit};
 ghost use Rattle.bytes_layout.specs.Decode.{flag_at, length_at};
 ghost use Rattle.call_common.specs.Visits.{active_out_row, passive_out_row, active_in_row, passive_in_row};
 ghost use Rattle.call_common.specs.Visits.{allowance_byte};
-ghost use Rattle.call_common.specs.Visits.{starts_byte, taken_at};
+ghost use Rattle.call_common.specs.Visits.{starts_byte, taken_at, Ready, Walked};
+ghost use Rattle.call_common.specs.Pairs.{Begins, Opened};
 
+use bytes_steps::{FLAG_BYTE, LENGTH_BYTE, PHASE_BYTE};
+use kinds::Refusal;
+use packets::Phase;
 use plan::Head;
-
-// The byte of the phase, and its values in READ and in WRITE.
-pub const PHASE_BYTE: usize = 0;
-
-pub const READ: u8 = 0;
-
-pub const WRITE: u8 = 2;
-
-// A queue's row: where the flag and the length stand, and the first place.
-const FLAG_BYTE: usize = 1;
-
-const LENGTH_BYTE: usize = 3;
-
-pub const FIRST_PLACE: usize = 4;
-
-// A number as a byte.
-pub fn small(n: usize) -> u8
-    requires { n < 256 }
-    ensures { result ≡ n }
-{
-    n as u8
-}
-
-// A byte as a number.
-pub fn index(x: u8) -> usize
-    ensures { result ≡ x }
-{
-    x as usize
-}
 
 // The row of an active's out-queue.
 pub fn active_out(a: usize) -> usize
@@ -88,20 +65,12 @@ pub fn starts(h: Head, a: usize, p: usize) -> usize
     bytes_steps::starts_row(h, a, p)
 }
 
-// The length of a pair's walk, 0 where it is not served.
-pub fn walk_length(lengths: &[[u8; 16]; 16], a: usize, p: usize) -> u8
-    requires { (a < 16) × (p < 16) }
-    ensures { result ≡ get_or (get_or lengths.now a []) p 0 }
-{
-    lengths[a][p]
-}
-
 // Whether the flag is up of the queue whose row is at an offset.
 pub fn flag_up(s: &[u8], at: usize) -> bool
     requires { (at < 20000) × (at + 39 ≤ length s.now) }
     ensures { result ≡ flag_at at s.now }
 {
-    bytes_rows::flag_of(s[at + FLAG_BYTE])
+    s[at + FLAG_BYTE] != 0
 }
 
 // How many packets are in the queue whose row is at an offset.
@@ -119,4 +88,31 @@ pub fn take(s: &mut [u8], at: usize)
 {
     bytes_rows::pop(s, at);
     s[at + FLAG_BYTE] = 1;
+}
+
+// Launch and Close begin alike: 8 not READ; 9 a number out of range; 10 pair not served. Where these tests are passed,
+// how many routers are on the pair's walk; else the refusal of each call that begins so.
+pub fn open_pair(
+    h: Head,
+    lengths: &[[u8; 16]; 16],
+    s: &[u8],
+    active: usize,
+    passive: usize,
+    slot: usize,
+) -> Result<u8, Refusal>
+    requires { InRange h × Ready h s.now }
+    ensures { MatchResult result (λ n. Opened h lengths.now s.now active passive slot n)
+        (λ w. (v : Visit) → Begins v active passive slot → Walked h lengths.now v s.now (Refused w) s.now) }
+{
+    if s[PHASE_BYTE] != u8::from(Phase::Read) {
+        return Err(Refusal::WrongPhase);
+    }
+    if h.actives <= active || h.passives <= passive || usize::from(h.slots) <= slot {
+        return Err(Refusal::BadNumber);
+    }
+    let n = lengths[active][passive];
+    if n == 0 {
+        return Err(Refusal::NotServed);
+    }
+    Ok(n)
 }

@@ -4,32 +4,17 @@
 
 ghost use Rattle.std.specs.Prelude.{◌≡◌, ◌+◌, ◌≤◌, ◌<◌, get_or, length};
 ghost use Rattle.plan.specs.Head.{InRange};
-ghost use Rattle.rules.specs.Execute.{unmarked};
 ghost use Rattle.rules.specs.Calls.{of_drop};
 ghost use Rattle.bytes_layout.specs.Decode.{length_at};
 ghost use Rattle.call_common.specs.Visits.{Ready, Visits};
 ghost use Rattle.bytes_steps.specs.Counts.{state_size};
 ghost use Rattle.call_drop.specs.Dropping.{dropped_at, is_ack, noted_at, Named};
 
-use call_common::{
-    FIRST_PLACE, PHASE_BYTE, WRITE, active_in, allowance, flag_up, index, queued, starts, take,
-};
+use bytes_steps::{FIRST_PLACE, PHASE_BYTE};
+use call_common::{active_in, allowance, flag_up, queued, starts, take};
 use kinds::Refusal;
-use packets::{Answer, Kind, Packet, start_slot};
+use packets::{Answer, Kind, Packet, Phase, start_slot};
 use plan::Head;
-
-// Whether a packet is an unmarked NACK.
-fn is_unmarked(x: Packet) -> bool
-    ensures { result ≡ unmarked x }
-{
-    let k = x.kind;
-    match k {
-        Kind::Setup => false,
-        Kind::Tdown => false,
-        Kind::Ack => false,
-        Kind::Nack => x.hub.0 != 0,
-    }
-}
 
 // 'the packet is .. removed, the flag rises, the allowance grows by one'
 fn drop_step(s: &mut [u8], row: usize, byte: usize)
@@ -46,13 +31,7 @@ fn drop_step(s: &mut [u8], row: usize, byte: usize)
 fn is_ack(x: Packet) -> bool
     ensures { result ≡ is_ack x.kind }
 {
-    let k = x.kind;
-    match k {
-        Kind::Setup => false,
-        Kind::Tdown => false,
-        Kind::Ack => true,
-        Kind::Nack => false,
-    }
+    matches!(x.kind, Kind::Ack)
 }
 
 // 'an ACK counts as accepted when dropped, with the numbers of the packet': its pair, and slot minus hub.
@@ -63,7 +42,7 @@ fn note(h: Head, s: &mut [u8], x: Packet)
     if !is_ack(x) {
         return;
     }
-    let at = starts(h, index(x.active), index(x.passive));
+    let at = starts(h, usize::from(x.active), usize::from(x.passive));
     let t = start_slot(x.slot, x.hub, h.slots);
     bytes_rows::starts::join(s, at, t);
 }
@@ -74,7 +53,7 @@ pub fn drop(h: Head, s: &mut [u8], active: usize) -> Answer
     requires { InRange h × Ready h s.old }
     ensures { Visits h (of_drop active) s.old result s.new }
 {
-    if s[PHASE_BYTE] != WRITE {
+    if s[PHASE_BYTE] != u8::from(Phase::Write) {
         return Answer::Refused(Refusal::WrongPhase);
     }
     if h.actives <= active {
@@ -88,7 +67,7 @@ pub fn drop(h: Head, s: &mut [u8], active: usize) -> Answer
         return Answer::Refused(Refusal::QueueEmpty);
     }
     let x = bytes_rows::packet_at(s, row + FIRST_PLACE);
-    if is_unmarked(x) {
+    if x.is_unmarked() {
         return Answer::Refused(Refusal::Unmarked);
     }
     let byte = allowance(h, active);

@@ -26,7 +26,8 @@ use Rattle.call_common.specs.Visits.{Walked, active_out_row, allowance_byte}
 use Rattle.call_common.proofs.Rows.{active_out_row_lem, allowance_byte_lem, active_there}
 use Rattle.call_common.proofs.Refuse.{Finds, passed, here, later, refuses, accepts}
 use Rattle.call_common.proofs.Tests.{queued, full_tells, room_tells, none_tells, left_tells}
-use Rattle.call_common.proofs.Pairs.{Begins, opened}
+use Rattle.call_common.specs.Pairs.{Begins, Opened}
+use Rattle.call_common.proofs.Pairs.{opened}
 use Rattle.call_launch.specs.Launching.{launched_at}
 use Rattle.call_launch.proofs.Steps.{launched_bytes}
 
@@ -41,19 +42,20 @@ launch_begins a p t =
       begins = λ pl s. refl;
     }
 
-module _ (h : Head) (lengths : List (List ℕ)) (b : List ℕ) (a p t : ℕ) (phase : get_or b 0 0 ≡ 0)
-    (active : a < h.actives) (passive : p < h.passives) (slot : t < h.slots) (range : InRange h)
-    (some_walk : get_or (get_or lengths a []) p 0 ≡ 0 → ⊥) (byte : ℕ) (byted : byte ≡ allowance_byte h a) where
+module _ {h : Head} {lengths : List (List ℕ)} {b : List ℕ} {a p t n : ℕ} (o : Opened h lengths b a p t n)
+    (range : InRange h) (byte : ℕ) (byted : byte ≡ allowance_byte h a) where
   opens : (pl : Plan) → pl.head ≡ h → lengths ≡ lengths_of pl → (s : State) (rest : List ℕ) → b ≡ encode pl s rest
-      → {o : Option Refusal} → Finds ((launch_begins a p t).more pl s) o → Finds (guards pl (launch a p t) s) o
-  opens = opened (launch_begins a p t) h lengths b phase active passive slot range some_walk
+      → {w : Option Refusal} → Finds ((launch_begins a p t).more pl s) w → Finds (guards pl (launch a p t) s) w
+  opens =
+      opened (launch_begins a p t) h lengths b o.phase o.active o.passive o.slot range
+      (λ z. o.some_walk (o.walk ∙ z))
 
   pub launch_allowance : get_or b byte 0 ≡ 0 → Walked h lengths (of_launch a p t) b (Refused NoAllowance) b
   launch_allowance z =
       record {
         acts = λ pl e w. refuses pl (launch a p t) b NoAllowance
             (λ s rest g k. opens pl e w s rest k
-            (here (none_tells pl s rest b k a (active_there pl e a active) byte (byted ∙ allowance_byte_lem pl e a)
+            (here (none_tells pl s rest b k a (active_there pl e a o.active) byte (byted ∙ allowance_byte_lem pl e a)
             z)));
       }
 
@@ -63,9 +65,9 @@ module _ (h : Head) (lengths : List (List ℕ)) (b : List ℕ) (a p t : ℕ) (ph
         record {
           acts = λ pl e w. refuses pl (launch a p t) b QueueFull
               (λ s rest g k. opens pl e w s rest k
-              (later (left_tells pl s rest b k a (active_there pl e a active) byte (byted ∙ allowance_byte_lem pl e a)
+              (later (left_tells pl s rest b k a (active_there pl e a o.active) byte (byted ∙ allowance_byte_lem pl e a)
               left)
-              (here (full_tells pl s rest b k (active_out a) (active_there pl e a active) row
+              (here (full_tells pl s rest b k (active_out a) (active_there pl e a o.active) row
               (at ∙ active_out_row_lem pl e a) (let m = ap (λ (x : Head). x.aout.0) e in omega arith)))));
         }
 
@@ -78,15 +80,16 @@ module _ (h : Head) (lengths : List (List ℕ)) (b : List ℕ) (a p t : ℕ) (ph
               let few = range.aout.1 in
               accepts pl (launch a p t) b
               (λ s rest g k. opens pl e w s rest k
-              (later (left_tells pl s rest b k a (active_there pl e a active) byte (byted ∙ allowance_byte_lem pl e a)
+              (later (left_tells pl s rest b k a (active_there pl e a o.active) byte (byted ∙ allowance_byte_lem pl e a)
               left)
-              (later (room_tells pl s rest b k (active_out a) (active_there pl e a active) row
+              (later (room_tells pl s rest b k (active_out a) (active_there pl e a o.active) row
               (at ∙ active_out_row_lem pl e a) (omega arith)) passed)))
               (λ s rest g k. refl)
               (λ s rest g k. made
-              ∙ launched_bytes pl s rest b k a (active_there pl e a active) byte (byted ∙ allowance_byte_lem pl e a) p t
+              ∙ launched_bytes pl s rest b k a (active_there pl e a o.active) byte
+              (byted ∙ allowance_byte_lem pl e a) p t
               row
               (at ∙ active_out_row_lem pl e a)
-              (let q = queued pl s rest b k (active_out a) (active_there pl e a active) row
+              (let q = queued pl s rest b k (active_out a) (active_there pl e a o.active) row
               (at ∙ active_out_row_lem pl e a) in omega arith));
         }

@@ -10,7 +10,7 @@ ghost use Rattle.bytes_layout.specs.Decode.{length_at};
 ghost use Rattle.call_common.specs.Visits.{Ready, Walked};
 ghost use Rattle.call_launch.specs.Launching.{launched_at};
 
-use call_common::{PHASE_BYTE, READ, active_out, allowance, index, queued, small, walk_length};
+use call_common::{active_out, allowance, open_pair, queued};
 use kinds::{Hub, Refusal, Slot};
 use packets::{Answer, Kind, Packet};
 use plan::Head;
@@ -20,15 +20,12 @@ fn set_up(a: usize, p: usize, t: usize) -> Packet
     requires { (a < 256) × (p < 256) × (t < 256) }
     ensures { result ≡ setup_of a p t }
 {
-    let k = Kind::Setup;
-    let slot = Slot(small(t));
-    let hub = Hub(0);
     Packet {
-        kind: k,
-        active: small(a),
-        passive: small(p),
-        slot: slot,
-        hub: hub,
+        kind: Kind::Setup,
+        active: a as u8,
+        passive: p as u8,
+        slot: Slot(t as u8),
+        hub: Hub(0),
     }
 }
 
@@ -58,20 +55,8 @@ pub fn launch(
     ensures { Walked h lengths.now (of_launch active passive slot) s.old result
         s.new }
 {
-    if s[PHASE_BYTE] != READ {
-        return Answer::Refused(Refusal::WrongPhase);
-    }
-    if h.actives <= active {
-        return Answer::Refused(Refusal::BadNumber);
-    }
-    if h.passives <= passive {
-        return Answer::Refused(Refusal::BadNumber);
-    }
-    if index(h.slots) <= slot {
-        return Answer::Refused(Refusal::BadNumber);
-    }
-    if walk_length(lengths, active, passive) == 0 {
-        return Answer::Refused(Refusal::NotServed);
+    if let Err(w) = open_pair(h, lengths, s, active, passive, slot) {
+        return Answer::Refused(w);
     }
     let byte = allowance(h, active);
     if s[byte] == 0 {

@@ -6,7 +6,8 @@ ghost use Rattle.plan.specs.Head.{InRange};
 ghost use Rattle.rules.specs.Calls.{of_look, of_entry};
 ghost use Rattle.call_common.specs.Visits.{Ready, Visits};
 
-use call_common::{FIRST_PLACE, active_in, index, queued};
+use bytes_steps::FIRST_PLACE;
+use call_common::{active_in, queued};
 use kinds::Refusal;
 use packets::Answer;
 use plan::Head;
@@ -38,7 +39,7 @@ pub fn entry(h: Head, s: &[u8], router: usize, side: usize, slot: usize) -> Answ
     if 4 <= side {
         return Answer::Refused(Refusal::BadNumber);
     }
-    if index(h.slots) <= slot {
+    if usize::from(h.slots) <= slot {
         return Answer::Refused(Refusal::BadNumber);
     }
     let i = bytes_steps::entry_row(h, router, side, slot);

@@ -8,22 +8,12 @@ ghost use Rattle.rules.specs.Calls.{of_remaining};
 ghost use Rattle.call_common.specs.Visits.{Ready, Visits};
 ghost use Rattle.call_remaining.specs.Counted.{apart, Counted};
 
+use bytes_steps::LENGTH_BYTE;
 use packets::{Answer, Remaining};
 use plan::Head;
 
-// Where a queue's row keeps how many packets are in the queue. An output's row begins with its wire's byte, 1 where the
-// wire is full.
-const LENGTH_BYTE: usize = 3;
-
 // '256 × S × N rounds'.
 const ROUNDS: u32 = 256;
-
-// A byte as a number.
-fn low(x: u8) -> u32
-    ensures { (result ≡ x) × (result < 256) }
-{
-    x as u32
-}
 
 // The sum of n bytes that stand so far apart, the first at an offset.
 fn summed(s: &[u8], at: usize, width: usize, n: usize) -> u32
@@ -32,12 +22,12 @@ fn summed(s: &[u8], at: usize, width: usize, n: usize) -> u32
 {
     let mut m = 0u32;
     for k in 0..n {
-        m = m + low(s[at + width * k]);
+        m += u32::from(s[at + width * k]);
     }
     m
 }
 
-// The packets in queues and on wires.
+// The packets in queues and on wires. An output's row begins with its wire's byte, 1 where the wire is full.
 fn packets(h: Head, s: &[u8]) -> u32
     requires { InRange h × Ready h s.now }
     ensures { Counted h s.now result × (result ≤ 163200) }
@@ -65,7 +55,7 @@ pub fn remaining(h: Head, s: &[u8]) -> Answer
     let n = packets(h, s);
     let left = Remaining {
         packets: n,
-        rounds: ROUNDS * low(h.slots) * n,
+        rounds: ROUNDS * u32::from(h.slots) * n,
     };
     Answer::Remains(left)
 }

@@ -10,9 +10,10 @@ ghost use Rattle.bytes_layout.specs.Decode.{length_at};
 ghost use Rattle.call_common.specs.Visits.{Ready, Visits, taken_at};
 ghost use Rattle.call_reply.specs.Replying.{replied_at};
 
-use call_common::{FIRST_PLACE, PHASE_BYTE, WRITE, flag_up, passive_in, passive_out, queued, take};
+use bytes_steps::{FIRST_PLACE, PHASE_BYTE};
+use call_common::{flag_up, passive_in, passive_out, queued, take};
 use kinds::Refusal;
-use packets::{Answer, Kind, Packet};
+use packets::{Answer, Kind, Packet, Phase};
 use plan::Head;
 
 // ACK for 1, NACK for 0.
@@ -26,15 +27,9 @@ fn answer_kind(choice: usize) -> Kind
 fn answer(x: Packet, choice: usize) -> Packet
     ensures { result ≡ replied_as (reply_kind choice) x }
 {
-    let k = answer_kind(choice);
-    let slot = x.slot;
-    let hub = x.hub;
     Packet {
-        kind: k,
-        active: x.active,
-        passive: x.passive,
-        slot: slot,
-        hub: hub,
+        kind: answer_kind(choice),
+        ..x
     }
 }
 
@@ -56,7 +51,7 @@ pub fn reply(h: Head, s: &mut [u8], passive: usize, choice: usize) -> Answer
     requires { InRange h × Ready h s.old }
     ensures { Visits h (of_reply passive choice) s.old result s.new }
 {
-    if s[PHASE_BYTE] != WRITE {
+    if s[PHASE_BYTE] != u8::from(Phase::Write) {
         return Answer::Refused(Refusal::WrongPhase);
     }
     if h.passives <= passive {

@@ -4,8 +4,13 @@ use mathlib.Core.List.{List, [], ◌∷◌, ◌++◌, append_assoc, append-nil}
 use Prim.Native.Nat.{ℕ, zero, suc, ◌+◌, ◌*◌, ◌≤◌, ◌<◌}
 use native.Mathlib.Nat.{zero-add, suc-add, add-zero, add-suc, mul-zero, mul-suc}
 use native.Mathlib.Omega.{arith}
-use lib.ListN.{length, get_or, set, drop, length-append, length-replicate}
-use lib.Seq.{drop-cons}
+use native.Mathlib.Numerals.{add-one}
+use lib.ListN.{length, get_or, set, take, drop, replicate, length-append, length-replicate}
+use lib.Seq.{drop-cons, paste}
+use borrow.Rule.Slice.PartMut.{put_mid}
+use Rattle.std.proofs.lemmas.List.{take-take, length-take-le, length-drop}
+use Rattle.std.proofs.lemmas.List.Edits.{paste_none, paste_more}
+use Rattle.std.proofs.lemmas.Slice.{put_mid-paste}
 use Rattle.basis.specs.Fold.{up_to, up_same}
 use Rattle.bytes_layout.specs.Rows.{rows, rows_length, span_split, past}
 use Rattle.bytes_layout.proofs.Lines.{set_behind}
@@ -130,3 +135,28 @@ module _ (w at : ℕ) (z : List ℕ) (g : ℕ → List ℕ) (wide : (j : ℕ) �
   unfolding rows
   rows_made n post =
       ap (λ (k : ℕ). up_to step n (pre ++ (rows 0 k (λ j. z) ++ post))) (sym (add-zero n)) ∙ some_made n 0 post
+
+-- ---- the library's copy and fill, of a part of the bytes
+laid_paste : (at : ℕ) (t b : List ℕ) (n : ℕ) → at + n ≤ length b → n ≤ length t → laid at t n b ≡ paste b at t n
+unfolding laid up_to
+laid_paste at t b zero l m = paste_none b at t
+laid_paste at t b (suc n) l m =
+    ap (λ (c : List ℕ). set c (at + n) (get_or t n 0)) (laid_paste at t b n (omega arith) (omega arith))
+    ∙ paste_more b at t n 0 (omega arith) (omega arith) ∙ ap (paste b at t) (add-one n)
+
+module _ (at n k : ℕ) (b : List ℕ) {part : List ℕ} (wide : k ≡ n) (l : at + n ≤ length b) where
+  pub copied : (t : List ℕ) → n ≤ length t → part ≡ take n t → put_mid at k b part ≡ laid at t n b
+  copied t m e =
+      put_mid-paste at k b part (take n t) n e (sym wide) (sym (length-take-le n t m))
+      ∙ ap (λ (x : List ℕ). take at b ++ x ++ drop (at + n) b) (take-take n n t (omega arith))
+      ∙ sym (laid_paste at t b n l m)
+
+  pub filled_part : (v : ℕ) → part ≡ replicate (length (take k (drop at b))) v → put_mid at k b part ≡ filled at n v b
+  unfolding copies
+  filled_part v e =
+      let m = length_copies n v in
+      let w : length (take k (drop at b)) ≡ n =
+      length-take-le k (drop at b) (omega (arith, length-drop at b)) ∙ wide in
+      put_mid-paste at k b part (copies n v) n (e ∙ ap (λ (i : ℕ). replicate i v) w) (sym wide) (sym m)
+      ∙ sym (laid_paste at (copies n v) b n l (omega arith))
+      ∙ laid_copies at n n v b (omega arith)

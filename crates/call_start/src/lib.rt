@@ -21,9 +21,7 @@ fn fill(s: &mut [u8], at: usize, n: usize, v: u8)
     requires { at + n ≤ length s.old }
     ensures { s.new ≡ filled at n v s.old }
 {
-    for i in 0..n {
-        s[at + i] = v;
-    }
+    s[at..at + n].fill(v);
 }
 
 // The first n bytes of an array, from an offset on.
@@ -31,9 +29,7 @@ fn lay(s: &mut [u8], at: usize, t: &[u8], n: usize)
     requires { (at + n ≤ length s.old) × (n ≤ length t.now) }
     ensures { s.new ≡ laid at t.now n s.old }
 {
-    for i in 0..n {
-        s[at + i] = t[i];
-    }
+    s[at..at + n].copy_from_slice(&t[..n]);
 }
 
 // The first n bytes of an array, as credits of the queues from a number on.
@@ -46,34 +42,25 @@ fn lay_credits(s: &mut [u8], from: usize, t: &[u8], n: usize)
     }
 }
 
-// 'table empty': the entries of four routers.
-fn few_entries() -> [u8; 1024]
-    ensures { result ≡ copies 1024 0 }
+// 'table empty': the entries of all routers, by an array of N that is long enough.
+fn lay_table<const N: usize>(h: Head, s: &mut [u8])
+    requires { Counts h × (state_size h ≤ length s.old) × (256 * h.routers ≤ N) × (N ≤ 4096) }
+    ensures { s.new ≡ filled (table_from h) (256 * h.routers) 0 s.old }
 {
-    [FREE; 1024]
+    let t = [FREE; N];
+    lay(s, bytes_steps::table_row(h), &t, 256 * h.routers);
 }
 
-// And of sixteen.
-fn many_entries() -> [u8; 4096]
-    ensures { result ≡ copies 4096 0 }
-{
-    [FREE; 4096]
-}
-
-// 'table empty': the entries of all routers, by an array for four routers or for sixteen.
+// The same by an array for four routers or for sixteen.
 fn free_table(h: Head, s: &mut [u8])
     requires { Counts h × (state_size h ≤ length s.old) }
     ensures { s.new ≡ filled (table_from h) (256 * h.routers) 0 s.old }
 {
-    let at = bytes_steps::table_row(h);
-    let n = 256 * h.routers;
     if h.routers <= FEW {
-        let t = few_entries();
-        lay(s, at, &t, n);
-        return;
+        lay_table::<1024>(h, s);
+    } else {
+        lay_table::<4096>(h, s);
     }
-    let t = many_entries();
-    lay(s, at, &t, n);
 }
 
 // What the routers' outputs remember, by rank: of five senders on each side, of four to the unit and on the way back.
@@ -123,30 +110,28 @@ fn inner_credits(h: Head, t: &mut [u8])
     }
 }
 
-// The same, then stored in the state from the routers' first queue on.
-fn lay_inner(h: Head, s: &mut [u8], t: &mut [u8])
-    requires { Counts h × (state_size h ≤ length s.old) × (28 * h.routers ≤ length t.old)
-        × (t.old ≡ copies (length t.old) h.k.0) }
+// The credits of all routers' queues, by an array of N that is long enough and has K's credit everywhere, stored in the
+// state from the routers' first queue on.
+fn lay_inner<const N: usize>(h: Head, s: &mut [u8])
+    requires { Counts h × (state_size h ≤ length s.old) × (28 * h.routers ≤ N) × (N ≤ 448) }
     ensures { s.new ≡ credited h (destinations h) (28 * h.routers) s.old }
 {
-    let from = h.actives + h.passives;
+    let mut t = [h.k.0; N];
     let n = 28 * h.routers;
-    inner_credits(h, t);
-    lay_credits(s, from, t, n);
+    inner_credits(h, &mut t);
+    lay_credits(s, h.actives + h.passives, &t, n);
 }
 
-// The credits of all routers' queues, by an array for four routers or for sixteen that has K's credit everywhere.
+// The same by an array for four routers or for sixteen.
 fn lay_routers(h: Head, s: &mut [u8])
     requires { Counts h × (state_size h ≤ length s.old) }
     ensures { s.new ≡ credited h (destinations h) (28 * h.routers) s.old }
 {
     if h.routers <= FEW {
-        let mut t = [h.k.0; 112];
-        lay_inner(h, s, &mut t);
-        return;
+        lay_inner::<112>(h, s);
+    } else {
+        lay_inner::<448>(h, s);
     }
-    let mut t = [h.k.0; 448];
-    lay_inner(h, s, &mut t);
 }
 
 // One credit for n interfaces' queues from a number on.
@@ -175,7 +160,7 @@ fn all_credits(h: Head, s: &mut [u8])
 fn smaller(c: Credit, d: Credit) -> u8
     ensures { result ≡ min c.0 d.0 }
 {
-    if c.0 <= d.0 { c.0 } else { d.0 }
+    c.0.min(d.0)
 }
 
 // 'each active's allowance = the smaller of its two capacities'

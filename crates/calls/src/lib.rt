@@ -7,11 +7,9 @@ ghost use Rattle.std.specs.Prelude.{◌≡◌};
 ghost use Rattle.rules.specs.Calls.{read, execute, write, launch, reply, look, drop, close, entry, remaining};
 ghost use Rattle.claims.specs.Calls.{given, start_on, call_on};
 
-use check_state::Checked;
 use kinds::Refusal;
-use load::Loaded;
 use packets::Answer;
-use plan_routes::NO_SIDE;
+use plan::tables::PlanTables;
 
 pub mod opened;
 
@@ -19,21 +17,10 @@ pub mod opened;
 pub fn start(plan: &[u8], state: &mut [u8]) -> Answer
     ensures { given result state.new ≡ start_on plan.now state.old }
 {
-    let mut routes = [[NO_SIDE; 32]; 16];
-    let mut joints = [0u8; 64];
-    let mut homes = [0u8; 32];
-    let mut lengths = [[0u8; 16]; 16];
-    let mut by = [[0u32; 4]; 16];
-    let l = load::fill(
-        plan,
-        &mut routes,
-        &mut joints,
-        &mut homes,
-        &mut lengths,
-        &mut by,
-    );
-    let Loaded::Accepted(h) = l else {
-        return Answer::Refused(opened::refusal(l));
+    let mut t = PlanTables::blank();
+    let l = load::fill(plan, &mut t);
+    let Ok(h) = l else {
+        return Answer::Refused(l.unwrap_err());
     };
     if state.len() < bytes_steps::state_size(h) {
         return Answer::Refused(Refusal::NotState);
@@ -46,81 +33,48 @@ pub fn start(plan: &[u8], state: &mut [u8]) -> Answer
 pub fn read(plan: &[u8], state: &mut [u8]) -> Answer
     ensures { given result state.new ≡ call_on plan.now read state.old }
 {
-    let mut routes = [[NO_SIDE; 32]; 16];
-    let mut joints = [0u8; 64];
-    let mut homes = [0u8; 32];
-    let mut lengths = [[0u8; 16]; 16];
-    let mut by = [[0u32; 4]; 16];
-    let l = load::fill(
-        plan,
-        &mut routes,
-        &mut joints,
-        &mut homes,
-        &mut lengths,
-        &mut by,
-    );
-    let Loaded::Accepted(h) = l else {
-        return Answer::Refused(opened::refusal(l));
+    let mut t = PlanTables::blank();
+    let l = load::fill(plan, &mut t);
+    let Ok(h) = l else {
+        return Answer::Refused(l.unwrap_err());
     };
-    let c = check_state::inspect(h, &routes, &joints, &homes, &lengths, &by, state);
-    let Checked::State = c else {
-        return Answer::Refused(Refusal::NotState);
+    let c = check_state::inspect(h, &t, state);
+    let Ok(()) = c else {
+        return Answer::Refused(c.unwrap_err());
     };
-    opened::read(h, &routes, &joints, &homes, state)
+    opened::read(h, &t, state)
 }
 
 // Execute: units handle their heads, outputs pick, actives tear down what was declined.
 pub fn execute(plan: &[u8], state: &mut [u8]) -> Answer
     ensures { given result state.new ≡ call_on plan.now execute state.old }
 {
-    let mut routes = [[NO_SIDE; 32]; 16];
-    let mut joints = [0u8; 64];
-    let mut homes = [0u8; 32];
-    let mut lengths = [[0u8; 16]; 16];
-    let mut by = [[0u32; 4]; 16];
-    let l = load::fill(
-        plan,
-        &mut routes,
-        &mut joints,
-        &mut homes,
-        &mut lengths,
-        &mut by,
-    );
-    let Loaded::Accepted(h) = l else {
-        return Answer::Refused(opened::refusal(l));
+    let mut t = PlanTables::blank();
+    let l = load::fill(plan, &mut t);
+    let Ok(h) = l else {
+        return Answer::Refused(l.unwrap_err());
     };
-    let c = check_state::inspect(h, &routes, &joints, &homes, &lengths, &by, state);
-    let Checked::State = c else {
-        return Answer::Refused(Refusal::NotState);
+    let c = check_state::inspect(h, &t, state);
+    let Ok(()) = c else {
+        return Answer::Refused(c.unwrap_err());
     };
-    opened::execute(h, &routes, &joints, &homes, state)
+    opened::execute(h, &t, state)
 }
 
 // Write: picked heads enter their wires; the slot grows.
 pub fn write(plan: &[u8], state: &mut [u8]) -> Answer
     ensures { given result state.new ≡ call_on plan.now write state.old }
 {
-    let mut routes = [[NO_SIDE; 32]; 16];
-    let mut joints = [0u8; 64];
-    let mut homes = [0u8; 32];
-    let mut lengths = [[0u8; 16]; 16];
-    let mut by = [[0u32; 4]; 16];
-    let l = load::fill(
-        plan,
-        &mut routes,
-        &mut joints,
-        &mut homes,
-        &mut lengths,
-        &mut by,
-    );
-    let Loaded::Accepted(h) = l else {
-        return Answer::Refused(opened::refusal(l));
+    let mut t = PlanTables::blank();
+    let l = load::fill(plan, &mut t);
+    let Ok(h) = l else {
+        return Answer::Refused(l.unwrap_err());
     };
-    let c = check_state::inspect(h, &routes, &joints, &homes, &lengths, &by, state);
-    let Checked::State = c else {
-        return Answer::Refused(Refusal::NotState);
+    let c = check_state::inspect(h, &t, state);
+    let Ok(()) = c else {
+        return Answer::Refused(c.unwrap_err());
     };
-    opened::write(h, &routes, &joints, &homes, state)
+    opened::write(h, &t, state)
 }
 
 // Launch: a set-up of a served pair joins the active's out-queue.
@@ -128,27 +82,16 @@ pub fn launch(plan: &[u8], state: &mut [u8], active: usize, passive: usize, slot
     ensures { given result state.new ≡ call_on plan.now (launch active passive slot)
         state.old }
 {
-    let mut routes = [[NO_SIDE; 32]; 16];
-    let mut joints = [0u8; 64];
-    let mut homes = [0u8; 32];
-    let mut lengths = [[0u8; 16]; 16];
-    let mut by = [[0u32; 4]; 16];
-    let l = load::fill(
-        plan,
-        &mut routes,
-        &mut joints,
-        &mut homes,
-        &mut lengths,
-        &mut by,
-    );
-    let Loaded::Accepted(h) = l else {
-        return Answer::Refused(opened::refusal(l));
+    let mut t = PlanTables::blank();
+    let l = load::fill(plan, &mut t);
+    let Ok(h) = l else {
+        return Answer::Refused(l.unwrap_err());
     };
-    let c = check_state::inspect(h, &routes, &joints, &homes, &lengths, &by, state);
-    let Checked::State = c else {
-        return Answer::Refused(Refusal::NotState);
+    let c = check_state::inspect(h, &t, state);
+    let Ok(()) = c else {
+        return Answer::Refused(c.unwrap_err());
     };
-    call_launch::launch(h, &lengths, state, active, passive, slot)
+    call_launch::launch(h, &t.lengths, state, active, passive, slot)
 }
 
 // Reply: the passive's head is answered, 1 accept or 0 decline.
@@ -156,25 +99,14 @@ pub fn reply(plan: &[u8], state: &mut [u8], passive: usize, choice: usize) -> An
     ensures { given result state.new ≡ call_on plan.now (reply passive choice)
         state.old }
 {
-    let mut routes = [[NO_SIDE; 32]; 16];
-    let mut joints = [0u8; 64];
-    let mut homes = [0u8; 32];
-    let mut lengths = [[0u8; 16]; 16];
-    let mut by = [[0u32; 4]; 16];
-    let l = load::fill(
-        plan,
-        &mut routes,
-        &mut joints,
-        &mut homes,
-        &mut lengths,
-        &mut by,
-    );
-    let Loaded::Accepted(h) = l else {
-        return Answer::Refused(opened::refusal(l));
+    let mut t = PlanTables::blank();
+    let l = load::fill(plan, &mut t);
+    let Ok(h) = l else {
+        return Answer::Refused(l.unwrap_err());
     };
-    let c = check_state::inspect(h, &routes, &joints, &homes, &lengths, &by, state);
-    let Checked::State = c else {
-        return Answer::Refused(Refusal::NotState);
+    let c = check_state::inspect(h, &t, state);
+    let Ok(()) = c else {
+        return Answer::Refused(c.unwrap_err());
     };
     call_reply::reply(h, state, passive, choice)
 }
@@ -183,25 +115,14 @@ pub fn reply(plan: &[u8], state: &mut [u8], passive: usize, choice: usize) -> An
 pub fn look(plan: &[u8], state: &[u8], active: usize) -> Answer
     ensures { given result state.now ≡ call_on plan.now (look active) state.now }
 {
-    let mut routes = [[NO_SIDE; 32]; 16];
-    let mut joints = [0u8; 64];
-    let mut homes = [0u8; 32];
-    let mut lengths = [[0u8; 16]; 16];
-    let mut by = [[0u32; 4]; 16];
-    let l = load::fill(
-        plan,
-        &mut routes,
-        &mut joints,
-        &mut homes,
-        &mut lengths,
-        &mut by,
-    );
-    let Loaded::Accepted(h) = l else {
-        return Answer::Refused(opened::refusal(l));
+    let mut t = PlanTables::blank();
+    let l = load::fill(plan, &mut t);
+    let Ok(h) = l else {
+        return Answer::Refused(l.unwrap_err());
     };
-    let c = check_state::inspect(h, &routes, &joints, &homes, &lengths, &by, state);
-    let Checked::State = c else {
-        return Answer::Refused(Refusal::NotState);
+    let c = check_state::inspect(h, &t, state);
+    let Ok(()) = c else {
+        return Answer::Refused(c.unwrap_err());
     };
     call_look::look(h, state, active)
 }
@@ -210,25 +131,14 @@ pub fn look(plan: &[u8], state: &[u8], active: usize) -> Answer
 pub fn drop(plan: &[u8], state: &mut [u8], active: usize) -> Answer
     ensures { given result state.new ≡ call_on plan.now (drop active) state.old }
 {
-    let mut routes = [[NO_SIDE; 32]; 16];
-    let mut joints = [0u8; 64];
-    let mut homes = [0u8; 32];
-    let mut lengths = [[0u8; 16]; 16];
-    let mut by = [[0u32; 4]; 16];
-    let l = load::fill(
-        plan,
-        &mut routes,
-        &mut joints,
-        &mut homes,
-        &mut lengths,
-        &mut by,
-    );
-    let Loaded::Accepted(h) = l else {
-        return Answer::Refused(opened::refusal(l));
+    let mut t = PlanTables::blank();
+    let l = load::fill(plan, &mut t);
+    let Ok(h) = l else {
+        return Answer::Refused(l.unwrap_err());
     };
-    let c = check_state::inspect(h, &routes, &joints, &homes, &lengths, &by, state);
-    let Checked::State = c else {
-        return Answer::Refused(Refusal::NotState);
+    let c = check_state::inspect(h, &t, state);
+    let Ok(()) = c else {
+        return Answer::Refused(c.unwrap_err());
     };
     call_drop::drop(h, state, active)
 }
@@ -238,27 +148,16 @@ pub fn close(plan: &[u8], state: &mut [u8], active: usize, passive: usize, slot:
     ensures { given result state.new ≡ call_on plan.now (close active passive slot)
         state.old }
 {
-    let mut routes = [[NO_SIDE; 32]; 16];
-    let mut joints = [0u8; 64];
-    let mut homes = [0u8; 32];
-    let mut lengths = [[0u8; 16]; 16];
-    let mut by = [[0u32; 4]; 16];
-    let l = load::fill(
-        plan,
-        &mut routes,
-        &mut joints,
-        &mut homes,
-        &mut lengths,
-        &mut by,
-    );
-    let Loaded::Accepted(h) = l else {
-        return Answer::Refused(opened::refusal(l));
+    let mut t = PlanTables::blank();
+    let l = load::fill(plan, &mut t);
+    let Ok(h) = l else {
+        return Answer::Refused(l.unwrap_err());
     };
-    let c = check_state::inspect(h, &routes, &joints, &homes, &lengths, &by, state);
-    let Checked::State = c else {
-        return Answer::Refused(Refusal::NotState);
+    let c = check_state::inspect(h, &t, state);
+    let Ok(()) = c else {
+        return Answer::Refused(c.unwrap_err());
     };
-    call_close::close(h, &lengths, state, active, passive, slot)
+    call_close::close(h, &t.lengths, state, active, passive, slot)
 }
 
 // Entry: what the slot table holds.
@@ -266,25 +165,14 @@ pub fn entry(plan: &[u8], state: &[u8], router: usize, side: usize, slot: usize)
     ensures { given result state.now ≡ call_on plan.now (entry router side slot)
         state.now }
 {
-    let mut routes = [[NO_SIDE; 32]; 16];
-    let mut joints = [0u8; 64];
-    let mut homes = [0u8; 32];
-    let mut lengths = [[0u8; 16]; 16];
-    let mut by = [[0u32; 4]; 16];
-    let l = load::fill(
-        plan,
-        &mut routes,
-        &mut joints,
-        &mut homes,
-        &mut lengths,
-        &mut by,
-    );
-    let Loaded::Accepted(h) = l else {
-        return Answer::Refused(opened::refusal(l));
+    let mut t = PlanTables::blank();
+    let l = load::fill(plan, &mut t);
+    let Ok(h) = l else {
+        return Answer::Refused(l.unwrap_err());
     };
-    let c = check_state::inspect(h, &routes, &joints, &homes, &lengths, &by, state);
-    let Checked::State = c else {
-        return Answer::Refused(Refusal::NotState);
+    let c = check_state::inspect(h, &t, state);
+    let Ok(()) = c else {
+        return Answer::Refused(c.unwrap_err());
     };
     call_look::entry(h, state, router, side, slot)
 }
@@ -293,25 +181,14 @@ pub fn entry(plan: &[u8], state: &[u8], router: usize, side: usize, slot: usize)
 pub fn remaining(plan: &[u8], state: &[u8]) -> Answer
     ensures { given result state.now ≡ call_on plan.now remaining state.now }
 {
-    let mut routes = [[NO_SIDE; 32]; 16];
-    let mut joints = [0u8; 64];
-    let mut homes = [0u8; 32];
-    let mut lengths = [[0u8; 16]; 16];
-    let mut by = [[0u32; 4]; 16];
-    let l = load::fill(
-        plan,
-        &mut routes,
-        &mut joints,
-        &mut homes,
-        &mut lengths,
-        &mut by,
-    );
-    let Loaded::Accepted(h) = l else {
-        return Answer::Refused(opened::refusal(l));
+    let mut t = PlanTables::blank();
+    let l = load::fill(plan, &mut t);
+    let Ok(h) = l else {
+        return Answer::Refused(l.unwrap_err());
     };
-    let c = check_state::inspect(h, &routes, &joints, &homes, &lengths, &by, state);
-    let Checked::State = c else {
-        return Answer::Refused(Refusal::NotState);
+    let c = check_state::inspect(h, &t, state);
+    let Ok(()) = c else {
+        return Answer::Refused(c.unwrap_err());
     };
     call_remaining::remaining(h, state)
 }

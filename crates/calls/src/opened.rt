@@ -1,91 +1,48 @@
 // The calls that turn the phase, on the bytes of a state: another phase is refused, else the phase's step is made.
-ghost use Rattle.std.specs.Prelude.{◌≡◌};
-ghost use Rattle.kinds.specs.declared.Refusal.{Refusal as Why};
-ghost use Rattle.plan.specs.Tables.{table_plan};
-ghost use Rattle.load.specs.declared.Loaded.TheVariants.{Refused as Unloaded};
+ghost use Rattle.plan.specs.Lent.{plan_by};
 ghost use Rattle.rules.specs.Calls.{read, execute, write};
 ghost use Rattle.rules.specs.Ruled.{Good};
 ghost use Rattle.bytes_steps.specs.Acts.{Holds, Acts};
-ghost use Rattle.next_queue.specs.Wiring.{Wiring};
+ghost use Rattle.next_queue.specs.Wiring.{WiringOf};
 
+use bytes_steps::PHASE_BYTE;
 use kinds::Refusal;
-use load::Loaded;
-use packets::Answer;
+use packets::{Answer, Phase};
 use plan::Head;
-
-// The phases' bytes.
-const READ: u8 = 0;
-
-const EXECUTE: u8 = 1;
-
-const WRITE: u8 = 2;
-
-// Load's refusal.
-pub fn refusal(l: Loaded) -> Refusal
-    ensures { (w : Why) → l ≡ Unloaded w → result ≡ w }
-{
-    match l {
-        Loaded::Accepted(_) => Refusal::TooShort,
-        Loaded::Refused(w) => w,
-    }
-}
+use plan::tables::PlanTables;
 
 // Read.
-pub fn read(
-    h: Head,
-    routes: &[[u8; 32]; 16],
-    joints: &[u8; 64],
-    homes: &[u8; 32],
-    s: &mut [u8],
-) -> Answer
-    requires { Wiring h routes.now joints.now homes.now
-        × Holds (table_plan h routes.now joints.now) (Good (table_plan h routes.now joints.now)) s.old }
-    ensures { Acts (table_plan h routes.now joints.now) read s.old result
-        s.new }
+pub fn read(h: Head, t: &PlanTables, s: &mut [u8]) -> Answer
+    requires { WiringOf h t.now × Holds (plan_by h t.now) (Good (plan_by h t.now)) s.old }
+    ensures { Acts (plan_by h t.now) read s.old result s.new }
 {
-    if s[0] != READ {
+    if s[PHASE_BYTE] != u8::from(Phase::Read) {
         return Answer::Refused(Refusal::WrongPhase);
     }
-    phase_read::read(h, routes, joints, homes, s);
+    phase_read::read(h, t, s);
     Answer::Done
 }
 
 // Execute.
-pub fn execute(
-    h: Head,
-    routes: &[[u8; 32]; 16],
-    joints: &[u8; 64],
-    homes: &[u8; 32],
-    s: &mut [u8],
-) -> Answer
-    requires { Wiring h routes.now joints.now homes.now
-        × Holds (table_plan h routes.now joints.now) (Good (table_plan h routes.now joints.now)) s.old }
-    ensures { Acts (table_plan h routes.now joints.now) execute s.old result
-        s.new }
+pub fn execute(h: Head, t: &PlanTables, s: &mut [u8]) -> Answer
+    requires { WiringOf h t.now × Holds (plan_by h t.now) (Good (plan_by h t.now)) s.old }
+    ensures { Acts (plan_by h t.now) execute s.old result s.new }
 {
-    if s[0] != EXECUTE {
+    if s[PHASE_BYTE] != u8::from(Phase::Execute) {
         return Answer::Refused(Refusal::WrongPhase);
     }
-    phase_execute::execute(h, routes, joints, homes, s);
+    phase_execute::execute(h, t, s);
     Answer::Done
 }
 
 // Write.
-pub fn write(
-    h: Head,
-    routes: &[[u8; 32]; 16],
-    joints: &[u8; 64],
-    homes: &[u8; 32],
-    s: &mut [u8],
-) -> Answer
-    requires { Wiring h routes.now joints.now homes.now
-        × Holds (table_plan h routes.now joints.now) (Good (table_plan h routes.now joints.now)) s.old }
-    ensures { Acts (table_plan h routes.now joints.now) write s.old result
-        s.new }
+pub fn write(h: Head, t: &PlanTables, s: &mut [u8]) -> Answer
+    requires { WiringOf h t.now × Holds (plan_by h t.now) (Good (plan_by h t.now)) s.old }
+    ensures { Acts (plan_by h t.now) write s.old result s.new }
 {
-    if s[0] != WRITE {
+    if s[PHASE_BYTE] != u8::from(Phase::Write) {
         return Answer::Refused(Refusal::WrongPhase);
     }
-    phase_write::write(h, routes, joints, homes, s);
+    phase_write::write(h, t, s);
     Answer::Done
 }

@@ -3,15 +3,16 @@ use mathlib.Core.Path.{◌≡◌, refl, ap, ◌∙◌}
 use mathlib.Core.Logic.{◌⊎◌, inl, inr, ◌≢◌}
 use mathlib.Core.Bool.{true, false}
 use mathlib.Core.Option.{Option, none, some}
-use Prim.Native.Nat.{ℕ, ◌<◌}
+use Prim.Native.Nat.{ℕ, ◌+◌, ◌<◌}
 use native.Mathlib.Omega.{arith}
 use Rattle.basis.specs.Choice.{test}
-use Rattle.plan.specs.Head.{Counts}
+use Rattle.plan.specs.declared.Head.{Head}
+use Rattle.plan.specs.Head.{Counts, InRange}
 use Rattle.plan.specs.Plan.{Plan}
 use Rattle.plan_queues.specs.Queue.{Queue, Exists, number, queues, queue_at}
 use Rattle.plan_journeys.proofs.Numbers.{queue_at_lem, number_below}
 use Rattle.bytes_layout.specs.Named.{exists_test, test_exists, exists_test_lem}
-use Rattle.bytes_steps.specs.Counts.{queues_by}
+use Rattle.bytes_steps.specs.Counts.{queues_by, queue_count}
 use Rattle.next_queue.specs.Next.{no_queue, number_or}
 
 -- v is the number of a queue of the plan
@@ -49,3 +50,9 @@ module _ (pl : Plan) where
       let l = number_below pl q h in
       let m = queues_by pl in
       omega arith
+
+-- four queues behind one of the plan's there is a number of its own, and so where the packet goes
+pub some_queue : {h : Head} {n v : ℕ} → InRange h → n < queue_count h → (n + 4 < no_queue → v < no_queue) → v ≢ no_queue
+some_queue r l f z =
+    let a = r.routers.1 in let b = r.actives.1 in let c = r.passives.1 in
+    let k = f (omega arith) in omega arith

@@ -5,31 +5,21 @@
 ghost use Rattle.std.specs.Prelude.{◌≡◌, List, ℕ, ◌+◌, ◌*◌, ◌/◌, ◌%◌, ◌≤◌, ◌<◌, eqb, length};
 ghost use Rattle.sets.specs.Sets.{below, less};
 ghost use Rattle.plan.specs.Plan.{route_to};
+ghost use Rattle.plan.specs.Lent.{plan_by};
 ghost use Rattle.plan.specs.Tables.{table_plan, interface_at};
 ghost use Rattle.bytes_layout.specs.Decode.{decode, four_at};
 ghost use Rattle.bytes_steps.specs.Counts.{connections_from, state_size};
 ghost use Rattle.check_rule.specs.Check.{connections_part};
-ghost use Rattle.check_connections.specs.Claims.{none_claimed, Claimed, slot_from, Claims, Tied, Starts, StartsTied};
+ghost use Rattle.check_connections.specs.Claims.{Claimed, slot_from, Claims, Tied, Starts, StartsTied};
 ghost use Rattle.check_connections.specs.Claims.{PairChecked};
-ghost use Rattle.check_connections.specs.Given.{Given, Course};
+ghost use Rattle.check_connections.specs.Given.{GivenOf, CourseOf};
 
+use check_places::Trip;
 use kinds::{Hub, Slot};
 use plan::Head;
-use sets::{below, has, less, lowest, rest, with};
-
-// A byte as an index.
-fn wide(x: u8) -> usize
-    ensures { (result ≡ x) × (result < 256) }
-{
-    x as usize
-}
-
-// No slot of any router's side is claimed yet.
-fn none_claimed() -> [u32; 64]
-    ensures { result ≡ none_claimed }
-{
-    [0u32; 64]
-}
+use plan::tables::PlanTables;
+use sets::each::Members;
+use sets::{below, has, less, with};
 
 // The slot of a connection's entry at its n-th router, t its start slot.
 fn slot_at(t: usize, n: usize, slots: u8) -> usize
@@ -39,7 +29,7 @@ fn slot_at(t: usize, n: usize, slots: u8) -> usize
     let start = Slot(t as u8);
     let hub = Hub(n as u8);
     let after = packets::slot_after(start, hub, slots);
-    wide(after.0)
+    usize::from(after.0)
 }
 
 // The router's side, 4 * router + side, by which the walk to a column's interface leaves the router of a port.
@@ -49,7 +39,7 @@ fn leaves(routes: &[[u8; 32]; 16], d: usize, at: usize) -> usize
         → result ≡ 4 * (at / 4) + route_to (table_plan h routes.now joints) (interface_at h d) (at / 4) }
 {
     let r = at / 4;
-    4 * r + wide(plan_walks::side_out(routes, d, r))
+    4 * r + usize::from(plan_walks::side_out(routes, d, r))
 }
 
 // Whether the entry at i is booked with a side, and slot t of the k-th router's side is not claimed yet; it is claimed.
@@ -57,7 +47,7 @@ fn claim(s: &[u8], i: usize, side: usize, k: usize, t: usize, claimed: &mut [u32
     requires { (i < length s.now) × (side < 4) × (k < 64) × (t < 32) }
     ensures { Claimed s.now i side k t result claimed.old claimed.new }
 {
-    if wide(s[i]) != side + 1 {
+    if usize::from(s[i]) != side + 1 {
         return false;
     }
     let c = claimed[k];
@@ -68,37 +58,27 @@ fn claim(s: &[u8], i: usize, side: usize, k: usize, t: usize, claimed: &mut [u32
     true
 }
 
-// Whether connection m has all its entries and shares none with those before it; they are claimed. Its walk has `size`
-// routers and begins at port `from`; d is the column of its passive.
-fn tie_ok(
-    h: Head,
-    routes: &[[u8; 32]; 16],
-    joints: &[u8; 64],
-    s: &[u8],
-    from: usize,
-    d: usize,
-    size: usize,
-    m: usize,
-    claimed: &mut [u32; 64],
-) -> bool
-    requires { Course h routes.now joints.now (m / 512) (m / 32 % 16) from d size × (m % 32 < h.slots)
+// Whether connection m has all its entries and shares none with those before it; they are claimed. `walk` is that of
+// its pair.
+fn tie_ok(h: Head, t: &PlanTables, s: &[u8], walk: Trip, m: usize, claimed: &mut [u32; 64]) -> bool
+    requires { CourseOf h t.now (m / 512) (m / 32 % 16) walk × (m % 32 < h.slots)
         × (state_size h ≤ length s.now)
-        × Claims (table_plan h routes.now joints.now) (decode (table_plan h routes.now joints.now) s.now) m
+        × Claims (plan_by h t.now) (decode (plan_by h t.now) s.now) m
         claimed.old }
-    ensures { Tied (table_plan h routes.now joints.now)
-        (decode (table_plan h routes.now joints.now) s.now) m result
+    ensures { Tied (plan_by h t.now)
+        (decode (plan_by h t.now) s.now) m result
         claimed.new }
 {
     let table = bytes_steps::table_row(h);
-    let t = m % 32;
-    let mut at = from;
-    for n in 0..size {
-        let k = leaves(routes, d, at);
-        let x = slot_at(t, n, h.slots);
+    let first = m % 32;
+    let mut at = walk.home;
+    for n in 0..walk.length {
+        let k = leaves(&t.routes, walk.column, at);
+        let x = slot_at(first, n, h.slots);
         if !claim(s, table + 64 * k + 2 * x, at % 4, k, x, claimed) {
             return false;
         }
-        at = wide(joints[k]) % 64;
+        at = usize::from(t.joints[k]) % 64;
     }
     true
 }
@@ -106,30 +86,24 @@ fn tie_ok(
 // The same of all connections of pair n, `word` the set of their start slots.
 fn starts_ok(
     h: Head,
-    routes: &[[u8; 32]; 16],
-    joints: &[u8; 64],
+    t: &PlanTables,
     s: &[u8],
-    from: usize,
-    d: usize,
-    size: usize,
+    walk: Trip,
     n: usize,
     word: u32,
     claimed: &mut [u32; 64],
 ) -> bool
-    requires { Course h routes.now joints.now (n / 16) (n % 16) from d size × (n < 256)
+    requires { CourseOf h t.now (n / 16) (n % 16) walk × (n < 256)
         × (state_size h ≤ length s.now)
-        × Starts (decode (table_plan h routes.now joints.now) s.now) h.slots n word
-        × Claims (table_plan h routes.now joints.now) (decode (table_plan h routes.now joints.now) s.now)
+        × Starts (decode (plan_by h t.now) s.now) h.slots n word
+        × Claims (plan_by h t.now) (decode (plan_by h t.now) s.now)
         (32 * n) claimed.old }
-    ensures { StartsTied (table_plan h routes.now joints.now)
-        (decode (table_plan h routes.now joints.now) s.now) n result
+    ensures { StartsTied (plan_by h t.now)
+        (decode (plan_by h t.now) s.now) n result
         claimed.new }
 {
-    let mut left = word;
-    while left != 0 {
-        let t = lowest(left);
-        left = rest(left);
-        if !tie_ok(h, routes, joints, s, from, d, size, 32 * n + t, claimed) {
+    for start in Members::of(word) {
+        if !tie_ok(h, t, s, walk, 32 * n + start, claimed) {
             return false;
         }
     }
@@ -141,26 +115,16 @@ fn are_slots(word: u32, slots: u8) -> bool
     requires { slots ≤ 32 }
     ensures { result ≡ eqb (less word (below slots)) 0 }
 {
-    less(word, below(wide(slots))) == 0
+    less(word, below(usize::from(slots))) == 0
 }
 
 // Whether the accepted connections of pair n are right, `word` the set of their start slots; they claim their entries.
-fn pair_ok(
-    h: Head,
-    routes: &[[u8; 32]; 16],
-    joints: &[u8; 64],
-    homes: &[u8; 32],
-    lengths: &[[u8; 16]; 16],
-    s: &[u8],
-    n: usize,
-    word: u32,
-    claimed: &mut [u32; 64],
-) -> bool
-    requires { Given h routes.now joints.now homes.now lengths.now s.now × (n < 16 * h.actives)
+fn pair_ok(h: Head, t: &PlanTables, s: &[u8], n: usize, word: u32, claimed: &mut [u32; 64]) -> bool
+    requires { GivenOf h t.now s.now × (n < 16 * h.actives)
         × (word ≡ four_at (connections_from h + 4 * n) s.now)
-        × Claims (table_plan h routes.now joints.now) (decode (table_plan h routes.now joints.now) s.now)
+        × Claims (plan_by h t.now) (decode (plan_by h t.now) s.now)
         (32 * n) claimed.old }
-    ensures { PairChecked (table_plan h routes.now joints.now) s.now n result
+    ensures { PairChecked (plan_by h t.now) s.now n result
         claimed.new }
 {
     if word == 0 {
@@ -174,43 +138,28 @@ fn pair_ok(
     if !are_slots(word, h.slots) {
         return false;
     }
-    let size = wide(lengths[a][p]);
-    if size == 0 {
+    let length = usize::from(t.lengths[a][p]);
+    if length == 0 {
         return false;
     }
-    let from = wide(homes[a]);
-    starts_ok(
-        h,
-        routes,
-        joints,
-        s,
-        from,
-        h.actives + p,
-        size,
-        n,
-        word,
-        claimed,
-    )
+    let walk = Trip {
+        home: usize::from(t.homes[a]),
+        column: h.actives + p,
+        length: length,
+    };
+    starts_ok(h, t, s, walk, n, word, claimed)
 }
 
 // The same of all pairs, whose sets begin at i.
-fn pairs_ok(
-    h: Head,
-    routes: &[[u8; 32]; 16],
-    joints: &[u8; 64],
-    homes: &[u8; 32],
-    lengths: &[[u8; 16]; 16],
-    s: &[u8],
-    i: usize,
-) -> bool
-    requires { Given h routes.now joints.now homes.now lengths.now s.now × (i ≡ connections_from h) }
-    ensures { result ≡ connections_part (table_plan h routes.now joints.now) s.now }
+fn pairs_ok(h: Head, t: &PlanTables, s: &[u8], i: usize) -> bool
+    requires { GivenOf h t.now s.now × (i ≡ connections_from h) }
+    ensures { result ≡ connections_part (plan_by h t.now) s.now }
 {
     let pairs = 16 * h.actives;
-    let mut claimed = none_claimed();
+    let mut claimed = [0u32; 64];
     for n in 0..pairs {
         let word = check_idle::four(s, i + 4 * n);
-        if !pair_ok(h, routes, joints, homes, lengths, s, n, word, &mut claimed) {
+        if !pair_ok(h, t, s, n, word, &mut claimed) {
             return false;
         }
     }
@@ -218,20 +167,13 @@ fn pairs_ok(
 }
 
 // Whether the accepted connections are right; there are none where all their bytes are zero.
-pub fn ties_ok(
-    h: Head,
-    routes: &[[u8; 32]; 16],
-    joints: &[u8; 64],
-    homes: &[u8; 32],
-    lengths: &[[u8; 16]; 16],
-    s: &[u8],
-) -> bool
-    requires { Given h routes.now joints.now homes.now lengths.now s.now }
-    ensures { result ≡ connections_part (table_plan h routes.now joints.now) s.now }
+pub fn ties_ok(h: Head, t: &PlanTables, s: &[u8]) -> bool
+    requires { GivenOf h t.now s.now }
+    ensures { result ≡ connections_part (plan_by h t.now) s.now }
 {
     let i = bytes_steps::connections_row(h);
     if check_idle::zeros(s, i, 64 * h.actives) {
         return true;
     }
-    pairs_ok(h, routes, joints, homes, lengths, s, i)
+    pairs_ok(h, t, s, i)
 }

@@ -1,5 +1,5 @@
 -- The code's tests of a queue's first four bytes, and of what a queue is by its number, are the definitions'.
-use mathlib.Core.Path.{◌≡◌, refl, sym}
+use mathlib.Core.Path.{◌≡◌, ◌∙◌, refl, sym, ap}
 use mathlib.Core.Logic.{◌⊎◌, inl, inr}
 use mathlib.Core.Bool.{Bool, true, false, ◌||◌}
 use mathlib.Core.List.{List}
@@ -13,6 +13,8 @@ use Rattle.basis.specs.Bounded.{lt_or_ge}
 use Rattle.packets.specs.declared.Phase.{Phase}
 use Rattle.packets.specs.declared.Phase.TheVariants.{Execute}
 use Rattle.plan.specs.declared.Head.{Head}
+use Rattle.plan.specs.declared.Joint.{Joint}
+use Rattle.plan.specs.declared.Joint.TheVariants.{Nothing, Router, Active, Passive}
 use Rattle.plan.specs.Head.{destinations}
 use Rattle.plan.specs.Plan.{Plan}
 use Rattle.plan.specs.Tables.{table_plan, joint_of_byte}
@@ -126,21 +128,36 @@ module _ (cap : ℕ) (wired unit executing : Bool) (c f m n w : ℕ) (t : Bool)
   unfolding frame_of
   frame_unfed x y = rw (← e, x, y)
 
+-- ---- a port by its joint
+joined_by_lem : (v : ℕ) → joined_by v ≡ is_joined (joint_of_byte v)
+unfolding joined_by joint_of_byte
+joined_by_lem v = by (test (eqb (v / 64) 1)) (test (eqb (v / 64) 2)) (test (eqb (v / 64) 3))
+  where
+    by : (eqb (v / 64) 1 ≡ true) ⊎ (eqb (v / 64) 1 ≡ false) → (eqb (v / 64) 2 ≡ true) ⊎ (eqb (v / 64) 2 ≡ false)
+        → (eqb (v / 64) 3 ≡ true) ⊎ (eqb (v / 64) 3 ≡ false) → joined_by v ≡ is_joined (joint_of_byte v)
+    by (inl x) y z = rw x
+    by (inr x) (inl y) z = rw (x, y)
+    by (inr x) (inr y) (inl z) = rw (x, y, z)
+    by (inr x) (inr y) (inr z) = rw (x, y, z)
+
+pub joined_said : (v : ℕ) {j : Joint} {b : Bool} → j ≡ joint_of_byte v → (b ≡ true → j ≡ Nothing → ⊥)
+    → (b ≡ false → j ≡ Nothing) → b ≡ joined_by v
+joined_said v {j} {b} e not is = by j b not is ∙ ap is_joined e ∙ sym (joined_by_lem v)
+  where
+    by : (j : Joint) (b : Bool) → (b ≡ true → j ≡ Nothing → ⊥) → (b ≡ false → j ≡ Nothing) → b ≡ is_joined j
+    by Nothing true n y = absurd (n refl refl)
+    by Nothing false n y = refl
+    by (Router m t) true n y = refl
+    by (Router m t) false n y = sym (ap is_joined (y refl))
+    by (Active m) true n y = refl
+    by (Active m) false n y = sym (ap is_joined (y refl))
+    by (Passive m) true n y = refl
+    by (Passive m) false n y = sym (ap is_joined (y refl))
+
 -- ---- a queue by its number
 module _ (h : Head) (routes : List (List ℕ)) (joints : List ℕ) where
   abbrev net : Plan
   net = table_plan h routes joints
-
-  joined_by_lem : (v : ℕ) → joined_by v ≡ is_joined (joint_of_byte v)
-  unfolding joined_by joint_of_byte
-  joined_by_lem v = by (test (eqb (v / 64) 1)) (test (eqb (v / 64) 2)) (test (eqb (v / 64) 3))
-    where
-      by : (eqb (v / 64) 1 ≡ true) ⊎ (eqb (v / 64) 1 ≡ false) → (eqb (v / 64) 2 ≡ true) ⊎ (eqb (v / 64) 2 ≡ false)
-          → (eqb (v / 64) 3 ≡ true) ⊎ (eqb (v / 64) 3 ≡ false) → joined_by v ≡ is_joined (joint_of_byte v)
-      by (inl x) y z = rw x
-      by (inr x) (inl y) z = rw (x, y)
-      by (inr x) (inr y) (inl z) = rw (x, y, z)
-      by (inr x) (inr y) (inr z) = rw (x, y, z)
 
   joined_joint : (r i : ℕ) → i < 4 → joined_by (get_or joints (4 * r + i) 0) ≡ is_joined (net.joint r i)
   unfolding table_plan

@@ -10,7 +10,8 @@ ghost use Rattle.check_frames.specs.Frame.{fed_in_router};
 ghost use Rattle.check_frames.specs.Frame.{fed_of, unit_of, of_head};
 
 use packets::Kind;
-use plan::Head;
+use plan::joints::joint_of;
+use plan::{Head, Joint};
 
 // What a packet of a kind has spent of its active's allowance.
 pub fn spends(k: Kind) -> u8
@@ -36,33 +37,21 @@ pub fn counted(x: u8, n: u8) -> u8
 pub fn of_head(done: bool, k: usize) -> bool
     ensures { result ≡ of_head done k }
 {
-    if k == 0 { done } else { false }
+    k == 0 && done
 }
 
 // Whether a flag is up only where a wire feeds the queue, and not in EXECUTE.
 fn flag_ok(fed: bool, executes: bool, f: u8) -> bool
     ensures { result ≡ flag_fits fed executes f }
 {
-    if f == 0 {
-        return true;
-    }
-    if executes {
-        return false;
-    }
-    fed
+    f == 0 || (!executes && fed)
 }
 
 // Whether a mark is on a unit's queue that is not empty.
 fn mark_ok(unit: bool, m: u8, n: u8) -> bool
     ensures { result ≡ mark_fits unit m n }
 {
-    if m == 0 {
-        return true;
-    }
-    if unit {
-        return n != 0;
-    }
-    false
+    m == 0 || (unit && n != 0)
 }
 
 // Whether flag and mark are flags, the length is within the capacity, and flag and mark are where they may be.
@@ -102,16 +91,9 @@ pub fn frame_ok(
         return false;
     }
     if fed {
-        return low(c) + low(n) + low(w) + low(f) == low(cap);
+        return u32::from(c) + u32::from(n) + u32::from(w) + u32::from(f) == u32::from(cap);
     }
     c == cap
-}
-
-// A byte as a number.
-fn low(x: u8) -> u32
-    ensures { (result ≡ x) × (result < 256) }
-{
-    x as u32
 }
 
 // Whether a port is joined.
@@ -119,14 +101,7 @@ fn joined(joints: &[u8; 64], i: usize) -> bool
     requires { i < 64 }
     ensures { result ≡ joined_at joints.now i }
 {
-    let k = joints[i] / 64;
-    if k == 1 {
-        return true;
-    }
-    if k == 2 {
-        return true;
-    }
-    k == 3
+    joint_of(joints[i]) != Joint::Nothing
 }
 
 // The side by which K is entered, k its rank at side o, from 0.

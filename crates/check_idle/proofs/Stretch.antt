@@ -7,11 +7,12 @@ use Prim.Native.Nat.{ℕ, zero, suc, ◌+◌, ◌*◌, ◌≤◌, ◌<◌}
 use native.Mathlib.Nat.{add-zero}
 use native.Mathlib.Numerals.{add-one}
 use native.Mathlib.Omega.{arith}
-use lib.Dec.{eqb, ltb, leb}
+use lib.Dec.{eqb}
 use lib.Bits.{bit_or, or_add_and, and_le_l, and_le_r}
 use lib.ListN.{get_or}
-use borrow.Author.Tests.{eq-eqb, eqb-true, ltb-true, ltb-false, lt-leb, le-leb}
-use Rattle.basis.specs.Choice.{pick, also, also_true, also_of, same_test, test}
+use borrow.Author.Tests.{eq-eqb, eqb-true}
+use Rattle.std.specs.Int.{from_bool}
+use Rattle.basis.specs.Choice.{pick, also, also_true, also_of, same_test}
 use Rattle.basis.specs.Bounded.{all_below, all_of, lt_or_ge}
 use Rattle.plan.specs.declared.Head.{Head}
 use Rattle.plan.specs.Head.{destinations}
@@ -19,19 +20,7 @@ use Rattle.bytes_steps.specs.Counts.{output_count, outputs_from}
 use Rattle.check_rule.specs.Forms.{zeros}
 use Rattle.check_rule.proofs.Bytes.{zeros_byte}
 use Rattle.bytes_layout.specs.Decode.{four_at}
-use Rattle.check_idle.specs.Bytes.{word_at, IdleRow, IdleRows, IdleSide, IdleRouter, QuietBytes}
-
--- ---- tests as numbers
-pub bit_none : (t : Bool) {v : ℕ} → v ≡ pick t 1 0 → eqb v 0 ≡ not t
-bit_none true e = rw e
-bit_none false e = rw e
-
-pub less_not : (x m : ℕ) → not (ltb m x) ≡ leb x m
-less_not x m = by (test (ltb m x))
-  where
-    by : (ltb m x ≡ true) ⊎ (ltb m x ≡ false) → not (ltb m x) ≡ leb x m
-    by (inl e) = rw (e, lt-leb x m (ltb-true m x e))
-    by (inr e) = rw (e, le-leb x m (ltb-false m x e))
+use Rattle.check_idle.specs.Bytes.{word_at, IdleRow, IdleRows, IdleRouter, QuietBytes}
 
 -- ---- the digits of two words together
 pub or_none : (a b : ℕ) → bit_or a b ≡ 0 → (a ≡ 0) × (b ≡ 0)
@@ -150,53 +139,9 @@ pub by_words : {a d f g a' d' f' g' : ℕ} → a ≡ a' → d ≡ d' → f ≡ f
     → bit_or (bit_or (bit_or a d) f) g ≡ 0 → bit_or (bit_or (bit_or a' d') f') g' ≡ 0
 by_words p q r s e = rw (← p, ← q, ← r, ← s) e
 
--- ---- rows, sides and routers, one after the other
-module _ (b : List ℕ) (i : ℕ) where
-  pub rows_none : (cap : ℕ) → IdleRows b i 0 cap
-  rows_none cap k l = absurd (omega arith)
-
-  pub rows_more : (k cap : ℕ) → IdleRows b i k cap → IdleRow b (i + 39 * k) cap → IdleRows b i (k + 1) cap
-  rows_more k cap f r j l = by (lt_or_ge j k)
-    where
-      by : (j < k) ⊎ (k ≤ j) → IdleRow b (i + 39 * j) cap
-      by (inl a) = f j a
-      by (inr a) = let q : j ≡ k = omega arith in rw q r
-
-  pub rows_done : (k n cap : ℕ) → IdleRows b i k cap → n ≤ k → IdleRows b i n cap
-  rows_done k n cap f q j l = f j (omega arith)
-
-module _ (h : Head) (b : List ℕ) (i : ℕ) where
-  abbrev pub Sides : ℕ → Type 0
-  Sides n = (o : ℕ) → o < n → IdleSide h b (i + 195 * o)
-
-  pub sides_none : Sides 0
-  sides_none o l = absurd (omega arith)
-
-  pub sides_more : (k : ℕ) → Sides k → IdleSide h b (i + 195 * k) → Sides (k + 1)
-  sides_more k f r o l = by (lt_or_ge o k)
-    where
-      by : (o < k) ⊎ (k ≤ o) → IdleSide h b (i + 195 * o)
-      by (inl a) = f o a
-      by (inr a) = let q : o ≡ k = omega arith in rw q r
-
-  pub sides_done : (k n : ℕ) → Sides k → n ≤ k → Sides n
-  sides_done k n f q o l = f o (omega arith)
-
-  abbrev pub Routers : ℕ → Type 0
-  Routers n = (r : ℕ) → r < n → IdleRouter h b (i + 1092 * r)
-
-  pub routers_none : Routers 0
-  routers_none r l = absurd (omega arith)
-
-  pub routers_more : (k : ℕ) → Routers k → IdleRouter h b (i + 1092 * k) → Routers (k + 1)
-  routers_more k f x r l = by (lt_or_ge r k)
-    where
-      by : (r < k) ⊎ (k ≤ r) → IdleRouter h b (i + 1092 * r)
-      by (inl a) = f r a
-      by (inr a) = let q : r ≡ k = omega arith in rw q x
-
-  pub routers_done : (k n : ℕ) → Routers k → n ≤ k → Routers n
-  routers_done k n f q r l = f r (omega arith)
+-- ---- routers, one after the other
+abbrev pub Routers : Head → List ℕ → ℕ → ℕ → Type 0
+Routers h b i n = (r : ℕ) → r < n → IdleRouter h b (i + 1092 * r)
 
 -- ---- all of them
 pub quiet_of : (h : Head) (b : List ℕ) → zeros (outputs_from h) (7 * output_count h) b ≡ true

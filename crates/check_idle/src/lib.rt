@@ -2,7 +2,7 @@
 #![tactic(auto)]
 
 ghost use Rattle.std.specs.Prelude.{◌≡◌, true, ◌+◌, ◌*◌, ◌≤◌, ◌<◌, leb, eqb, length};
-ghost use Rattle.basis.specs.Choice.{pick, also};
+ghost use Rattle.basis.specs.Choice.{also};
 ghost use Rattle.plan.specs.Head.{InRange, destinations};
 ghost use Rattle.bytes_steps.specs.Counts.{state_size};
 ghost use Rattle.check_rule.specs.Forms.{zeros};
@@ -11,20 +11,6 @@ ghost use Rattle.check_idle.specs.Bytes.{word_at, IdleRow, IdleRows, IdleSide, I
 
 use plan::Head;
 
-// A byte as a number.
-pub fn low(x: u8) -> u32
-    ensures { (result ≡ x) × (result < 256) }
-{
-    x as u32
-}
-
-// A byte as a word.
-fn wide(x: u8) -> u64
-    ensures { (result ≡ x) × (result < 256) }
-{
-    x as u64
-}
-
 // The digits of two bytes together: zero where both are.
 pub fn join(a: u8, b: u8) -> u8
     ensures { eqb result 0 ≡ also (eqb a 0) (eqb b 0) }
@@ -32,18 +18,11 @@ pub fn join(a: u8, b: u8) -> u8
     a | b
 }
 
-// 1 for true.
-pub fn bit(t: bool) -> u8
-    ensures { result ≡ pick t 1 0 }
-{
-    if t { 1 } else { 0 }
-}
-
 // Not zero where a byte is greater than its limit.
 pub fn over(x: u8, m: u8) -> u8
     ensures { eqb result 0 ≡ leb x m }
 {
-    bit(x > m)
+    u8::from(x > m)
 }
 
 // Whether n bytes from i on are zero.
@@ -66,19 +45,12 @@ pub fn four(s: &[u8], i: usize) -> u32
     bytes_rows::starts::word(s, i)
 }
 
-// Four bytes' number as a word.
-fn half(x: u32) -> u64
-    ensures { (result ≡ x) × (result < 4294967296) }
-{
-    x as u64
-}
-
 // Eight bytes as a word, four and four.
 fn word(s: &[u8], i: usize) -> u64
     requires { i + 8 ≤ length s.now }
     ensures { result ≡ word_at i s.now }
 {
-    half(four(s, i)) + 4294967296 * half(four(s, i + 4))
+    u64::from(four(s, i)) + 4294967296 * u64::from(four(s, i + 4))
 }
 
 // Whether a queue's row is idle: all its credit, and else zero bytes.
@@ -86,10 +58,8 @@ pub fn idle(s: &[u8], i: usize, cap: u8) -> bool
     requires { i + 39 ≤ length s.now }
     ensures { result ≡ true → IdleRow s.now i cap }
 {
-    if word(s, i) != wide(cap) {
-        return false;
-    }
-    (word(s, i + 8) | word(s, i + 16) | word(s, i + 24) | word(s, i + 31)) == 0
+    word(s, i) == u64::from(cap)
+        && (word(s, i + 8) | word(s, i + 16) | word(s, i + 24) | word(s, i + 31)) == 0
 }
 
 // Whether n rows from i on are idle.
@@ -97,12 +67,7 @@ fn rows_idle(s: &[u8], i: usize, n: usize, cap: u8) -> bool
     requires { (i + 39 * n ≤ length s.now) × (n ≤ 16) }
     ensures { result ≡ true → IdleRows s.now i n cap }
 {
-    for k in 0..n {
-        if !idle(s, i + 39 * k, cap) {
-            return false;
-        }
-    }
-    true
+    (0..n).all(|k| idle(s, i + 39 * k, cap))
 }
 
 // Whether the two F and the three K of a side are idle.
@@ -110,10 +75,7 @@ fn side_idle(s: &[u8], h: Head, i: usize) -> bool
     requires { (i + 195 ≤ length s.now) × InRange h }
     ensures { result ≡ true → IdleSide h s.now i }
 {
-    if !rows_idle(s, i, 2, h.f.0) {
-        return false;
-    }
-    rows_idle(s, i + 78, 3, h.k.0)
+    rows_idle(s, i, 2, h.f.0) && rows_idle(s, i + 78, 3, h.k.0)
 }
 
 // Whether the four sides of a router are idle.
@@ -121,12 +83,7 @@ fn sides_idle(s: &[u8], h: Head, i: usize) -> bool
     requires { (i + 780 ≤ length s.now) × InRange h }
     ensures { result ≡ true → ((o : _) → o < 4 → IdleSide h s.now (i + 195 * o)) }
 {
-    for o in 0..4 {
-        if !side_idle(s, h, i + 195 * o) {
-            return false;
-        }
-    }
-    true
+    (0..4).all(|o| side_idle(s, h, i + 195 * o))
 }
 
 // Whether a router's queues are idle.
@@ -134,13 +91,7 @@ fn router_idle(s: &[u8], h: Head, i: usize) -> bool
     requires { (i + 1092 ≤ length s.now) × InRange h }
     ensures { result ≡ true → IdleRouter h s.now i }
 {
-    if !rows_idle(s, i, 4, h.u.0) {
-        return false;
-    }
-    if !rows_idle(s, i + 156, 4, h.q.0) {
-        return false;
-    }
-    sides_idle(s, h, i + 312)
+    rows_idle(s, i, 4, h.u.0) && rows_idle(s, i + 156, 4, h.q.0) && sides_idle(s, h, i + 312)
 }
 
 // Whether all routers' queues are idle.
@@ -148,13 +99,7 @@ fn routers_idle(s: &[u8], h: Head, i: usize) -> bool
     requires { (i + 1092 * h.routers ≤ length s.now) × InRange h }
     ensures { result ≡ true → ((k : _) → k < h.routers → IdleRouter h s.now (i + 1092 * k)) }
 {
-    let n = h.routers;
-    for k in 0..n {
-        if !router_idle(s, h, i + 1092 * k) {
-            return false;
-        }
-    }
-    true
+    (0..h.routers).all(|k| router_idle(s, h, i + 1092 * k))
 }
 
 // Whether the interfaces' queues are idle, out and in.
@@ -166,16 +111,10 @@ fn interfaces_idle(s: &[u8], h: Head, i: usize, j: usize) -> bool
         × IdleRows s.now j h.actives h.ain.0
         × IdleRows s.now (j + 39 * h.actives) h.passives h.pin.0 }
 {
-    if !rows_idle(s, i, h.actives, h.aout.0) {
-        return false;
-    }
-    if !rows_idle(s, i + 39 * h.actives, h.passives, h.pout.0) {
-        return false;
-    }
-    if !rows_idle(s, j, h.actives, h.ain.0) {
-        return false;
-    }
-    rows_idle(s, j + 39 * h.actives, h.passives, h.pin.0)
+    rows_idle(s, i, h.actives, h.aout.0)
+        && rows_idle(s, i + 39 * h.actives, h.passives, h.pout.0)
+        && rows_idle(s, j, h.actives, h.ain.0)
+        && rows_idle(s, j + 39 * h.actives, h.passives, h.pin.0)
 }
 
 // Whether nothing is on the way anywhere.
@@ -184,15 +123,10 @@ pub fn quiet(s: &[u8], h: Head) -> bool
     ensures { result ≡ true → QuietBytes h s.now }
 {
     let n = h.actives + h.passives;
-    if !zeros(
+    zeros(
         s,
         2 + 39 * (2 * n + 28 * h.routers),
         7 * (n + 6 * h.routers),
-    ) {
-        return false;
-    }
-    if !interfaces_idle(s, h, 2, 2 + 39 * (n + 28 * h.routers)) {
-        return false;
-    }
-    routers_idle(s, h, 2 + 39 * n)
+    ) && interfaces_idle(s, h, 2, 2 + 39 * (n + 28 * h.routers))
+        && routers_idle(s, h, 2 + 39 * n)
 }

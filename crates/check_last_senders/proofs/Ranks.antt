@@ -3,14 +3,14 @@ use mathlib.Core.Path.{◌≡◌, refl, sym, ap, ◌∙◌}
 use mathlib.Core.Logic.{◌⊎◌, inl, inr}
 use mathlib.Core.Bool.{Bool, true, false}
 use mathlib.Core.List.{List}
-use Prim.Native.Nat.{ℕ, ◌+◌, ◌*◌, ◌/◌, ◌≤◌, ◌<◌}
+use Prim.Native.Nat.{ℕ, ◌+◌, ◌/◌, ◌≤◌, ◌<◌}
 use native.Mathlib.Numerals.{add-one}
 use native.Mathlib.Omega.{arith}
 use lib.Dec.{eqb, ltb, leb}
 use lib.ListN.{get_or}
 use borrow.Author.Tests.{eq-eqb, eqb-true, lt-ltb, ltb-true, le-leb, leb-true}
 use Rattle.basis.specs.Choice.{pick, also, also_true, also_of, same_test}
-use Rattle.basis.specs.Bounded.{all_below, all_none, all_more, all_fail, lt_or_ge}
+use Rattle.basis.specs.Bounded.{all_below, all_none, lt_or_ge}
 use Rattle.plan.specs.declared.Head.{Head}
 use Rattle.plan.specs.Head.{destinations}
 use Rattle.plan.specs.Tables.{joint_of_byte}
@@ -83,25 +83,6 @@ module _ (i k : ℕ) (joints b : List ℕ) where
       → z ≡ leb (get_or b (i + 5) 0) 3 → t ≡ also y z → u ≡ also x t → u ≡ router_ranks i k joints b
   unfolding router_ranks
   router_ranked p q r m n = n ∙ rw (p, m, q, r, few_ranks (get_or b (i + 4) 0), few_ranks (get_or b (i + 5) 0))
-
--- ---- routers, as long as they pass
-module _ (i : ℕ) (joints b : List ℕ) where
-  pub routers_none : routers_ranks i 0 joints b ≡ true
-  unfolding routers_ranks
-  routers_none = all_none _
-
-  pub routers_more : (r : ℕ) {x : Bool} → routers_ranks i r joints b ≡ true
-      → x ≡ router_ranks (i + 6 * r) (4 * r) joints b → x ≡ true → routers_ranks i (r + 1) joints b ≡ true
-  unfolding routers_ranks
-  routers_more r e g h = all_more (λ j. router_ranks (i + 6 * j) (4 * j) joints b) r e g h
-
-  pub routers_fail : (n r : ℕ) {x : Bool} → r < n → x ≡ router_ranks (i + 6 * r) (4 * r) joints b → x ≡ false
-      → false ≡ routers_ranks i n joints b
-  unfolding routers_ranks
-  routers_fail n r l g h = sym (all_fail (λ j. router_ranks (i + 6 * j) (4 * j) joints b) n r l g h)
-
-  pub routers_done : (r n : ℕ) → routers_ranks i r joints b ≡ true → r ≡ n → true ≡ routers_ranks i n joints b
-  routers_done r n e q = sym (ap (λ m. routers_ranks i m joints b) (sym q) ∙ e)
 
 -- ---- the whole, as the code leaves it
 module _ (h : Head) (joints b : List ℕ) where

@@ -52,12 +52,7 @@ fn routers_fit(s: &[u8], i: usize, joints: &[u8; 64], n: usize) -> bool
     requires { (i + 6 * n ≤ length s.now) × (n ≤ 16) }
     ensures { result ≡ routers_ranks i n joints.now s.now }
 {
-    for r in 0..n {
-        if !router_fits(s, i + 6 * r, joints, 4 * r) {
-            return false;
-        }
-    }
-    true
+    (0..n).all(|r| router_fits(s, i + 6 * r, joints, 4 * r))
 }
 
 // Whether every output may remember its rank.
@@ -67,8 +62,5 @@ pub fn turns_ok(h: Head, joints: &[u8; 64], s: &[u8]) -> bool
 {
     let n = h.actives + h.passives;
     let i = bytes_steps::turn_row(h, 0);
-    if !check_idle::zeros(s, i, n) {
-        return false;
-    }
-    routers_fit(s, i + n, joints, h.routers)
+    check_idle::zeros(s, i, n) && routers_fit(s, i + n, joints, h.routers)
 }

@@ -13,6 +13,7 @@ use Rattle.sets.specs.Sets.{has}
 use Rattle.packets.specs.declared.Kind.{Kind}
 use Rattle.packets.specs.declared.Kind.TheVariants.{Setup, Tdown, Ack, Nack}
 use Rattle.packets.specs.declared.Packet.{Packet}
+use Rattle.packets.specs.Directions.{goes_back}
 use Rattle.check_places.specs.declared.Trip.{Trip}
 use Rattle.check_places.specs.declared.Standing.{Standing}
 use Rattle.check_places.specs.Look.{track_at, track_of, trip_of, standing_of, frees_up_to, coming, leaving, unit_by}
@@ -368,6 +369,13 @@ module _ (actives length n : ℕ) (x : Packet) {m : ℕ} where
         → b ≡ received_by actives length n x
     unfolding received_by
     arrived_own f g = rw (le-ltb n actives l, ← e, eq-eqb (n - actives) m f) g
+
+-- ---- answers are what goes back
+pub back_answers : (k : Kind) {b : Bool} → b ≡ goes_back k → b ≡ answers k
+back_answers Setup e = e
+back_answers Tdown e = e
+back_answers Ack e = e
+back_answers Nack e = e
 
 -- ---- queues by number
 module _ (routes : List (List ℕ)) (joints homes : List ℕ) (by up : List (List ℕ)) (t : Trip) (x : Packet) where

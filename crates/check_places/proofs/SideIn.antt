@@ -1,21 +1,22 @@
 -- The side by which a pair's walk comes in to a router, as it is looked up, is the one that the rules speak of.
+use Rattle.std.proofs.Math.Option.{Option as Maybe, some, none}
 use mathlib.Core.Path.{◌≡◌, refl, sym, ◌∙◌}
-use mathlib.Core.Logic.{◌⊎◌, inl, inr}
+use mathlib.Core.Logic.{inl, inr}
 use mathlib.Core.Bool.{Bool, true, false}
 use mathlib.Core.List.{List}
-use Prim.Native.Nat.{ℕ, ◌+◌, ◌*◌, ◌/◌, ◌%◌, ◌<◌}
+use Prim.Native.Nat.{ℕ, ◌+◌, ◌*◌, ◌/◌, ◌%◌, ◌≤◌, ◌<◌}
 use native.Mathlib.Omega.{arith}
 use lib.ListN.{get_or}
+use Rattle.std.specs.Option.{MatchOption, unwrap_or}
+use Rattle.std.specs.declared.option.Option.{Option}
+use Rattle.std.specs.declared.option.Option.TheVariants.{None, Some}
 use Rattle.basis.specs.Choice.{not_both}
-use Rattle.basis.specs.Bounded.{below_suc}
 use Rattle.packets.specs.declared.Kind.TheVariants.{Setup}
 use Rattle.packets.specs.declared.Packet.{Packet}
 use Rattle.plan.specs.declared.Head.{Head}
 use Rattle.plan.specs.Plan.{Plan, active, passive, A, P, no_side}
 use Rattle.plan.specs.Rules.{home}
 use Rattle.plan.specs.Tables.{table_plan}
-use Rattle.plan_walks.specs.declared.Index.{Index}
-use Rattle.plan_walks.specs.declared.Index.TheVariants.{At, Off}
 use Rattle.plan_walks.specs.Served.{Served}
 use Rattle.plan_walks.specs.Steps.{index_on}
 use Rattle.plan_queues.specs.Feeds.{came_by, came_in}
@@ -31,10 +32,7 @@ use Rattle.check_places.proofs.Fitting.{comes_by_lem}
 use Rattle.check_places.proofs.Exits.{comes_here, comes_later}
 use Rattle.check_places.proofs.Law.{chart, pair, trips}
 
--- ---- the loop: none of the sides below i
-abbrev pub NoneBelow : List ℕ → List (List ℕ) → List (List ℕ) → ℕ → ℕ → ℕ → ℕ → Type 0
-NoneBelow joints by up from d r i = (k : ℕ) → k < i → comes_by joints by up from d (4 * r + k) ≡ false
-
+-- ---- the search
 module _ (joints : List ℕ) (by up : List (List ℕ)) (from d r : ℕ) where
   -- the walk begins at the router
   pub by_start : from / 4 ≡ r → SideIn joints by up from d r (from % 4)
@@ -48,15 +46,16 @@ module _ (joints : List ℕ) (by up : List (List ℕ)) (from d r : ℕ) where
     comes : t ≡ comes_by joints by up from d (4 * r + i)
     comes = comes_later joints by up from d (4 * r + i) (λ z. other (omega arith)) e
 
-    pub none_more : NoneBelow joints by up from d r i → t ≡ false → NoneBelow joints by up from d r (i + 1)
-    none_more f g k h = at (below_suc {i = k} {n = i} (omega arith))
-      where
-        at : (k < i) ⊎ (k ≡ i) → comes_by joints by up from d (4 * r + k) ≡ false
-        at (inl m) = f k m
-        at (inr m) = rw m (sym comes ∙ g)
+  -- so the first side that is found is the one
+  abbrev Next : ℕ → Bool
+  Next i = next_by joints by (track_at up (from / 4) d) d (4 * r + i)
 
-    pub by_side : t ≡ true → SideIn joints by up from d r i
-    by_side g = inl (l, sym comes ∙ g)
+  pub by_search : (from / 4 ≡ r → ⊥) → (o : Option ℕ)
+      → MatchOption o ((k : ℕ) → 0 ≤ k → k < 4 → Next k ≡ false)
+      (λ i. (0 ≤ i) × (i < 4) × (Next i ≡ true) × ((k : ℕ) → 0 ≤ k → k < i → Next k ≡ false))
+      → SideIn joints by up from d r (unwrap_or o no_side)
+  by_search other None h = inr (refl, λ k l. sym (comes other k l refl) ∙ h k (omega arith) l)
+  by_search other (Some i) h = inl (h.1, sym (comes other i h.1 refl) ∙ h.2)
 
 -- ---- what it finds
 module _ {pl : Plan} {by : List (List ℕ)} {joints homes : List ℕ} (c : Charting pl by joints homes)
@@ -69,9 +68,9 @@ module _ {pl : Plan} {by : List (List ℕ)} {joints homes : List ℕ} (c : Chart
       sym (came_in_lem c.wired a p ha hp s m.steps r i m.here)
   found_side i (inr (e, f)) = e ∙ sym (off (index_on pl (passive p) (home pl (active a)) r) refl)
     where
-      off : (k : Index) → index_on pl (passive p) (home pl (active a)) r ≡ k → came_by pl a p k ≡ no_side
-      off Off g = refl
-      off (At k) g =
+      off : (k : Maybe ℕ) → index_on pl (passive p) (home pl (active a)) r ≡ k → came_by pl a p k ≡ no_side
+      off none g = refl
+      off (some k) g =
           let j = index_stands pl a p r k g in
           let four = (stands_inside c.wired a p ha hp s k r j.0 j.1).1 in
           absurd (not_both ((comes_by_lem c up tracks a p ha hp s t trip r l Setup 0 j.0 four).passes

@@ -2,6 +2,7 @@
 -- queues, and a served pair.
 use Rattle.std.specs.Prelude.{◌≡◌, true, List, ℕ, ◌+◌, ◌*◌, ◌<◌}
 use Rattle.plan.specs.declared.Head.{Head}
+use Rattle.plan.specs.declared.tables.PlanTables.{PlanTables}
 use Rattle.plan.specs.Plan.{A, P}
 use Rattle.plan.specs.Tables.{table_plan}
 use Rattle.plan_walks.specs.Served.{served}
@@ -18,3 +19,8 @@ pub record Asked (h : Head) (actives outs inner : ℕ) (routes : List (List ℕ)
   pub active : a < A (table_plan h routes joints)
   pub passive : p < P (table_plan h routes joints)
   pub serves : served (table_plan h routes joints) a p ≡ true
+
+-- the same of Load's tables as they lie together
+abbrev pub AskedOf : Head → ℕ → ℕ → ℕ → PlanTables → List (List ℕ) → ℕ → ℕ → Type 0
+AskedOf h actives outs inner t up a p =
+    Asked h actives outs inner t.routes t.joints t.homes t.lengths t.by up a p

@@ -22,21 +22,12 @@ use Rattle.plan_journeys.proofs.Numbers.{queue_at_lem}
 use Rattle.rules.specs.Capacity.{capacity}
 use Rattle.rules.specs.Valid.{sum}
 use Rattle.check_rule.specs.Check.{queue_row_test, queues_part}
-use Rattle.check_queues.specs.Lines.{cap_in, router_caps, same_caps, RowsChecked, LinesChecked, spent_in}
+use Rattle.check_queues.specs.Lines.{cap_in, router_caps, RowsChecked, LinesChecked, spent_in}
 use Rattle.check_queues.proofs.Lined.{sum_like}
 use Rattle.check_frames.proofs.Tallies.{tallied_like}
 use Rattle.check_queues.proofs.Turns.{rows_none, rows_join, rows_lost}
 
 -- ---- capacities
-same_at : (n v k : ℕ) → k < n → get_or (replicate n v) k 0 ≡ v
-same_at zero v k l = absurd (omega arith)
-same_at (suc n) v zero l = refl
-same_at (suc n) v (suc k) l = same_at n v k (omega arith)
-
-pub same_cap : (v k : ℕ) → k < 28 → get_or (same_caps v) k 0 ≡ v
-unfolding same_caps
-same_cap v k l = same_at 28 v k l
-
 module _ (h : Head) (routes : List (List ℕ)) (joints : List ℕ) where
   abbrev net : Plan
   net = table_plan h routes joints

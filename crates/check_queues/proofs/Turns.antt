@@ -9,6 +9,10 @@ use native.Mathlib.Omega.{arith}
 use lib.Dec.{ltb, leb, eqb}
 use lib.ListN.{get_or}
 use borrow.Author.Tests.{ltb-true, leb-true, le-leb, lt-leb}
+use Rattle.std.specs.Bool.{⊤}
+use Rattle.std.specs.Option.{MatchOption, IfSome, unwrap_or}
+use Rattle.std.specs.declared.option.Option.{Option}
+use Rattle.std.specs.declared.option.Option.TheVariants.{None, Some}
 use Rattle.basis.specs.Choice.{also, also_true, same_test, refuted}
 use Rattle.basis.specs.Bounded.{all_below, all_none, all_more, all_fail, all_done, all_at, all_of, all_same, lt_or_ge}
 use Rattle.packets.specs.declared.Packet.{Packet}
@@ -221,22 +225,15 @@ module _ (pl : Plan) (b : List ℕ) (from : ℕ) (t : List ℕ) where
 
 -- ---- rows that rest, as the code finds them
 module _ (b coming caps : List ℕ) (from k m : ℕ) where
-  pub skip_none : {j : ℕ} → j ≡ k → k ≤ m → Skipped b coming caps from k m j
-  skip_none e l =
-      record { first = omega arith; last = omega arith; rest = λ i x y. absurd (omega arith) }
+  abbrev Resting : ℕ → Type 0
+  Resting i = Rests b (from + i) (get_or caps i 0) (get_or coming (from + i) 0)
 
-  pub skip_more : (j : ℕ) → j < m → Skipped b coming caps from k m j
-      → Rests b (from + j) (get_or caps j 0) (get_or coming (from + j) 0) → Skipped b coming caps from k m (j + 1)
-  skip_more j l s r =
-      record { first = omega (arith, s.first); last = omega arith; rest = λ i x y. by i x (lt_or_ge i j) y }
-    where
-      by : (i : ℕ) → k ≤ i → (i < j) ⊎ (j ≤ i) → i < j + 1
-          → Rests b (from + i) (get_or caps i 0) (get_or coming (from + i) 0)
-      by i x (inl z) y = s.rest i x z
-      by i x (inr z) y = let e : i ≡ j = omega arith in rw e r
-
-  pub skip_done : {j : ℕ} → Skipped b coming caps from k m j → j ≡ m → Skipped b coming caps from k m m
-  skip_done s e = rw e at s
+  pub skip_found : k ≤ m → (o : Option ℕ)
+      → MatchOption o ((i : ℕ) → k ≤ i → i < m → Resting i)
+      (λ j. (k ≤ j) × (j < m) × ⊤ × ((i : ℕ) → k ≤ i → i < j → Resting i))
+      → Skipped b coming caps from k m (unwrap_or o m) × IfSome o (λ j. j < m)
+  skip_found l None h = (record { first = l; last = omega arith; rest = h }, tt)
+  skip_found l (Some j) h = (record { first = h.0; last = omega (arith, h.1); rest = h.3 }, h.1)
 
 -- ---- two stretches, one behind the other
 all_split : (f : ℕ → Bool) (m n : ℕ) → all_below m f ≡ true → all_below (m + n) f ≡ all_below n (λ k. f (m + k))

@@ -75,10 +75,6 @@ cap_in h k =
 unfoldable pub router_caps : Head → List ℕ
 router_caps h = up_to (fill (cap_in h)) 28 (replicate 28 0)
 
--- one capacity for all of a group
-unfoldable pub same_caps : ℕ → List ℕ
-same_caps v = replicate 28 v
-
 -- all queues
 pub record LinesChecked (pl : Plan) (b : List ℕ) (r : Bool) (t u : List ℕ) : Type 0 where
   pub test : r ≡ queues_part pl b

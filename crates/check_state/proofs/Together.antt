@@ -34,8 +34,9 @@ use Rattle.bytes_steps.specs.Counts.{state_size, allowances_from, table_from, si
 use Rattle.next_queue.specs.Lent.{Lent}
 use Rattle.next_queue.specs.Wiring.{Wiring}
 use Rattle.check_connections.specs.Given.{Given}
-use Rattle.check_state.specs.declared.Checked.TheVariants.{NotState}
-use Rattle.check_state.specs.Inspect.{header_fits, whole_of, Passed, checked_of, no_tracks, none_coming, none_spent}
+use Rattle.std.specs.Prelude.{Err}
+use Rattle.kinds.specs.declared.Refusal.TheVariants.{NotState}
+use Rattle.check_state.specs.Inspect.{header_fits, whole_of, Passed, checked_of, none_spent}
 
 -- an active's whole allowance is its start allowance
 pub whole_start : (pl : Plan) → whole_of pl.head ≡ start_allowance pl
@@ -96,12 +97,10 @@ replicate_long : (n : ℕ) → length {A = ℕ} (replicate n 0) ≡ n
 replicate_long zero = refl
 replicate_long (suc n) = ap suc (replicate_long n)
 
-pub none_coming_lem : (n : ℕ) → get_or none_coming n 0 ≡ 0
-unfolding none_coming
+pub none_coming_lem : (n : ℕ) → ◌≡◌ {A = ℕ} (get_or (replicate 512 0) n 0) 0
 none_coming_lem n = replicate_at 512 n
 
-pub coming_long : length none_coming ≡ 512
-unfolding none_coming
+pub coming_long : length (replicate {A = ℕ} 512 0) ≡ 512
 coming_long = replicate_long 512
 
 pub none_spent_lem : (a : ℕ) → get_or none_spent a 0 ≡ 0
@@ -111,10 +110,6 @@ none_spent_lem a = replicate_at 16 a
 pub spent_long : length none_spent ≡ 16
 unfolding none_spent
 spent_long = replicate_long 16
-
-pub no_tracks_lem : {t : List (List ℕ)} → t ≡ no_tracks → t ≡ replicate 17 (replicate 32 0)
-unfolding no_tracks
-no_tracks_lem e = e
 
 -- ---- the plan of the tables
 pub plan_head : (h : Head) (routes : List (List ℕ)) (joints : List ℕ) → (table_plan h routes joints).head ≡ h
@@ -237,13 +232,13 @@ module _ (h : Head) (routes : List (List ℕ)) (joints : List ℕ) (range : InRa
         ∙ sym (whole ∙ rw (← q.test, ← allowances_is t q, ← g, k, ← tables_is, ← m, n, ← d, w))
 
   -- ---- the whole
-  pub all_short : length b < state_size h → checked_of (check_of net b) ≡ NotState
+  pub all_short : length b < state_size h → checked_of (check_of net b) ≡ Err NotState
   all_short l =
       let s : length b < size net = rw (size_by net, plan_head h routes joints) l in
       ap checked_of (too_short net b s)
 
   pub all_headless : state_size h ≤ length b → {x : Bool} → x ≡ header_fits h b → x ≡ false
-      → checked_of (check_of net b) ≡ NotState
+      → checked_of (check_of net b) ≡ Err NotState
   all_headless l e f =
       let s : size net ≤ length b = rw (size_by net, plan_head h routes joints) l in
       ap checked_of (no_header net b s (rw (plan_head h routes joints) e) f)

@@ -1,4 +1,5 @@
 -- What the check's parts give.
+use Rattle.std.specs.Prelude.{Result, Ok, Err}
 use Rattle.std.specs.Prelude.{◌≡◌, Bool, true, false, List, ℕ, ◌<◌, min, leb, ltb, get_or, replicate}
 use Rattle.basis.specs.Choice.{pick, also}
 use Rattle.plan.specs.declared.Head.{Head}
@@ -6,21 +7,15 @@ use Rattle.plan.specs.Plan.{Plan, A}
 use Rattle.rules.specs.Valid.{total, spends}
 use Rattle.bytes_layout.specs.Decode.{decode}
 use Rattle.check_rule.specs.Check.{outputs_part, queues_part, picks_part}
-use Rattle.check_state.specs.declared.Checked.{Checked}
-use Rattle.check_state.specs.declared.Checked.TheVariants.{State, NotState}
+use Rattle.kinds.specs.declared.Refusal.{Refusal}
+use Rattle.kinds.specs.declared.Refusal.TheVariants.{NotState}
 
 -- the answer of a test
-abbrev pub checked_of : Bool → Checked
-checked_of true = State
-checked_of false = NotState
+abbrev pub checked_of : Bool → Result (Unit {0}) Refusal
+checked_of true = Ok tt
+checked_of false = Err NotState
 
--- tables in which nothing has been counted
-unfoldable pub no_tracks : List (List ℕ)
-no_tracks = replicate 17 (replicate 32 0)
-
-unfoldable pub none_coming : List ℕ
-none_coming = replicate 512 0
-
+-- a table in which nothing has been counted
 unfoldable pub none_spent : List ℕ
 none_spent = replicate 16 0
 

@@ -9,20 +9,19 @@ use native.Mathlib.Omega.{arith}
 use lib.Dec.{eqb, ltb, leb}
 use lib.ListN.{length, get_or, set, replicate, get_or-replicate}
 use lib.Seq.{get_or-set_same, get_or-set_other}
-use borrow.Author.Tests.{eq-eqb, ne_eqb, eqb-true, lt-ltb, le-ltb, ltb-true, le-leb, leb-true}
+use borrow.Author.Tests.{eq-eqb, eqb-true, lt-ltb, le-ltb, ltb-true, le-leb, leb-true}
+use Rattle.std.specs.Bool.{⊤}
+use Rattle.std.specs.Option.{MatchOption, unwrap_or}
+use Rattle.std.specs.declared.option.Option.{Option}
+use Rattle.std.specs.declared.option.Option.TheVariants.{None, Some}
 use Rattle.basis.specs.Choice.{pick, also, also_true, also_of, same_test, test}
-use Rattle.basis.specs.Bounded.{all_below, any_below, Found, all_at, all_of, all_none, all_more, all_fail, any_true}
+use Rattle.basis.specs.Bounded.{all_below, any_below, Found, all_at, all_of, any_true}
 use Rattle.basis.specs.Bounded.{any_of, lt_or_ge}
 use Rattle.check_rule.specs.Forms.{zeros}
 use Rattle.check_rule.proofs.Bytes.{zeros_byte}
 use Rattle.check_idle.specs.Bytes.{entry_fits, entry_free, side_fits, sides_fit, limit_at, Limits, bytes_within}
 use Rattle.check_idle.specs.Bytes.{byte_open}
-use Rattle.check_idle.specs.Bytes.{sides_zero, allowances_fit}
-
--- ---- digits
-pub and_also : (a b : Bool) → (a && b) ≡ also a b
-and_also true b = refl
-and_also false b = refl
+use Rattle.check_idle.specs.Bytes.{sides_zero}
 
 -- ---- the limits, as they are written
 pub limit_even : (slots t : ℕ) → limit_at slots (2 * t) ≡ pick (ltb t slots) 4 0
@@ -243,57 +242,21 @@ side_unused i slots b h e =
         (eq-eqb (get_or b (i + 2 * t + 1) 0) 0 second)
 
 -- ---- sides, one after the other
+-- how many are in front of the first that is used
+pub unused_first : (i n : ℕ) (b : List ℕ) (o : Option ℕ)
+    → MatchOption o ((k : ℕ) → 0 ≤ k → k < n → zeros (i + 64 * k) 64 b ≡ true)
+    (λ m. (0 ≤ m) × (m < n) × ⊤ × ((k : ℕ) → 0 ≤ k → k < m → zeros (i + 64 * k) 64 b ≡ true))
+    → (unwrap_or o n ≤ n) × (sides_zero i (unwrap_or o n) b ≡ true)
+unfolding sides_zero
+unused_first i n b None h = (omega arith, all_of n _ (λ k l. h k (omega arith) l))
+unused_first i n b (Some m) h = (omega arith, all_of m _ (λ k l. h.3 k (omega arith) l))
+
 module _ (i : ℕ) (b : List ℕ) where
-  pub unused_none : sides_zero i 0 b ≡ true
-  unfolding sides_zero
-  unused_none = all_none _
-
-  pub unused_more : (k : ℕ) {x : Bool} → sides_zero i k b ≡ true → x ≡ zeros (i + 64 * k) 64 b → x ≡ true
-      → sides_zero i (k + 1) b ≡ true
-  unfolding sides_zero
-  unused_more k e f g = all_more (λ j. zeros (i + 64 * j) 64 b) k e f g
-
   module _ (slots : ℕ) where
     pub unused_fit : (n : ℕ) → 0 < slots → sides_zero i n b ≡ true → sides_fit i slots n b ≡ true
     unfolding sides_zero sides_fit
     unused_fit n h e =
         all_of n _ (λ k l. side_unused (i + 64 * k) slots b h (all_at n (λ j. zeros (i + 64 * j) 64 b) e k l))
 
-    pub sides_next : (k : ℕ) {x : Bool} → sides_fit i slots k b ≡ true → x ≡ side_fits (i + 64 * k) slots b → x ≡ true
-        → sides_fit i slots (k + 1) b ≡ true
-    unfolding sides_fit
-    sides_next k e f g = all_more (λ j. side_fits (i + 64 * j) slots b) k e f g
-
-    pub sides_fail : (n k : ℕ) {x : Bool} → k < n → x ≡ side_fits (i + 64 * k) slots b → x ≡ false
-        → false ≡ sides_fit i slots n b
-    unfolding sides_fit
-    sides_fail n k h f g = sym (all_fail (λ j. side_fits (i + 64 * j) slots b) n k h f g)
-
     pub sides_all : (k n : ℕ) → sides_fit i slots k b ≡ true → k ≡ n → true ≡ sides_fit i slots n b
     sides_all k n e q = sym (ap (λ j. sides_fit i slots j b) (sym q) ∙ e)
-
-pub unused_all : (i : ℕ) (b : List ℕ) (k n : ℕ) → sides_zero i k b ≡ true → k ≡ n → sides_zero i n b ≡ true
-unused_all i b k n e q = ap (λ j. sides_zero i j b) (sym q) ∙ e
-
--- ---- allowances, one after the other
-module _ (i full : ℕ) (spent b : List ℕ) where
-  pub allowances_none : allowances_fit i 0 full spent b ≡ true
-  unfolding allowances_fit
-  allowances_none = all_none _
-
-  pub allowances_next : (k : ℕ) {x y z : ℕ} → allowances_fit i k full spent b ≡ true → x ≡ get_or b (i + k) 0
-      → y ≡ get_or spent k 0 → z ≡ full → x + y ≡ z → allowances_fit i (k + 1) full spent b ≡ true
-  unfolding allowances_fit
-  allowances_next k e p q r g =
-      all_more (λ a. eqb (get_or b (i + a) 0 + get_or spent a 0) full) k e refl (eq-eqb _ full (omega arith))
-
-  pub allowances_fail : (n k : ℕ) {x y z : ℕ} → k < n → x ≡ get_or b (i + k) 0 → y ≡ get_or spent k 0 → z ≡ full
-      → (x + y ≡ z → ⊥) → false ≡ allowances_fit i n full spent b
-  unfolding allowances_fit
-  allowances_fail n k h p q r g =
-      sym (all_fail (λ a. eqb (get_or b (i + a) 0 + get_or spent a 0) full) n k h refl
-      (ne_eqb _ full (λ e. g (omega arith))))
-
-  pub allowances_all : (k n : ℕ) → allowances_fit i k full spent b ≡ true → k ≡ n
-      → true ≡ allowances_fit i n full spent b
-  allowances_all k n e q = sym (ap (λ j. allowances_fit i j full spent b) (sym q) ∙ e)

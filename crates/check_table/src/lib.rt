@@ -13,7 +13,7 @@ fn vacant(x: u8, m: u8) -> u8
 {
     let below = x < m;
     let none = x == 0;
-    check_idle::bit(below & none)
+    u8::from(below & none)
 }
 
 // The greatest byte of the entry of a slot: four sides and none, and zero past the plan's slots.
@@ -47,12 +47,7 @@ fn unused(s: &[u8], i: usize, n: usize) -> usize
     requires { (i + 64 * n ≤ length s.now) × (n ≤ 64) }
     ensures { (result ≤ n) × (sides_zero i result s.now ≡ true) }
 {
-    for k in 0..n {
-        if !side_zero(s, i + 64 * k) {
-            return k;
-        }
-    }
-    n
+    (0..n).find(|&k| !side_zero(s, i + 64 * k)).unwrap_or(n)
 }
 
 // Whether 64 bytes are within their limits, and one of them is open.
@@ -77,10 +72,7 @@ fn side_ok(s: &[u8], i: usize, slots: usize, l: &[u8; 64]) -> bool
     requires { (i + 64 ≤ length s.now) × (0 < slots) × Limits slots l.now }
     ensures { result ≡ side_fits i slots s.now }
 {
-    if side_zero(s, i) {
-        return true;
-    }
-    bytes_ok(s, i, l)
+    side_zero(s, i) || bytes_ok(s, i, l)
 }
 
 // The same of the sides from the m-th on, those in front of it being unused.
@@ -89,12 +81,7 @@ fn sides_from(s: &[u8], i: usize, m: usize, n: usize, slots: usize) -> bool
     ensures { result ≡ sides_fit i slots n s.now }
 {
     let l = limits(slots);
-    for k in m..n {
-        if !side_ok(s, i + 64 * k, slots, &l) {
-            return false;
-        }
-    }
-    true
+    (m..n).all(|k| side_ok(s, i + 64 * k, slots, &l))
 }
 
 // The same of n sides.
@@ -103,10 +90,7 @@ pub fn sides_ok(s: &[u8], i: usize, n: usize, slots: usize) -> bool
     ensures { result ≡ sides_fit i slots n s.now }
 {
     let m = unused(s, i, n);
-    if m == n {
-        return true;
-    }
-    sides_from(s, i, m, n, slots)
+    m == n || sides_from(s, i, m, n, slots)
 }
 
 // Whether each active's allowance and what it has spent make the whole.
@@ -114,10 +98,5 @@ pub fn allowances_ok(s: &[u8], i: usize, n: usize, full: u8, spent: &[u8; 16]) -
     requires { (i + n ≤ length s.now) × (n ≤ 16) }
     ensures { result ≡ allowances_fit i n full spent.now s.now }
 {
-    for a in 0..n {
-        if check_idle::low(s[i + a]) + check_idle::low(spent[a]) != check_idle::low(full) {
-            return false;
-        }
-    }
-    true
+    (0..n).all(|a| u32::from(s[i + a]) + u32::from(spent[a]) == u32::from(full))
 }

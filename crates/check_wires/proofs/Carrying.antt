@@ -38,6 +38,10 @@ none_of true true c g = absurd (false≢true g)
 none_of true false c g = refl
 none_of false b c g = refl
 
+-- a number below that of no queue
+pub not_none : {n : ℕ} → n < no_queue → n ≢ no_queue
+not_none l e = omega arith
+
 -- a packet that does not pass is not counted
 pub not_carried : (pl : Plan) (m : ℕ) (x : Packet) (c d t u : List ℕ)
     → false ≡ bound_test pl x (next_by pl (output_at pl m) x) → Carried pl m x false c d t u

@@ -7,7 +7,7 @@ use Prim.Native.Nat.{ℕ, ◌+◌, ◌*◌, ◌/◌, ◌<◌}
 use native.Mathlib.Omega.{arith}
 use lib.ListN.{get_or}
 use Rattle.basis.specs.Choice.{same_test}
-use Rattle.basis.specs.Bounded.{all_below, all_at, all_of, all_none, all_more, all_fail, all_done}
+use Rattle.basis.specs.Bounded.{all_same, all_below, all_at, all_of, all_none, all_more, all_fail, all_done}
 use Rattle.packets.specs.declared.Wire.TheVariants.{Empty}
 use Rattle.plan.specs.declared.Head.{Head}
 use Rattle.plan.specs.Plan.{Plan}
@@ -128,14 +128,8 @@ module _ (pl : Plan) (b : List ℕ) where
 
     -- the code's ways out in WRITE, the rows standing from `at` on
     module _ (p : get_or b 0 0 ≡ 2) (at n : ℕ) (ea : at ≡ outputs_from h + 7 * 0) (en : n ≡ output_count h) where
-      pub write_fails : (m : ℕ) → m < n → {r : Bool} → r ≡ zeros (at + 7 * m) 6 b → r ≡ false
-          → false ≡ outputs_part pl b
-      write_fails m l f k =
-          sym (part_is ∙ all_fail (λ j. output_row_test pl b (output_at pl j)) (output_count h) m (omega arith)
-          (write_more p m (at + 7 * m) (omega arith) (omega arith) f) k)
-
-      pub write_done : (m : ℕ) → all_below m (λ k. zeros (at + 7 * k) 6 b) ≡ true → m ≡ n → true ≡ outputs_part pl b
-      write_done m f e =
-          sym (part_is ∙ all_of (output_count h) (λ j. output_row_test pl b (output_at pl j))
-          (λ k l. sym (write_more p k (at + 7 * k) l (omega arith) refl)
-          ∙ all_at m (λ k. zeros (at + 7 * k) 6 b) f k (omega arith)))
+      pub write_all : all_below n (λ k. zeros (at + 7 * k) 6 b) ≡ outputs_part pl b
+      write_all =
+          all_same n (λ k. zeros (at + 7 * k) 6 b) (λ k. output_row_test pl b (output_at pl k))
+          (λ k l. write_more p k (at + 7 * k) (omega arith) (omega arith) refl)
+          ∙ ap (λ m. all_below m (λ k. output_row_test pl b (output_at pl k))) en ∙ sym part_is

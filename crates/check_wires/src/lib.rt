@@ -1,33 +1,33 @@
 // The outputs' rows of a state: whether each wire's packet belongs where it goes, how many packets are on the way to
-// each queue, and what the packets on wires have spent. Whom each output picked is looked at in `choices`.
+// each queue, and what the packets on wires have spent. Whom each output picked is looked at in `check_choices`.
 #![tactic(auto)]
 
-ghost use Rattle.std.specs.Prelude.{◌≡◌, true, false, List, ℕ, ◌+◌, ◌*◌, ◌≤◌, ◌<◌, get_or, length};
+ghost use Rattle.std.specs.Prelude.{◌≡◌, true, false, List, ℕ, ◌+◌, ◌*◌, ◌≤◌, ◌<◌, get_or, length, IfSome};
+ghost use Rattle.std.specs.Option.{unwrap_or};
 ghost use Rattle.plan.specs.Head.{Counts};
 ghost use Rattle.plan.specs.Plan.{Plan};
 ghost use Rattle.plan.specs.Tables.{table_plan};
+ghost use Rattle.plan.specs.Lent.{plan_by};
 ghost use Rattle.rules.specs.Outputs.{output_at};
-ghost use Rattle.next_queue.specs.Next.{AtUnit};
+ghost use Rattle.next_queue.specs.Next.{no_queue, AtUnit};
 ghost use Rattle.check_places.specs.Asked.{Asked};
 ghost use Rattle.bytes_steps.specs.Counts.{state_size, output_count, outputs_from};
 ghost use Rattle.check_rule.specs.Forms.{zeros};
 ghost use Rattle.check_rule.specs.Check.{outputs_part};
-ghost use Rattle.check_queues.specs.Ready.{Ready};
+ghost use Rattle.check_queues.specs.Ready.{ReadyOf};
 ghost use Rattle.check_wires.specs.Outputs.{full_at, UpTo, Carried, OutputChecked, OutputsChecked};
 
 use check_idle::four;
 use packets::Packet;
 use plan::Head;
+use plan::tables::PlanTables;
 
 // Whether 4 + k bytes from i on are zero, k at most 4.
 fn blank(s: &[u8], i: usize, k: usize) -> bool
     requires { (i + (k + 4) ≤ length s.now) × (k ≤ 4) }
     ensures { result ≡ zeros i (k + 4) s.now }
 {
-    if four(s, i) != 0 {
-        return false;
-    }
-    four(s, i + k) == 0
+    four(s, i) == 0 && four(s, i + k) == 0
 }
 
 // Whether the row at i has a full wire, with a packet of one of four kinds, and nobody is picked.
@@ -46,79 +46,59 @@ fn full(s: &[u8], i: usize) -> bool
 
 // The queue at a unit that a packet of a served pair joins, if output m leads to a unit: that of the side by which the
 // pair's walk comes in there.
-fn at_unit(
-    h: Head,
-    joints: &[u8; 64],
-    homes: &[u8; 32],
-    by: &[[u32; 4]; 16],
-    up: &[[u32; 32]; 17],
-    m: usize,
-    x: Packet,
-) -> usize
+fn at_unit(h: Head, t: &PlanTables, up: &[[u32; 32]; 17], m: usize, x: Packet) -> Option<usize>
     requires { Counts h × (m < output_count h) × (x.active < 16) × (x.passive < 16)
-        × (get_or homes.now x.active 0 < 64) }
-    ensures { (outs inner : ℕ) (routes lengths : List (List ℕ))
-        → Asked h h.actives outs inner routes joints.now homes.now lengths by.now
+        × (get_or t.now.homes x.active 0 < 64) }
+    ensures queue { (outs inner : ℕ) (routes lengths : List (List ℕ))
+        → Asked h h.actives outs inner routes t.now.joints t.now.homes lengths t.now.by
         up.now x.active x.passive
-        → AtUnit (table_plan h routes joints.now) (output_at (table_plan h routes joints.now) m) x
-        result }
+        → AtUnit (table_plan h routes t.now.joints) (output_at (table_plan h routes t.now.joints) m) x
+        (unwrap_or result no_queue) }
+    ensures below { IfSome result (λ n. n < no_queue) }
 {
     let d = h.actives + h.passives;
     if m < d {
-        return next_queue::NO_QUEUE;
+        return None;
     }
     if (m - d) % 6 != 4 {
-        return next_queue::NO_QUEUE;
+        return None;
     }
     let r = (m - d) / 6;
-    let i = check_places::came_in(h.actives, joints, homes, by, up, x, r);
-    if i < 4 {
-        return next_queue::base_of(h, r) + 4 + i;
-    }
-    next_queue::NO_QUEUE
+    let i = check_places::came_in(h.actives, t, up, x, r)?;
+    Some(next_queue::base_of(h, r) + 4 + i)
 }
 
 // Whether a packet on output m's wire belongs where it goes; READ. It is counted, for its queue and for its active.
 fn joins(
     h: Head,
-    routes: &[[u8; 32]; 16],
-    joints: &[u8; 64],
-    homes: &[u8; 32],
-    lengths: &[[u8; 16]; 16],
-    by: &[[u32; 4]; 16],
+    t: &PlanTables,
     up: &[[u32; 32]; 17],
     m: usize,
     x: Packet,
     coming: &mut [u8; 512],
     spent: &mut [u8; 16],
 ) -> bool
-    requires { Ready h routes.now joints.now homes.now lengths.now by.now up.now × (m < output_count h)
-        × UpTo (table_plan h routes.now joints.now) m coming.old }
-    ensures { Carried (table_plan h routes.now joints.now) m x result
+    requires { ReadyOf h t.now up.now × (m < output_count h)
+        × UpTo (plan_by h t.now) m coming.old }
+    ensures { Carried (plan_by h t.now) m x result
         coming.old coming.new spent.old spent.new }
 {
-    if !check_queues::packet_ok(h, lengths, x) {
+    if !check_queues::packet_ok(h, &t.lengths, x) {
         return false;
     }
-    let q = at_unit(h, joints, homes, by, up, m, x);
-    let n = next_queue::next(h, routes, joints, homes, m, q, x);
-    if n == next_queue::NO_QUEUE {
+    let q = at_unit(h, t, up, m, x);
+    let Some(n) = next_queue::next(h, t, m, q, x) else {
         return false;
-    }
-    let k = x.kind;
+    };
     if !check_places::fits(
         h.actives,
         h.actives + h.passives,
         28 * h.routers,
-        routes,
-        joints,
-        homes,
-        lengths,
-        by,
+        t,
         up,
         n,
         false,
-        k,
+        x.kind,
         x.active,
         x.passive,
         x.hub.0,
@@ -134,11 +114,7 @@ fn joins(
 // nobody; READ. The packet is counted.
 fn wire_ok(
     h: Head,
-    routes: &[[u8; 32]; 16],
-    joints: &[u8; 64],
-    homes: &[u8; 32],
-    lengths: &[[u8; 16]; 16],
-    by: &[[u32; 4]; 16],
+    t: &PlanTables,
     up: &[[u32; 32]; 17],
     s: &[u8],
     m: usize,
@@ -146,29 +122,23 @@ fn wire_ok(
     coming: &mut [u8; 512],
     spent: &mut [u8; 16],
 ) -> bool
-    requires { Ready h routes.now joints.now homes.now lengths.now by.now up.now × (m < output_count h)
-        × UpTo (table_plan h routes.now joints.now) m coming.old × (state_size h ≤ length s.now)
+    requires { ReadyOf h t.now up.now × (m < output_count h)
+        × UpTo (plan_by h t.now) m coming.old × (state_size h ≤ length s.now)
         × (get_or s.now 0 0 ≡ 0) × (i ≡ outputs_from h + 7 * m) × (zeros i 7 s.now ≡ false) }
-    ensures { OutputChecked (table_plan h routes.now joints.now) s.now m result
+    ensures { OutputChecked (plan_by h t.now) s.now m result
         coming.old coming.new spent.old spent.new }
 {
     if !full(s, i) {
         return false;
     }
     let x = bytes_rows::packet_at(s, i + 1);
-    joins(
-        h, routes, joints, homes, lengths, by, up, m, x, coming, spent,
-    )
+    joins(h, t, up, m, x, coming, spent)
 }
 
 // The same of any row of READ; a row of zero bytes is an empty wire.
 fn output_ok(
     h: Head,
-    routes: &[[u8; 32]; 16],
-    joints: &[u8; 64],
-    homes: &[u8; 32],
-    lengths: &[[u8; 16]; 16],
-    by: &[[u32; 4]; 16],
+    t: &PlanTables,
     up: &[[u32; 32]; 17],
     s: &[u8],
     m: usize,
@@ -176,55 +146,36 @@ fn output_ok(
     coming: &mut [u8; 512],
     spent: &mut [u8; 16],
 ) -> bool
-    requires { Ready h routes.now joints.now homes.now lengths.now by.now up.now × (m < output_count h)
-        × UpTo (table_plan h routes.now joints.now) m coming.old × (state_size h ≤ length s.now)
+    requires { ReadyOf h t.now up.now × (m < output_count h)
+        × UpTo (plan_by h t.now) m coming.old × (state_size h ≤ length s.now)
         × (get_or s.now 0 0 ≡ 0) × (i ≡ outputs_from h + 7 * m) }
-    ensures { OutputChecked (table_plan h routes.now joints.now) s.now m result
+    ensures { OutputChecked (plan_by h t.now) s.now m result
         coming.old coming.new spent.old spent.new }
 {
     if blank(s, i, 3) {
         return true;
     }
-    wire_ok(
-        h, routes, joints, homes, lengths, by, up, s, m, i, coming, spent,
-    )
+    wire_ok(h, t, up, s, m, i, coming, spent)
 }
 
 // The outputs in READ.
 fn outputs_read(
     h: Head,
-    routes: &[[u8; 32]; 16],
-    joints: &[u8; 64],
-    homes: &[u8; 32],
-    lengths: &[[u8; 16]; 16],
-    by: &[[u32; 4]; 16],
+    t: &PlanTables,
     up: &[[u32; 32]; 17],
     s: &[u8],
     coming: &mut [u8; 512],
     spent: &mut [u8; 16],
 ) -> bool
-    requires { Ready h routes.now joints.now homes.now lengths.now by.now up.now
+    requires { ReadyOf h t.now up.now
         × (state_size h ≤ length s.now) × (get_or s.now 0 0 ≡ 0) × ((n : ℕ) → get_or coming.old n 0 ≡ 0) }
-    ensures { OutputsChecked (table_plan h routes.now joints.now) s.now result
+    ensures { OutputsChecked (plan_by h t.now) s.now result
         coming.old coming.new spent.old spent.new }
 {
     let n = bytes_steps::output_count(h);
     let at = bytes_steps::output_row(h, 0);
     for m in 0..n {
-        if !output_ok(
-            h,
-            routes,
-            joints,
-            homes,
-            lengths,
-            by,
-            up,
-            s,
-            m,
-            at + 7 * m,
-            coming,
-            spent,
-        ) {
+        if !output_ok(h, t, up, s, m, at + 7 * m, coming, spent) {
             return false;
         }
     }
@@ -238,34 +189,25 @@ fn outputs_write(h: Head, s: &[u8]) -> bool
 {
     let n = bytes_steps::output_count(h);
     let at = bytes_steps::output_row(h, 0);
-    for m in 0..n {
-        if !blank(s, at + 7 * m, 2) {
-            return false;
-        }
-    }
-    true
+    (0..n).all(|m| blank(s, at + 7 * m, 2))
 }
 
 // All outputs, but for whom they picked.
 pub fn outputs_ok(
     h: Head,
-    routes: &[[u8; 32]; 16],
-    joints: &[u8; 64],
-    homes: &[u8; 32],
-    lengths: &[[u8; 16]; 16],
-    by: &[[u32; 4]; 16],
+    t: &PlanTables,
     up: &[[u32; 32]; 17],
     s: &[u8],
     coming: &mut [u8; 512],
     spent: &mut [u8; 16],
 ) -> bool
-    requires { Ready h routes.now joints.now homes.now lengths.now by.now up.now
+    requires { ReadyOf h t.now up.now
         × (state_size h ≤ length s.now) × (get_or s.now 0 0 ≤ 2) × ((n : ℕ) → get_or coming.old n 0 ≡ 0) }
-    ensures { OutputsChecked (table_plan h routes.now joints.now) s.now result
+    ensures { OutputsChecked (plan_by h t.now) s.now result
         coming.old coming.new spent.old spent.new }
 {
     if s[0] == 0 {
-        return outputs_read(h, routes, joints, homes, lengths, by, up, s, coming, spent);
+        return outputs_read(h, t, up, s, coming, spent);
     }
     if s[0] == 2 {
         return outputs_write(h, s);

@@ -1,5 +1,6 @@
 -- Demand 3 on bytes from demand 3 on the rules: along a list from an accepted Start the bytes are those of the rules'
 -- states, all of them good.
+use Rattle.std.specs.Prelude.{Ok}
 use mathlib.Core.Path.{◌≡◌, refl, sym, ap, ◌∙◌, subst, subst⁻¹}
 use mathlib.Core.Bool.{true}
 use mathlib.Core.List.{List, []}
@@ -7,7 +8,6 @@ use Prim.Native.Nat.{ℕ, ◌≤◌}
 use Rattle.packets.specs.declared.Answer.TheVariants.{Done}
 use Rattle.plan.specs.declared.Head.{Head}
 use Rattle.plan.specs.Plan.{plan_of, S}
-use Rattle.load.specs.declared.Loaded.TheVariants.{Accepted}
 use Rattle.load.specs.Load.{load_of}
 use Rattle.rules.specs.State.{State, start}
 use Rattle.rules.specs.Calls.{Call, call}
@@ -24,7 +24,7 @@ use Rattle.claims.proofs.Exact.{accepted_wired, accepted_range, state_encode}
 use Rattle.claims.proofs.Run.{reached_after, decode_good, on_encode, start_encode, good_after, run_encode}
 use Rattle.claims.proofs.Run.{accepted_encode, rounds_encode, launches_encode, acceptances_encode}
 
-module _ (p : List ℕ) (h : Head) (loads : load_of p ≡ Accepted h) (ruled : Ruled (plan_of p)) where
+module _ (p : List ℕ) (h : Head) (loads : load_of p ≡ Ok h) (ruled : Ruled (plan_of p)) where
   -- ---- from the bytes of any state that the rules keep good
   -- the state read after the calls is the rules'
   pub state_after : (cs : List Call) (s : State) (rest : List ℕ) → ruled.Reached s
@@ -163,5 +163,5 @@ module _ (p : List ℕ) (h : Head) (loads : load_of p ≡ Accepted h) (ruled : R
     reached_claim cs = rw (start_encode p h loads buffer started) (claim_start (past (size (plan_of p)) buffer) cs)
 
 -- Demand 3 holds of the calls on bytes if what is to be shown of the rules holds for every plan that Load accepts.
-pub bridge : ((p : List ℕ) (h : Head) → load_of p ≡ Accepted h → Ruled (plan_of p)) → Demand3
+pub bridge : ((p : List ℕ) (h : Head) → load_of p ≡ Ok h → Ruled (plan_of p)) → Demand3
 bridge rules p buffer h loads started cs = reached_claim p h loads (rules p h loads) buffer started cs

@@ -1,4 +1,5 @@
 -- Demand 1, proved: every answer is told by the first of the call's conditions, and what is not refused is accepted.
+use Rattle.std.specs.Prelude.{Result, Ok, Err}
 use mathlib.Core.Path.{◌≡◌, refl, sym, ap, ◌∙◌}
 use mathlib.Core.Logic.{◌≢◌}
 use mathlib.Core.Bool.{Bool, true, false, not}
@@ -18,8 +19,6 @@ use Rattle.plan.specs.declared.Head.{Head}
 use Rattle.plan.specs.Head.{head_of}
 use Rattle.plan.specs.Plan.{Plan, plan_of}
 use Rattle.plan_journeys.proofs.Places.{some_not_none}
-use Rattle.load.specs.declared.Loaded.{Loaded}
-use Rattle.load.specs.declared.Loaded.TheVariants.{Accepted, Refused as Unloaded}
 use Rattle.load.specs.Load.{load_of}
 use Rattle.rules.specs.State.{start}
 use Rattle.rules.specs.Guards.{Guard, guard, refusal_of}
@@ -41,26 +40,26 @@ use Rattle.claims.proofs.Refusals.{Unaltered, kept_call, kept_start}
 use Rattle.claims.proofs.Run.{start_done}
 
 -- ---- Load by its guards
-abbrev loaded_as : Option Refusal → Head → Loaded
-loaded_as none h = Accepted h
-loaded_as (some w) h = Unloaded w
+abbrev loaded_as : Option Refusal → Head → Result Head Refusal
+loaded_as none h = Ok h
+loaded_as (some w) h = Err w
 
 -- the guards' first refusal, or the head
-abbrev ladder : List Guard → Head → Loaded
-ladder [] h = Accepted h
-ladder (g ∷ gs) h = pick g.holds (Unloaded g.why) (ladder gs h)
+abbrev ladder : List Guard → Head → Result Head Refusal
+ladder [] h = Ok h
+ladder (g ∷ gs) h = pick g.holds (Err g.why) (ladder gs h)
 
 ladder_first : (gs : List Guard) (h : Head) → ladder gs h ≡ loaded_as (refusal_of gs) h
 ladder_first [] h = refl
 ladder_first (g ∷ gs) h =
-    ap (pick g.holds (Unloaded g.why)) (ladder_first gs h)
+    ap (pick g.holds (Err g.why)) (ladder_first gs h)
     ∙ pick_out (λ (o : Option Refusal). loaded_as o h) g.holds (some g.why) (refusal_of gs)
 
 pub load_first : (p : List ℕ) → load_of p ≡ loaded_as (refusal_of (load_guards p)) (head_of p)
 unfolding load_of
 load_first p = ladder_first (load_guards p) (head_of p)
 
-unloaded_same : {v w : Refusal} → Unloaded v ≡ Unloaded w → v ≡ w
+unloaded_same : {v w : Refusal} → ◌≡◌ {A = Result Head Refusal} (Err v) (Err w) → v ≡ w
 unloaded_same e = cc
 
 -- ---- a call by its guards
@@ -103,7 +102,7 @@ decided_by pl gs cs b a g t e n k =
         let same : v ≡ w = cc in h ∙ ap some same
 
 -- where Load's conditions do not hold the plan loads
-loaded : (p : List ℕ) → NoneHolds (load_conditions p) → load_of p ≡ Accepted (head_of p)
+loaded : (p : List ℕ) → NoneHolds (load_conditions p) → load_of p ≡ Ok (head_of p)
 loaded p n = load_first p
     ∙ ap (λ (o : Option Refusal). loaded_as o (head_of p)) (none_told (load_guards p) (load_conditions p) (load_tells p)
     n)
@@ -113,7 +112,7 @@ load_answer : (p b : List ℕ) (go : Plan → Given) (hs : List Guard) (a : Answ
     → (go (plan_of p)).answer ≡ answer_as (refusal_of hs) a
     → (on_plan p b go (load_of p)).answer ≡ answer_as (refusal_of (load_guards p ++ hs)) a
 load_answer p b go hs a e =
-    ap (λ (l : Loaded). (on_plan p b go l).answer) (load_first p) ∙ by (refusal_of (load_guards p))
+    ap (λ (l : Result Head Refusal). (on_plan p b go l).answer) (load_first p) ∙ by (refusal_of (load_guards p))
     ∙ ap (λ (o : Option Refusal). answer_as o a) (sym (refusal_more (load_guards p) hs))
   where
     by : (o : Option Refusal) → (on_plan p b go (loaded_as o (head_of p))).answer ≡ answer_as
@@ -142,7 +141,7 @@ start_decided p b =
 
 -- ---- every other call
 -- refusal 7's test tells of its condition
-not_state : (p : List ℕ) (h : Head) → load_of p ≡ Accepted h → (b : List ℕ)
+not_state : (p : List ℕ) (h : Head) → load_of p ≡ Ok h → (b : List ℕ)
     → Decides (not (is_state (plan_of p) b)) (StateBytes (plan_of p) b → ⊥)
 not_state p h e b =
     let x = state_exact (plan_of p) (accepted_wired p h e) (accepted_range p h e) b in
@@ -210,10 +209,10 @@ demand1 =
       calls = call_decided;
     }
   where
-    by : (p : List ℕ) (o : Option Refusal) → refusal_of (load_guards p) ≡ o → (w : Refusal) → load_of p ≡ Unloaded w
+    by : (p : List ℕ) (o : Option Refusal) → refusal_of (load_guards p) ≡ o → (w : Refusal) → load_of p ≡ Err w
         → refusal_of (load_guards p) ≡ some w
     by p none h w e =
-        let f : Accepted (head_of p) ≡ Unloaded w =
+        let f : Ok (head_of p) ≡ Err w =
         sym (load_first p ∙ ap (λ (o : Option Refusal). loaded_as o (head_of p)) h) ∙ e in
         let z : ◌≡◌ {A = ℕ} 0 1 = cc in absurd (omega arith)
     by p (some v) h w e =

@@ -1,4 +1,5 @@
 -- Demand 2, proved: what an accepted call leaves and answers is what its rule gives of the state that it found.
+use Rattle.std.specs.Prelude.{Result, Ok, Err}
 use mathlib.Core.Path.{◌≡◌, refl, sym, ap, ◌∙◌}
 use mathlib.Core.Logic.{◌≢◌}
 use mathlib.Core.Bool.{Bool, true, false}
@@ -12,8 +13,6 @@ use Rattle.kinds.specs.declared.Refusal.TheVariants.{NotState}
 use Rattle.packets.specs.declared.Answer.TheVariants.{Refused, Done}
 use Rattle.plan.specs.declared.Head.{Head}
 use Rattle.plan.specs.Plan.{plan_of}
-use Rattle.load.specs.declared.Loaded.{Loaded}
-use Rattle.load.specs.declared.Loaded.TheVariants.{Accepted, Refused as Unloaded}
 use Rattle.load.specs.Load.{load_of}
 use Rattle.load.specs.Rules.{accepted_obeys, obeys_accepted}
 use Rattle.rules.specs.Guards.{refusal_of}
@@ -29,19 +28,19 @@ use Rattle.claims.proofs.Run.{start_encode}
 
 module _ (p : List ℕ) (c : Call) (b : List ℕ) (accepts : (w : Refusal) → (call_on p c b).answer ≢ Refused w) where
   -- Load accepted
-  plan_loads : (l : Loaded) → load_of p ≡ l → (h : Head) × (l ≡ Accepted h)
+  plan_loads : (l : Result Head Refusal) → load_of p ≡ l → (h : Head) × (l ≡ Ok h)
   unfolding call_on
-  plan_loads (Accepted h) e = (h, refl)
-  plan_loads (Unloaded w) e =
-      absurd (accepts w (ap (λ (l : Loaded). (on_plan p b (λ pl. on_state (call pl c) b pl) l).answer) e))
+  plan_loads (Ok h) e = (h, refl)
+  plan_loads (Err w) e =
+      absurd (accepts w (ap (λ (l : Result Head Refusal). (on_plan p b (λ pl. on_state (call pl c) b pl) l).answer) e))
 
-  module _ (h : Head) (loads : load_of p ≡ Accepted h) where
+  module _ (h : Head) (loads : load_of p ≡ Ok h) where
     abbrev tested : Bool → Given
     tested t = pick t (stored (plan_of p) b (call (plan_of p) c (decode (plan_of p) b))) (given (Refused NotState) b)
 
     on_state_lem : call_on p c b ≡ tested (is_state (plan_of p) b)
     unfolding call_on on_state
-    on_state_lem = ap (λ (l : Loaded). on_plan p b (λ pl. on_state (call pl c) b pl) l) loads
+    on_state_lem = ap (λ (l : Result Head Refusal). on_plan p b (λ pl. on_state (call pl c) b pl) l) loads
 
     -- the bytes passed refusal 7's test
     passed : is_state (plan_of p) b ≡ true
@@ -81,11 +80,12 @@ module _ (p : List ℕ) (c : Call) (b : List ℕ) (accepts : (w : Refusal) → (
         }
 
 -- a Start that is done found a plan that loads
-start_loads : (p b : List ℕ) (l : Loaded) → load_of p ≡ l → (start_on p b).answer ≡ Done → (h : Head) × (l ≡ Accepted h)
+start_loads : (p b : List ℕ) (l : Result Head Refusal) → load_of p ≡ l → (start_on p b).answer ≡ Done
+    → (h : Head) × (l ≡ Ok h)
 unfolding start_on
-start_loads p b (Accepted h) e d = (h, refl)
-start_loads p b (Unloaded w) e d =
-    let f : Done ≡ Refused w = sym d ∙ ap (λ (l : Loaded). (on_plan p b (start_in b) l).answer) e in
+start_loads p b (Ok h) e d = (h, refl)
+start_loads p b (Err w) e d =
+    let f : Done ≡ Refused w = sym d ∙ ap (λ (l : Result Head Refusal). (on_plan p b (start_in b) l).answer) e in
     let z : ◌≡◌ {A = ℕ} 0 1 = cc in absurd (omega arith)
 
 pub demand2 : Demand2

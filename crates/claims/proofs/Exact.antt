@@ -1,5 +1,6 @@
 -- Refusal 7's test on bytes is exact: it is passed by the bytes of good states, whatever is past them, and by no
 -- others.
+use Rattle.std.specs.Prelude.{Ok}
 use mathlib.Core.Path.{◌≡◌, subst⁻¹}
 use mathlib.Core.Bool.{true}
 use mathlib.Core.List.{List}
@@ -9,7 +10,6 @@ use Rattle.plan.specs.Head.{head_of, InRange}
 use Rattle.plan.specs.Plan.{Plan, plan_of}
 use Rattle.plan_facts.proofs.Heads.{and_both, and_of}
 use Rattle.plan_facts.specs.Wired.{Wired}
-use Rattle.load.specs.declared.Loaded.TheVariants.{Accepted}
 use Rattle.load.specs.Load.{load_of}
 use Rattle.load.specs.Rules.{passes, passed_wired, accepted_obeys}
 use Rattle.rules.specs.State.{State}
@@ -26,7 +26,7 @@ use Rattle.claims.specs.Conditions.{StateBytes}
 
 -- ---- what the laws below need of a plan, for every plan that Load accepts
 -- its joints may be trusted
-pub accepted_wired : (p : List ℕ) (h : Head) → load_of p ≡ Accepted h → Wired (plan_of p)
+pub accepted_wired : (p : List ℕ) (h : Head) → load_of p ≡ Ok h → Wired (plan_of p)
 accepted_wired p h e = passed_wired p (passes p h e).0
 
 pub head_range : (p : List ℕ) → InRange (head_of p) → InRange (plan_of p).head
@@ -34,7 +34,7 @@ unfolding plan_of
 head_range p r = r
 
 -- its counts and capacities are in their ranges
-pub accepted_range : (p : List ℕ) (h : Head) → load_of p ≡ Accepted h → InRange (plan_of p).head
+pub accepted_range : (p : List ℕ) (h : Head) → load_of p ≡ Ok h → InRange (plan_of p).head
 accepted_range p h e = head_range p (accepted_obeys p h e).ranges
 
 -- ---- the bytes of a good state

@@ -1,5 +1,6 @@
 -- The first starred run by the calls on bytes: demand 3 says that their answers are the rules', and these are
 -- evaluated.
+use Rattle.std.specs.Prelude.{Result, Ok, Err}
 use mathlib.Core.Path.{◌≡◌, refl, sym, ap, ap₂, ◌∙◌}
 use mathlib.Core.List.{List, [], ◌∷◌, ◌++◌, append_assoc}
 use Prim.Native.Nat.{ℕ, ◌≤◌}
@@ -14,8 +15,6 @@ use Rattle.packets.specs.Answers.{Value, value_of}
 use Rattle.plan.specs.declared.Head.{Head}
 use Rattle.plan.specs.Plan.{Plan, plan_of}
 use Rattle.plan.specs.Samples.{plan_t}
-use Rattle.load.specs.declared.Loaded.{Loaded}
-use Rattle.load.specs.declared.Loaded.TheVariants.{Accepted, Refused as Unloaded}
 use Rattle.load.specs.Load.{load_of, load_number}
 use Rattle.load.specs.Runs.{t_loads, loads}
 use Rattle.rules.specs.State.{State, start}
@@ -96,11 +95,11 @@ some_number FlagUp = omega arith
 some_number Unmarked = omega arith
 some_number NotAccepted = omega arith
 
-loaded : (l : Loaded) → load_number l ≡ 0 → (h : Head) × (l ≡ Accepted h)
-loaded (Accepted h) e = (h, refl)
-loaded (Unloaded w) e = let n = some_number w in absurd (omega arith)
+loaded : (l : Result Head Refusal) → load_number l ≡ 0 → (h : Head) × (l ≡ Ok h)
+loaded (Ok h) e = (h, refl)
+loaded (Err w) e = let n = some_number w in absurd (omega arith)
 
-t_accepted : (h : Head) × (load_of plan_t ≡ Accepted h)
+t_accepted : (h : Head) × (load_of plan_t ≡ Ok h)
 unfolding loads
 t_accepted = loaded (load_of plan_t) t_loads
 

@@ -1,5 +1,6 @@
 -- Look before dropping on bytes: of every call on any bytes what holds of the rules. An accepted Drop is on a state's
 -- bytes, and so were all bytes before it: bytes that are no state's stay so.
+use Rattle.std.specs.Prelude.{Ok}
 use mathlib.Core.Path.{◌≡◌, refl, sym, ◌∙◌}
 use mathlib.Core.Logic.{inl}
 use mathlib.Core.List.{List, [], ◌∷◌}
@@ -8,7 +9,6 @@ use Rattle.packets.specs.declared.Answer.{Answer}
 use Rattle.packets.specs.declared.Answer.TheVariants.{Done}
 use Rattle.plan.specs.declared.Head.{Head}
 use Rattle.plan.specs.Plan.{plan_of}
-use Rattle.load.specs.declared.Loaded.TheVariants.{Accepted}
 use Rattle.load.specs.Load.{load_of}
 use Rattle.rules.specs.State.{State}
 use Rattle.rules.specs.Calls.{Call, look, drop}
@@ -20,7 +20,7 @@ use Rattle.claims.specs.Demand3.{bytes_after, state_of}
 use Rattle.claims.specs.LookDrop.{WithinPhaseOn, LookBeforeDropOnBytes, LookStaysOnBytes}
 use Rattle.claims.proofs.OnBytes.{on_bytes, on_answer, states_before, state_of_lem}
 
-module _ (p : List ℕ) (h : Head) (loads : load_of p ≡ Accepted h) (a : ℕ) where
+module _ (p : List ℕ) (h : Head) (loads : load_of p ≡ Ok h) (a : ℕ) where
   -- ---- each call within the phase
   call_on_lem : (c : Call) (b : List ℕ) → (state_of p (call_on p c b).bytes).clock.phase ≡ (state_of p b).clock.phase
       → AfterCall a c (state_of p b) (state_of p (call_on p c b).bytes)

@@ -1,6 +1,7 @@
 -- One call on any bytes: on a state's bytes it is the rule's, and on others it is refused 7 and leaves them. A single
 -- call on a state's bytes may leave bytes that are refused 7 (a connection that is not tied to the table), but what it
 -- leaves has core and shape, and so is read back.
+use Rattle.std.specs.Prelude.{Ok}
 use mathlib.Core.Path.{◌≡◌, refl, ap, ◌∙◌, subst⁻¹}
 use mathlib.Core.Logic.{◌⊎◌, inl, inr, ◌≢◌}
 use mathlib.Core.Bool.{true, false}
@@ -14,7 +15,6 @@ use Rattle.packets.specs.declared.Answer.TheVariants.{Refused}
 use Rattle.plan.specs.declared.Head.{Head}
 use Rattle.plan.specs.Head.{InRange}
 use Rattle.plan.specs.Plan.{Plan, plan_of}
-use Rattle.load.specs.declared.Loaded.TheVariants.{Accepted}
 use Rattle.load.specs.Load.{load_of}
 use Rattle.rules.specs.State.{State}
 use Rattle.rules.specs.Calls.{Call, call}
@@ -41,7 +41,7 @@ inv_back pl range s rest i = decode_encode pl s rest range i.core.bounded small
               let c = core_within pl s i.core q h in let m = capacity_most pl.head q range in omega arith;
         }
 
-module _ (p : List ℕ) (h : Head) (loads : load_of p ≡ Accepted h) where
+module _ (p : List ℕ) (h : Head) (loads : load_of p ≡ Ok h) where
   -- ---- a call on a state's bytes is the rule's, and on others refused
   on_state_lem : (c : Call) (b : List ℕ) → is_state (plan_of p) b ≡ true
       → call_on p c b ≡ stored (plan_of p) b (call (plan_of p) c (state_of p b))

@@ -1,5 +1,7 @@
 -- 'A refusal alters no byte', 'Bytes past the state are never written', and no call alters how many bytes there are:
 -- for every plan and all bytes.
+use Rattle.std.specs.Prelude.{Result, Ok, Err}
+use Rattle.plan.specs.declared.Head.{Head}
 use mathlib.Core.Path.{◌≡◌, refl, sym, ap, ◌∙◌}
 use mathlib.Core.Bool.{Bool, true, false}
 use mathlib.Core.List.{List, []}
@@ -14,8 +16,6 @@ use Rattle.kinds.specs.declared.Refusal.TheVariants.{NotState}
 use Rattle.packets.specs.declared.Answer.TheVariants.{Refused, Done}
 use Rattle.plan.specs.Plan.{Plan, plan_of}
 use Rattle.plan_facts.proofs.Heads.{and_both}
-use Rattle.load.specs.declared.Loaded.{Loaded}
-use Rattle.load.specs.declared.Loaded.TheVariants.{Accepted, Refused as Unloaded}
 use Rattle.load.specs.Load.{load_of}
 use Rattle.rules.specs.State.{State, start}
 use Rattle.rules.specs.Calls.{Outcome, Call, call}
@@ -64,10 +64,10 @@ kept_state pl c b = by (is_state pl b) refl
         kept_stored pl b (call pl c (decode pl b)) (λ w a. (refused_leaves (call_does pl (decode pl b) c) a).0) e
     by false e = kept_refused pl b NotState
 
-kept_plan : (p b : List ℕ) (go : Plan → Given) → Unaltered (plan_of p) b (go (plan_of p)) → (l : Loaded)
+kept_plan : (p b : List ℕ) (go : Plan → Given) → Unaltered (plan_of p) b (go (plan_of p)) → (l : Result Head Refusal)
     → Unaltered (plan_of p) b (on_plan p b go l)
-kept_plan p b go k (Unloaded w) = kept_refused (plan_of p) b w
-kept_plan p b go k (Accepted h) = k
+kept_plan p b go k (Err w) = kept_refused (plan_of p) b w
+kept_plan p b go k (Ok h) = k
 
 -- so does every call
 pub kept_call : (p : List ℕ) (c : Call) (b : List ℕ) → Unaltered (plan_of p) b (call_on p c b)

@@ -1,5 +1,6 @@
 -- A list of calls on bytes runs as the rules do: along it the bytes are those of the rules' states, with the same
 -- bytes past them.
+use Rattle.std.specs.Prelude.{Ok}
 use mathlib.Core.Path.{◌≡◌, refl, sym, ap, ap₂, ◌∙◌}
 use mathlib.Core.Bool.{Bool, true, false}
 use mathlib.Core.List.{List, [], ◌∷◌}
@@ -13,7 +14,6 @@ use Rattle.kinds.specs.declared.Refusal.TheVariants.{NotState}
 use Rattle.packets.specs.declared.Answer.TheVariants.{Refused, Done}
 use Rattle.plan.specs.declared.Head.{Head}
 use Rattle.plan.specs.Plan.{plan_of}
-use Rattle.load.specs.declared.Loaded.TheVariants.{Accepted}
 use Rattle.load.specs.Load.{load_of}
 use Rattle.rules.specs.State.{State, start}
 use Rattle.rules.specs.Calls.{Call, call}
@@ -32,7 +32,7 @@ use Rattle.claims.specs.Demand3.{bytes_after, accepted_by, rounds_in, launches_i
 use Rattle.claims.proofs.Exact.{accepted_wired, accepted_range, read_back, state_encode}
 
 -- ---- one call, and Start, on a plan that Load accepts
-module _ (p : List ℕ) (h : Head) (loads : load_of p ≡ Accepted h) where
+module _ (p : List ℕ) (h : Head) (loads : load_of p ≡ Ok h) where
   -- what is read from a good state's bytes is that state
   pub decode_good : (s : State) (rest : List ℕ) → Good (plan_of p) s → decode (plan_of p) (encode (plan_of p) s rest) ≡
       s
@@ -78,7 +78,7 @@ module _ (p : List ℕ) (h : Head) (loads : load_of p ≡ Accepted h) where
   start_done buffer l = rw (loads, le-ltb (length buffer) (size (plan_of p)) l)
 
 -- ---- a list of calls, from a state that is one of those that the rules keep good
-module _ (p : List ℕ) (h : Head) (loads : load_of p ≡ Accepted h) (ruled : Ruled (plan_of p)) where
+module _ (p : List ℕ) (h : Head) (loads : load_of p ≡ Ok h) (ruled : Ruled (plan_of p)) where
   -- every state along the list is one of them
   pub reached_after : (cs : List Call) (s : State) → ruled.Reached s → ruled.Reached (ruled_after (plan_of p) cs s)
   reached_after [] s g = g

@@ -1,4 +1,5 @@
 -- Turn about on bytes: of every call on any bytes what holds of the rules.
+use Rattle.std.specs.Prelude.{Ok}
 use mathlib.Core.Path.{◌≡◌, ap, ◌∙◌}
 use mathlib.Core.List.{List, [], ◌∷◌}
 use Prim.Native.Nat.{ℕ, ◌+◌, ◌*◌, ◌≤◌}
@@ -10,7 +11,6 @@ use Rattle.packets.specs.declared.Answer.TheVariants.{Refused}
 use Rattle.plan.specs.declared.Head.{Head}
 use Rattle.plan.specs.Plan.{plan_of}
 use Rattle.plan_queues.specs.Feeds.{Output}
-use Rattle.load.specs.declared.Loaded.TheVariants.{Accepted}
 use Rattle.load.specs.Load.{load_of}
 use Rattle.rules.specs.State.{State}
 use Rattle.rules.specs.Calls.{Call}
@@ -23,7 +23,7 @@ use Rattle.claims.specs.Demand3.{state_of}
 use Rattle.claims.specs.TurnAbout.{others_on, StaysOn, TurnAboutOnBytes}
 use Rattle.claims.proofs.OnBytes.{on_bytes}
 
-module _ (p : List ℕ) (h : Head) (loads : load_of p ≡ Accepted h) where
+module _ (p : List ℕ) (h : Head) (loads : load_of p ≡ Ok h) where
   module _ (o : Output) (d : Drives (plan_of p) o) (j : ℕ) where
     -- what a call that answers a and leaves t counts, and what it leaves to be counted, is no more than there was in s
     abbrev Nearer : Call → Answer → State → State → Type 0

@@ -2,13 +2,14 @@
 -- every call)'; then refusal 7;
 -- then the call's own refusals. Bytes past the state are never written, and a refusal alters no byte.
 use Rattle.std.specs.Prelude.{Bool, ◌&&◌, List, ℕ, ltb, length}
+use Rattle.std.specs.Prelude.{Result, Ok, Err}
+use Rattle.kinds.specs.declared.Refusal.{Refusal}
+use Rattle.plan.specs.declared.Head.{Head}
 use Rattle.basis.specs.Choice.{pick}
 use Rattle.kinds.specs.declared.Refusal.TheVariants.{NotState}
 use Rattle.packets.specs.declared.Answer.{Answer}
 use Rattle.packets.specs.declared.Answer.TheVariants.{Refused, Done}
 use Rattle.plan.specs.Plan.{Plan, plan_of}
-use Rattle.load.specs.declared.Loaded.{Loaded}
-use Rattle.load.specs.declared.Loaded.TheVariants.{Accepted, Refused as Unloaded}
 use Rattle.load.specs.Load.{load_of}
 use Rattle.rules.specs.State.{State, start}
 use Rattle.rules.specs.Calls.{Outcome, Call, call}
@@ -28,9 +29,9 @@ abbrev pub given : Answer → List ℕ → Given
 given a b = record { answer = a; bytes = b }
 
 -- Load's answer taken apart: its refusal is passed up, or the plan goes on
-abbrev pub on_plan : List ℕ → List ℕ → (Plan → Given) → Loaded → Given
-on_plan p b go (Unloaded w) = given (Refused w) b
-on_plan p b go (Accepted h) = go (plan_of p)
+abbrev pub on_plan : List ℕ → List ℕ → (Plan → Given) → Result Head Refusal → Given
+on_plan p b go (Err w) = given (Refused w) b
+on_plan p b go (Ok h) = go (plan_of p)
 
 -- refusal 7's test: the bytes are those of a state, which is valid
 unfoldable pub is_state : Plan → List ℕ → Bool

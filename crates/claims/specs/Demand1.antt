@@ -1,13 +1,13 @@
 -- Demand 1: 'Refused first: every input that meets a condition in document 01's list .. Each has its number, comes
 -- only under its stated condition, and alters no byte. Then accepted: everything else, whatever bytes are lent'.
 use Rattle.std.specs.Prelude.{◌≡◌, ◌≢◌, ◌⊎◌, List, ℕ, ◌≤◌, length}
+use Rattle.std.specs.Prelude.{Ok, Err}
 use Rattle.kinds.specs.declared.Refusal.{Refusal}
 use Rattle.kinds.specs.Conditions.{Condition, First, NoneHolds}
 use Rattle.packets.specs.declared.Answer.TheVariants.{Refused, Done}
 use Rattle.plan.specs.declared.Head.{Head}
 use Rattle.plan.specs.Head.{head_of}
 use Rattle.plan.specs.Plan.{Plan, plan_of}
-use Rattle.load.specs.declared.Loaded.TheVariants.{Accepted, Refused as Unloaded}
 use Rattle.load.specs.Load.{load_of}
 use Rattle.rules.specs.Calls.{Call}
 use Rattle.bytes_layout.specs.Rows.{past}
@@ -31,11 +31,11 @@ pub record Decided (pl : Plan) (cs : List Condition) (b : List ℕ) (g : Given) 
 
 -- for any plan bytes, state bytes, call and arguments
 pub record Demand1 : Type 0 where
-  pub load_only : (p : List ℕ) (w : Refusal) → load_of p ≡ Unloaded w → First w (load_conditions p)
-  pub load_always : (p : List ℕ) (w : Refusal) → First w (load_conditions p) → load_of p ≡ Unloaded w
-  pub load_accepted : (p : List ℕ) → NoneHolds (load_conditions p) → load_of p ≡ Accepted (head_of p)
+  pub load_only : (p : List ℕ) (w : Refusal) → load_of p ≡ Err w → First w (load_conditions p)
+  pub load_always : (p : List ℕ) (w : Refusal) → First w (load_conditions p) → load_of p ≡ Err w
+  pub load_accepted : (p : List ℕ) → NoneHolds (load_conditions p) → load_of p ≡ Ok (head_of p)
   pub start : (p b : List ℕ) → Decided (plan_of p) (start_conditions p b) b (start_on p b)
   -- Start is accepted on every buffer that is long enough
-  pub start_done : (p b : List ℕ) (h : Head) → load_of p ≡ Accepted h → size (plan_of p) ≤ length b
+  pub start_done : (p b : List ℕ) (h : Head) → load_of p ≡ Ok h → size (plan_of p) ≤ length b
       → (start_on p b).answer ≡ Done
   pub calls : (p : List ℕ) (c : Call) (b : List ℕ) → Decided (plan_of p) (call_conditions p c b) b (call_on p c b)

@@ -2,12 +2,12 @@
 -- set-up protocol prescribes as document 01 condenses and amends it; and a plan loads exactly when it obeys every plan
 -- rule.' What is prescribed: machine/specs.
 use Rattle.std.specs.Prelude.{◌≡◌, ◌≢◌, List, ℕ}
+use Rattle.std.specs.Prelude.{Ok}
 use Rattle.kinds.specs.declared.Refusal.{Refusal}
 use Rattle.packets.specs.declared.Answer.TheVariants.{Refused, Done}
 use Rattle.plan.specs.declared.Head.{Head}
 use Rattle.plan.specs.Head.{head_of}
 use Rattle.plan.specs.Plan.{plan_of}
-use Rattle.load.specs.declared.Loaded.TheVariants.{Accepted}
 use Rattle.load.specs.Load.{load_of}
 use Rattle.load.specs.Rules.{Obeys}
 use Rattle.rules.specs.State.{start}
@@ -30,8 +30,8 @@ pub record Follows (p : List ℕ) (c : Call) (b : List ℕ) : Type 0 where
 
 pub record Demand2 : Type 0 where
   -- a plan loads exactly if it obeys every plan rule
-  pub loaded_obeys : (p : List ℕ) (h : Head) → load_of p ≡ Accepted h → Obeys p
-  pub obeys_loaded : (p : List ℕ) → Obeys p → load_of p ≡ Accepted (head_of p)
+  pub loaded_obeys : (p : List ℕ) (h : Head) → load_of p ≡ Ok h → Obeys p
+  pub obeys_loaded : (p : List ℕ) → Obeys p → load_of p ≡ Ok (head_of p)
   -- an accepted Start leaves the start state's bytes, and those past them as they were
   pub started : (p b : List ℕ) → (start_on p b).answer ≡ Done
       → (start_on p b).bytes ≡ encode (plan_of p) (start (plan_of p)) (past (size (plan_of p)) b)

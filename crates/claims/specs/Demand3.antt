@@ -2,11 +2,11 @@
 -- Start left, and any list of the calls Read, Execute, Write, Launch, Reply, Look, Drop, Close, Entry and Remaining,
 -- each on the bytes as the last one left them.
 use Rattle.std.specs.Prelude.{◌≡◌, ◌≢◌, true, List, [], ◌∷◌, ◌++◌, ℕ, ◌+◌, ◌≤◌}
+use Rattle.std.specs.Prelude.{Ok}
 use Rattle.kinds.specs.declared.Refusal.TheVariants.{NotState}
 use Rattle.packets.specs.declared.Answer.TheVariants.{Refused, Done}
 use Rattle.plan.specs.declared.Head.{Head}
 use Rattle.plan.specs.Plan.{plan_of, S}
-use Rattle.load.specs.declared.Loaded.TheVariants.{Accepted}
 use Rattle.load.specs.Load.{load_of}
 use Rattle.rules.specs.State.{State, start}
 use Rattle.rules.specs.Calls.{Call, call}
@@ -106,5 +106,5 @@ pub record Claim (p b : List ℕ) (cs : List Call) : Type 0 where
 -- demand 3: for every loadable plan, every buffer in which Start is accepted, and every list of calls
 abbrev pub Demand3 : Type 0
 Demand3 =
-    (p buffer : List ℕ) (h : Head) → load_of p ≡ Accepted h → (start_on p buffer).answer ≡ Done → (cs : List Call)
+    (p buffer : List ℕ) (h : Head) → load_of p ≡ Ok h → (start_on p buffer).answer ≡ Done → (cs : List Call)
     → Claim p (start_on p buffer).bytes cs

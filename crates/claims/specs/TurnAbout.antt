@@ -3,10 +3,10 @@
 -- Load accepts, any state bytes at all, and any list of calls, each on the bytes as the last one left them. Bytes that
 -- are no state's are refused 7, and nothing is counted.
 use Rattle.std.specs.Prelude.{◌≡◌, List, [], ◌∷◌, ℕ, ◌+◌, ◌≤◌}
+use Rattle.std.specs.Prelude.{Ok}
 use Rattle.plan.specs.declared.Head.{Head}
 use Rattle.plan.specs.Plan.{plan_of}
 use Rattle.plan_queues.specs.Feeds.{Output}
-use Rattle.load.specs.declared.Loaded.TheVariants.{Accepted}
 use Rattle.load.specs.Load.{load_of}
 use Rattle.rules.specs.Calls.{Call}
 use Rattle.rules.specs.Valid.{Drives}
@@ -32,5 +32,5 @@ StaysOn p o j (c ∷ cs) b =
 -- turn about
 abbrev pub TurnAboutOnBytes : Type 0
 TurnAboutOnBytes =
-    (p b : List ℕ) (h : Head) → load_of p ≡ Accepted h → (o : Output) → Drives (plan_of p) o → (j : ℕ) (cs : List Call)
+    (p b : List ℕ) (h : Head) → load_of p ≡ Ok h → (o : Output) → Drives (plan_of p) o → (j : ℕ) (cs : List Call)
     → StaysOn p o j cs b → others_on p o j cs b ≤ last_in_order o

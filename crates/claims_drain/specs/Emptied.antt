@@ -2,12 +2,12 @@
 -- accepted Start left, any calls, and from some READ on a program that waits. 'With N packets .. the network is empty
 -- after at most 256 × S × N rounds. .. After that many rounds the table is the accepted connections' own.'
 use Rattle.std.specs.Prelude.{◌≡◌, List, [], ◌++◌, ℕ, ◌≤◌}
+use Rattle.std.specs.Prelude.{Ok}
 use Rattle.packets.specs.declared.Phase.TheVariants.{Read}
 use Rattle.packets.specs.declared.Remaining.{Remaining}
 use Rattle.packets.specs.declared.Answer.TheVariants.{Done, Remains}
 use Rattle.plan.specs.declared.Head.{Head}
 use Rattle.plan.specs.Plan.{plan_of, S}
-use Rattle.load.specs.declared.Loaded.TheVariants.{Accepted}
 use Rattle.load.specs.Load.{load_of}
 use Rattle.rules.specs.Remaining.{packets, enough}
 use Rattle.rules.specs.Calls.{Call, remaining}
@@ -28,7 +28,7 @@ wash_bytes p buffer before = bytes_after p before (start_on p buffer).bytes
 -- plan and buffer of an accepted Start, the calls before the wash, and those of the program that waits
 pub record Wash (p buffer : List ℕ) (before during : List Call) : Type 0 where
   pub head : Head
-  pub loads : load_of p ≡ Accepted head
+  pub loads : load_of p ≡ Ok head
   pub started : (start_on p buffer).answer ≡ Done
   -- 'from some READ on'
   pub reads : (state_of p (wash_bytes p buffer before)).clock.phase ≡ Read

@@ -5,8 +5,7 @@ use Prim.Native.Nat.{ℕ}
 use Rattle.kinds.specs.declared.Refusal.{Refusal}
 use Rattle.packets.specs.declared.Answer.{Answer}
 use Rattle.plan.specs.declared.Head.{Head}
-use Rattle.load.specs.declared.Loaded.{Loaded}
-use Rattle.load.specs.declared.Loaded.TheVariants.{Accepted, Refused}
+use Rattle.std.specs.Prelude.{Result, Ok, Err}
 use Rattle.load.specs.Load.{load_of}
 use Rattle.bytes_steps.specs.Counts.{state_size}
 use Rattle.claims.specs.Calls.{Given, given}
@@ -30,11 +29,11 @@ module _ {x : Answer} {d : List ℕ} {g : Given} (e : given x d ≡ g) where
   remaining_told o f = f ∙ ap (λ (y : Given). remaining_bytes y.answer o) e
 
 -- ---- the state's size
-module _ (p : List ℕ) {l : Loaded} (known : l ≡ load_of p) where
-  pub size_none : {w : Refusal} → l ≡ Refused w → 0 ≡ size_of p
+module _ (p : List ℕ) {l : Result Head Refusal} (known : l ≡ load_of p) where
+  pub size_none : {w : Refusal} → l ≡ Err w → 0 ≡ size_of p
   unfolding size_of
   size_none f = rw (← known, f)
 
-  pub size_some : {h : Head} {n : ℕ} → l ≡ Accepted h → n ≡ state_size h → n ≡ size_of p
+  pub size_some : {h : Head} {n : ℕ} → l ≡ Ok h → n ≡ state_size h → n ≡ size_of p
   unfolding size_of
   size_some f g = rw (← known, f) g

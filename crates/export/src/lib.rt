@@ -9,27 +9,15 @@ ghost use Rattle.claims.specs.Calls.{start_on, call_on};
 ghost use Rattle.answers.specs.Numbers.{answer_number, shown_bytes, entry_byte, remaining_bytes};
 ghost use Rattle.export.specs.Size.{size_of};
 
-use load::Loaded;
+use plan::tables::PlanTables;
 
 // Load: 0, or the number of the first refusal that applies, 1 to 6.
 #[unsafe(no_mangle)]
 pub extern "C" fn pandabrass_load(plan: &[u8]) -> u32
     ensures { result ≡ load_number (load_of plan.now) }
 {
-    let mut routes = [[7u8; 32]; 16];
-    let mut joints = [0u8; 64];
-    let mut homes = [0u8; 32];
-    let mut lengths = [[0u8; 16]; 16];
-    let mut by = [[0u32; 4]; 16];
-    let l = load::fill(
-        plan,
-        &mut routes,
-        &mut joints,
-        &mut homes,
-        &mut lengths,
-        &mut by,
-    );
-    load::load_number(l) as u32
+    let mut t = PlanTables::blank();
+    u32::from(load::load_number(load::fill(plan, &mut t)))
 }
 
 // The number of routers on a served pair's walk; 0 where the plan does not load, a number is out of range or the pair
@@ -38,8 +26,7 @@ pub extern "C" fn pandabrass_load(plan: &[u8]) -> u32
 pub extern "C" fn pandabrass_walk(plan: &[u8], active: u32, passive: u32) -> u32
     ensures { result ≡ walk_of plan.now active passive }
 {
-    let n = load::walk(plan, active as usize, passive as usize);
-    n.0 as u32
+    u32::from(load::walk(plan, active as usize, passive as usize).0)
 }
 
 // The count of the state's bytes; 0 where the plan does not load.
@@ -47,20 +34,8 @@ pub extern "C" fn pandabrass_walk(plan: &[u8], active: u32, passive: u32) -> u32
 pub extern "C" fn pandabrass_size(plan: &[u8]) -> u32
     ensures { result ≡ size_of plan.now }
 {
-    let mut routes = [[7u8; 32]; 16];
-    let mut joints = [0u8; 64];
-    let mut homes = [0u8; 32];
-    let mut lengths = [[0u8; 16]; 16];
-    let mut by = [[0u32; 4]; 16];
-    let l = load::fill(
-        plan,
-        &mut routes,
-        &mut joints,
-        &mut homes,
-        &mut lengths,
-        &mut by,
-    );
-    let Loaded::Accepted(h) = l else {
+    let mut t = PlanTables::blank();
+    let Ok(h) = load::fill(plan, &mut t) else {
         return 0;
     };
     bytes_steps::state_size(h) as u32

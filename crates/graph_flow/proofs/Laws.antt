@@ -1,5 +1,5 @@
 -- A turn of a router, a sweep, and the rounds: what they find is all that is carried, and nothing else.
-use mathlib.Core.Path.{◌≡◌, refl, sym, ap, ◌∙◌}
+use mathlib.Core.Path.{◌≡◌, refl, sym, ◌∙◌}
 use mathlib.Core.Logic.{◌⊎◌, inl, inr, ◌≢◌}
 use mathlib.Core.Bool.{true, false, and-eq-true_iff}
 use mathlib.Core.List.{List, []}
@@ -43,18 +43,13 @@ not_right s t d e = refuted (has t d) (λ a. not_both (in_right s t d a) e)
 
 -- ---- the port beyond a port
 pub partner_some : (joints : List ℕ) (k : ℕ) {v : ℕ} → v ≡ get_or joints k 0 → v / 64 ≡ 1
-    → (v % 64 ≡ partner_of joints k) × (v % 64 ≤ 64)
+    → (v % 64 ≡ partner_of joints k) × (v % 64 < 64)
 unfolding partner_of
 partner_some joints k e q = (rw (← e, eq-eqb _ 1 q), omega arith)
 
-pub partner_none : (joints : List ℕ) (k : ℕ) {v : ℕ} → v ≡ get_or joints k 0 → v / 64 ≢ 1
-    → (64 ≡ partner_of joints k) × (64 ≤ 64)
+pub partner_none : (joints : List ℕ) (k : ℕ) {v : ℕ} → v ≡ get_or joints k 0 → v / 64 ≢ 1 → partner_of joints k ≡ 64
 unfolding partner_of
-partner_none joints k e q = (rw (← e, ne_eqb _ 1 q), omega arith)
-
-pub beyond_at : (joints : List ℕ) (k : ℕ) {v : ℕ} → (v ≡ partner_of joints k) × (v ≤ 64)
-    → (v / 4 ≡ beyond_of joints k) × (v / 4 < 32)
-beyond_at joints k (e, l) = (ap (λ (u : ℕ). u / 4) e, omega arith)
+partner_none joints k e q = rw (← e, ne_eqb _ 1 q)
 
 module _ (by : List (List ℕ)) (joints : List ℕ) where
   abbrev to : ℕ → ℕ → ℕ

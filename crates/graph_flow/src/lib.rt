@@ -3,28 +3,30 @@
 #![tactic(auto)]
 
 ghost use Rattle.std.specs.Prelude.{◌≡◌, true, false, List, ℕ, ◌+◌, ◌*◌, ◌≤◌, ◌<◌, get_or, length};
+ghost use Rattle.std.specs.Prelude.{MatchOption};
 ghost use Rattle.sets.specs.Sets.{has};
-ghost use Rattle.graph_flow.specs.Carried.{partner_of, Pushed, Passed, Stepped, Round, Spread};
+ghost use Rattle.graph_flow.specs.Carried.{partner_of, beyond_of, Pushed, Passed, Stepped, Round, Spread};
 
 use sets::{below, both, either, has, less, single, without};
 
-// A byte as an index.
-fn index(x: u8) -> usize
-    ensures { result ≡ x }
+// The row of what goes where no router is joined.
+const NOWHERE: usize = 16;
+
+// The port that port k is joined to, if a router is joined there.
+pub fn partner(joints: &[u8; 64], k: usize) -> Option<usize>
+    requires { k < 64 }
+    ensures { MatchOption result (partner_of joints.now k ≡ 64) (λ i. (i ≡ partner_of joints.now k) × (i < 64)) }
 {
-    x as usize
+    let v = usize::from(joints[k]);
+    if v / 64 == 1 { Some(v % 64) } else { None }
 }
 
-// The port that port k is joined to, or 64 where no router is joined there.
-pub fn partner(joints: &[u8; 64], k: usize) -> usize
+// The router beyond port k, or the row of what goes to none.
+fn beyond(joints: &[u8; 64], k: usize) -> usize
     requires { k < 64 }
-    ensures { (result ≡ partner_of joints.now k) × (result ≤ 64) }
+    ensures { (result ≡ beyond_of joints.now k) × (result < 32) }
 {
-    let v = index(joints[k]);
-    if v / 64 == 1 {
-        return v % 64;
-    }
-    64
+    partner(joints, k).map_or(NOWHERE, |i| i / 4)
 }
 
 // What router x has goes on by side o; answers the router where that is new, as a set.
@@ -36,7 +38,7 @@ fn push(by: &[[u32; 4]; 16], joints: &[u8; 64], t: &mut [u32; 32], x: usize, o: 
     if m == 0 {
         return 0;
     }
-    let n = partner(joints, 4 * x + o) / 4;
+    let n = beyond(joints, 4 * x + o);
     if less(m, t[n]) == 0 {
         return 0;
     }
@@ -90,8 +92,8 @@ fn sweep_down(by: &[[u32; 4]; 16], joints: &[u8; 64], n: usize, work: u32, t: &m
         → Round by.now joints.now n first k result t.new }
 {
     let mut left = work;
-    for i in 0..n {
-        left = step(by, joints, left, t, n - 1 - i);
+    for x in (0..n).rev() {
+        left = step(by, joints, left, t, x);
     }
     left
 }

@@ -5,6 +5,7 @@ use mathlib.Core.Bool.{Bool, true, false, true≢false}
 use mathlib.Core.List.{List}
 use Prim.Native.Nat.{ℕ, zero, suc, ◌+◌, ◌*◌, ◌/◌, ◌≤◌, ◌<◌}
 use native.Mathlib.Omega.{arith}
+use lib.Bits.{bit_or, or_zero_r}
 use lib.Dec.{eqb}
 use lib.ListN.{get_or, set, length, replicate, length-set}
 use lib.Seq.{get_or-set_same, get_or-set_other}
@@ -16,8 +17,9 @@ use Rattle.sets.specs.Sets.{has, single, both, either, below}
 use Rattle.sets.specs.Laws.{has_single, has_below, none_has, either_lt}
 use Rattle.graph_flow.specs.Carried.{partner_of, In, Spread}
 use Rattle.graph_flow.proofs.Laws.{in_left, in_right, either_in}
-use Rattle.graph_links.specs.Cells.{bit_of, mask_of, cross_of, out_of}
-use Rattle.graph_links.specs.Starts.{home_row, start_at, starts_of, alone_of, note_of, notes_of, Comes, Answering}
+use Rattle.graph_links.specs.Cells.{bit_of, mask_of, leaving_of, cross_of, out_of}
+use Rattle.graph_links.specs.Starts.{home_row, start_at, starts_of, alone_of, live_of, note_of, notes_of}
+use Rattle.graph_links.specs.Starts.{Comes, Answering}
 
 -- ---- masks are sets of four sides
 single_small : (j : ℕ) → j < 4 → single j < 16
@@ -43,7 +45,9 @@ mask_small l m q =
     (either_lt 4 (bit_of l m q 0) (bit_of l m q 1) (bit_small l m q 0 (omega arith)) (bit_small l m q 1 (omega arith)))
     (either_lt 4 (bit_of l m q 2) (bit_of l m q 3) (bit_small l m q 2 (omega arith)) (bit_small l m q 3 (omega arith)))
 
-pub mask_is : (l : List ℕ) (m q : ℕ) {v : ℕ} → v ≡ mask_of l m q → (v ≡ mask_of l m q) × (v < 16)
+-- the sides as numbers from 0
+pub mask_is : (l : List ℕ) (m q : ℕ) {v : ℕ} → v ≡ leaving_of l m q 0 → (v ≡ mask_of l m q) × (v < 16)
+unfolding leaving_of mask_of bit_of
 mask_is l m q e = (e, rw e (mask_small l m q))
 
 -- ---- cells, by the ways their code goes
@@ -135,6 +139,18 @@ note_keeps a m s d t = by (eqb m 0)
 note_new : (a m s : ℕ) → m ≢ 0 → has (note_of a m s) a ≡ true
 unfolding note_of
 note_new a m s n = rw (ne_eqb m 0 n) (in_right s (single a) a (has_single a a ∙ eq-eqb a a refl))
+
+-- one that is served with some passive joins those that are, as its set says
+pub noted_live : (served : List ℕ) (a s : ℕ) {v : ℕ} → v ≡ note_of a (get_or served a 0) s
+    → v ≡ either s (live_of served a)
+unfolding note_of live_of either
+noted_live served a s {v} e = e ∙ by (test (eqb (get_or served a 0) 0))
+  where
+    by : (eqb (get_or served a 0) 0 ≡ true) ⊎ (eqb (get_or served a 0) 0 ≡ false)
+        → pick (eqb (get_or served a 0) 0) s (bit_or s (single a))
+        ≡ bit_or s (pick (eqb (get_or served a 0) 0) 0 (single a))
+    by (inl t) = rw t (sym (or_zero_r s))
+    by (inr t) = rw t
 
 pub notes_more : (a : ℕ) (m first : List ℕ) (x : ℕ) {t : List ℕ} {v : ℕ}
     → t ≡ up_to (λ x u. set u x (note_of a (get_or m x 0) (get_or u x 0))) x first → v ≡ note_of a (get_or m x 0)

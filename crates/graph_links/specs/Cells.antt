@@ -1,4 +1,4 @@
--- What leaves by each side, and the cells that lead from crossing to crossing (crate peel).
+-- What leaves by each side, and the cells that lead from crossing to crossing (crate graph_ring).
 use Rattle.std.specs.Prelude.{◌≡◌, List, [], ℕ, ◌+◌, ◌*◌, ◌/◌, ◌%◌, ◌≤◌, ◌<◌, eqb, ltb, get_or, length, replicate}
 use Rattle.basis.specs.Choice.{pick}
 use Rattle.basis.specs.Fold.{up_to, fill}
@@ -19,6 +19,13 @@ module _ (l : List ℕ) where
 
   unfoldable pub mask_of : ℕ → ℕ → ℕ
   mask_of m q = either (either (bit_of m q 0) (bit_of m q 1)) (either (bit_of m q 2) (bit_of m q 3))
+
+  -- the same sides, as numbers from any
+  unfoldable pub leaving_of : ℕ → ℕ → ℕ → ℕ
+  leaving_of m q from = either (either (by_side 0) (by_side 1)) (either (by_side 2) (by_side 3))
+    where
+      by_side : ℕ → ℕ
+      by_side j = pick (eqb (both m (get_or l (4 * q + j) 0)) 0) 0 (single (from + j))
 
 -- the port by which a crossing leaves
 abbrev pub out_of : ℕ → ℕ

@@ -1,14 +1,16 @@
-// What leaves by each side, and the cells that lead from crossing to crossing (crate peel).
+// What leaves by each side, and the cells that lead from crossing to crossing (crate graph_ring).
 #![tactic(auto)]
 
 // What is where at first, and what comes to each router.
 pub mod starts;
 
-ghost use Rattle.std.specs.Prelude.{◌≡◌, ◌+◌, ◌*◌, ◌≤◌, ◌<◌, length, replicate};
-ghost use Rattle.graph_links.specs.Cells.{leave_of, leaves_of, bit_of, mask_of, cross_of, CrossCells};
+ghost use Rattle.std.specs.Prelude.{◌≡◌, ◌+◌, ◌*◌, ◌≤◌, ◌<◌, eqb, get_or, length, replicate};
+ghost use Rattle.basis.specs.Choice.{pick};
+ghost use Rattle.sets.specs.Sets.{both, single};
+ghost use Rattle.graph_links.specs.Cells.{leave_of, leaves_of, leaving_of, cross_of, CrossCells};
 
 use graph_flow::partner;
-use sets::{both, either, single};
+use sets::{Word, both, either, single};
 
 // What of a set leaves router x by side o.
 fn leave(by: &[[u32; 4]; 16], t: &[u32; 32], limit: u32, x: usize, o: usize) -> u32
@@ -31,26 +33,26 @@ pub fn leaves(by: &[[u32; 4]; 16], t: &[u32; 32], limit: u32, n: usize, l: &mut 
     }
 }
 
-// The j-th side of router q, if some of m leave by it.
-fn bit(l: &[u32; 64], m: u32, q: usize, j: usize) -> u32
-    requires { (q < 16) × (j < 4) }
-    ensures { result ≡ bit_of l.now m q j }
+// The set of i alone, if some of m leave by port k; else the empty set.
+fn leaving<W: Word>(l: &[u32; 64], m: u32, k: usize, i: usize) -> W
+    requires { (k < 64) × (i < W.digits) }
+    ensures { W.value result ≡ pick (eqb (both m (get_or l.now k 0)) 0) 0 (single i) }
 {
-    if both(m, l[4 * q + j]) == 0 {
-        return 0;
+    if both(m, l[k]) == 0 {
+        return W::narrow(0);
     }
-    single(j)
+    single(i)
 }
 
-// The sides of router q that some of m leave by.
-fn mask(l: &[u32; 64], m: u32, q: usize) -> u32
-    requires { q < 16 }
-    ensures { (result ≡ mask_of l.now m q) × (result < 16) }
+// The sides of router q that some of m leave by, as numbers from `from`.
+pub fn leaving_by<W: Word>(l: &[u32; 64], m: u32, q: usize, from: usize) -> W
+    requires { (q < 16) × (from + 4 ≤ W.digits) }
+    ensures { W.value result ≡ leaving_of l.now m q from }
 {
-    let a = bit(l, m, q, 0);
-    let b = bit(l, m, q, 1);
-    let c = bit(l, m, q, 2);
-    let d = bit(l, m, q, 3);
+    let a = leaving(l, m, 4 * q, from);
+    let b = leaving(l, m, 4 * q + 1, from + 1);
+    let c = leaving(l, m, 4 * q + 2, from + 2);
+    let d = leaving(l, m, 4 * q + 3, from + 3);
     either(either(a, b), either(c, d))
 }
 
@@ -68,20 +70,18 @@ fn cross(l: &[u32; 64], joints: &[u8; 64], x: usize) -> u32
     requires { x < 256 }
     ensures { result ≡ cross_of l.now joints.now x }
 {
-    let i = partner(joints, x / 4);
-    if 64 <= i {
+    let Some(i) = partner(joints, x / 4) else {
         return 0;
-    }
+    };
     let o = 4 * (x / 16) + x % 4;
-    let q = partner(joints, o);
-    if 64 <= q {
+    let Some(q) = partner(joints, o) else {
         return 0;
-    }
+    };
     let m = both(l[i], l[o]);
     if m == 0 {
         return 0;
     }
-    cell(q, mask(l, m, q / 4))
+    cell(q, leaving_by(l, m, q / 4, 0))
 }
 
 // The first n crossings, into a table that has room for them.
@@ -89,7 +89,7 @@ pub fn cross_cells(l: &[u32; 64], joints: &[u8; 64], n: usize, cells: &mut [u32]
     requires { (n ≤ 256) × (n ≤ length cells.old) }
     ensures { CrossCells l.now joints.now n cells.new }
 {
-    for x in 0..n {
-        cells[x] = cross(l, joints, x);
+    for (x, cell) in cells[..n].iter_mut().enumerate() {
+        *cell = cross(l, joints, x);
     }
 }

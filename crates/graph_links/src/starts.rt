@@ -6,14 +6,14 @@ ghost use Rattle.graph_links.specs.Starts.{Answering};
 ghost use Rattle.graph_links.specs.Starts.{Answers};
 
 use graph_flow::spread;
-use sets::{below, either, single, with};
+use sets::{Word, below, either, single, with};
 
 // The router that active a is joined to.
 fn home(homes: &[u8; 32], a: usize) -> usize
     requires { a < 32 }
     ensures { (result ≡ home_row homes.now a) × (result < 32) }
 {
-    (homes[a] / 4 % 32) as usize
+    usize::from(homes[a] / 4 % 32)
 }
 
 // By router: the passives that its actives are served with.
@@ -64,15 +64,15 @@ fn met(
     spread(by, joints, n, single(x), t);
 }
 
-// Active a, if it is served with some passive.
-fn live_bit(served: &[u32; 16], a: usize) -> u32
-    requires { a < 16 }
-    ensures { result ≡ live_of served.now a }
+// A set, with a if m is not empty.
+pub fn noted<W: Word>(m: W, set: W, a: usize) -> W
+    requires { a < W.digits }
+    ensures { W.value result ≡ note_of a (W.value m) (W.value set) }
 {
-    if served[a] == 0 {
-        return 0;
+    if m.wide() == 0 {
+        return set;
     }
-    single(a)
+    with(set, a)
 }
 
 // The actives that are served with some passive.
@@ -81,21 +81,10 @@ pub fn live(served: &[u32; 16], n: usize) -> u32
     ensures { result ≡ lives_of served.now n }
 {
     let mut all = 0u32;
-    for a in 0..n {
-        all = either(all, live_bit(served, a));
+    for (a, passives) in served[..n].iter().enumerate() {
+        all = noted(*passives, all, a);
     }
     all
-}
-
-// A set, with active a if m is not empty.
-fn noted(m: u32, set: u32, a: usize) -> u32
-    requires { a < 32 }
-    ensures { result ≡ note_of a m set }
-{
-    if m == 0 {
-        return set;
-    }
-    with(set, a)
 }
 
 // Active a joins the sets of the routers that its walks meet.
@@ -103,8 +92,8 @@ fn note(m: &[u32; 32], a: usize, n: usize, t: &mut [u32; 32])
     requires { (a < 32) × (n ≤ 16) }
     ensures { t.new ≡ notes_of a m.now n t.old }
 {
-    for x in 0..n {
-        t[x] = noted(m[x], t[x], a);
+    for (x, set) in t[..n].iter_mut().enumerate() {
+        *set = noted(m[x], *set, a);
     }
 }
 

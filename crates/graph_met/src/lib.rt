@@ -8,8 +8,9 @@ ghost use Rattle.graph_reach.specs.Reach.{sweep_at, change_of, up_of, down_of, C
 ghost use Rattle.graph_met.specs.Trails.{Shaped, Blank, Readable, Led, Started, Trailed, Lengthens, Room};
 ghost use Rattle.graph_met.specs.Trails.{Turns, Turning};
 
-use graph_reach::{common, index, pull, through};
-use sets::{both, either, less, lowest, rest, single};
+use graph_reach::{common, pull, through};
+use sets::each::Members;
+use sets::{both, either, less, single};
 
 // What one router more adds to a word, beside the router itself.
 const ONE_MORE: u32 = 65536;
@@ -19,11 +20,9 @@ fn lead(up: &mut [[u32; 32]], x: usize, n: usize, k: u32)
     requires { (x < 16) × (n < 17) × (x < length up.old) × Shaped up.old × Readable up.old n k }
     ensures { Led x n k up.old up.new }
 {
-    let mut left = k;
-    while left != 0 {
-        let d = lowest(left);
-        left = rest(left);
-        up[x][d] = up[n][d] + single(x) + ONE_MORE;
+    let own: u32 = single(x);
+    for d in Members::of(k) {
+        up[x][d] = up[n][d] + own + ONE_MORE;
     }
 }
 
@@ -42,7 +41,7 @@ fn side(
     ensures { Turns by.now next.now t.now x new
         o up.old (o + 1) up.new }
 {
-    let n = index(next[4 * x + o]);
+    let n = usize::from(next[4 * x + o]);
     let k = both(through(by, next, t, x, o), new);
     lead(up, x, n, k);
 }
@@ -124,8 +123,7 @@ fn sweep_down(
         × Lengthens by.now next.now n
         t.old up.old t.new up.new }
 {
-    for i in 0..n {
-        let x = n - 1 - i;
+    for x in (0..n).rev() {
         step(by, next, x, t, up);
     }
 }
@@ -135,8 +133,8 @@ fn starts(t: &[u32; 32], n: usize, up: &mut [[u32; 32]])
     requires { (n ≤ 16) × (n ≤ length up.old) × Blank up.old }
     ensures { Started n t.now up.new }
 {
-    for x in 0..n {
-        lead(up, x, x, t[x]);
+    for (x, at_hand) in t[..n].iter().enumerate() {
+        lead(up, x, x, *at_hand);
     }
 }
 

@@ -16,6 +16,8 @@ use Rattle.graph_ring.specs.Words.{some_of, first_of}
 use Rattle.graph_flow.specs.Carried.{partner_of, beyond_of}
 use Rattle.graph_flow.proofs.Laws.{in_left, in_right, either_in}
 use Rattle.graph_next.specs.Words.{four_of, toward_of, next_of, nexts_of, onto_of, link_of, links_of}
+use Rattle.graph_links.specs.Cells.{leaving_of}
+use Rattle.graph_links.specs.Starts.{note_of}
 use Rattle.graph_links.proofs.Laws.{not_empty}
 
 -- ---- four together
@@ -43,6 +45,10 @@ module _ (f : ℕ → ℕ) (i : ℕ) where
   in_four (suc (suc (suc (suc j)))) l u = absurd (omega arith)
 
 -- ---- those that lead to some, told while their sets are made
+pub noted_some : (v s k : ℕ) {r : ℕ} → r ≡ note_of k v s → r ≡ some_of v k s
+unfolding note_of some_of
+noted_some v s k e = e
+
 module _ (f : ℕ → ℕ) where
   -- the numbers below k whose set has some
   unfoldable pub somes_of : ℕ → ℕ
@@ -145,6 +151,11 @@ unfolding onto_of
 in_onto l m q j h = rw (ne_eqb (both m (get_or l (4 * q + j) 0)) 0 h)
     (has_single (4 * q + j) (4 * q + j) ∙ eq-eqb (4 * q + j) (4 * q + j) refl)
 
+-- the sides of a router that some of m leave by, by their own numbers
+sides_of : (l : List ℕ) (m q : ℕ) {v : ℕ} → v ≡ leaving_of l m q (4 * q) → v ≡ four_of (onto_of l m q)
+unfolding leaving_of four_of onto_of
+sides_of l m q e = e
+
 module _ (l joints : List ℕ) where
   pub link_none : (k : ℕ) → get_or l k 0 ≡ 0 → 0 ≡ link_of l joints k
   unfolding link_of
@@ -155,9 +166,10 @@ module _ (l joints : List ℕ) where
   link_off k n e h = rw (ne_eqb (get_or l k 0) 0 n, ← e, le-ltb _ 64 h)
 
   pub link_on : (k : ℕ) {q v : ℕ} → get_or l k 0 ≢ 0 → q ≡ partner_of joints k → q < 64
-      → v ≡ four_of (onto_of l (get_or l k 0) (q / 4)) → v ≡ link_of l joints k
+      → v ≡ leaving_of l (get_or l k 0) (q / 4) (4 * (q / 4)) → v ≡ link_of l joints k
   unfolding link_of
-  link_on k n e h s = rw (ne_eqb (get_or l k 0) 0 n, ← e, lt-ltb _ 64 h) s
+  link_on k {q} n e h s =
+      rw (ne_eqb (get_or l k 0) 0 n, ← e, lt-ltb _ 64 h) (sides_of l (get_or l k 0) (q / 4) s)
 
   -- side k leads to side j of the router beyond, if some of the same leave by both
   pub in_links : (n k j : ℕ) → k < n → n ≤ 64 → j < 4 → get_or l k 0 ≢ 0 → partner_of joints k < 64

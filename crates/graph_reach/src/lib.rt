@@ -13,7 +13,7 @@ use sets::{both, either, less};
 pub mod sizes;
 
 // What is swept: so many routers, all destinations, and those whose walks are sized: from the column on.
-#[derive(Clone, Copy)]
+#[derive(Clone, Copy, PartialEq, Eq)]
 pub struct Span {
     pub routers: usize,
     pub all: u32,
@@ -21,19 +21,12 @@ pub struct Span {
     pub column: usize,
 }
 
-// A byte as an index.
-pub fn index(x: u8) -> usize
-    ensures { result ≡ x }
-{
-    x as usize
-}
-
 // What router x reaches through side o.
 pub fn through(by: &[[u32; 4]; 16], next: &[u8; 64], t: &[u32; 32], x: usize, o: usize) -> u32
     requires { (x < 16) × (o < 4) × Inside next.now }
     ensures { result ≡ through_of by.now next.now t.now x o }
 {
-    let n = index(next[4 * x + o]);
+    let n = usize::from(next[4 * x + o]);
     both(by[x][o], t[n])
 }
 
@@ -114,8 +107,7 @@ fn sweep_down(
         t.old z.old t.new z.new }
 {
     let n = s.routers;
-    for i in 0..n {
-        let x = n - 1 - i;
+    for x in (0..n).rev() {
         step(by, next, routes, s, x, t, z);
     }
 }
@@ -125,11 +117,7 @@ pub fn common(t: &[u32; 32], n: usize, full: u32) -> u32
     requires { n ≤ 16 }
     ensures { result ≡ common_of t.now full n }
 {
-    let mut all = full;
-    for x in 0..n {
-        all = both(all, t[x]);
-    }
-    all
+    t[..n].iter().fold(full, |all, at| both(all, *at))
 }
 
 // What each router reaches, from what it has at hand, and the sizes of the walks; answers what all reach.

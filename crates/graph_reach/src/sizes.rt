@@ -49,18 +49,11 @@ fn merged(
     ensures { result ≡ merged_of sides.now column a b c d own }
 {
     let mut t = [0u8; 16];
-    for p in 0..16 {
+    for (p, size) in t.iter_mut().enumerate() {
         let far = far_by(sides[column + p], a[p], b[p], c[p], d[p]);
-        t[p] = size_of(far, own[p]);
+        *size = size_of(far, own[p]);
     }
     t
-}
-
-// A byte as an index.
-fn index(x: u8) -> usize
-    ensures { result ≡ x }
-{
-    x as usize
 }
 
 // The router beyond a port, or 16.
@@ -68,7 +61,7 @@ fn beyond(next: &[u8; 64], port: usize) -> usize
     requires { (port < 64) × Inside next.now }
     ensures { (result ≡ get_or next.now port 0) × (result < 17) }
 {
-    index(next[port])
+    usize::from(next[port])
 }
 
 // The sizes of router x's walks, from those of its neighbours.

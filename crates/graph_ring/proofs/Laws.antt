@@ -201,13 +201,6 @@ module _ (cells : List ℕ) where
   unfolding up_of
   swept_done n {first = first} s e = (up_done (judge_at cells) first s.0 e, s.1)
 
-  pub down_more : (n i : ℕ) (first : List ℕ) {left : List ℕ} {v : ℕ}
-      → left ≡ up_to (λ j. judge_at cells (n - 1 - j)) i first
-      → v ≡ judge_of cells left (n - 1 - i)
-      → set left (n - 1 - i) v ≡ up_to (λ j. judge_at cells (n - 1 - j)) (i + 1) first
-  unfolding judge_at
-  down_more n i first {left} e f = up_more (λ j. judge_at cells (n - 1 - j)) first i e (ap (set left (n - 1 - i)) f)
-
   -- ---- what is left in the rounds
   module _ (n : ℕ) where
     pub record Peeled (k : ℕ) (left : List ℕ) : Type 0 where

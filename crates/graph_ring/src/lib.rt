@@ -71,8 +71,7 @@ fn sweep_down(cells: &[u32], n: usize, left: &mut [u32; GROUPS])
     requires { (n ≤ 64) × (4 * n ≤ length cells.now) }
     ensures { left.new ≡ down_of cells.now n left.old }
 {
-    for i in 0..n {
-        let g = n - 1 - i;
+    for g in (0..n).rev() {
         left[g] = judge(cells, left, g);
     }
 }
@@ -82,11 +81,7 @@ fn rest(left: &[u32; GROUPS], n: usize) -> u32
     requires { n ≤ 64 }
     ensures { result ≡ rest_of n left.now }
 {
-    let mut all = 0u32;
-    for g in 0..n {
-        all = either(all, left[g]);
-    }
-    all
+    left[..n].iter().fold(0, |all, of| either(all, *of))
 }
 
 // All nodes of n groups.
@@ -94,9 +89,7 @@ fn first(n: usize, left: &mut [u32; GROUPS])
     requires { (n ≤ 64) × (left.old ≡ replicate 64 0) }
     ensures { left.new ≡ first_of n }
 {
-    for g in 0..n {
-        left[g] = 15;
-    }
+    left[..n].fill(15);
 }
 
 // Whether the nodes of n groups have a ring.

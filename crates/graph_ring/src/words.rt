@@ -5,7 +5,8 @@ ghost use Rattle.basis.specs.Ring.{ring_test};
 ghost use Rattle.sets.specs.Sets.{has};
 ghost use Rattle.graph_ring.specs.Words.{leads_to, lone_of, first_of, Swept};
 
-use sets::long::{both, highest, lowest, rest, without};
+use sets::each::Members;
+use sets::{both, without};
 
 // What is left, without node x if it leads to none of that.
 fn lone(follow: &[u64], left: u64, x: usize) -> u64
@@ -24,10 +25,7 @@ fn sweep_up(follow: &[u64], n: usize, left: u64) -> u64
     ensures { Swept follow.now n left result }
 {
     let mut now = left;
-    let mut todo = left;
-    while todo != 0 {
-        let x = lowest(todo);
-        todo = rest(todo);
+    for x in Members::of(left) {
         now = lone(follow, now, x);
     }
     now
@@ -39,10 +37,7 @@ fn sweep_down(follow: &[u64], n: usize, left: u64) -> u64
     ensures { Swept follow.now n left result }
 {
     let mut now = left;
-    let mut todo = left;
-    while todo != 0 {
-        let x = highest(todo);
-        todo = without(todo, x);
+    for x in Members::of(left).rev() {
         now = lone(follow, now, x);
     }
     now

@@ -1,5 +1,7 @@
 -- Load's tests as the code makes them are those of its definition; its returns, in the order of the code; and Walk's
 -- returns.
+use Rattle.std.specs.Prelude.{Result, Ok, Err, is_err}
+use Rattle.std.proofs.Common.{true≢false}
 use mathlib.Core.Path.{◌≡◌, refl, sym, ap, ap₂, subst, ◌∙◌}
 use mathlib.Core.Logic.{◌⊎◌, inl, inr}
 use mathlib.Core.Bool.{Bool, true, false, ◌&&◌}
@@ -17,6 +19,7 @@ use Rattle.fields.specs.Bits.{field_of}
 use Rattle.kinds.specs.declared.Refusal.{Refusal}
 use Rattle.kinds.specs.declared.Refusal.TheVariants.{TooShort, OutOfRange, WrongLength, BadField, BadJoint, HasRing}
 use Rattle.plan.specs.declared.Head.{Head}
+use Rattle.plan.specs.declared.tables.PlanTables.{PlanTables}
 use Rattle.plan.specs.Head.{InRange, head_of, head_ok, destinations, routes_at, bit_count, byte_count}
 use Rattle.plan.specs.Plan.{Plan, no_side, route_at, plan_of}
 use Rattle.plan.specs.Rules.{fill_ok, fields_ok, named_ok, interfaces_ok, ports_of}
@@ -31,8 +34,6 @@ use Rattle.plan_facts.proofs.Fields.{fields_ok_lem}
 use Rattle.plan_facts.specs.Wired.{Wired}
 use Rattle.plan_facts.proofs.Wires.{wired}
 use Rattle.plan_facts.proofs.Tables.{tables_ok, table_plan_lem, named_alike, interfaces_alike}
-use Rattle.load.specs.declared.Loaded.{Loaded}
-use Rattle.load.specs.declared.Loaded.TheVariants.{Accepted, Refused}
 use Rattle.load.specs.Load.{length_ok, joints_ok, load_of, load_routes, load_joints, load_homes, load_lengths}
 use Rattle.load.specs.Load.{load_sides, Blank, Filled, no_routes, no_walks, no_destinations}
 use Rattle.load_arrivals.specs.Tables.{PortsIn}
@@ -194,9 +195,9 @@ module _ (b : List ℕ) where
   -- nothing is said of the tables after a refusal
   abbrev Refuses : Refusal → Type 0
   Refuses w =
-      (t : List (List ℕ)) (j o : List ℕ) (u sides : List (List ℕ)) → Filled b (Refused w) t j o u sides
+      (t : List (List ℕ)) (j o : List ℕ) (u sides : List (List ℕ)) → Filled b (Err w) t j o u sides
 
-  refused : {w : Refusal} → Refused w ≡ load_of b → Refuses w
+  refused : {w : Refusal} → Err w ≡ load_of b → Refuses w
   refused e t j o u sides = record {
     answer = e;
     routed = ap (load_routes b t) e;
@@ -278,10 +279,10 @@ module _ (b : List ℕ) where
             has_ring_lem q = refused
                 (rw (le-ltb (length b) 6 six, ranged, two, ← sized, three, fitted, four, matched, five, circled, q))
 
-            pub accepted : ring ≡ false → Filled b (Accepted h) rt jt ht ways by
+            pub accepted : ring ≡ false → Filled b (Ok h) rt jt ht ways by
             unfolding load_of
             accepted q =
-                let e : Accepted h ≡ load_of b = rw (
+                let e : Ok h ≡ load_of b = rw (
                   le-ltb (length b) 6 six,
                   ranged,
                   two,
@@ -309,18 +310,18 @@ module _ (b : List ℕ) where
 
 -- ---- what is lent: an accepted plan's tables, else blank ones
 module _ (b : List ℕ) where
-  abbrev Lends : Loaded → List (List ℕ) → List ℕ → List ℕ → List (List ℕ) → List (List ℕ) → Type 0
+  abbrev Lends : Result Head Refusal → List (List ℕ) → List ℕ → List ℕ → List (List ℕ) → List (List ℕ) → Type 0
   Lends l routes joints homes lengths sides =
       (l ≡ load_of b) × (routes ≡ load_routes b no_routes (load_of b)) ×
       (joints ≡ load_joints b (replicate 64 0) (load_of b))
       × (homes ≡ load_homes b (replicate 32 0) (load_of b)) × (lengths ≡ load_lengths b no_walks (load_of b))
       × (sides ≡ load_sides b no_destinations (load_of b))
 
-  pub lent_accepted : {h : Head} {l : Loaded} {routes : List (List ℕ)} {joints homes : List ℕ}
-      {lengths sides : List (List ℕ)} → l ≡ Accepted h → Filled b l routes joints homes lengths sides
+  pub lent_accepted : (l : Result Head Refusal) {routes : List (List ℕ)} {joints homes : List ℕ}
+      {lengths sides : List (List ℕ)} → is_err l ≡ false → Filled b l routes joints homes lengths sides
       → Lends l routes joints homes lengths sides
-  lent_accepted {h} a f =
-      let e : load_of b ≡ Accepted h = sym f.answer ∙ a in (
+  lent_accepted (Ok h) a f =
+      let e : load_of b ≡ Ok h = sym f.answer in (
         f.answer,
         f.routed ∙ rw e,
         f.joined ∙ rw e,
@@ -328,27 +329,27 @@ module _ (b : List ℕ) where
         f.sized ∙ rw e,
         f.sided ∙ rw e,
       )
+  lent_accepted (Err w) a f = absurd (true≢false a)
 
-  pub lent_refused : {w : Refusal} {l : Loaded} {routes : List (List ℕ)} {joints homes : List ℕ}
-      {lengths sides : List (List ℕ)} → l ≡ Refused w → l ≡ load_of b → Blank routes joints homes lengths sides
-      → Lends l routes joints homes lengths sides
-  lent_refused {w} a f n =
-      let e : load_of b ≡ Refused w = sym f ∙ a in (
-        f,
-        n.0.0 ∙ sym (ap (load_routes b no_routes) e),
-        n.1 ∙ sym (ap (load_joints b (replicate 64 0)) e),
-        n.2 ∙ sym (ap (load_homes b (replicate 32 0)) e),
-        n.3 ∙ sym (ap (load_lengths b no_walks) e),
-        n.0.1 ∙ sym (ap (load_sides b no_destinations) e),
-      )
+  pub lent_refused : (l : Result Head Refusal) {t : PlanTables} → is_err l ≡ true → l ≡ load_of b → Blank t
+      → Lends l t.routes t.joints t.homes t.lengths t.by
+  lent_refused (Err w) a f n = (
+    f,
+    n.0.0 ∙ ap (load_routes b no_routes) f,
+    n.1 ∙ ap (load_joints b (replicate 64 0)) f,
+    n.2 ∙ ap (load_homes b (replicate 32 0)) f,
+    n.3 ∙ ap (load_lengths b no_walks) f,
+    n.0.1 ∙ ap (load_sides b no_destinations) f,
+  )
+  lent_refused (Ok h) a f n = absurd (true≢false (sym a))
 
 -- ---- Walk's returns
-module _ (b : List ℕ) (a p : ℕ) {l : Loaded} (known : l ≡ load_of b) where
-  pub walk_refused : {w : Refusal} → l ≡ Refused w → 0 ≡ walk_of b a p
+module _ (b : List ℕ) (a p : ℕ) {l : Result Head Refusal} (known : l ≡ load_of b) where
+  pub walk_refused : {w : Refusal} → l ≡ Err w → 0 ≡ walk_of b a p
   unfolding walk_of
   walk_refused e = rw (← known, e)
 
-  module _ {h : Head} (told : l ≡ Accepted h) where
+  module _ {h : Head} (told : l ≡ Ok h) where
     pub walk_no_active : h.actives ≤ a → 0 ≡ walk_of b a p
     unfolding walk_of
     walk_no_active k = rw (← known, told, le-ltb a h.actives k)

@@ -1,5 +1,7 @@
 -- The tables that an accepted Load lent are right: they give the plan of the bytes, walks can be swept with them, and
 -- the ports of its interfaces are ports.
+use Rattle.std.specs.Prelude.{Result, Ok}
+use Rattle.kinds.specs.declared.Refusal.{Refusal}
 use mathlib.Core.Path.{◌≡◌, sym, ap, ◌∙◌}
 use mathlib.Core.Bool.{false}
 use mathlib.Core.List.{List, []}
@@ -13,16 +15,14 @@ use Rattle.plan.specs.Tables.{table_plan}
 use Rattle.plan_routes.specs.Sides.{sides_of}
 use Rattle.load_arrivals.specs.Pairs.{Tables}
 use Rattle.load_arrivals.specs.Tables.{PortsIn}
-use Rattle.load.specs.declared.Loaded.{Loaded}
-use Rattle.load.specs.declared.Loaded.TheVariants.{Accepted}
 use Rattle.load.specs.Load.{load_of, load_routes, load_sides, Filled}
 use Rattle.load.specs.Rules.{passes, passed_wired}
 use Rattle.load.specs.Lent.{Lent, lent}
 use Rattle.load.proofs.Exits.{range_counts, tables_of, sweeps_ready}
 
-module _ {b : List ℕ} {h : Head} {l : Loaded} {routes : List (List ℕ)} {joints homes : List ℕ}
-    {lengths by : List (List ℕ)} (f : Filled b l routes joints homes lengths by) (told : l ≡ Accepted h) where
-  loads : load_of b ≡ Accepted h
+module _ {b : List ℕ} {h : Head} {l : Result Head Refusal} {routes : List (List ℕ)} {joints homes : List ℕ}
+    {lengths by : List (List ℕ)} (f : Filled b l routes joints homes lengths by) (told : l ≡ Ok h) where
+  loads : load_of b ≡ Ok h
   loads = sym f.answer ∙ told
 
   pub lent_right : Lent b h routes joints homes lengths

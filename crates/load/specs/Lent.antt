@@ -1,5 +1,7 @@
 -- What an accepted Load leaves in the lent tables: the plan of its bytes, and the port of each interface.
 use Rattle.std.specs.Prelude.{◌≡◌, Bool, true, false, List, [], ℕ, ◌*◌, ◌≤◌, ◌<◌, ltb, get_or, replicate}
+use Rattle.std.specs.Prelude.{Result, Ok}
+use Rattle.kinds.specs.declared.Refusal.{Refusal}
 use Rattle.std.proofs.Common.{sym, ap, ◌∙◌, arith, lt-ltb}
 use Rattle.std.proofs.lemmas.List.{length-replicate}
 use Rattle.basis.specs.Choice.{pick}
@@ -14,8 +16,6 @@ use Rattle.plan.specs.Tables.{interface_at, table_plan, homes_of, routes_of, joi
 use Rattle.load_arrivals.specs.Pairs.{pair_walk, lengths_of}
 use Rattle.plan_facts.proofs.Heads.{head_ok_lem}
 use Rattle.plan_facts.proofs.Tables.{table_plan_lem}
-use Rattle.load.specs.declared.Loaded.{Loaded}
-use Rattle.load.specs.declared.Loaded.TheVariants.{Accepted}
 use Rattle.load.specs.Load.{load_of, load_routes, load_joints, load_homes, load_lengths}
 use Rattle.load.specs.Rules.{passes}
 
@@ -27,13 +27,13 @@ pub record Lent (b : List ℕ) (h : Head) (routes : List (List ℕ)) (joints hom
   pub ports : homes ≡ homes_of (table_plan h routes joints)
   pub walks : lengths ≡ lengths_of (table_plan h routes joints)
 
-pub lent : (b : List ℕ) (t : List (List ℕ)) (j o : List ℕ) (u : List (List ℕ)) {h : Head} {l : Loaded}
+pub lent : (b : List ℕ) (t : List (List ℕ)) (j o : List ℕ) (u : List (List ℕ)) {h : Head} {l : Result Head Refusal}
     {routes : List (List ℕ)} {joints homes : List ℕ}
-    {lengths : List (List ℕ)} → l ≡ load_of b → l ≡ Accepted h
+    {lengths : List (List ℕ)} → l ≡ load_of b → l ≡ Ok h
     → routes ≡ load_routes b t (load_of b) → joints ≡ load_joints b j (load_of b) → homes ≡ load_homes b o (load_of b)
     → lengths ≡ load_lengths b u (load_of b) → Lent b h routes joints homes lengths
 lent b t j o u {h} {l} {routes} {joints} {homes} e a f g k m =
-    let accepted : load_of b ≡ Accepted h = sym e ∙ a in
+    let accepted : load_of b ≡ Ok h = sym e ∙ a in
     let p = passes b h accepted in
     let range : InRange (head_of b) = head_ok_lem (head_of b) p.0.ranges in
     let routed : routes ≡ routes_of b (head_of b) = f ∙ ap (load_routes b t) accepted ∙ ap (routes_of b) p.1 in

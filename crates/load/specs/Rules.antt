@@ -1,5 +1,6 @@
 -- Load accepts exactly the byte strings that obey every plan rule.
 use Rattle.std.specs.Prelude.{◌≡◌, refl, Bool, true, false, not, List, ℕ, ◌≤◌, ltb, length}
+use Rattle.std.specs.Prelude.{Result, Ok, Err}
 use Rattle.std.proofs.Common.{sym, ◌∙◌, true≢false, arith, ltb-false, le-ltb, eqb-true, eq-eqb}
 use Rattle.basis.specs.Choice.{pick, refuted}
 use Rattle.kinds.specs.declared.Refusal.{Refusal}
@@ -14,8 +15,6 @@ use Rattle.plan_facts.proofs.Fields.{fill_ok_lem, ok_fill, fields_ok_lem, ok_fie
 use Rattle.plan_facts.specs.Wired.{Wired}
 use Rattle.plan_facts.proofs.Wires.{wired, plan_match, match_plan}
 use Rattle.load_rings.proofs.Tests.{ring_test_lem, test_ring}
-use Rattle.load.specs.declared.Loaded.{Loaded}
-use Rattle.load.specs.declared.Loaded.TheVariants.{Accepted, Refused}
 use Rattle.load.specs.Load.{length_ok, joints_ok, load_of}
 
 -- every plan rule of document 01
@@ -41,16 +40,16 @@ not-true : (t : Bool) → not t ≡ false → t ≡ true
 not-true true e = refl
 not-true false e = absurd (true≢false e)
 
-refused_not : {h : Head} {w : Refusal} → Refused w ≡ Accepted h → ⊥
+refused_not : {h : Head} {w : Refusal} → Err w ≡ Ok h → ⊥
 refused_not e = let z : ◌≡◌ {A = ℕ} 0 1 = cc in omega arith
 
 -- a choice of a refusal or something else that is an acceptance took its second case
-past : {h : Head} (t : Bool) (w : Refusal) (y : Loaded) → pick t (Refused w) y ≡ Accepted h
-    → (t ≡ false) × (y ≡ Accepted h)
+past : {h : Head} (t : Bool) (w : Refusal) (y : Result Head Refusal) → pick t (Err w) y ≡ Ok h
+    → (t ≡ false) × (y ≡ Ok h)
 past true w y e = absurd (refused_not e)
 past false w y e = (refl, e)
 
-pub passes : (b : List ℕ) (h : Head) → load_of b ≡ Accepted h → Passes b × (h ≡ head_of b)
+pub passes : (b : List ℕ) (h : Head) → load_of b ≡ Ok h → Passes b × (h ≡ head_of b)
 unfolding load_of
 passes b h e =
     let p = past (ltb (length b) 6) _ _ e in
@@ -71,7 +70,7 @@ passes b h e =
       sym same,
     )
 
-pub accepts : (b : List ℕ) → Passes b → load_of b ≡ Accepted (head_of b)
+pub accepts : (b : List ℕ) → Passes b → load_of b ≡ Ok (head_of b)
 unfolding load_of
 accepts b p = rw (p.six, p.ranges, p.size, p.fields, p.joints, p.ringless)
 
@@ -111,8 +110,8 @@ passed_obeys b o =
     }
 
 -- Load accepts a byte string exactly if it obeys every plan rule
-pub accepted_obeys : (b : List ℕ) (h : Head) → load_of b ≡ Accepted h → Obeys b
+pub accepted_obeys : (b : List ℕ) (h : Head) → load_of b ≡ Ok h → Obeys b
 accepted_obeys b h e = obeys_passed b (passes b h e).0
 
-pub obeys_accepted : (b : List ℕ) → Obeys b → load_of b ≡ Accepted (head_of b)
+pub obeys_accepted : (b : List ℕ) → Obeys b → load_of b ≡ Ok (head_of b)
 obeys_accepted b o = accepts b (passed_obeys b o)

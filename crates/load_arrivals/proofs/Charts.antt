@@ -38,7 +38,7 @@ router_not v {n} {t} e q = by (eqb (v / 64) 2) (eqb (v / 64) 3) (rw e at q)
     by false true f = let k : ◌≡◌ {A = ℕ} 0 1 = cc in omega arith
     by false false f = let k : ◌≡◌ {A = ℕ} 0 1 = cc in omega arith
 
-next_router : (v : ℕ) {n t : ℕ} → joint_of_byte v ≡ Router n t → next_of v ≡ n
+pub next_router : (v : ℕ) {n t : ℕ} → joint_of_byte v ≡ Router n t → next_of v ≡ n
 unfolding joint_of_byte next_of
 next_router v {n} {t} q = by (test (eqb (v / 64) 1))
   where
@@ -49,7 +49,7 @@ next_router v {n} {t} q = by (test (eqb (v / 64) 1))
         same f = cc
     by (inr e) = absurd (router_not v e q)
 
-next_none : (v : ℕ) → ((n t : ℕ) → joint_of_byte v ≡ Router n t → ⊥) → next_of v ≡ 16
+pub next_none : (v : ℕ) → ((n t : ℕ) → joint_of_byte v ≡ Router n t → ⊥) → next_of v ≡ 16
 unfolding joint_of_byte next_of
 next_none v q = by (test (eqb (v / 64) 1))
   where

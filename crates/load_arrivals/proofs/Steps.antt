@@ -6,7 +6,8 @@ use mathlib.Core.List.{List, []}
 use Prim.Native.Nat.{ℕ, zero, ◌+◌, ◌/◌, ◌≤◌, ◌<◌}
 use native.Mathlib.Omega.{arith}
 use lib.Dec.{eqb}
-use lib.ListN.{get_or, set, length, length-set, replicate, length-replicate}
+use lib.ListN.{get_or, set, length, take, length-set, replicate, length-replicate}
+use Rattle.std.proofs.lemmas.List.{length-take-le}
 use lib.Seq.{get_or-set_same, get_or-set_other}
 use borrow.Author.Tests.{lt-ltb}
 use Rattle.basis.specs.Choice.{pick, test}
@@ -46,6 +47,18 @@ pub nears_done : (t homes : List ℕ) (actives : ℕ) {p n : ℕ} {z z₀ : List
 unfolding nears_of
 nears_done t homes actives b e f = e ∙ rw (b, f)
 
+-- ---- a loop over the first n of a table of m that are alike: its turns are below n, and its end is n
+module _ {A : Type 0} (n m : ℕ) (v : A) where
+  pub in_part : {k : ℕ} → n ≤ m → k < length (take n (replicate m v)) → k < n
+  in_part l h = rw (length-take-le n (replicate m v) (rw (length-replicate m v) l)) at h
+
+  pub part_end : {k : ℕ} → n ≤ m → length (take n (replicate m v)) ≤ k → k ≤ length (take n (replicate m v)) → k ≡ n
+  part_end {k} l h i =
+      let long = length-take-le n (replicate m v) (rw (length-replicate m v) l) in
+      let past : n ≤ k = rw long at h in
+      let within : k ≤ n = rw long at i in
+      omega (arith, past, within)
+
 -- ---- a turn of the loop over actives
 module _ (homes arrive : List ℕ) (h : Head) (all : ℕ) (up : List (List ℕ)) where
   pub choices_none : Choices homes arrive h all up 0 (replicate 16 0)
@@ -55,6 +68,14 @@ module _ (homes arrive : List ℕ) (h : Head) (all : ℕ) (up : List (List ℕ))
         (omega arith);
     none = λ a l. replicate_at 16 0 a;
   }
+
+  pub choices_start : {t : List ℕ} → t ≡ replicate 16 0 → Choices homes arrive h all up 0 t
+  choices_start e = rw e choices_none
+
+  -- the same table, written otherwise
+  pub choices_put : (n : ℕ) {t u : List ℕ} → t ≡ u → Choices homes arrive h all up (n + 1) t
+      → Choices homes arrive h all up (n + 1) u
+  choices_put n e s = rw (← e) s
 
   pub choices_more : (n : ℕ) {t : List ℕ} {w : ℕ} → n < 16 → Choices homes arrive h all up n t
       → Chosen homes arrive h all up n w → Choices homes arrive h all up (n + 1) (set t n w)

@@ -4,7 +4,8 @@ use Rattle.basis.specs.Choice.{pick}
 use Rattle.basis.specs.Fold.{up_to, fill}
 use Rattle.sets.specs.Sets.{has, single, both, either, less, below}
 use Rattle.plan.specs.declared.Head.{Head}
-use Rattle.plan.specs.Head.{destinations}
+use Rattle.plan.specs.declared.tables.PlanTables.{PlanTables}
+use Rattle.plan.specs.Head.{destinations, Counts}
 
 -- the router that a joint's byte leads to, or 16
 unfoldable pub next_of : ℕ → ℕ
@@ -20,6 +21,13 @@ PortsIn homes n = (d : ℕ) → d < n → get_or homes d 0 < 64
 -- walks arrive only from routers below n
 abbrev pub OnlyBelow : ℕ → List ℕ → Type 0
 OnlyBelow n arrive = (r d : ℕ) → n ≤ r → has (get_or arrive r 0) d ≡ false
+
+-- tables of a plan in range that walks can be swept with: each destination's port is one, and no router past the
+-- plan's has a destination
+abbrev pub Sweepable : Head → PlanTables → Type 0
+Sweepable h t =
+    Counts h × PortsIn t.homes (h.actives + h.passives)
+    × ((r o d : ℕ) → h.routers ≤ r → o < 4 → has (get_or (get_or t.by r []) o 0) d ≡ false)
 
 -- the set of port k's router, with d where the router's side for d is that port's
 unfoldable pub first_of : List (List ℕ) → ℕ → ℕ → ℕ → ℕ

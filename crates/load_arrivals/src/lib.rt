@@ -1,11 +1,13 @@
-// All walks of a plan at once: which routers they meet, and which pairs are served. How long they are: see lengths.
+// All walks of a plan at once: which routers they meet, and which pairs are served. How long they are: see
+// load_lengths.
 #![tactic(auto)]
 
 ghost use Rattle.std.specs.Prelude.{◌≡◌, ◌+◌, ◌*◌, ◌/◌, ◌%◌, ◌≤◌, ◌<◌, get_or, replicate};
 ghost use Rattle.plan.specs.Head.{Counts};
 ghost use Rattle.load_arrivals.specs.Tables.{next_of, nexts_of, PortsIn, first_of, firsts_of, far_of};
 
-use plan::Head;
+use plan::joints::joint_of;
+use plan::{Head, Joint};
 use sets::{below, both, either, less, single};
 
 // Which pairs are served.
@@ -16,18 +18,14 @@ pub mod tracks;
 // No router beyond a side.
 const NO_ROUTER: u8 = 16;
 
-// A byte as an index.
-fn index(x: u8) -> usize
-    ensures { result ≡ x }
-{
-    x as usize
-}
-
 // The router that a joint's byte leads to, or 16.
 fn next_of(v: u8) -> u8
     ensures { result ≡ next_of v }
 {
-    if v / 64 == 1 { v / 4 % 16 } else { NO_ROUTER }
+    match joint_of(v) {
+        Joint::Router(r, _) => r as u8,
+        _ => NO_ROUTER,
+    }
 }
 
 // The router beyond each port, or 16.
@@ -35,10 +33,9 @@ pub fn nexts(joints: &[u8; 64], routers: usize) -> [u8; 64]
     requires { routers ≤ 16 }
     ensures { result ≡ nexts_of joints.now routers }
 {
-    let n = 4 * routers;
     let mut t = [NO_ROUTER; 64];
-    for k in 0..n {
-        t[k] = next_of(joints[k]);
+    for (k, beyond) in t[..4 * routers].iter_mut().enumerate() {
+        *beyond = next_of(joints[k]);
     }
     t
 }
@@ -48,7 +45,7 @@ pub fn port(homes: &[u8; 32], d: usize, n: usize) -> usize
     requires { (d < n) × (n ≤ 32) × PortsIn homes.now n }
     ensures { (result ≡ get_or homes.now d 0) × (result < 64) }
 {
-    index(homes[d])
+    usize::from(homes[d])
 }
 
 // A router's set with the destination of one of its ports, where its side for the destination is that port's.

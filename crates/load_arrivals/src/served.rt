@@ -5,13 +5,15 @@ ghost use Rattle.basis.specs.Bounded.{all_below};
 ghost use Rattle.sets.specs.Sets.{has, single, either, less};
 ghost use Rattle.graph_met.specs.Trails.{Blank};
 ghost use Rattle.plan.specs.Head.{Counts};
-ghost use Rattle.load_arrivals.specs.Tables.{PortsIn, OnlyBelow};
+ghost use Rattle.load_arrivals.specs.Tables.{PortsIn, OnlyBelow, Sweepable};
 ghost use Rattle.load_arrivals.specs.Pairs.{at_home, at_homes, plain_of, Lacking, Sift, Chosen, Choices, Servings};
 
 use crate::tracks::tracks_in;
 use crate::{far_of, port};
 use plan::Head;
-use sets::{below, both, has, less, lowest, rest, with, without};
+use plan::tables::PlanTables;
+use sets::each::Members;
+use sets::{below, both, has, less, with, without};
 
 // A plan of few routers has at most so many.
 const FEW: usize = 4;
@@ -33,8 +35,8 @@ fn missing(arrive: &[u32; 32], routers: usize, a: usize) -> u32
     ensures { Lacking arrive.now a routers result }
 {
     let mut s = 0u32;
-    for r in 0..routers {
-        s = lack(s, r, has(arrive[r], a));
+    for (r, actives) in arrive[..routers].iter().enumerate() {
+        s = lack(s, r, has(*actives, a));
     }
     s
 }
@@ -52,11 +54,8 @@ fn sift(up: &[[u32; 32]], x: usize, v: u32, missing: u32) -> u32
     requires { (x < 16) × ((d : ℕ) → has v d ≡ true → x < length up.now) }
     ensures { Sift up.now x v missing result }
 {
-    let mut left = v;
     let mut w = v;
-    while left != 0 {
-        let d = lowest(left);
-        left = rest(left);
+    for d in Members::of(v) {
         w = kept(w, d, both(up[x][d], missing));
     }
     w
@@ -76,10 +75,9 @@ fn at_homes(arrive: &[u32; 32], homes: &[u8; 32], h: Head) -> [u32; 16]
     requires { Counts h × PortsIn homes.now (h.actives + h.passives) }
     ensures { result ≡ at_homes homes.now arrive.now h }
 {
-    let actives = h.actives;
     let mut t = [0u32; 16];
-    for a in 0..actives {
-        t[a] = at_home(arrive, homes, h, a);
+    for (a, passives) in t[..h.actives].iter_mut().enumerate() {
+        *passives = at_home(arrive, homes, h, a);
     }
     t
 }
@@ -100,12 +98,7 @@ fn plains(all: u32, t: &[u32; 16], actives: usize) -> bool
     requires { actives ≤ 16 }
     ensures { result ≡ all_below actives (λ a. plain_of all a (get_or t.now a 0)) }
 {
-    for a in 0..actives {
-        if !plain(all, a, t[a]) {
-            return false;
-        }
-    }
-    true
+    (0..actives).all(|a| plain(all, a, t[a]))
 }
 
 // The passives that an active is served with, by the words of all walks.
@@ -128,10 +121,9 @@ fn sifts(up: &[[u32; 32]], homes: &[u8; 32], arrive: &[u32; 32], h: Head, all: u
         × OnlyBelow h.routers arrive.now × (h.routers ≤ length up.now) }
     ensures { Choices homes.now arrive.now h all up.now h.actives result }
 {
-    let actives = h.actives;
     let mut t = [0u32; 16];
-    for a in 0..actives {
-        t[a] = serve(up, homes, arrive, h, all, a);
+    for (a, passives) in t[..h.actives].iter_mut().enumerate() {
+        *passives = serve(up, homes, arrive, h, all, a);
     }
     t
 }
@@ -140,120 +132,56 @@ fn sifts(up: &[[u32; 32]], homes: &[u8; 32], arrive: &[u32; 32], h: Head, all: u
 fn sifted_in(
     up: &mut [[u32; 32]],
     h: Head,
-    joints: &[u8; 64],
-    homes: &[u8; 32],
-    by: &[[u32; 4]; 16],
+    t: &PlanTables,
     arrive: &[u32; 32],
     all: u32,
 ) -> [u32; 16]
-    requires { Counts h × PortsIn homes.now (h.actives + h.passives)
-        × ((r o d : ℕ) → h.routers ≤ r → o < 4 → has (get_or (get_or by.now r []) o 0) d ≡ false)
-        × OnlyBelow h.routers arrive.now × (h.routers ≤ length up.old) × Blank up.old }
-    ensures { Servings by.now joints.now homes.now arrive.now
-        h all h.actives result }
+    requires { Sweepable h t.now × OnlyBelow h.routers arrive.now × (h.routers ≤ length up.old) × Blank up.old }
+    ensures { Servings t.now.by t.now.joints t.now.homes arrive.now h all h.actives result }
 {
-    tracks_in(h, joints, homes, by, up);
-    sifts(up, homes, arrive, h, all)
+    tracks_in(h, &t.joints, &t.homes, &t.by, up);
+    sifts(up, &t.homes, arrive, h, all)
 }
 
-// The same in a plan of few routers.
-fn sifted_few(
-    h: Head,
-    joints: &[u8; 64],
-    homes: &[u8; 32],
-    by: &[[u32; 4]; 16],
-    arrive: &[u32; 32],
-    all: u32,
-) -> [u32; 16]
-    requires { Counts h × PortsIn homes.now (h.actives + h.passives)
-        × ((r o d : ℕ) → h.routers ≤ r → o < 4 → has (get_or (get_or by.now r []) o 0) d ≡ false)
-        × OnlyBelow h.routers arrive.now × (h.routers ≤ 4) }
-    ensures { Servings by.now joints.now homes.now arrive.now
-        h all h.actives result }
+// The same in a plan of at most N routers.
+fn sifted_by<const N: usize>(h: Head, t: &PlanTables, arrive: &[u32; 32], all: u32) -> [u32; 16]
+    requires { Sweepable h t.now × OnlyBelow h.routers arrive.now × (h.routers ≤ N) × (N ≤ 16) }
+    ensures { Servings t.now.by t.now.joints t.now.homes arrive.now h all h.actives result }
 {
-    let mut up = [[0u32; 32]; FEW];
-    sifted_in(&mut up, h, joints, homes, by, arrive, all)
+    let mut up = [[0u32; 32]; N];
+    sifted_in(&mut up, h, t, arrive, all)
 }
 
-// The same in any plan.
-fn sifted_many(
-    h: Head,
-    joints: &[u8; 64],
-    homes: &[u8; 32],
-    by: &[[u32; 4]; 16],
-    arrive: &[u32; 32],
-    all: u32,
-) -> [u32; 16]
-    requires { Counts h × PortsIn homes.now (h.actives + h.passives)
-        × ((r o d : ℕ) → h.routers ≤ r → o < 4 → has (get_or (get_or by.now r []) o 0) d ≡ false)
-        × OnlyBelow h.routers arrive.now }
-    ensures { Servings by.now joints.now homes.now arrive.now
-        h all h.actives result }
-{
-    let mut up = [[0u32; 32]; MOST];
-    sifted_in(&mut up, h, joints, homes, by, arrive, all)
-}
-
-// The same; the table of words is as large as the plan needs.
-fn sifted(
-    h: Head,
-    joints: &[u8; 64],
-    homes: &[u8; 32],
-    by: &[[u32; 4]; 16],
-    arrive: &[u32; 32],
-    all: u32,
-) -> [u32; 16]
-    requires { Counts h × PortsIn homes.now (h.actives + h.passives)
-        × ((r o d : ℕ) → h.routers ≤ r → o < 4 → has (get_or (get_or by.now r []) o 0) d ≡ false)
-        × OnlyBelow h.routers arrive.now }
-    ensures { Servings by.now joints.now homes.now arrive.now
-        h all h.actives result }
+// The same in any plan; the table of words is as large as the plan needs.
+fn sifted(h: Head, t: &PlanTables, arrive: &[u32; 32], all: u32) -> [u32; 16]
+    requires { Sweepable h t.now × OnlyBelow h.routers arrive.now }
+    ensures { Servings t.now.by t.now.joints t.now.homes arrive.now h all h.actives result }
 {
     if h.routers <= FEW {
-        return sifted_few(h, joints, homes, by, arrive, all);
+        return sifted_by::<FEW>(h, t, arrive, all);
     }
-    sifted_many(h, joints, homes, by, arrive, all)
+    sifted_by::<MOST>(h, t, arrive, all)
 }
 
 // By active: the passives that it is served with. The words of the walks are made only where some active needs them.
-fn needed(
-    h: Head,
-    joints: &[u8; 64],
-    homes: &[u8; 32],
-    by: &[[u32; 4]; 16],
-    arrive: &[u32; 32],
-    all: u32,
-) -> [u32; 16]
-    requires { Counts h × PortsIn homes.now (h.actives + h.passives)
-        × ((r o d : ℕ) → h.routers ≤ r → o < 4 → has (get_or (get_or by.now r []) o 0) d ≡ false)
-        × OnlyBelow h.routers arrive.now }
-    ensures { Servings by.now joints.now homes.now arrive.now
-        h all h.actives result }
+fn needed(h: Head, t: &PlanTables, arrive: &[u32; 32], all: u32) -> [u32; 16]
+    requires { Sweepable h t.now × OnlyBelow h.routers arrive.now }
+    ensures { Servings t.now.by t.now.joints t.now.homes arrive.now h all h.actives result }
 {
-    let t = at_homes(arrive, homes, h);
-    if plains(all, &t, h.actives) {
-        return t;
+    let w = at_homes(arrive, &t.homes, h);
+    if plains(all, &w, h.actives) {
+        return w;
     }
-    sifted(h, joints, homes, by, arrive, all)
+    sifted(h, t, arrive, all)
 }
 
 // The same; where all routers have a way back to all actives nothing is left to be asked.
-pub fn serves(
-    h: Head,
-    joints: &[u8; 64],
-    homes: &[u8; 32],
-    by: &[[u32; 4]; 16],
-    arrive: &[u32; 32],
-    all: u32,
-) -> [u32; 16]
-    requires { Counts h × PortsIn homes.now (h.actives + h.passives)
-        × ((r o d : ℕ) → h.routers ≤ r → o < 4 → has (get_or (get_or by.now r []) o 0) d ≡ false)
-        × OnlyBelow h.routers arrive.now }
-    ensures { Servings by.now joints.now homes.now arrive.now
-        h all h.actives result }
+pub fn serves(h: Head, t: &PlanTables, arrive: &[u32; 32], all: u32) -> [u32; 16]
+    requires { Sweepable h t.now × OnlyBelow h.routers arrive.now }
+    ensures { Servings t.now.by t.now.joints t.now.homes arrive.now h all h.actives result }
 {
     if less(below(h.actives), all) == 0 {
-        return at_homes(arrive, homes, h);
+        return at_homes(arrive, &t.homes, h);
     }
-    needed(h, joints, homes, by, arrive, all)
+    needed(h, t, arrive, all)
 }

@@ -1,2 +1,3 @@
 pub mod Start
 pub mod Sound
+pub mod Rows

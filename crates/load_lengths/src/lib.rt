@@ -2,25 +2,33 @@
 // their walks are.
 #![tactic(auto)]
 
-ghost use Rattle.std.specs.Prelude.{◌≡◌, false, [], ℕ, ◌+◌, ◌≤◌, ◌<◌, get_or, replicate};
-ghost use Rattle.basis.specs.Choice.{pick};
-ghost use Rattle.sets.specs.Sets.{has};
+ghost use Rattle.std.specs.Prelude.{◌≡◌, List, [], ℕ, ◌+◌, ◌≤◌, ◌<◌, get_or, replicate};
 ghost use Rattle.plan.specs.Head.{Counts};
-ghost use Rattle.load_arrivals.specs.Pairs.{copy_of, mask_of, length_of, lengths_by, Walks};
-ghost use Rattle.load_arrivals.specs.Tables.{PortsIn, near_of, nears_of};
+ghost use Rattle.load_arrivals.specs.Pairs.{mask_of, length_of, lengths_by, Walks};
+ghost use Rattle.load_arrivals.specs.Tables.{PortsIn, Sweepable, near_of, nears_of};
 
 use graph_reach::Span;
 use load_arrivals::served::serves;
 use load_arrivals::{far_of, firsts, nexts, port};
 use plan::Head;
+use plan::tables::PlanTables;
 use sets::{below, both, has};
+
+// Of all walks of a plan: where they arrive, by router; the pairs that are served, by active; and how long their walks
+// are, by active and passive, else 0.
+#[derive(Drop)]
+pub struct Walked {
+    pub arrive: [u32; 32],
+    pub served: [u32; 16],
+    pub lengths: [[u8; 16]; 16],
+}
 
 // 1 where a destination is one step away, else 0.
 fn near_of(s: u32, d: usize) -> u8
     requires { d < 32 }
     ensures { result ≡ near_of s d }
 {
-    if has(s, d) { 1 } else { 0 }
+    u8::from(has(s, d))
 }
 
 // By router and passive: 1 where the passive is one step away.
@@ -35,46 +43,27 @@ fn nears(t: &[u32; 32], homes: &[u8; 32], actives: usize, passives: usize, z: &m
     }
 }
 
-// A router's sizes.
-fn copied(z: &[[u8; 16]; 17], x: usize) -> [u8; 16]
-    requires { x < 17 }
-    ensures { result ≡ copy_of z.now x }
-{
-    let mut t = [0u8; 16];
-    for p in 0..16 {
-        t[p] = z[x][p];
-    }
-    t
-}
-
-// A size, or 0.
-fn size_if(served: bool, size: u8) -> u8
-    ensures { result ≡ pick served size 0 }
-{
-    if served { size } else { 0 }
-}
-
 // A router's sizes for the passives of a set, else 0.
-fn masked(z: &[[u8; 16]; 17], x: usize, w: u32, column: usize) -> [u8; 16]
-    requires { (x < 17) × (column ≤ 16) }
-    ensures { result ≡ mask_of z.now x w column }
+fn masked(sizes: &[u8; 16], w: u32, column: usize) -> [u8; 16]
+    requires { column ≤ 16 }
+    ensures { (z : List (List ℕ)) (x : ℕ) → sizes.now ≡ get_or z x [] → result ≡ mask_of z x w column }
 {
     let mut t = [0u8; 16];
-    for p in 0..16 {
-        t[p] = size_if(has(w, column + p), z[x][p]);
+    for (p, size) in t.iter_mut().enumerate() {
+        *size = if has(w, column + p) { sizes[p] } else { 0 };
     }
     t
 }
 
-// The lengths of the walks of an active at router x that is served with w, where its walks arrive at v.
-fn length_row(z: &[[u8; 16]; 17], x: usize, w: u32, v: u32, column: usize) -> [u8; 16]
-    requires { (x < 17) × (column ≤ 16) }
-    ensures { result ≡ length_of z.now x w v column }
+// The lengths of the walks of an active at a router of these sizes that is served with w, where its walks arrive at v.
+fn length_row(sizes: &[u8; 16], w: u32, v: u32, column: usize) -> [u8; 16]
+    requires { column ≤ 16 }
+    ensures { (z : List (List ℕ)) (x : ℕ) → sizes.now ≡ get_or z x [] → result ≡ length_of z x w v column }
 {
     if w == v {
-        return copied(z, x);
+        return *sizes;
     }
-    masked(z, x, w, column)
+    masked(sizes, w, column)
 }
 
 // By active and passive: the length of a served pair's walk, else 0.
@@ -84,51 +73,43 @@ fn lengths_of(
     served: &[u32; 16],
     homes: &[u8; 32],
     h: Head,
-    t: &mut [[u8; 16]; 16],
-)
-    requires { Counts h × PortsIn homes.now (h.actives + h.passives) × (t.old ≡ replicate 16 (replicate 16 0)) }
-    ensures { t.new
-        ≡ lengths_by z.now arrive.now served.now homes.now h }
+) -> [[u8; 16]; 16]
+    requires { Counts h × PortsIn homes.now (h.actives + h.passives) }
+    ensures { result ≡ lengths_by z.now arrive.now served.now homes.now h }
 {
     let n = h.actives + h.passives;
-    let actives = h.actives;
     let far = far_of(h);
-    for a in 0..actives {
+    let mut t = [[0u8; 16]; 16];
+    for (a, row) in t[..h.actives].iter_mut().enumerate() {
         let x = port(homes, a, n) / 4;
-        t[a] = length_row(z, x, served[a], both(arrive[x], far), actives);
+        *row = length_row(&z[x], served[a], both(arrive[x], far), h.actives);
     }
+    t
 }
 
-// All walks: where they arrive, by router; how long those of served pairs are, by active and passive; and which pairs
-// are served, by active. Both lent tables are filled in place.
-pub fn walks(
-    h: Head,
-    routes: &[[u8; 32]; 16],
-    joints: &[u8; 64],
-    homes: &[u8; 32],
-    by: &[[u32; 4]; 16],
-    arrive: &mut [u32; 32],
-    lengths: &mut [[u8; 16]; 16],
-) -> [u32; 16]
-    requires { Counts h × PortsIn homes.now (h.actives + h.passives)
-        × ((r o d : ℕ) → h.routers ≤ r → o < 4 → has (get_or (get_or by.now r []) o 0) d ≡ false)
-        × (arrive.old ≡ replicate 32 0) × (lengths.old ≡ replicate 16 (replicate 16 0)) }
-    ensures { Walks h routes.now joints.now homes.now by.now
-        arrive.new lengths.new result }
+// All walks of a plan whose tables, but for the lengths, are filled.
+pub fn walks(h: Head, t: &PlanTables) -> Walked
+    requires { Sweepable h t.now }
+    ensures { Walks h t.now.routes t.now.joints t.now.homes t.now.by result.arrive result.lengths result.served }
 {
     let n = h.actives + h.passives;
-    let next = nexts(joints, h.routers);
-    firsts(by, homes, n, arrive);
+    let next = nexts(&t.joints, h.routers);
+    let mut arrive = [0u32; 32];
+    firsts(&t.by, &t.homes, n, &mut arrive);
     let mut z = [[0u8; 16]; 17];
-    nears(arrive, homes, h.actives, h.passives, &mut z);
+    nears(&arrive, &t.homes, h.actives, h.passives, &mut z);
     let s = Span {
         routers: h.routers,
         all: below(n),
         sized: far_of(h),
         column: h.actives,
     };
-    let all = graph_reach::reach(by, &next, routes, s, arrive, &mut z);
-    let w = serves(h, joints, homes, by, arrive, all);
-    lengths_of(&z, arrive, &w, homes, h, lengths);
-    w
+    let all = graph_reach::reach(&t.by, &next, &t.routes, s, &mut arrive, &mut z);
+    let served = serves(h, t, &arrive, all);
+    let lengths = lengths_of(&z, &arrive, &served, &t.homes, h);
+    Walked {
+        arrive,
+        served,
+        lengths,
+    }
 }

@@ -14,12 +14,15 @@ ghost use Rattle.load_rings.specs.RingTest.{trail_edge, hand_edge, has_ring};
 ghost use Rattle.load_rings.specs.Told.{Told};
 
 use plan::Head;
+use plan::tables::PlanTables;
 
 // A plan of few routers has at most so many.
 const FEW: usize = 4;
 
-// The most routers.
-const MOST: usize = 16;
+// How many crossings of a link with the next such a plan has at most, and any plan: sixteen to a router.
+const FEW_CROSSINGS: usize = 64;
+
+const CROSSINGS: usize = 256;
 
 // Whether what routers have might go round, by the routers that it goes on to: a quick look.
 fn routers_ring(by: &[[u32; 4]; 16], joints: &[u8; 64], used: &[u32; 32], n: usize) -> bool
@@ -45,148 +48,92 @@ fn trails_ring(by: &[[u32; 4]; 16], joints: &[u8; 64], used: &[u32; 32], n: usiz
 }
 
 // Whether walks of served pairs go round.
-fn walks_ring(
-    by: &[[u32; 4]; 16],
-    joints: &[u8; 64],
-    homes: &[u8; 32],
-    served: &[u32; 16],
-    h: Head,
-) -> bool
+fn walks_ring(h: Head, t: &PlanTables, served: &[u32; 16]) -> bool
     requires { Counts h }
     ensures { (pl : Plan) (arrive : List ℕ)
-        → Told pl h by.now joints.now homes.now arrive served.now
+        → Told pl h t.now.by t.now.joints t.now.homes arrive served.now
         → result ≡ ring_test (4 * R pl) (trail_edge pl) }
 {
     let n = h.routers;
     let mut used = [0u32; 32];
-    graph_links::starts::carried(by, joints, homes, served, n, h.actives, &mut used);
-    if !routers_ring(by, joints, &used, n) {
+    graph_links::starts::carried(&t.by, &t.joints, &t.homes, served, n, h.actives, &mut used);
+    if !routers_ring(&t.by, &t.joints, &used, n) {
         return false;
     }
-    trails_ring(by, joints, &used, n)
+    trails_ring(&t.by, &t.joints, &used, n)
 }
 
 // Whether answers might go round, if every router sent some to each served active that it reaches: a quick look.
-fn links_ring(
-    by: &[[u32; 4]; 16],
-    joints: &[u8; 64],
-    arrive: &[u32; 32],
-    served: &[u32; 16],
-    h: Head,
-) -> bool
+fn links_ring(h: Head, t: &PlanTables, arrive: &[u32; 32], served: &[u32; 16]) -> bool
     requires { Counts h }
     ensures { (pl : Plan) (homes : List ℕ)
-        → Told pl h by.now joints.now homes arrive.now served.now
+        → Told pl h t.now.by t.now.joints homes arrive.now served.now
         → result ≡ false → ring_test (16 * R pl) (hand_edge pl) ≡ false }
 {
     let n = h.routers;
     let live = graph_links::starts::live(served, h.actives);
     let mut gone = [0u32; 64];
-    graph_links::leaves(by, arrive, live, n, &mut gone);
+    graph_links::leaves(&t.by, arrive, live, n, &mut gone);
     let mut to = [0u64; 64];
-    let some = graph_next::links(&gone, joints, 4 * n, &mut to);
+    let some = graph_next::links(&gone, &t.joints, 4 * n, &mut to);
     graph_ring::words::has_ring(&to, 4 * n, some)
 }
 
 // Whether answers go round; the crossings are put into a lent table, sixteen to a router.
-fn answers_round(
-    by: &[[u32; 4]; 16],
-    joints: &[u8; 64],
-    homes: &[u8; 32],
-    served: &[u32; 16],
-    h: Head,
-    cells: &mut [u32],
-) -> bool
+fn answers_round(h: Head, t: &PlanTables, served: &[u32; 16], cells: &mut [u32]) -> bool
     requires { Counts h × (16 * h.routers ≤ length cells.old) }
     ensures { (pl : Plan) (arrive : List ℕ)
-        → Told pl h by.now joints.now homes.now arrive served.now
+        → Told pl h t.now.by t.now.joints t.now.homes arrive served.now
         → result ≡ ring_test (16 * R pl) (hand_edge pl) }
 {
     let n = h.routers;
     let mut sent = [0u32; 32];
-    graph_links::starts::answers(by, joints, homes, served, n, h.actives, &mut sent);
+    graph_links::starts::answers(&t.by, &t.joints, &t.homes, served, n, h.actives, &mut sent);
     let mut gone = [0u32; 64];
-    graph_links::leaves(by, &sent, sets::below(32), n, &mut gone);
-    graph_links::cross_cells(&gone, joints, 16 * n, cells);
+    graph_links::leaves(&t.by, &sent, sets::below(32), n, &mut gone);
+    graph_links::cross_cells(&gone, &t.joints, 16 * n, cells);
     graph_ring::has_ring(cells, 4 * n)
 }
 
-// The same in a plan of few routers.
-fn answers_few(
-    by: &[[u32; 4]; 16],
-    joints: &[u8; 64],
-    homes: &[u8; 32],
-    served: &[u32; 16],
-    h: Head,
-) -> bool
-    requires { Counts h × (h.routers ≤ 4) }
+// The same with a table of N crossings, in a plan that has no more.
+fn answers_by<const N: usize>(h: Head, t: &PlanTables, served: &[u32; 16]) -> bool
+    requires { Counts h × (16 * h.routers ≤ N) × (N ≤ 256) }
     ensures { (pl : Plan) (arrive : List ℕ)
-        → Told pl h by.now joints.now homes.now arrive served.now
+        → Told pl h t.now.by t.now.joints t.now.homes arrive served.now
         → result ≡ ring_test (16 * R pl) (hand_edge pl) }
 {
-    let mut cells = [0u32; 16 * FEW];
-    answers_round(by, joints, homes, served, h, &mut cells)
+    let mut cells = [0u32; N];
+    answers_round(h, t, served, &mut cells)
 }
 
-// The same in any plan.
-fn answers_many(
-    by: &[[u32; 4]; 16],
-    joints: &[u8; 64],
-    homes: &[u8; 32],
-    served: &[u32; 16],
-    h: Head,
-) -> bool
+// The same in any plan; the table is as large as the plan needs.
+fn answers_ring(h: Head, t: &PlanTables, served: &[u32; 16]) -> bool
     requires { Counts h }
     ensures { (pl : Plan) (arrive : List ℕ)
-        → Told pl h by.now joints.now homes.now arrive served.now
-        → result ≡ ring_test (16 * R pl) (hand_edge pl) }
-{
-    let mut cells = [0u32; 16 * MOST];
-    answers_round(by, joints, homes, served, h, &mut cells)
-}
-
-// The same; the table is as large as the plan needs.
-fn answers_ring(
-    by: &[[u32; 4]; 16],
-    joints: &[u8; 64],
-    homes: &[u8; 32],
-    served: &[u32; 16],
-    h: Head,
-) -> bool
-    requires { Counts h }
-    ensures { (pl : Plan) (arrive : List ℕ)
-        → Told pl h by.now joints.now homes.now arrive served.now
+        → Told pl h t.now.by t.now.joints t.now.homes arrive served.now
         → result ≡ ring_test (16 * R pl) (hand_edge pl) }
 {
     if h.routers <= FEW {
-        return answers_few(by, joints, homes, served, h);
+        return answers_by::<FEW_CROSSINGS>(h, t, served);
     }
-    answers_many(by, joints, homes, served, h)
+    answers_by::<CROSSINGS>(h, t, served)
 }
 
 // Whether some queues feed each other in a ring, for tables that tell what a plan says.
-pub fn ring_found(
-    by: &[[u32; 4]; 16],
-    joints: &[u8; 64],
-    homes: &[u8; 32],
-    arrive: &[u32; 32],
-    served: &[u32; 16],
-    h: Head,
-) -> bool
+pub fn ring_found(h: Head, t: &PlanTables, arrive: &[u32; 32], served: &[u32; 16]) -> bool
     requires { Counts h }
     ensures { (pl : Plan)
-        → Told pl h by.now joints.now homes.now arrive.now
-        served.now
+        → Told pl h t.now.by t.now.joints t.now.homes arrive.now served.now
         → result ≡ has_ring pl }
 {
     if h.routers == 1 {
         return false;
     }
-    if walks_ring(by, joints, homes, served, h) {
+    if walks_ring(h, t, served) {
         return true;
     }
-    if links_ring(by, joints, arrive, served, h) {
-        return answers_ring(by, joints, homes, served, h);
+    if links_ring(h, t, arrive, served) {
+        return answers_ring(h, t, served);
     }
     false
 }

@@ -2,88 +2,72 @@
 // The plans and the numbers are those of the Rust model (rust/model, example plans).
 #![tactic(auto)]
 
-ghost use Rattle.std.specs.Prelude.{◌≡◌, ◌*◌, ◌≤◌, ◌<◌};
-ghost use Rattle.plan.specs.Head.{Counts};
+use plan::tables::PlanTables;
+use std::io;
 
-use kinds::Hub;
-use load::Loaded;
-use plan::Head;
-
-// Writes a text.
-fn say(text: &[u8]) {
-    io::write_all(1, text);
-}
-
-// Writes a number.
-fn number(n: usize) {
-    io::print_decimal(1, n as u64);
-}
-
-// 1 for a pair with a walk, else 0.
-fn one(walk: Hub) -> usize
-    ensures { result ≤ 1 }
-{
-    if walk.0 == 0 { 0 } else { 1 }
-}
-
-// How many pairs of an active are served.
-fn served_of(lengths: &[[u8; 16]; 16], h: Head, a: usize) -> usize
-    requires { Counts h × (a < h.actives) }
-    ensures { result ≤ 16 }
-{
-    let passives = h.passives;
-    let mut n: usize = 0;
-    for p in 0..passives {
-        n += one(load::pair_walk(lengths, a, p));
-    }
-    n
-}
-
-// How many pairs are served.
-fn served(lengths: &[[u8; 16]; 16], h: Head) -> usize
-    requires { Counts h }
-{
-    let actives = h.actives;
-    let mut n: usize = 0;
-    for a in 0..actives {
-        n += served_of(lengths, h, a);
-    }
-    n
-}
-
-// Writes a plan's name, Load's number for its bytes, and of a plan that loads the pairs served.
-fn run(name: &[u8], plan: &[u8]) {
-    let mut routes = [[7u8; 32]; 16];
-    let mut joints = [0u8; 64];
-    let mut homes = [0u8; 32];
-    let mut lengths = [[0u8; 16]; 16];
-    let mut by = [[0u32; 4]; 16];
-    say(name);
-    say(b" ");
-    let l = load::load(
-        plan,
-        &mut routes,
-        &mut joints,
-        &mut homes,
-        &mut lengths,
-        &mut by,
-    );
-    number(load::load_number(l) as usize);
-    let Loaded::Accepted(h) = l else {
-        say(b"\n");
-        return;
-    };
-    say(b", ");
-    number(served(&lengths, h));
-    say(b" of ");
-    number(h.actives * h.passives);
-    say(b" pairs served\n");
-}
-
-// The largest plan: 262 bytes, every pair served.
-fn largest() {
-    run(
-        b"largest",
+// The plans, each with its name.
+const PLANS: [(&str, &[u8]); 44] = [
+    // Plans that load, every pair served.
+    ("t", b"\x08\x42\x11\x24\x92\x4c\x06\x00\x00\x00\x20"),
+    (
+        "two-routers",
+        b"\x10\x42\x21\x24\x92\x4c\x02\x20\x00\x02\x0e\x00\x00\x00\x20\x80",
+    ),
+    (
+        "declining",
+        b"\x10\x82\x21\x24\x92\x4c\x02\x20\x00\x02\x0e\x04\x20\x00\x24\x22",
+    ),
+    (
+        "four-routers",
+        b"\x20\xc6\x42\x45\x14\x8a\x3a\x5a\x7c\x44\x04\x20\x02\x06\x06\x20\x02\x0e\x40\x00\x02\x10\x0c\x94\x0b\x6d\
+        \xb6\xc1\x6d\xb6\xc0",
+    ),
+    (
+        "parallel-joints",
+        b"\x10\x42\x19\x24\x92\x4a\x32\x3c\x00\x06\x00\x02\x02\x0a\x0c\x00",
+    ),
+    // Plans on which set-ups cross both ways: they load since request (i).
+    (
+        "crossing",
+        b"\x10\x84\x11\x24\x92\x4a\x28\x04\x06\x00\x02\x04\x26\x22\x0c\x14\x58",
+    ),
+    (
+        "crossing-sixteen",
+        b"\x80\x85\x07\xff\xff\xfa\x28\x04\x06\x02\x4a\x00\x00\x02\x6a\x20\x00\x02\x8a\x40\x00\x02\xaa\x60\x00\x02\
+        \xca\x80\x00\x02\xea\xa0\x00\x03\x0a\xc0\x00\x03\x2a\xe0\x00\x03\x4b\x00\x00\x03\x6b\x20\x00\x03\x8b\x40\
+        \x00\x03\xab\x60\x00\x03\xcb\x80\x00\x03\xeb\xa0\x00\x00\x03\xc4\x26\x22\x0c\x10\x41\x04\x10\x41\x04\x10\
+        \x41\x04\x10\x41\x04\x10\x41\x04\x10\x41\x04\x10\x41\x04\x14\x58",
+    ),
+    // Plans that load, some pairs or all of them not served.
+    (
+        "unserved-pairs",
+        b"\x20\xc6\x42\x45\x14\x8a\x3a\x5a\x7c\x44\x04\x20\x02\x06\x06\x20\x02\x0e\x40\x00\x02\x10\x0c\x9e\x8b\x6d\
+        \xb6\xc1\x6d\xb6\xc0",
+    ),
+    (
+        "way-back-missing",
+        b"\x10\x42\x21\x24\x92\x4c\x02\x20\x00\x02\x0e\x00\x00\x00\x3c\x80",
+    ),
+    (
+        "walk-in-a-circle",
+        b"\x10\x42\x21\x24\x92\x4c\x02\x20\x00\x02\x0e\x00\x00\x00\x20\x00",
+    ),
+    (
+        "no-served-pair",
+        b"\x10\x84\x11\x24\x92\x4a\x28\x04\x06\x00\x02\x04\x26\x22\x1f\x95\xf8",
+    ),
+    (
+        "one-way-of-crossing",
+        b"\x10\x84\x11\x24\x92\x4a\x28\x04\x06\x00\x02\x04\x26\x22\x0c\x15\xd8",
+    ),
+    (
+        "answers-around-without-ring",
+        b"\x28\x84\x21\x24\x92\x4a\x2a\x84\x00\x02\x4a\x06\x00\x02\x6a\x24\x20\x02\x8a\x46\x20\x02\x0a\x60\x00\x02\
+        \x03\x80\xb8\x5c\x01\xd0\x1f\x80",
+    ),
+    // The largest plan: 262 bytes, every pair served.
+    (
+        "largest",
         b"\x84\x21\x07\xff\xff\xfa\x28\x04\x04\x22\x4a\x04\x44\x62\x6a\x24\x84\xa2\x8a\x44\xc4\xe2\xaa\x65\x05\x22\
         \xca\x85\x45\x62\xea\xa5\x85\xa3\x0a\xc5\xc5\xe3\x2a\xe6\x06\x23\x4b\x06\x46\x63\x6b\x26\x86\xa3\x8b\x46\
         \xc6\xe3\xab\x67\x07\x23\xcb\x87\x47\x63\xeb\xa7\x87\xa0\x03\xc7\xc7\xe2\x60\x00\x00\x00\x00\x00\x00\x00\
@@ -95,204 +79,133 @@ fn largest() {
         \x24\x92\x98\x00\x00\x01\x24\x92\x49\x24\x92\x49\x24\x92\x4a\x60\x00\x01\x24\x92\x49\x24\x92\x49\x24\x92\
         \x49\x29\x80\x01\x24\x92\x49\x24\x92\x49\x24\x92\x49\x24\xa6\x01\x24\x92\x49\x24\x92\x49\x24\x92\x49\x24\
         \x92\x98",
-    );
-}
-
-// Plans that load, every pair served.
-fn loadable() {
-    run(b"t", b"\x08\x42\x11\x24\x92\x4c\x06\x00\x00\x00\x20");
-    run(
-        b"two-routers",
-        b"\x10\x42\x21\x24\x92\x4c\x02\x20\x00\x02\x0e\x00\x00\x00\x20\x80",
-    );
-    run(
-        b"declining",
-        b"\x10\x82\x21\x24\x92\x4c\x02\x20\x00\x02\x0e\x04\x20\x00\x24\x22",
-    );
-    run(
-        b"four-routers",
-        b"\x20\xc6\x42\x45\x14\x8a\x3a\x5a\x7c\x44\x04\x20\x02\x06\x06\x20\x02\x0e\x40\x00\x02\x10\x0c\x94\x0b\x6d\
-        \xb6\xc1\x6d\xb6\xc0",
-    );
-    run(
-        b"parallel-joints",
-        b"\x10\x42\x19\x24\x92\x4a\x32\x3c\x00\x06\x00\x02\x02\x0a\x0c\x00",
-    );
-}
-
-// Plans on which set-ups cross both ways: they load since request (i).
-fn crossing() {
-    run(
-        b"crossing",
-        b"\x10\x84\x11\x24\x92\x4a\x28\x04\x06\x00\x02\x04\x26\x22\x0c\x14\x58",
-    );
-    run(
-        b"crossing-sixteen",
-        b"\x80\x85\x07\xff\xff\xfa\x28\x04\x06\x02\x4a\x00\x00\x02\x6a\x20\x00\x02\x8a\x40\x00\x02\xaa\x60\x00\x02\
-        \xca\x80\x00\x02\xea\xa0\x00\x03\x0a\xc0\x00\x03\x2a\xe0\x00\x03\x4b\x00\x00\x03\x6b\x20\x00\x03\x8b\x40\
-        \x00\x03\xab\x60\x00\x03\xcb\x80\x00\x03\xeb\xa0\x00\x00\x03\xc4\x26\x22\x0c\x10\x41\x04\x10\x41\x04\x10\
-        \x41\x04\x10\x41\x04\x10\x41\x04\x10\x41\x04\x10\x41\x04\x14\x58",
-    );
-}
-
-// Plans that load, some pairs or all of them not served.
-fn partly_served() {
-    run(
-        b"unserved-pairs",
-        b"\x20\xc6\x42\x45\x14\x8a\x3a\x5a\x7c\x44\x04\x20\x02\x06\x06\x20\x02\x0e\x40\x00\x02\x10\x0c\x9e\x8b\x6d\
-        \xb6\xc1\x6d\xb6\xc0",
-    );
-    run(
-        b"way-back-missing",
-        b"\x10\x42\x21\x24\x92\x4c\x02\x20\x00\x02\x0e\x00\x00\x00\x3c\x80",
-    );
-    run(
-        b"walk-in-a-circle",
-        b"\x10\x42\x21\x24\x92\x4c\x02\x20\x00\x02\x0e\x00\x00\x00\x20\x00",
-    );
-    run(
-        b"no-served-pair",
-        b"\x10\x84\x11\x24\x92\x4a\x28\x04\x06\x00\x02\x04\x26\x22\x1f\x95\xf8",
-    );
-    run(
-        b"one-way-of-crossing",
-        b"\x10\x84\x11\x24\x92\x4a\x28\x04\x06\x00\x02\x04\x26\x22\x0c\x15\xd8",
-    );
-    run(
-        b"answers-around-without-ring",
-        b"\x28\x84\x21\x24\x92\x4a\x2a\x84\x00\x02\x4a\x06\x00\x02\x6a\x24\x20\x02\x8a\x46\x20\x02\x0a\x60\x00\x02\
-        \x03\x80\xb8\x5c\x01\xd0\x1f\x80",
-    );
-}
-
-// Refusals 1 and 2.
-fn short_or_out_of_range() {
-    run(b"no-bytes", b"");
-    run(b"five-bytes", b"\x08\x42\x11\x24\x92");
-    run(
-        b"first-byte-00",
+    ),
+    // Refusals 1 and 2.
+    ("no-bytes", b""),
+    ("five-bytes", b"\x08\x42\x11\x24\x92"),
+    (
+        "first-byte-00",
         b"\x00\x42\x11\x24\x92\x4c\x06\x00\x00\x00\x20",
-    );
-    run(
-        b"routers-17",
+    ),
+    (
+        "routers-17",
         b"\x88\x42\x11\x24\x92\x4c\x06\x00\x00\x00\x20",
-    );
-    run(
-        b"actives-0",
-        b"\x08\x02\x11\x24\x92\x4c\x06\x00\x00\x00\x20",
-    );
-    run(
-        b"passives-31",
+    ),
+    ("actives-0", b"\x08\x02\x11\x24\x92\x4c\x06\x00\x00\x00\x20"),
+    (
+        "passives-31",
         b"\x08\x7e\x11\x24\x92\x4c\x06\x00\x00\x00\x20",
-    );
-    run(b"slots-1", b"\x08\x42\x09\x24\x92\x4c\x06\x00\x00\x00\x20");
-    run(b"slots-33", b"\x08\x43\x09\x24\x92\x4c\x06\x00\x00\x00\x20");
-    run(
-        b"capacity-u-0",
+    ),
+    ("slots-1", b"\x08\x42\x09\x24\x92\x4c\x06\x00\x00\x00\x20"),
+    ("slots-33", b"\x08\x43\x09\x24\x92\x4c\x06\x00\x00\x00\x20"),
+    (
+        "capacity-u-0",
         b"\x08\x42\x11\x20\x92\x4c\x06\x00\x00\x00\x20",
-    );
-    run(
-        b"capacity-passive-out-0",
+    ),
+    (
+        "capacity-passive-out-0",
         b"\x08\x42\x11\x24\x92\x44\x06\x00\x00\x00\x20",
-    );
-}
-
-// Refusal 3.
-fn wrong_length() {
-    run(
-        b"t-and-a-byte",
+    ),
+    // Refusal 3.
+    (
+        "t-and-a-byte",
         b"\x08\x42\x11\x24\x92\x4c\x06\x00\x00\x00\x20\x00",
-    );
-    run(
-        b"t-less-a-byte",
-        b"\x08\x42\x11\x24\x92\x4c\x06\x00\x00\x00",
-    );
-    run(
-        b"last-byte-21",
+    ),
+    ("t-less-a-byte", b"\x08\x42\x11\x24\x92\x4c\x06\x00\x00\x00"),
+    (
+        "last-byte-21",
         b"\x08\x42\x11\x24\x92\x4c\x06\x00\x00\x00\x21",
-    );
-    run(
-        b"fill-bit-10",
+    ),
+    (
+        "fill-bit-10",
         b"\x08\x42\x11\x24\x92\x4c\x06\x00\x00\x00\x30",
-    );
-}
-
-// Refusal 4.
-fn bad_field() {
-    run(
-        b"nothing-with-number",
+    ),
+    // Refusal 4.
+    (
+        "nothing-with-number",
         b"\x08\x42\x11\x24\x92\x4c\x06\x00\x20\x00\x20",
-    );
-    run(
-        b"nothing-with-side",
+    ),
+    (
+        "nothing-with-side",
         b"\x08\x42\x11\x24\x92\x4c\x06\x00\x00\x08\x20",
-    );
-    run(
-        b"router-number-too-large",
+    ),
+    (
+        "router-number-too-large",
         b"\x08\x42\x11\x24\x92\x4c\x06\x02\x20\x00\x20",
-    );
-    run(
-        b"active-number-too-large",
+    ),
+    (
+        "active-number-too-large",
         b"\x08\x42\x11\x24\x92\x4c\x26\x00\x00\x00\x20",
-    );
-    run(
-        b"passive-with-side",
+    ),
+    (
+        "passive-with-side",
         b"\x08\x42\x11\x24\x92\x4c\x06\x10\x00\x00\x20",
-    );
-    run(b"route-4", b"\x08\x42\x11\x24\x92\x4c\x06\x00\x00\x04\x20");
-    run(b"route-5", b"\x08\x42\x11\x24\x92\x4c\x06\x00\x00\x00\xa0");
-    run(b"route-6", b"\x08\x42\x11\x24\x92\x4c\x06\x00\x00\x00\xc0");
-}
-
-// Refusal 5.
-fn bad_joint() {
-    run(
-        b"joint-not-named-back",
+    ),
+    ("route-4", b"\x08\x42\x11\x24\x92\x4c\x06\x00\x00\x04\x20"),
+    ("route-5", b"\x08\x42\x11\x24\x92\x4c\x06\x00\x00\x00\xa0"),
+    ("route-6", b"\x08\x42\x11\x24\x92\x4c\x06\x00\x00\x00\xc0"),
+    // Refusal 5.
+    (
+        "joint-not-named-back",
         b"\x10\x42\x21\x24\x92\x4c\x02\x20\x00\x00\x06\x00\x00\x00\x20\x80",
-    );
-    run(
-        b"joint-named-back-by-another-side",
+    ),
+    (
+        "joint-named-back-by-another-side",
         b"\x10\x42\x21\x24\x92\x4c\x02\x30\x00\x02\x0e\x00\x00\x00\x20\x80",
-    );
-    run(
-        b"joint-to-the-same-router",
+    ),
+    (
+        "joint-to-the-same-router",
         b"\x08\x42\x11\x24\x92\x4c\x06\x02\x18\x00\x20",
-    );
-    run(
-        b"joint-to-its-own-side",
+    ),
+    (
+        "joint-to-its-own-side",
         b"\x08\x42\x11\x24\x92\x4c\x06\x02\x10\x00\x20",
-    );
-    run(
-        b"active-without-joint",
+    ),
+    (
+        "active-without-joint",
         b"\x08\x42\x11\x24\x92\x48\x06\x00\x00\x00\x20",
-    );
-    run(
-        b"passive-with-two-joints",
+    ),
+    (
+        "passive-with-two-joints",
         b"\x08\x42\x11\x24\x92\x4c\x06\x06\x00\x00\x20",
-    );
-}
-
-// Refusal 6.
-fn ring() {
-    run(
-        b"answers-ring",
+    ),
+    // Refusal 6.
+    (
+        "answers-ring",
         b"\x28\xc6\x21\x24\x92\x4a\x2a\x84\x00\x02\x4a\x06\x00\x02\x6a\x24\x20\x02\x8a\x46\x24\x42\x0a\x66\x40\x02\
         \x00\x7e\x00\x5f\x84\x38\xe0\x3e\x80\x03\xf4",
-    );
-    run(
-        b"set-ups-ring",
+    ),
+    (
+        "set-ups-ring",
         b"\x18\xc6\x22\x49\x24\x92\x2a\x44\x06\x02\x4a\x04\x26\x22\x0a\x24\x46\x42\x05\x80\x50\x0c\x02\x80\x60",
-    );
+    ),
+];
+
+// How many pairs are served: those with a walk. What the table has past the plan's counts is no pair, and is 0.
+fn served(t: &PlanTables) -> usize {
+    t.lengths
+        .iter()
+        .flatten()
+        .filter(|walk| **walk != 0)
+        .count()
 }
 
-fn main() {
-    loadable();
-    crossing();
-    partly_served();
-    largest();
-    short_or_out_of_range();
-    wrong_length();
-    bad_field();
-    bad_joint();
-    ring();
+// Writes a plan's name, Load's number for its bytes, and of a plan that loads the pairs served.
+fn run<P: Print>(rt: &P, name: &str, plan: &[u8]) -> io::Result<()> {
+    let mut t = PlanTables::blank();
+    match load::load(plan, &mut t) {
+        Ok(h) => println!(rt;
+            "{name} 0, {} of {} pairs served",
+            served(&t),
+            h.actives * h.passives
+        ),
+        Err(w) => println!(rt; "{name} {}", u8::from(w)),
+    }
+}
+
+fn main(rt: HostRuntime) -> io::Result<()> {
+    for (name, plan) in PLANS {
+        run(&rt, name, plan)?;
+    }
+    Ok(())
 }

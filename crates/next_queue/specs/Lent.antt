@@ -2,6 +2,7 @@
 use Rattle.std.specs.Prelude.{◌≡◌, false, List, [], ℕ, ◌+◌, ◌≤◌, ◌<◌, get_or}
 use Rattle.sets.specs.Sets.{has}
 use Rattle.plan.specs.declared.Head.{Head}
+use Rattle.plan.specs.declared.tables.PlanTables.{PlanTables}
 use Rattle.plan.specs.Head.{InRange}
 use Rattle.plan.specs.Tables.{table_plan}
 use Rattle.load_arrivals.specs.Tables.{PortsIn}
@@ -16,3 +17,7 @@ pub record Lent (h : Head) (routes : List (List ℕ)) (joints homes : List ℕ) 
   -- every interface's port is one of 64, and routers that are not there have no sets
   pub ports : PortsIn homes (h.actives + h.passives)
   pub past : (r o d : ℕ) → h.routers ≤ r → o < 4 → has (get_or (get_or by r []) o 0) d ≡ false
+
+-- the same of Load's tables as they lie together
+abbrev pub LentOf : Head → PlanTables → Type 0
+LentOf h t = Lent h t.routes t.joints t.homes t.lengths t.by

@@ -1,10 +1,9 @@
 -- The next queue of a packet that leaves by an output, as its number: what the code computes from the tables.
-use Rattle.std.specs.Prelude.{◌≡◌, Bool, true, false, List, [], ℕ, ◌+◌, ◌*◌, ◌-◌, ◌/◌, ◌%◌, eqb, ltb, get_or}
+use Rattle.std.specs.Prelude.{◌≡◌, Bool, List, [], ℕ, ◌+◌, ◌*◌, ◌-◌, ◌/◌, ◌%◌, eqb, ltb, get_or}
 use Rattle.std.proofs.Math.Option.{Option, none, some}
 use Rattle.basis.specs.Choice.{pick}
-use Rattle.packets.specs.declared.Kind.{Kind}
-use Rattle.packets.specs.declared.Kind.TheVariants.{Setup, Tdown, Ack, Nack}
 use Rattle.packets.specs.declared.Packet.{Packet}
+pub use Rattle.packets.specs.Directions.{goes_back}
 use Rattle.plan.specs.declared.Head.{Head}
 use Rattle.plan.specs.Head.{destinations}
 use Rattle.plan.specs.Plan.{Plan, no_side}
@@ -22,13 +21,6 @@ number_or pl none = no_queue
 number_or pl (some q) = pick (exists_test pl q) (number pl q) no_queue
 
 -- ---- what the code computes
--- 'ACK and NACK to the active'
-abbrev pub goes_back : Kind → Bool
-goes_back Setup = false
-goes_back Tdown = false
-goes_back Ack = true
-goes_back Nack = true
-
 -- the first of a router's queues
 abbrev pub base_of : Head → ℕ → ℕ
 base_of h r = destinations h + 28 * r

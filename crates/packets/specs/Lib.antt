@@ -1,2 +1,4 @@
 pub mod Counters
 pub mod Answers
+pub mod Codes
+pub mod Directions

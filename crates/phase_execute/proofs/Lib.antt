@@ -2,6 +2,7 @@ pub mod Bytes
 pub mod Turns
 pub mod Handled
 pub mod Units
+pub mod AnySlot
 pub mod Booking
 pub mod Tables
 pub mod Needs

@@ -2,7 +2,7 @@
 use mathlib.Core.Path.{◌≡◌, refl, sym, ap, ◌∙◌}
 use mathlib.Core.List.{List, []}
 use Prim.Native.Nat.{ℕ, ◌+◌, ◌*◌}
-use lib.ListN.{length, get_or, set, length-set}
+use lib.ListN.{get_or}
 use Rattle.packets.specs.declared.Packet.{Packet}
 use Rattle.plan.specs.declared.Head.{Head}
 use Rattle.plan.specs.Head.{destinations}
@@ -12,9 +12,6 @@ use Rattle.plan_queues.specs.Queue.{Q}
 use Rattle.theory.proofs.Cases.{exit_at}
 use Rattle.bytes_layout.specs.Offsets.{queue_row}
 use Rattle.phase_execute.proofs.Bytes.{unit_row}
-
-pub set_length : (b : List ℕ) (i v : ℕ) → length (set b i v) ≡ length b
-set_length b i v = length-set b i v
 
 module _ (h : Head) (routes : List (List ℕ)) (joints : List ℕ) where
   abbrev pl : Plan

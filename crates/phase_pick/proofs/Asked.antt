@@ -10,7 +10,6 @@ use lib.Dec.{eqb}
 use lib.ListN.{length, get_or}
 use borrow.Author.Tests.{eqb-true, eq-eqb, ne_eqb, lt-ltb, le-ltb}
 use Rattle.basis.specs.Bounded.{lt_or_ge}
-use Rattle.basis.specs.Bounded.{below_suc}
 use Rattle.packets.specs.declared.Packet.{Packet}
 use Rattle.plan.specs.declared.Head.{Head}
 use Rattle.plan.specs.Head.{Counts, destinations}
@@ -63,15 +62,6 @@ idle_four at b e f g t (suc (suc (suc zero))) l =
     let q : at + 39 * 3 + 3 ≡ at + 120 = omega arith in
     ap (λ (i : ℕ). get_or b i 0) q ∙ eqb-true (get_or b (at + 120) 0) 0 t
 idle_four at b e f g t (suc (suc (suc (suc k)))) l = absurd (omega arith)
-
--- and a fifth
-pub idle_five : (at : ℕ) (b : List ℕ) → get_or b (at + 159) 0 ≡ 0
-    → ((k : ℕ) → k < 4 → length_at (at + 39 * k) b ≡ 0) → (k : ℕ) → k < 5 → length_at (at + 39 * k) b ≡ 0
-idle_five at b e f k l = by (below_suc {i = k} {n = 4} l)
-  where
-    by : (k < 4) ⊎ (k ≡ 4) → length_at (at + 39 * k) b ≡ 0
-    by (inl h) = f k h
-    by (inr h) = let q : at + 39 * k + 3 ≡ at + 159 = omega arith in ap (λ (i : ℕ). get_or b i 0) q ∙ e
 
 -- the rows of queues one behind the other
 pub idle_rows : {at c : ℕ} (b : List ℕ) (n : ℕ) → at ≡ 2 + 39 * n
@@ -132,7 +122,7 @@ module _ {h : Head} {routes : List (List ℕ)} {joints homes : List ℕ} (w : Wi
       onto : v ≡ number pl goes.onto
       onto = onto_number w.wired (range_of w) m n b k.state goes ex ev
 
-      pub onto_asks : v ≤ 65535
+      pub onto_asks : v < 65535
       onto_asks =
           let q = queue_is (number_below pl goes.onto goes.there) in
           let f = few in

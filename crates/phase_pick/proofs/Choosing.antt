@@ -11,7 +11,6 @@ use lib.Dec.{eqb, ltb}
 use lib.ListN.{get_or, set, drop}
 use borrow.Author.Tests.{lt-ltb, ne_eqb}
 use Rattle.basis.specs.Choice.{pick, pick_same, test, not_both}
-use Rattle.basis.specs.Bounded.{below_suc}
 use Rattle.kinds.specs.declared.Credit.{Credit}
 use Rattle.packets.specs.declared.Packet.{Packet}
 use Rattle.plan.specs.Head.{InRange}
@@ -232,19 +231,6 @@ module _ {pl : Plan} (wired : Wired pl) (range : InRange pl.head) where
   -- ---- the loop over an output's senders
   pub passed_none : (m n i : ℕ) (b : List ℕ) → Passed pl m n i i b
   passed_none m n i b = record { passed = λ s rest c e j g l. absurd (omega arith) }
-
-  pub passed_more : (m n i k : ℕ) {b : List ℕ} {r : Bool} → Passed pl m n i k b
-      → Tells pl (Core pl) (is_candidate pl m (n + k)) b r → r ≡ false → Passed pl m n i (k + 1) b
-  passed_more m n i k {b} {r} p t f =
-      record { passed = λ s rest c e j g l. by s rest c e j g (split j l) }
-    where
-      split : (j : ℕ) → j < k + 1 → (j < k) ⊎ (j ≡ k)
-      split j l = below_suc (let q : j < suc k = omega arith in q)
-
-      by : (s : State) (rest : List ℕ) → Core pl s → b ≡ encode pl s rest → (j : ℕ) → i ≤ j → (j < k) ⊎ (j ≡ k)
-          → is_candidate pl m (n + j) s ≡ false
-      by s rest c e j g (inl l) = p.passed s rest c e j g l
-      by s rest c e j g (inr z) = rw z (sym (t.told s rest c e) ∙ f)
 
   -- the senders of rank i and more
   from_rank : (m n i c : ℕ) {unit : Bool} → Sends pl m n c unit

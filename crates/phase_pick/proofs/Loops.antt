@@ -107,10 +107,6 @@ module _ {h : Head} {routes : List (List ℕ)} {joints homes : List ℕ} (w : Wi
         → Steps pl (Picks pl first) (chooses_from pl first 4) b c → Holds pl (Picks pl (first + 4)) c
     from_four x y = from_hold {k = 4} (omega arith) x y
 
-    pub from_done : {k n : ℕ} {b c : List ℕ} → Steps pl (Picks pl first) (chooses_from pl first k) b c → k ≡ n
-        → Steps pl (Picks pl first) (chooses_from pl first n) b c
-    from_done x e = rw (← e) x
-
     pub from_six : {b c d e : List ℕ} → Steps pl (Picks pl first) (chooses_from pl first 4) b c
         → Steps pl (Picks pl (first + 4)) (chooses pl (first + 4)) c d
         → Steps pl (Picks pl (first + 5)) (chooses pl (first + 5)) d e

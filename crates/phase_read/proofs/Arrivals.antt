@@ -31,17 +31,17 @@ use Rattle.theory.specs.Invariant.{Core, account}
 use Rattle.theory.proofs.Places.Lines.{belongs_exists}
 use Rattle.theory.proofs.Account.Paid.{next_fed}
 use Rattle.theory.proofs.Keeps.{deliver_core}
-use Rattle.bytes_layout.specs.Offsets.{size, places, queue_row, output_row, wire_byte, wire_packet}
+use Rattle.bytes_layout.specs.Offsets.{places, queue_row, output_row, wire_byte, wire_packet}
 use Rattle.bytes_layout.specs.Codes.{flag_of}
 use Rattle.bytes_layout.specs.Named.{exists_test_lem}
 use Rattle.bytes_layout.specs.Places.{packet_at}
 use Rattle.bytes_layout.specs.Encode.{encode, wire_bytes}
 use Rattle.bytes_layout.specs.Decode.{wire_from, wire_at, length_at, capacity_most}
 use Rattle.bytes_layout.specs.Updates.{push_at}
-use Rattle.bytes_layout.proofs.Readings.{length_bytes, wire_at_lem, length_at_lem}
+use Rattle.bytes_layout.proofs.Readings.{wire_at_lem, length_at_lem}
 use Rattle.bytes_layout.proofs.Updates.{put_wire, push_queue}
 use Rattle.bytes_steps.specs.Acts.{Holds, Steps}
-use Rattle.bytes_steps.specs.Counts.{queue_count, output_count, outputs_from}
+use Rattle.bytes_steps.specs.Counts.{output_count, outputs_from}
 use Rattle.next_queue.specs.Next.{number_or, base_of, AtUnit}
 use Rattle.phase_read.specs.Awaiting.{Only}
 use Rattle.phase_read.specs.Reading.{delivery, Joins, Arriving}
@@ -92,16 +92,6 @@ delivered_is : (pl : Plan) (o : Output) (x : Packet) (q : Queue) (s : State) →
 unfolding deliver arrive
 delivered_is pl o x q s f g =
     ap (λ (w : Wire). arrive pl o w s) f ∙ ap (λ (y : Option Queue). join_next y x (with_wire o Empty s)) g
-
--- all queues' rows lie inside
-pub rows_within : (pl : Plan) {h : Head} → pl.head ≡ h → {I : State → Type 0} {b : List ℕ} → Holds pl I b
-    → 2 + 39 * queue_count h ≤ length b
-unfolding size
-rows_within pl e {b = b} g =
-    let q = queues_of pl e in
-    let l = length_bytes pl g.state g.rest in
-    let k = ap length g.same in
-    omega arith
 
 module _ (pl : Plan) {h : Head} (e : pl.head ≡ h) (m i : ℕ) (below : m < output_count h)
     (at : i ≡ outputs_from h + 7 * m) where
@@ -170,7 +160,7 @@ module _ (pl : Plan) {h : Head} (e : pl.head ≡ h) (m i : ℕ) (below : m < out
       next_is : n ≡ number pl (joining a).queue
       next_is = next ∙ number_or_lem pl _ (joining a).queue (joining a).next (joining a).has
 
-      pub next_small : InRange h → n ≤ 65535
+      pub next_small : InRange h → n < 65535
       next_small range =
           let k = number_below pl (joining a).queue (joining a).has in
           let z = next_is in

@@ -101,12 +101,6 @@ last n i cap b l f c o = by (below_suc {i = c} {n = 3} o.below)
     by (inl h) = absurd (not_both o.lacks (f c (omega arith)))
     by (inr h) = rw h
 
--- told of another number of the same value
-pub only_at : {n m c cap q : ℕ} {b : List ℕ} → n ≡ m → ((k : ℕ) → Only n k cap b → q ≡ n + k) → Only m c cap b
-    → q ≡ m + c
-only_at {c = c} {cap = cap} {b = b} e f o =
-    f c (subst (λ (j : ℕ). Only j c cap b) (sym e) o) ∙ ap (λ (j : ℕ). j + c) e
-
 -- ---- in a state: a packet on the wire to a unit was paid for by the queue that it goes to, and no other one pays
 module _ {pl : Plan} (wired : Wired pl) where
   -- the packet on a wire is counted among those bound for its queue

@@ -4,13 +4,12 @@ use mathlib.Core.Path.{◌≡◌, refl, sym, ap, subst, ◌∙◌}
 use mathlib.Core.Logic.{◌⊎◌, inl, inr, ◌≢◌}
 use mathlib.Core.Bool.{Bool, true, false}
 use mathlib.Core.List.{List}
-use Prim.Native.Nat.{ℕ, zero, suc, ◌+◌, ◌*◌, ◌-◌, ◌≤◌, ◌<◌}
+use Prim.Native.Nat.{ℕ, zero, suc, ◌+◌, ◌*◌, ◌≤◌, ◌<◌}
 use native.Mathlib.Omega.{arith}
 use lib.Dec.{eqb}
 use lib.ListN.{length, get_or, set}
 use borrow.Author.Tests.{eqb-true}
 use Rattle.basis.specs.Choice.{also, also_true, test, not_both}
-use Rattle.basis.specs.Bounded.{lt_or_ge}
 use Rattle.basis.specs.Fold.{up_to, up_keeps}
 use Rattle.kinds.specs.declared.Credit.{Credit}
 use Rattle.packets.specs.Counters.{credit_up}
@@ -30,7 +29,7 @@ use Rattle.bytes_layout.specs.Encode.{encode}
 use Rattle.bytes_layout.specs.Decode.{credit_at, flag_at, capacity_most}
 use Rattle.bytes_layout.proofs.Readings.{length_bytes, credit_at_lem, flag_at_lem}
 use Rattle.bytes_layout.proofs.Updates.{put_credit, put_flag}
-use Rattle.bytes_steps.specs.Acts.{steps_none, steps_more, steps_done, holds_then}
+use Rattle.bytes_steps.specs.Acts.{steps_none, steps_more, holds_then}
 use Rattle.phase_read.specs.Reading.{settling, Owed, Flagged, Settles, Whole, SettlesTo, Down}
 use Rattle.phase_read.proofs.Offsets.{first, row_of, queue_within}
 
@@ -155,14 +154,6 @@ module _ {n : ℕ} {b c : List ℕ} (x : SettlesTo n b c) where
             (core_then pl r w (omega arith)) (y.steps pl (omega arith));
       }
 
-pub settles_done : {i n : ℕ} {b c : List ℕ} → SettlesTo i b c → i ≡ n → SettlesTo n b c
-settles_done x e =
-    record { steps = λ pl r w l. steps_done pl (settling pl) (x.steps pl r w (omega arith)) e }
-
--- ---- no flag is up: nothing is done
-pub down_none : (b : List ℕ) → Down 0 b
-down_none b = record { down = λ k l. absurd (omega arith) }
-
 -- of four queues, by their flags' bytes
 pub four_of : (n : ℕ) (b : List ℕ) {at : ℕ} {x y v : Bool} → at ≡ 39 * n + 3
     → x ≡ also (eqb (get_or b at 0) 0) (eqb (get_or b (at + 39) 0) 0)
@@ -189,17 +180,7 @@ four_of n b {at} {x} {y} {v} e f g h t = by
     by (suc (suc (suc zero))) l = byte (at + 117) (39 * (n + 3) + 3) (omega arith) far.1
     by (suc (suc (suc (suc k)))) l = absurd (omega arith)
 
--- four more, behind those below m or before
-pub down_four : {m n l : ℕ} {b : List ℕ} → Down m b → n ≤ m → l ≡ n + 4
-    → ((k : ℕ) → k < 4 → get_or b (39 * (n + k) + 3) 0 ≡ 0) → Down l b
-down_four {m} {n} {l} {b} d few e f = record { down = λ j h. at j h (lt_or_ge j m) }
-  where
-    at : (j : ℕ) → j < l → (j < m) ⊎ (m ≤ j) → get_or b (39 * j + 3) 0 ≡ 0
-    at j h (inl g) = d.down j g
-    at j h (inr g) =
-        let q : n + (j - n) ≡ j = omega arith in
-        subst (λ (i : ℕ). get_or b (39 * i + 3) 0 ≡ 0) q (f (j - n) (omega arith))
-
+-- ---- no flag is up: nothing is done
 pub down_all : {k n : ℕ} {b : List ℕ} → n ≤ k → Down k b → Down n b
 down_all l d = record { down = λ j h. d.down j (omega arith) }
 

@@ -2,47 +2,33 @@
 #![tactic(auto)]
 
 ghost use Rattle.std.specs.Prelude.{◌≡◌, true, not, ℕ, ◌+◌, ◌*◌, ◌≤◌, ◌<◌, eqb, get_or, length};
+ghost use Rattle.std.specs.Option.{unwrap_or};
 ghost use Rattle.basis.specs.Fold.{up_to};
 ghost use Rattle.packets.specs.declared.Phase.TheVariants.{Read};
 ghost use Rattle.plan.specs.Head.{Counts, destinations};
-ghost use Rattle.plan.specs.Tables.{table_plan};
+ghost use Rattle.plan.specs.Lent.{plan_by};
 ghost use Rattle.rules.specs.Read.{do_read};
 ghost use Rattle.theory.specs.Invariant.{Core};
 ghost use Rattle.bytes_steps.specs.Acts.{Holds, Steps, In};
 ghost use Rattle.bytes_steps.specs.Counts.{queue_count, output_count};
-ghost use Rattle.next_queue.specs.Wiring.{Wiring};
-ghost use Rattle.next_queue.specs.Next.{base_of};
+ghost use Rattle.next_queue.specs.Wiring.{WiringOf};
+ghost use Rattle.next_queue.specs.Next.{no_queue, base_of};
 ghost use Rattle.phase_read.specs.Awaiting.{lacks_at, Only};
 ghost use Rattle.phase_read.specs.Reading.{delivery, Arriving, Flagged, Settles, Whole, SettlesTo, Down};
 
-use bytes_rows::{phase_code, push, put_wire, wire_at};
-use bytes_steps::{output_count, output_row, queue_count, queue_row};
+use bytes_rows::{push, put_wire, wire_at};
+use bytes_steps::{
+    FLAG_BYTE, LENGTH_BYTE, OUTPUT_WIDTH, PHASE_BYTE, output_count, output_row, queue_count,
+    queue_row,
+};
 use kinds::Credit;
-use next_queue::{NO_QUEUE, base_of, next};
+use next_queue::{base_of, next};
 use packets::{Phase, Wire, credit_up};
 use plan::Head;
-
-// The byte of the phase, and those of flag and length in a queue's row, behind the credit's.
-const PHASE_BYTE: usize = 0;
-
-const FLAG_BYTE: usize = 1;
-
-const LENGTH_BYTE: usize = 3;
+use plan::tables::PlanTables;
 
 // The byte of the first queue's flag.
 const FIRST_FLAG: usize = 3;
-
-// The bytes of an output's row, and which of them is the wire's first.
-const OUTPUT_BYTES: usize = 7;
-
-const WIRE_BYTE: usize = 0;
-
-// A byte as an index.
-fn index(x: u8) -> usize
-    ensures { (result ≡ x) × (result < 256) }
-{
-    x as usize
-}
 
 // Whether queue n lacks a credit: with its packets and a raised flag its credits are not its capacity.
 fn lacks(s: &[u8], n: usize, cap: u8) -> bool
@@ -50,11 +36,11 @@ fn lacks(s: &[u8], n: usize, cap: u8) -> bool
     ensures { result ≡ lacks_at n cap s.now }
 {
     let at = queue_row(n);
-    let held = index(s[at]) + index(s[at + LENGTH_BYTE]);
+    let held = usize::from(s[at]) + usize::from(s[at + LENGTH_BYTE]);
     if s[at + FLAG_BYTE] == 0 {
-        return held != index(cap);
+        return held != usize::from(cap);
     }
-    held + 1 != index(cap)
+    held + 1 != usize::from(cap)
 }
 
 // Of the four queues from number n on, the one that lacks a credit.
@@ -72,36 +58,29 @@ fn awaiting(s: &[u8], n: usize, cap: u8) -> usize
 
 // The queue at a unit that a packet on the wire of output m joins, if that leads to a unit. The wire does not say which
 // of the four it is, but a credit of that one was spent for the packet: it is the one that lacks a credit.
-fn at_unit(h: Head, s: &[u8], m: usize) -> usize
+fn at_unit(h: Head, s: &[u8], m: usize) -> Option<usize>
     requires { Counts h × (m < output_count h) × (2 + 39 * queue_count h ≤ length s.now) }
     ensures { (r c : ℕ) → m ≡ destinations h + 6 * r + 4 → Only (base_of h r + 4) c h.q.0 s.now
-        → result ≡ base_of h r + 4 + c }
+        → unwrap_or result no_queue ≡ base_of h r + 4 + c }
 {
     let d = h.actives + h.passives;
     if m < d {
-        return NO_QUEUE;
+        return None;
     }
     if (m - d) % 6 != 4 {
-        return NO_QUEUE;
+        return None;
     }
-    awaiting(s, base_of(h, (m - d) / 6) + 4, h.q.0)
+    Some(awaiting(s, base_of(h, (m - d) / 6) + 4, h.q.0))
 }
 
 // The wire of output m: a packet on it joins its next queue, and the wire empties.
-fn deliver(
-    h: Head,
-    routes: &[[u8; 32]; 16],
-    joints: &[u8; 64],
-    homes: &[u8; 32],
-    s: &mut [u8],
-    m: usize,
-)
-    requires { Wiring h routes.now joints.now homes.now × (m < output_count h)
-        × Holds (table_plan h routes.now joints.now) (Arriving (table_plan h routes.now joints.now) m)
+fn deliver(h: Head, t: &PlanTables, s: &mut [u8], m: usize)
+    requires { WiringOf h t.now × (m < output_count h)
+        × Holds (plan_by h t.now) (Arriving (plan_by h t.now) m)
         s.old }
-    ensures { Steps (table_plan h routes.now joints.now)
-        (Arriving (table_plan h routes.now joints.now) m)
-        (delivery (table_plan h routes.now joints.now) m) s.old s.new }
+    ensures { Steps (plan_by h t.now)
+        (Arriving (plan_by h t.now) m)
+        (delivery (plan_by h t.now) m) s.old s.new }
 {
     let i = output_row(h, m);
     let w = wire_at(s, i);
@@ -109,7 +88,9 @@ fn deliver(
         return;
     };
     let q = at_unit(h, s, m);
-    let n = next(h, routes, joints, homes, m, q, x);
+    let Some(n) = next(h, t, m, q, x) else {
+        unreachable!()
+    };
     put_wire(s, i, Wire::Empty);
     push(s, queue_row(n), x);
 }
@@ -119,23 +100,23 @@ fn full(s: &[u8], from: usize, m: usize) -> bool
     requires { from + 7 * m < length s.now }
     ensures { result ≡ not (eqb (get_or s.now (from + 7 * m) 0) 0) }
 {
-    s[from + OUTPUT_BYTES * m + WIRE_BYTE] != 0
+    s[from + OUTPUT_WIDTH * m] != 0
 }
 
 // Every wire's packet joins its queue.
-fn deliver_all(h: Head, routes: &[[u8; 32]; 16], joints: &[u8; 64], homes: &[u8; 32], s: &mut [u8])
-    requires { Wiring h routes.now joints.now homes.now
-        × Holds (table_plan h routes.now joints.now) (Core (table_plan h routes.now joints.now)) s.old }
-    ensures { Steps (table_plan h routes.now joints.now)
-        (Core (table_plan h routes.now joints.now))
-        (up_to (delivery (table_plan h routes.now joints.now)) (output_count h))
+fn deliver_all(h: Head, t: &PlanTables, s: &mut [u8])
+    requires { WiringOf h t.now
+        × Holds (plan_by h t.now) (Core (plan_by h t.now)) s.old }
+    ensures { Steps (plan_by h t.now)
+        (Core (plan_by h t.now))
+        (up_to (delivery (plan_by h t.now)) (output_count h))
         s.old s.new }
 {
     let count = output_count(h);
     let from = output_row(h, 0);
     for m in 0..count {
         if full(s, from, m) {
-            deliver(h, routes, joints, homes, s, m);
+            deliver(h, t, s, m);
         }
     }
 }
@@ -198,14 +179,14 @@ fn settle_all(h: Head, s: &mut [u8])
 }
 
 // READ.
-pub fn read(h: Head, routes: &[[u8; 32]; 16], joints: &[u8; 64], homes: &[u8; 32], s: &mut [u8])
-    requires { Wiring h routes.now joints.now homes.now
-        × Holds (table_plan h routes.now joints.now) (In (table_plan h routes.now joints.now) Read) s.old }
-    ensures { Steps (table_plan h routes.now joints.now)
-        (In (table_plan h routes.now joints.now) Read)
-        (do_read (table_plan h routes.now joints.now)) s.old s.new }
+pub fn read(h: Head, t: &PlanTables, s: &mut [u8])
+    requires { WiringOf h t.now
+        × Holds (plan_by h t.now) (In (plan_by h t.now) Read) s.old }
+    ensures { Steps (plan_by h t.now)
+        (In (plan_by h t.now) Read)
+        (do_read (plan_by h t.now)) s.old s.new }
 {
-    deliver_all(h, routes, joints, homes, s);
+    deliver_all(h, t, s);
     settle_all(h, s);
-    s[PHASE_BYTE] = phase_code(Phase::Execute);
+    s[PHASE_BYTE] = u8::from(Phase::Execute);
 }

@@ -9,7 +9,7 @@ ghost use Rattle.phase_unit.specs.Handled.{Ready, set_up, stays, torn, handled_o
 use packets::{Kind, Packet};
 
 // What a unit looks at and changes of its queue: the flag, the mark, how many packets, and the head.
-#[derive(Clone, Copy)]
+#[derive(Clone, Copy, PartialEq, Eq)]
 pub struct Queue {
     pub flag: u8,
     pub mark: u8,
@@ -21,14 +21,9 @@ pub struct Queue {
 fn decline(x: Packet) -> Packet
     ensures { result ≡ declined x }
 {
-    let t = x.slot;
-    let u = x.hub;
     Packet {
         kind: Kind::Nack,
-        active: x.active,
-        passive: x.passive,
-        slot: t,
-        hub: u,
+        ..x
     }
 }
 
@@ -37,15 +32,10 @@ fn book(x: Packet, slots: u8) -> Packet
     requires { (x.slot.0 < slots) × (slots ≤ 32) × (x.hub.0 < 16) }
     ensures { result ≡ booked slots x }
 {
-    let k = x.kind;
-    let t = packets::slot_next(x.slot, slots);
-    let u = packets::hub_up(x.hub);
     Packet {
-        kind: k,
-        active: x.active,
-        passive: x.passive,
-        slot: t,
-        hub: u,
+        slot: packets::slot_next(x.slot, slots),
+        hub: packets::hub_up(x.hub),
+        ..x
     }
 }
 
@@ -54,15 +44,10 @@ fn free(x: Packet, slots: u8) -> Packet
     requires { (x.slot.0 < slots) × (slots ≤ 32) × (1 ≤ x.hub.0) }
     ensures { result ≡ freed slots x }
 {
-    let k = x.kind;
-    let t = packets::slot_next(x.slot, slots);
-    let u = packets::hub_down(x.hub);
     Packet {
-        kind: k,
-        active: x.active,
-        passive: x.passive,
-        slot: t,
-        hub: u,
+        slot: packets::slot_next(x.slot, slots),
+        hub: packets::hub_down(x.hub),
+        ..x
     }
 }
 
@@ -82,10 +67,9 @@ fn stay(q: Queue, x: Packet) -> Queue
     ensures { result ≡ stays q x }
 {
     Queue {
-        flag: q.flag,
         mark: 1,
-        len: q.len,
         head: x,
+        ..q
     }
 }
 
@@ -98,13 +82,11 @@ fn tear_down(q: Queue, slots: u8) -> Queue
     if x.hub.0 == 1 {
         return Queue {
             flag: 1,
-            mark: q.mark,
             len: q.len - 1,
-            head: x,
+            ..q
         };
     }
-    let y = free(x, slots);
-    stay(q, y)
+    stay(q, free(x, slots))
 }
 
 // The queue with its head handled. May is not 0 where a SETUP's entry may be booked.
@@ -112,13 +94,8 @@ pub fn handled(q: Queue, may: u8, slots: u8) -> Queue
     requires { Ready q slots }
     ensures { result ≡ handled_of q may slots }
 {
-    let x = q.head;
-    let k = x.kind;
-    match k {
-        Kind::Setup => {
-            let y = set_up(x, may, slots);
-            stay(q, y)
-        }
+    match q.head.kind {
+        Kind::Setup => stay(q, set_up(q.head, may, slots)),
         Kind::Tdown => tear_down(q, slots),
         Kind::Ack => q,
         Kind::Nack => q,

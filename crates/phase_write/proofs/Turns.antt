@@ -48,6 +48,10 @@ use Rattle.phase_write.specs.Writing.{sending, Leaves, Picking, sender_of, behin
 use Rattle.phase_write.specs.Writing.{Takes, Enters}
 use Rattle.phase_write.proofs.Senders.{sender_number}
 
+-- a choice that is not 0 is the rank and one more
+pub rank_is : {c k : ℕ} → (c ≡ 0 → ⊥) → k ≡ c - 1 → suc k ≡ c
+rank_is n e = omega arith
+
 -- ---- a choice that can be sent
 module _ {pl : Plan} (wired : Wired pl) (range : InRange pl.head) where
   -- no queue has more than seven packets
@@ -235,7 +239,7 @@ module _ (pl : Plan) {h : Head} (e : pl.head ≡ h) (m i : ℕ) (below : m < out
                   next ∙ ap (λ (y : Packet). number_or pl (next_by pl (output_at pl m) y)) (head_is a)
                   ∙ number_or_lem pl _ (leaving a).next (leaving a).goes (leaving a).there
 
-              pub next_small : InRange h → v ≤ 65535
+              pub next_small : InRange h → v < 65535
               next_small range =
                   let z = number_below pl (leaving a).next (leaving a).there in
                   let y = next_is in

@@ -6,45 +6,24 @@ ghost use Rattle.std.specs.Prelude.{◌≡◌, not, suc, ◌+◌, ◌*◌, ◌-�
 ghost use Rattle.basis.specs.Fold.{up_to};
 ghost use Rattle.packets.specs.declared.Phase.TheVariants.{Write};
 ghost use Rattle.plan.specs.Head.{Counts};
-ghost use Rattle.plan.specs.Tables.{table_plan};
+ghost use Rattle.plan.specs.Lent.{plan_by};
 ghost use Rattle.rules.specs.Write.{do_write};
 ghost use Rattle.bytes_layout.specs.Decode.{length_at};
 ghost use Rattle.bytes_steps.specs.Acts.{Holds, Steps, In};
 ghost use Rattle.bytes_steps.specs.Counts.{output_count, turns_from};
-ghost use Rattle.next_queue.specs.Wiring.{Wiring};
+ghost use Rattle.next_queue.specs.Wiring.{WiringOf};
 ghost use Rattle.phase_write.specs.Writing.{sending, Picking, Picked, sender_of, Raises, Takes, Enters};
 
-use bytes_rows::{packet_at, phase_code, pop, put_wire};
-use bytes_steps::{output_count, output_row, queue_row, turn_row};
+use bytes_rows::{packet_at, pop, put_wire};
+use bytes_steps::{
+    CHOICE_BYTE, FIRST_PLACE, FLAG_BYTE, MARK_BYTE, OUTPUT_WIDTH, PHASE_BYTE, SLOT_BYTE,
+    output_count, output_row, queue_row, turn_row,
+};
 use kinds::{Credit, Slot};
 use next_queue::{base_of, next};
 use packets::{Packet, Phase, Wire, credit_down, slot_next};
 use plan::Head;
-
-// The bytes of the phase and of the slot.
-const PHASE_BYTE: usize = 0;
-
-const SLOT_BYTE: usize = 1;
-
-// The bytes of a queue's row that a sending changes, and the byte of an output's choice.
-const FLAG_BYTE: usize = 1;
-
-const MARK_BYTE: usize = 2;
-
-const FIRST_PLACE: usize = 4;
-
-const CHOICE_BYTE: usize = 6;
-
-// The bytes of an output's row.
-const OUTPUT_BYTES: usize = 7;
-
-// A rank as a number.
-fn rank(k: u8) -> usize
-    requires { 1 ≤ k }
-    ensures { (suc result ≡ k) × (result < 256) }
-{
-    (k - 1) as usize
-}
+use plan::tables::PlanTables;
 
 // The number of the sender of rank k at output m.
 fn sender_of(h: Head, m: usize, k: usize) -> usize
@@ -118,28 +97,24 @@ fn remember(h: Head, s: &mut [u8], m: usize, c: u8)
 
 // The turn of output m: if it picked a sender, that one's head leaves its queue and enters the wire, and the output
 // remembers its rank. To a unit the head of U[i] goes to Q[i], which stands four queues behind.
-fn send(
-    h: Head,
-    routes: &[[u8; 32]; 16],
-    joints: &[u8; 64],
-    homes: &[u8; 32],
-    s: &mut [u8],
-    m: usize,
-)
-    requires { Wiring h routes.now joints.now homes.now × (m < output_count h)
-        × Holds (table_plan h routes.now joints.now) (Picking (table_plan h routes.now joints.now) m) s.old }
-    ensures { Steps (table_plan h routes.now joints.now)
-        (Picking (table_plan h routes.now joints.now) m)
-        (sending (table_plan h routes.now joints.now) m) s.old s.new }
+fn send(h: Head, t: &PlanTables, s: &mut [u8], m: usize)
+    requires { WiringOf h t.now × (m < output_count h)
+        × Holds (plan_by h t.now) (Picking (plan_by h t.now) m) s.old }
+    ensures { Steps (plan_by h t.now)
+        (Picking (plan_by h t.now) m)
+        (sending (plan_by h t.now) m) s.old s.new }
 {
     let i = output_row(h, m);
     let c = s[i + CHOICE_BYTE];
     if c == 0 {
         return;
     }
-    let n = sender_of(h, m, rank(c));
+    let n = sender_of(h, m, usize::from(c - 1));
     let x = take(h, s, m, queue_row(n));
-    enter(s, i, next(h, routes, joints, homes, m, n + 4, x), x);
+    let Some(q) = next(h, t, m, Some(n + 4), x) else {
+        unreachable!()
+    };
+    enter(s, i, q, x);
     remember(h, s, m, c);
 }
 
@@ -148,37 +123,37 @@ fn picked(s: &[u8], from: usize, m: usize) -> bool
     requires { from + 7 * m + 6 < length s.now }
     ensures { result ≡ not (eqb (get_or s.now (from + 7 * m + 6) 0) 0) }
 {
-    s[from + OUTPUT_BYTES * m + CHOICE_BYTE] != 0
+    s[from + OUTPUT_WIDTH * m + CHOICE_BYTE] != 0
 }
 
 // Every output has its turn.
-fn send_all(h: Head, routes: &[[u8; 32]; 16], joints: &[u8; 64], homes: &[u8; 32], s: &mut [u8])
-    requires { Wiring h routes.now joints.now homes.now
-        × Holds (table_plan h routes.now joints.now) (Picked (table_plan h routes.now joints.now)) s.old }
-    ensures { Steps (table_plan h routes.now joints.now)
-        (Picked (table_plan h routes.now joints.now))
-        (up_to (sending (table_plan h routes.now joints.now)) (output_count h))
+fn send_all(h: Head, t: &PlanTables, s: &mut [u8])
+    requires { WiringOf h t.now
+        × Holds (plan_by h t.now) (Picked (plan_by h t.now)) s.old }
+    ensures { Steps (plan_by h t.now)
+        (Picked (plan_by h t.now))
+        (up_to (sending (plan_by h t.now)) (output_count h))
         s.old s.new }
 {
     let count = output_count(h);
     let from = output_row(h, 0);
     for m in 0..count {
         if picked(s, from, m) {
-            send(h, routes, joints, homes, s, m);
+            send(h, t, s, m);
         }
     }
 }
 
 // WRITE.
-pub fn write(h: Head, routes: &[[u8; 32]; 16], joints: &[u8; 64], homes: &[u8; 32], s: &mut [u8])
-    requires { Wiring h routes.now joints.now homes.now
-        × Holds (table_plan h routes.now joints.now) (In (table_plan h routes.now joints.now) Write) s.old }
-    ensures { Steps (table_plan h routes.now joints.now)
-        (In (table_plan h routes.now joints.now) Write)
-        (do_write (table_plan h routes.now joints.now)) s.old s.new }
+pub fn write(h: Head, t: &PlanTables, s: &mut [u8])
+    requires { WiringOf h t.now
+        × Holds (plan_by h t.now) (In (plan_by h t.now) Write) s.old }
+    ensures { Steps (plan_by h t.now)
+        (In (plan_by h t.now) Write)
+        (do_write (plan_by h t.now)) s.old s.new }
 {
-    let t = slot_next(Slot(s[SLOT_BYTE]), h.slots);
-    send_all(h, routes, joints, homes, s);
-    s[SLOT_BYTE] = t.0;
-    s[PHASE_BYTE] = phase_code(Phase::Read);
+    let slot = slot_next(Slot(s[SLOT_BYTE]), h.slots);
+    send_all(h, t, s);
+    s[SLOT_BYTE] = slot.0;
+    s[PHASE_BYTE] = u8::from(Phase::Read);
 }

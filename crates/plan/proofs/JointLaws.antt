@@ -1,7 +1,7 @@
 -- What a joint's byte says, by its kind; that comparing bytes is what the tests of joints do. Assumes nothing.
-use mathlib.Core.Path.{◌≡◌, refl, sym, ◌∙◌}
+use mathlib.Core.Path.{◌≡◌, refl, sym, ap, ◌∙◌}
 use mathlib.Core.Logic.{◌⊎◌, inl, inr}
-use mathlib.Core.Bool.{Bool, true, false, not, ◌&&◌, ◌||◌}
+use mathlib.Core.Bool.{Bool, true, false, not, ◌&&◌, ◌||◌, true≢false}
 use mathlib.Core.List.{List, []}
 use Prim.Native.Nat.{ℕ, zero, suc, ◌+◌, ◌*◌, ◌-◌, ◌/◌, ◌%◌, ◌≤◌, ◌<◌}
 use native.Mathlib.Omega.{arith}
@@ -12,7 +12,8 @@ use Rattle.basis.specs.Choice.{test, same_test}
 use Rattle.basis.specs.Bounded.{lt_or_ge}
 use Rattle.plan.specs.declared.Head.{Head}
 use Rattle.plan.specs.declared.Joint.TheVariants.{Nothing, Router, Active, Passive}
-use Rattle.plan.specs.Plan.{active, passive}
+use Rattle.plan.specs.declared.Joint.{Joint}
+use Rattle.plan.specs.Plan.{Interface, active, passive, joint_of}
 use Rattle.plan.specs.Rules.{joint_of_port, is_router_at, back_ok, leads_to}
 use Rattle.plan.specs.Rules.{joint_ok}
 use Rattle.plan.specs.Tables.{joint_of_byte, joint_byte_ok, table_plan, interface_at}
@@ -52,6 +53,72 @@ module _ (v : ℕ) where
   unfolding joint_of_byte
   of_none e f g = rw (ne_eqb (v / 64) 1 e, ne_eqb (v / 64) 2 f, ne_eqb (v / 64) 3 g)
 
+-- what the joint says, of its byte
+joint_clash : {n t m : ℕ} → Router n t ≡ Active m → ⊥
+joint_clash e = let z : ◌≡◌ {A = ℕ} 0 1 = cc in omega arith
+
+joint_clash_passive : {n t m : ℕ} → Router n t ≡ Passive m → ⊥
+joint_clash_passive e = let z : ◌≡◌ {A = ℕ} 0 1 = cc in omega arith
+
+joint_clash_interfaces : {n m : ℕ} → Active n ≡ Passive m → ⊥
+joint_clash_interfaces e = let z : ◌≡◌ {A = ℕ} 0 1 = cc in omega arith
+
+joint_clash_nothing : {n t : ℕ} → Nothing ≡ Router n t → ⊥
+joint_clash_nothing e = let z : ◌≡◌ {A = ℕ} 0 1 = cc in omega arith
+
+joint_clash_no_active : {n : ℕ} → Nothing ≡ Active n → ⊥
+joint_clash_no_active e = let z : ◌≡◌ {A = ℕ} 0 1 = cc in omega arith
+
+joint_clash_no_passive : {n : ℕ} → Nothing ≡ Passive n → ⊥
+joint_clash_no_passive e = let z : ◌≡◌ {A = ℕ} 0 1 = cc in omega arith
+
+router_same : {n t m k : ℕ} → Router n t ≡ Router m k → (m ≡ n) × (k ≡ t)
+router_same e = (cc, cc)
+
+active_same : {n m : ℕ} → Active n ≡ Active m → m ≡ n
+active_same e = cc
+
+passive_same : {n m : ℕ} → Passive n ≡ Passive m → m ≡ n
+passive_same e = cc
+
+pub router_is : (v : ℕ) {n t : ℕ} → joint_of_byte v ≡ Router n t → (v / 64 ≡ 1) × (n ≡ v / 4 % 16) × (t ≡ v % 4)
+router_is v {n} {t} q = by (kind_of v)
+  where
+    by : Kind v → (v / 64 ≡ 1) × (n ≡ v / 4 % 16) × (t ≡ v % 4)
+    by (to_router e) = let s = router_same (sym (of_router v e) ∙ q) in (e, s.0, s.1)
+    by (to_active e) = absurd (joint_clash (sym q ∙ of_active v e))
+    by (to_passive e) = absurd (joint_clash_passive (sym q ∙ of_passive v e))
+    by (to_none e f g) = absurd (joint_clash_nothing (sym (of_none v e f g) ∙ q))
+
+pub active_is : (v : ℕ) {n : ℕ} → joint_of_byte v ≡ Active n → (v / 64 ≡ 2) × (n ≡ v / 4 % 16)
+active_is v {n} q = by (kind_of v)
+  where
+    by : Kind v → (v / 64 ≡ 2) × (n ≡ v / 4 % 16)
+    by (to_router e) = absurd (joint_clash (sym (of_router v e) ∙ q))
+    by (to_active e) = (e, active_same (sym (of_active v e) ∙ q))
+    by (to_passive e) = absurd (joint_clash_interfaces (sym q ∙ of_passive v e))
+    by (to_none e f g) = absurd (joint_clash_no_active (sym (of_none v e f g) ∙ q))
+
+pub passive_is : (v : ℕ) {n : ℕ} → joint_of_byte v ≡ Passive n → (v / 64 ≡ 3) × (n ≡ v / 4 % 16)
+passive_is v {n} q = by (kind_of v)
+  where
+    by : Kind v → (v / 64 ≡ 3) × (n ≡ v / 4 % 16)
+    by (to_router e) = absurd (joint_clash_passive (sym (of_router v e) ∙ q))
+    by (to_active e) = absurd (joint_clash_interfaces (sym (of_active v e) ∙ q))
+    by (to_passive e) = (e, passive_same (sym (of_passive v e) ∙ q))
+    by (to_none e f g) = absurd (joint_clash_no_passive (sym (of_none v e f g) ∙ q))
+
+-- a byte below 256 whose joint is no interface's is below 128
+pub no_interface : (v : ℕ) → v < 256 → ((n : ℕ) → joint_of_byte v ≡ Active n → ⊥)
+    → ((n : ℕ) → joint_of_byte v ≡ Passive n → ⊥) → v < 128
+no_interface v l a p = by (kind_of v)
+  where
+    by : Kind v → v < 128
+    by (to_router e) = omega arith
+    by (to_active e) = absurd (a (v / 4 % 16) (of_active v e))
+    by (to_passive e) = absurd (p (v / 4 % 16) (of_passive v e))
+    by (to_none e f g) = omega arith
+
 -- two tests for equality that come to the same
 same_eqb : (a b x y : ℕ) → (a ≡ b → x ≡ y) → (x ≡ y → a ≡ b) → eqb a b ≡ eqb x y
 same_eqb a b x y f g =
@@ -77,34 +144,46 @@ router_at i w h = by (kind_of w)
     by (to_none e f g) = rw (of_none w e f g) (sym (ne_eqb w (64 + i) (λ q. e (omega arith))))
 
 module _ (h : Head) (js : List ℕ) (i : ℕ) where
-  pub back_none : (get_or js i 0 / 64 ≡ 1 → ⊥) → true ≡ back_ok (table_plan h [] js) i
-      (joint_of_port (table_plan h [] js) i)
-  back_none n = rw (port_joint h [] js i) (by (kind_of (get_or js i 0)))
+  pub back_none : {j : Joint} → j ≡ joint_of_byte (get_or js i 0) → ((n t : ℕ) → j ≡ Router n t → ⊥)
+      → true ≡ back_ok (table_plan h [] js) i (joint_of_port (table_plan h [] js) i)
+  back_none {j} known n = rw (port_joint h [] js i, ← known) (by j refl)
     where
-      by : Kind (get_or js i 0) → true ≡ back_ok (table_plan h [] js) i (joint_of_byte (get_or js i 0))
-      by (to_router e) = absurd (n e)
-      by (to_active e) = rw (of_active (get_or js i 0) e)
-      by (to_passive e) = rw (of_passive (get_or js i 0) e)
-      by (to_none e f g) = rw (of_none (get_or js i 0) e f g)
+      by : (k : Joint) → j ≡ k → true ≡ back_ok (table_plan h [] js) i j
+      by (Router m t) e = absurd (n m t e)
+      by (Active m) e = rw e
+      by (Passive m) e = rw e
+      by Nothing e = rw e
 
-  pub back_router : i < 64 → get_or js i 0 / 64 ≡ 1
-      → (not (eqb (get_or js i 0 % 64 / 4) (i / 4)) && eqb (get_or js (get_or js i 0 % 64) 0) (64 + i))
+  pub back_router : {n t : ℕ} {j : Joint} → i < 64 → j ≡ joint_of_byte (get_or js i 0) → j ≡ Router n t
+      → (not (eqb n (i / 4)) && eqb (get_or js (4 * n + t) 0) (64 + i))
       ≡ back_ok (table_plan h [] js) i (joint_of_port (table_plan h [] js) i)
   unfolding table_plan
-  back_router l e =
-      let v : ℕ = get_or js i 0 in
-      let m : v % 64 / 4 ≡ v / 4 % 16 = omega arith in
-      let k : 4 * (v / 4 % 16) + v % 4 ≡ v % 64 = omega arith in
-      rw (
-        port_joint h [] js i,
-        of_router v e,
-        lt-ltb (v % 4) 4 (omega arith),
-        k,
-        m,
-        router_at i (get_or js (v % 64) 0) l,
-      )
+  back_router {n} {t} l known e =
+      let is = router_is (get_or js i 0) (sym known ∙ e) in
+      let side : t < 4 = omega (arith, is.2) in
+      rw (port_joint h [] js i, ← known, e, lt-ltb t 4 side, router_at i (get_or js (4 * n + t) 0) l)
 
--- ---- a joint leads to an interface: kind and number are the wanted ones
+-- ---- a joint leads to an interface: it is the interface's
+pub leads_same : (e : Interface) (j : Joint) → j ≡ joint_of e → leads_to e j ≡ true
+leads_same (active a) j e = rw e (eq-eqb a a refl)
+leads_same (passive p) j e = rw e (eq-eqb p p refl)
+
+leads_joint : (e : Interface) (j : Joint) → leads_to e j ≡ true → j ≡ joint_of e
+leads_joint e Nothing t = absurd (true≢false (sym t))
+leads_joint e (Router n k) t = absurd (true≢false (sym t))
+leads_joint (active a) (Active n) t = ap Active (eqb-true n a t)
+leads_joint (passive p) (Active n) t = absurd (true≢false (sym t))
+leads_joint (active a) (Passive n) t = absurd (true≢false (sym t))
+leads_joint (passive p) (Passive n) t = ap Passive (eqb-true n p t)
+
+pub leads_other : (e : Interface) (j : Joint) → (j ≡ joint_of e → ⊥) → leads_to e j ≡ false
+leads_other e j f = by (test (leads_to e j))
+  where
+    by : (leads_to e j ≡ true) ⊎ (leads_to e j ≡ false) → leads_to e j ≡ false
+    by (inl t) = absurd (f (leads_joint e j t))
+    by (inr t) = t
+
+-- ---- kind and number are the wanted ones
 leads_active : (a v : ℕ) → a < 16 → leads_to (active a) (joint_of_byte v) ≡ eqb (v / 4) (32 + a)
 leads_active a v h = by (kind_of v)
   where
@@ -211,13 +290,13 @@ module _ (h : Head) (v : ℕ) where
           none e f g = omega arith
 
   module _ (fits : joint_byte_ok h v ≡ true) where
-    active_fits : v / 64 ≡ 2 → v / 4 % 16 < h.actives
+    pub active_fits : v / 64 ≡ 2 → v / 4 % 16 < h.actives
     unfolding joint_byte_ok joint_ok
     active_fits e =
         ltb-true (v / 4 % 16) h.actives (and_first _ _
         (rw (ne_eqb (v / 64) 0 (λ q. omega arith), ne_eqb (v / 64) 1 (λ q. omega arith), eq-eqb (v / 64) 2 e) at fits))
 
-    passive_fits : v / 64 ≡ 3 → v / 4 % 16 < h.passives
+    pub passive_fits : v / 64 ≡ 3 → v / 4 % 16 < h.passives
     unfolding joint_byte_ok joint_ok
     passive_fits e =
         ltb-true (v / 4 % 16) h.passives (and_first _ _

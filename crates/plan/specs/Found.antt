@@ -11,10 +11,6 @@ use Rattle.plan.specs.declared.Ports.TheVariants.{Missing, One, Several}
 unfoldable pub wanted_of : ℕ → ℕ → ℕ
 wanted_of actives d = pick (ltb d actives) (32 + d) (48 + (d - actives))
 
--- the answer for so many ports found, the last of them at a number
-unfoldable pub told_of : ℕ → ℕ → Ports
-told_of count at = pick (eqb count 0) Missing (pick (eqb count 1) (One at) Several)
-
 -- the column of the interface that a joint's byte names, or 32 where it names none of the plan's
 unfoldable pub column_of : ℕ → ℕ → ℕ → ℕ
 column_of actives passives v =

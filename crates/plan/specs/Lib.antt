@@ -3,4 +3,5 @@ pub mod Plan
 pub mod Rules
 pub mod Tables
 pub mod Found
+pub mod Lent
 pub mod Samples

@@ -28,7 +28,7 @@ const COUNT_MOST: usize = 16;
 
 const SLOTS_MOST: usize = 32;
 
-const CAPACITY_MOST: u8 = 7;
+const CAPACITY_MOST: usize = 7;
 
 // The bits before the joints, of a router's joints, and of a route.
 pub const JOINTS_AT: usize = 45;
@@ -42,8 +42,7 @@ fn capacity(plan: &[u8], i: usize) -> Credit
     requires { (i < 8) × (6 ≤ length plan.now) }
     ensures { result ≡ capacity_at plan.now i }
 {
-    let v = fields::field(plan, CAPACITIES_AT + CAPACITY_BITS * i, CAPACITY_BITS);
-    Credit(v)
+    Credit(fields::field(plan, CAPACITIES_AT + CAPACITY_BITS * i, CAPACITY_BITS))
 }
 
 // The counts, the slot count and the capacities that the bytes give.
@@ -51,31 +50,19 @@ pub fn read_head(plan: &[u8]) -> Head
     requires { 6 ≤ length plan.now }
     ensures { result ≡ head_of plan.now }
 {
-    let routers = fields::field(plan, 0, COUNT_BITS) as usize;
-    let actives = fields::field(plan, ACTIVES_AT, COUNT_BITS) as usize;
-    let passives = fields::field(plan, PASSIVES_AT, COUNT_BITS) as usize;
-    let slots = fields::field(plan, SLOTS_AT, SLOTS_BITS);
-    let aout = capacity(plan, 0);
-    let ain = capacity(plan, 1);
-    let u = capacity(plan, 2);
-    let q = capacity(plan, 3);
-    let f = capacity(plan, 4);
-    let k = capacity(plan, 5);
-    let pin = capacity(plan, 6);
-    let pout = capacity(plan, 7);
     Head {
-        routers: routers,
-        actives: actives,
-        passives: passives,
-        slots: slots,
-        aout: aout,
-        ain: ain,
-        u: u,
-        q: q,
-        f: f,
-        k: k,
-        pin: pin,
-        pout: pout,
+        routers: usize::from(fields::field(plan, 0, COUNT_BITS)),
+        actives: usize::from(fields::field(plan, ACTIVES_AT, COUNT_BITS)),
+        passives: usize::from(fields::field(plan, PASSIVES_AT, COUNT_BITS)),
+        slots: fields::field(plan, SLOTS_AT, SLOTS_BITS),
+        aout: capacity(plan, 0),
+        ain: capacity(plan, 1),
+        u: capacity(plan, 2),
+        q: capacity(plan, 3),
+        f: capacity(plan, 4),
+        k: capacity(plan, 5),
+        pin: capacity(plan, 6),
+        pout: capacity(plan, 7),
     }
 }
 
@@ -90,7 +77,7 @@ fn is_within(low: usize, n: usize, high: usize) -> bool
 fn capacity_ok(c: Credit) -> bool
     ensures { result ≡ within 1 c.0 7 }
 {
-    (1 <= c.0) & (c.0 <= CAPACITY_MOST)
+    is_within(1, usize::from(c.0), CAPACITY_MOST)
 }
 
 // Whether the counts and the slot count are in range.
@@ -100,7 +87,7 @@ pub fn counts_ok(h: Head) -> bool
     is_within(1, h.routers, COUNT_MOST)
         & is_within(1, h.actives, COUNT_MOST)
         & is_within(1, h.passives, COUNT_MOST)
-        & is_within(2, h.slots as usize, SLOTS_MOST)
+        & is_within(2, usize::from(h.slots), SLOTS_MOST)
 }
 
 // Whether each capacity is in range.
@@ -140,5 +127,5 @@ pub fn fill_ok(plan: &[u8], from: usize) -> bool
 {
     let n = 8 * plan.len() - from;
     let last = plan[plan.len() - 1];
-    both(last as u32, below(n)) == 0
+    both(u32::from(last), below(n)) == 0
 }

@@ -3,9 +3,9 @@
 ghost use Rattle.std.specs.Prelude.{◌≡◌, ◌≤◌, ◌<◌, ◌+◌, ◌*◌, length, replicate};
 ghost use Rattle.plan.specs.declared.Head.{Head};
 ghost use Rattle.plan.specs.Head.{Counts};
-ghost use Rattle.basis.specs.Choice.{pick};
+ghost use Rattle.plan.specs.Plan.{joint_of};
 ghost use Rattle.plan.specs.Found.{numbers_of};
-ghost use Rattle.plan.specs.Tables.{joint_byte, joints_of, joint_byte_ok, joint_bytes_ok, joint_of_byte};
+ghost use Rattle.plan.specs.Tables.{joint_byte, joints_of, joint_byte_ok, joint_bytes_ok, joint_of_byte, interface_at};
 
 use crate::counts::JOINTS_AT;
 use crate::{Head, Joint};
@@ -52,20 +52,16 @@ fn joint_byte(plan: &[u8], i: usize) -> u8
     kind * KIND + number * NUMBER + side
 }
 
-// One of two numbers.
-fn choose(first: bool, x: u8, y: u8) -> u8
-    ensures { result ≡ pick first x y }
-{
-    if first { x } else { y }
-}
-
 // How many numbers the joints of a kind may have.
 fn numbers(routers: u8, actives: u8, passives: u8, kind: u8) -> u8
     ensures { result ≡ numbers_of routers actives passives kind }
 {
-    let other = choose(kind == TO_PASSIVE, passives, 1);
-    let interfaces = choose(kind == TO_ACTIVE, actives, other);
-    choose(kind == TO_ROUTER, routers, interfaces)
+    match kind {
+        TO_ROUTER => routers,
+        TO_ACTIVE => actives,
+        TO_PASSIVE => passives,
+        _ => 1,
+    }
 }
 
 // Whether kind, number and side are in range.
@@ -101,16 +97,22 @@ pub fn joints(plan: &[u8], h: Head, t: &mut [u8; 64]) -> bool
 pub fn joint_of(v: u8) -> Joint
     ensures { result ≡ joint_of_byte v }
 {
-    let kind = v / KIND;
-    let number = (v / NUMBER % NUMBERS) as usize;
-    if kind == TO_ROUTER {
-        return Joint::Router(number, (v % NUMBER) as usize);
+    let number = usize::from(v / NUMBER % NUMBERS);
+    match v / KIND {
+        TO_ROUTER => Joint::Router(number, usize::from(v % NUMBER)),
+        TO_ACTIVE => Joint::Active(number),
+        TO_PASSIVE => Joint::Passive(number),
+        _ => Joint::Nothing,
     }
-    if kind == TO_ACTIVE {
-        return Joint::Active(number);
+}
+
+// The joint that leads to the interface of a column.
+pub fn leading_to(h: Head, d: usize) -> Joint
+    ensures { result ≡ joint_of (interface_at h d) }
+{
+    if d < h.actives {
+        Joint::Active(d)
+    } else {
+        Joint::Passive(d - h.actives)
     }
-    if kind == TO_PASSIVE {
-        return Joint::Passive(number);
-    }
-    Joint::Nothing
 }

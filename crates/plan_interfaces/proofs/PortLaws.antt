@@ -1,68 +1,53 @@
--- The ports of an interface by counting, and those of all interfaces in one pass. Assumes nothing.
+-- The ports of an interface one after the other, and those of all interfaces in one pass. Assumes nothing.
 use mathlib.Core.Path.{◌≡◌, refl, sym, ap, ◌∙◌}
 use mathlib.Core.Logic.{◌⊎◌, inl, inr}
 use mathlib.Core.Bool.{Bool, true, false, ◌&&◌}
 use mathlib.Core.List.{List, []}
-use Prim.Native.Nat.{ℕ, zero, suc, ◌+◌, ◌*◌, ◌-◌, ◌/◌, ◌≤◌, ◌<◌}
+use Prim.Native.Nat.{ℕ, suc, ◌+◌, ◌*◌, ◌-◌, ◌≤◌, ◌<◌}
 use native.Mathlib.Omega.{arith}
 use lib.Dec.{eqb, ltb}
 use lib.ListN.{length, get_or, set, replicate, length-set, get_or-replicate}
 use lib.Seq.{get_or-set_same, get_or-set_other}
-use borrow.Author.Tests.{eqb-true, eqb-false, eq-eqb, ne_eqb, lt-ltb, le-ltb}
+use borrow.Author.Tests.{eqb-true, eqb-false, ne_eqb, lt-ltb, le-ltb}
+use Rattle.std.proofs.Common.{Option, Some, None}
 use Rattle.basis.specs.Choice.{pick, test, same_test}
 use Rattle.basis.specs.Bounded.{all_below, all_at, all_of, all_same, lt_or_ge}
 use Rattle.basis.specs.Fold.{up_to, fill, up_suc, up_none, up_keeps_at, up_same}
 use Rattle.plan.specs.declared.Head.{Head}
 use Rattle.plan.specs.declared.Ports.{Ports}
 use Rattle.plan.specs.declared.Ports.TheVariants.{Missing, One, Several}
-use Rattle.plan.specs.Plan.{Plan, Interface, active, passive}
+use Rattle.plan.specs.declared.Joint.{Joint}
+use Rattle.plan.specs.Plan.{Plan, Interface, active, passive, joint_of}
 use Rattle.plan.specs.Rules.{joint_of_port, leads_to, meet, ports_of, is_one, port_or0, interfaces_ok}
 use Rattle.plan.specs.Tables.{joint_of_byte, table_plan, interface_at, homes_of}
-use Rattle.plan.specs.Found.{wanted_of, told_of, column_of, mark_of, cell_of, port_of_cell, found_step, found_of}
-use Rattle.plan.proofs.JointLaws.{port_joint, leads, leads_column}
+use Rattle.plan.specs.Found.{column_of, mark_of, cell_of, port_of_cell, found_step, found_of}
+use Rattle.plan.proofs.JointLaws.{port_joint, leads_same, leads_other, leads_column}
 
--- ---- counting
+-- ---- options
+pub some_same : {n m : ℕ} → ◌≡◌ {A = Option ℕ} (Some n) (Some m) → m ≡ n
+some_same e = cc
+
+pub some_not : {n : ℕ} → ◌≡◌ {A = Option ℕ} (Some n) None → ⊥
+some_not e = let z : ◌≡◌ {A = ℕ} 0 1 = cc in omega arith
+
+pub none_not : {n : ℕ} → ◌≡◌ {A = Option ℕ} None (Some n) → ⊥
+none_not e = let z : ◌≡◌ {A = ℕ} 0 1 = cc in omega arith
+
+-- ---- a port that is not met changes nothing
 meet_miss : (i : ℕ) (t : Ports) → meet false i t ≡ t
 meet_miss i Missing = refl
 meet_miss i (One k) = refl
 meet_miss i Several = refl
 
-told_many : (n at : ℕ) → 2 ≤ n → told_of n at ≡ Several
-unfolding told_of
-told_many n at h = rw (ne_eqb n 0 (λ e. omega arith), ne_eqb n 1 (λ e. omega arith))
-
-meet_told : (n at i : ℕ) → meet true i (told_of n at) ≡ told_of (n + 1) i
-unfolding told_of
-meet_told zero at i = refl
-meet_told (suc zero) at i = refl
-meet_told (suc (suc n)) at i =
-    rw (told_many (suc (suc n)) at (omega arith), told_many (suc (suc n) + 1) i (omega arith))
-
--- one more port, by its byte
-unfoldable pub hit_step : List ℕ → ℕ → ℕ → Ports → Ports
-hit_step js w i t = meet (eqb (get_or js i 0 / 4) w) i t
-
-pub hit : (js : List ℕ) (w n at i : ℕ) → get_or js i 0 / 4 ≡ w → told_of (n + 1) i ≡ hit_step js w i (told_of n at)
-unfolding hit_step
-hit js w n at i e = sym (rw (eq-eqb (get_or js i 0 / 4) w e) (meet_told n at i))
-
-pub miss : (js : List ℕ) (w n at i : ℕ) → (get_or js i 0 / 4 ≡ w → ⊥) → told_of n at ≡ hit_step js w i (told_of n at)
-unfolding hit_step
-miss js w n at i e = sym (rw (ne_eqb (get_or js i 0 / 4) w e) (meet_miss i (told_of n at)))
-
-pub told_none : (at : ℕ) → told_of 0 at ≡ Missing
-unfolding told_of
-told_none at = refl
-
 -- ---- the ports of an interface, step by step
-unfoldable port_step : Plan → Interface → ℕ → Ports → Ports
+unfoldable pub port_step : Plan → Interface → ℕ → Ports → Ports
 port_step pl e i t = meet (leads_to e (joint_of_port pl i)) i t
 
 module _ (h : Head) (js : List ℕ) where
   abbrev pl : Plan
   pl = table_plan h [] js
 
-  ports_up : (e : Interface) → ports_of pl e ≡ up_to (port_step pl e) (4 * h.routers) Missing
+  pub ports_up : (e : Interface) → ports_of pl e ≡ up_to (port_step pl e) (4 * h.routers) Missing
   unfolding ports_of port_step table_plan
   ports_up e = refl
 
@@ -70,6 +55,19 @@ module _ (h : Head) (js : List ℕ) where
       → port_step pl e i t ≡ meet (leads_to e (joint_of_byte (get_or js i 0))) i t
   unfolding port_step
   port_step_lem e i t = rw (port_joint h [] js i)
+
+  -- by the joint: it is the interface's, or another
+  pub port_met : (e : Interface) (i : ℕ) (t : Ports) {j : Joint} → j ≡ joint_of_byte (get_or js i 0) → j ≡ joint_of e
+      → meet true i t ≡ port_step pl e i t
+  port_met e i t known same = sym (port_step_lem e i t
+      ∙ ap (λ (b : Bool). meet b i t) (leads_same e (joint_of_byte (get_or js i 0)) (sym known ∙ same)))
+
+  pub port_passed : (e : Interface) (i : ℕ) (t : Ports) {j : Joint} → j ≡ joint_of_byte (get_or js i 0)
+      → (j ≡ joint_of e → ⊥) → t ≡ port_step pl e i t
+  port_passed e i t known other = sym (port_step_lem e i t
+      ∙ ap (λ (b : Bool). meet b i t)
+      (leads_other e (joint_of_byte (get_or js i 0)) (λ q. other (known ∙ q)))
+      ∙ meet_miss i t)
 
   -- a port found is one of those passed
   small_step : (b : Bool) (i : ℕ) (t : Ports) → port_or0 t ≤ i - 1 → port_or0 (meet b i t) ≤ i
@@ -90,17 +88,6 @@ module _ (h : Head) (js : List ℕ) where
     -- an interface's port is below 64
     pub port_small : (e : Interface) → port_or0 (ports_of pl e) < 64
     port_small e = rw (ports_up e) (omega (arith, small e (4 * h.routers)))
-
-    -- counting finds the interface's ports
-    pub ports_hit : (d w : ℕ) → d < h.actives + h.passives → w ≡ wanted_of h.actives d
-        → up_to (hit_step js w) (4 * h.routers) Missing ≡ ports_of pl (interface_at h d)
-    unfolding hit_step
-    ports_hit d w l e =
-        up_same (hit_step js w) (port_step pl (interface_at h d)) (4 * h.routers) Missing
-        (λ i t k. rw e
-        (sym (port_step_lem (interface_at h d) i t ∙ ap (λ (b : Bool). meet b i t)
-        (leads h act pas d l (get_or js i 0)))))
-        ∙ sym (ports_up (interface_at h d))
 
     -- ---- one pass: each column's cell is that of the interface's ports so far
     mark_cell : (i : ℕ) (t : Ports) → port_or0 t < 64 → mark_of (cell_of t) i ≡ cell_of (meet true i t)

@@ -1,25 +1,23 @@
 // What the joints join: routers by a joint at each end, each interface by exactly one.
 #![tactic(auto)]
 
-ghost use Rattle.std.specs.Prelude.{◌≡◌, true, ◌&&◌, [], ◌≤◌, ◌<◌, length, get_or, replicate};
+ghost use Rattle.std.specs.Prelude.{◌≡◌, true, ◌&&◌, [], ℕ, ◌≤◌, ◌<◌, Some, None, length, get_or, replicate};
 ghost use Rattle.plan.specs.declared.Head.{Head};
 ghost use Rattle.plan.specs.Head.{destinations, Counts};
-ghost use Rattle.plan.specs.Rules.{back_ok, joint_of_port, named_ok, ports_of, interfaces_ok};
+ghost use Rattle.plan.specs.Rules.{back_ok, joint_of_port, named_ok, meet, ports_of, interfaces_ok};
 ghost use Rattle.plan.specs.Tables.{table_plan, interface_at, homes_of, joint_byte_ok, joint_bytes_ok};
-ghost use Rattle.plan.specs.Found.{wanted_of, told_of, column_of, mark_of, found_step, found_of, port_of_cell};
+ghost use Rattle.plan.specs.Found.{column_of, mark_of, found_step, found_of, port_of_cell};
 
-use plan::joints::{KIND, NUMBER, NUMBERS, SIDES, TO_ACTIVE, TO_ROUTER};
-use plan::{Head, Ports};
+use plan::joints::{SIDES, joint_of, leading_to};
+use plan::{Head, Joint, Ports};
 
 // A cell of a column that no port was found for, and of one with several.
 const NONE_FOUND: u8 = 64;
 
 const MORE_FOUND: u8 = 65;
 
-// The byte of a joint to port 0, and the least of one to an interface.
+// The byte of a joint to port 0.
 const ROUTER_FROM: usize = 64;
-
-const ACTIVE_BYTES: u8 = 128;
 
 // Whether the i-th port, if it is joined to a router, is joined to another router, whose joint names it back.
 pub fn back_ok(joints: &[u8; 64], i: usize) -> bool
@@ -27,38 +25,21 @@ pub fn back_ok(joints: &[u8; 64], i: usize) -> bool
     ensures { (h : Head) → result ≡ back_ok (table_plan h [] joints.now) i
         (joint_of_port (table_plan h [] joints.now) i) }
 {
-    let v = joints[i];
-    if v / KIND != TO_ROUTER {
+    let Joint::Router(r, side) = joint_of(joints[i]) else {
         return true;
-    }
-    let k = (v % KIND) as usize;
-    let w = joints[k];
-    (k / SIDES != i / SIDES) & (w == (ROUTER_FROM + i) as u8)
+    };
+    let w = joints[SIDES * r + side];
+    (r != i / SIDES) & (w == (ROUTER_FROM + i) as u8)
 }
 
-// Kind and number of the joint that leads to the interface of column d.
-fn wanted(actives: usize, d: usize) -> u8
-    requires { (actives ≤ 16) × (d < 32) }
-    ensures { result ≡ wanted_of actives d }
+// What was found once one more port, number i, is.
+fn met(found: Ports, i: usize) -> Ports
+    ensures { result ≡ meet true i found }
 {
-    if d < actives {
-        (32 + d) as u8
-    } else {
-        (48 + (d - actives)) as u8
+    match found {
+        Ports::Missing => Ports::One(i),
+        _ => Ports::Several,
     }
-}
-
-// The answer for so many ports found, the last at a number.
-fn told(count: usize, at: usize) -> Ports
-    ensures { result ≡ told_of count at }
-{
-    if count == 0 {
-        return Ports::Missing;
-    }
-    if count == 1 {
-        return Ports::One(at);
-    }
-    Ports::Several
 }
 
 // The ports joined to the interface of column d.
@@ -66,30 +47,27 @@ pub fn ports(h: Head, joints: &[u8; 64], d: usize) -> Ports
     requires { (h.routers ≤ 16) × (h.actives ≤ 16) × (h.passives ≤ 16) × (d < destinations h) }
     ensures { result ≡ ports_of (table_plan h [] joints.now) (interface_at h d) }
 {
-    let n = SIDES * h.routers;
-    let w = wanted(h.actives, d);
-    let mut count: usize = 0;
-    let mut at: usize = 0;
-    for i in 0..n {
-        let v = joints[i];
-        if v / NUMBER == w {
-            count += 1;
-            at = i;
+    let wanted = leading_to(h, d);
+    let mut found = Ports::Missing;
+    for (i, v) in joints[..SIDES * h.routers].iter().enumerate() {
+        if joint_of(*v) == wanted {
+            found = met(found, i);
         }
     }
-    told(count, at)
+    found
 }
 
-// The column of the interface that a joint's byte names.
-fn column(h: Head, v: u8) -> usize
-    requires { Counts h × (128 ≤ v) × (joint_byte_ok h v ≡ true) }
-    ensures { (result ≡ column_of h.actives h.passives v) × (result < 32) }
+// The column of the interface that a joint's byte names, if it names one.
+fn column(h: Head, v: u8) -> Option<usize>
+    requires { Counts h × (joint_byte_ok h v ≡ true) }
+    ensures { ((d : ℕ) → result ≡ Some d → (d ≡ column_of h.actives h.passives v) × (d < 32) × (128 ≤ v))
+        × (result ≡ None → v < 128) }
 {
-    let number = (v / NUMBER % NUMBERS) as usize;
-    if v / KIND == TO_ACTIVE {
-        return number;
+    match joint_of(v) {
+        Joint::Active(a) => Some(a),
+        Joint::Passive(p) => Some(h.actives + p),
+        _ => None,
     }
-    h.actives + number
 }
 
 // A column's cell after one more port.
@@ -106,11 +84,9 @@ fn visit(h: Head, joints: &[u8; 64], t: &mut [u8; 32], i: usize) -> bool
         × (result ≡ back_ok (table_plan h [] joints.now) i
         (joint_of_port (table_plan h [] joints.now) i)) }
 {
-    let v = joints[i];
-    if v < ACTIVE_BYTES {
+    let Some(d) = column(h, joints[i]) else {
         return back_ok(joints, i);
-    }
-    let d = column(h, v);
+    };
     t[d] = mark(t[d], i as u8);
     true
 }

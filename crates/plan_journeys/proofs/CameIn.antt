@@ -1,5 +1,6 @@
 -- The side by which a pair's walk comes in to a router on it is the one that `came_in` finds: the walk meets the router
 -- once.
+use Rattle.std.proofs.Math.Option.{some, none}
 use mathlib.Core.Path.{◌≡◌, refl, sym, ap, ◌∙◌}
 use mathlib.Core.Bool.{true, false}
 use Prim.Native.Nat.{ℕ, zero, suc, ◌+◌, ◌-◌, ◌<◌}
@@ -8,7 +9,6 @@ use borrow.Author.Tests.{eq-eqb, ne_eqb}
 use Rattle.basis.specs.Walk.{Spot, on, end, lost, way_on}
 use Rattle.plan.specs.Plan.{Plan, Port, Interface, active, passive, R, A}
 use Rattle.plan.specs.Rules.{home}
-use Rattle.plan_walks.specs.declared.Index.TheVariants.{At, Off}
 use Rattle.plan_walks.specs.Walk.{onward, router_of, walked}
 use Rattle.plan_walks.specs.Served.{Served}
 use Rattle.plan_walks.specs.Steps.{stands_on, index_in, index_on}
@@ -21,13 +21,13 @@ use Rattle.plan_journeys.proofs.Walks.{walk_short}
 -- ---- the first router of a walk that is r
 module _ (pl : Plan) (e : Interface) (x : Port) (r : ℕ) where
   -- where the first n routers are others, none is found among them
-  index_others : (n : ℕ) → ((k : ℕ) → k < n → stands_on r (walked pl e k x) ≡ false) → index_in pl e x r n ≡ Off
+  index_others : (n : ℕ) → ((k : ℕ) → k < n → stands_on r (walked pl e k x) ≡ false) → index_in pl e x r n ≡ none
   index_others zero f = index_none pl e x r
   index_others (suc n) f = index_off pl e x r n (index_others n (λ k h. f k (omega arith))) (f n (omega arith))
 
   -- the walk stands on r after n routers, and on others before: n is found among any number of routers behind it
   pub index_found : (n m : ℕ) → n < m → stands_on r (walked pl e n x) ≡ true
-      → ((k : ℕ) → k < n → stands_on r (walked pl e k x) ≡ false) → index_in pl e x r m ≡ At n
+      → ((k : ℕ) → k < n → stands_on r (walked pl e k x) ≡ false) → index_in pl e x r m ≡ some n
   index_found n m h f g =
       let at : m - suc n + suc n ≡ m = omega arith in
       ap (index_in pl e x r) (sym at)
@@ -61,7 +61,7 @@ module _ {pl : Plan} (wired : Wired pl) (a p : ℕ) (ha : a < A pl) (s : Served 
           let c = walk_short wired (passive p) (home pl (active a)) (home_inside (active a) wired ha).0 s.ahead in
           omega (arith, b.0, c)
 
-      found : index_in pl (passive p) (home pl (active a)) r (R pl) ≡ At n
+      found : index_in pl (passive p) (home pl (active a)) r (R pl) ≡ some n
       found =
           index_found pl (passive p) (home pl (active a)) r n (R pl) short (rw f (eq-eqb r r refl))
           (λ k h. others n r i f k h (walked pl (passive p) k (home pl (active a))) refl)

@@ -13,7 +13,6 @@ use Rattle.plan.specs.declared.Joint.TheVariants.{Nothing, Router, Active, Passi
 use Rattle.plan.specs.Plan.{Plan, Port, Interface, active, passive, A, P, route_to}
 use Rattle.plan.specs.Rules.{home}
 use Rattle.plan_walks.specs.Walk.{onward, walked, walk_size}
-use Rattle.plan_walks.specs.declared.Index.{Index}
 use Rattle.plan_walks.specs.Steps.{index_on, entered_by}
 use Rattle.plan_walks.specs.Served.{Served}
 pub use Rattle.plan_queues.specs.Queue.{Heading, ahead, back}
@@ -52,7 +51,7 @@ pub data Output : Type 0 where
   from_unit : ℕ → Output
 
 -- the side by which the walk of a pair comes in to router r; a packet at a unit is on its walk
-abbrev pub came_by : Plan → ℕ → ℕ → Index → ℕ
+abbrev pub came_by : Plan → ℕ → ℕ → Option ℕ → ℕ
 came_by pl a p x = entered_by pl (passive p) (home pl (active a)) x
 
 unfoldable pub came_in : Plan → ℕ → ℕ → ℕ → ℕ

@@ -12,11 +12,7 @@ ghost use Rattle.plan_routes.specs.Marks.{Routes};
 use fields::field;
 use plan::Head;
 use plan::counts::{JOINTS_AT, ROUTE_BITS, ROUTER_BITS};
-use sets::long::with;
-use sets::{either, long};
-
-// What the table holds where the plan gives no side.
-pub const NO_SIDE: u8 = 7;
+use sets::{either, with};
 
 // How many columns a word holds: column d + k of side v is member 8 * v + k, so each side has a lane of eight members.
 const GROUP: usize = 8;
@@ -32,12 +28,12 @@ const UNFIT_AT: usize = 32;
 const UNFIT: u64 = 16777216;
 
 // The side of column d + k is put into the row, and the column into the side's lane of the word.
-fn put(row: &mut [u8; 32], s: u64, d: usize, k: usize, side: usize) -> u64
+fn put(row: &mut [u8; 32], s: u64, d: usize, k: usize, side: u8) -> u64
     requires { (k < 8) × (d + k < 32) × (side < 8) }
     ensures { Put side d k row.old row.new s result }
 {
-    row[d + k] = side as u8;
-    with(s, GROUP * side + k)
+    row[d + k] = side;
+    with(s, GROUP * usize::from(side) + k)
 }
 
 // The route of column d + k, which begins 3 * k bits after the first bit of byte i, is put into the row and the word.
@@ -47,7 +43,7 @@ fn one(plan: &[u8], i: usize, d: usize, k: usize, row: &mut [u8; 32], s: u64) ->
         s result }
 {
     let side = field(plan, 8 * i + ROUTE_BITS * k, ROUTE_BITS);
-    put(row, s, d, k, side as usize)
+    put(row, s, d, k, side)
 }
 
 // The routes of the eight columns from d on, the first of which begins at a byte's first bit.
@@ -103,7 +99,7 @@ fn some(plan: &[u8], m: usize, at: usize, d: usize, row: &mut [u8; 32]) -> u64
     let mut s = 0u64;
     for k in 0..m {
         let side = field(plan, at + ROUTE_BITS * (d + k), ROUTE_BITS);
-        s = put(row, s, d, k, side as usize);
+        s = put(row, s, d, k, side);
     }
     s
 }
@@ -156,12 +152,12 @@ fn long_row(plan: &[u8], n: usize, at: usize, row: &mut [u8; 32], sides: &mut [u
     for j in 0..g {
         let s = eight(plan, at, f + GROUP * j, row);
         lay(sides, s, f + GROUP * j);
-        all = long::either(all, s);
+        all = either(all, s);
     }
     let d = f + GROUP * g;
     let s = tail(plan, n - d, at, d, row);
     lay(sides, s, d);
-    fits(long::either(all, s))
+    fits(either(all, s))
 }
 
 // A row of at most eight columns.

@@ -35,7 +35,7 @@ pub number_of_port : (n : ℕ) → port_number (port_of n) ≡ n
 number_of_port n = omega arith
 
 -- ---- a joint's byte leads to a port
-into_inside : (v : ℕ) (y : Port) → into (joint_of_byte v) ≡ on y → Inside y
+pub into_inside : (v : ℕ) (y : Port) → into (joint_of_byte v) ≡ on y → Inside y
 unfolding joint_of_byte
 into_inside v y e = by (test (eqb (v / 64) 1)) (test (eqb (v / 64) 2)) (test (eqb (v / 64) 3))
   where

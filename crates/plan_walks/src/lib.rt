@@ -8,30 +8,17 @@ ghost use Rattle.plan.specs.Plan.{no_side, route_to};
 ghost use Rattle.plan.specs.Rules.{port_of};
 ghost use Rattle.plan.specs.Tables.{table_plan, interface_at};
 ghost use Rattle.plan_walks.specs.Walk.{walked};
-ghost use Rattle.plan_walks.specs.Steps.{step_of, wanted_of, Stepped};
+ghost use Rattle.plan_walks.specs.Steps.{step_of, Stepped};
 
-use plan::Head;
+use plan::joints::{joint_of, leading_to};
+use plan::{Head, Joint};
 
 // Where a walk stands: on a router, entered by a side (router times four plus side), at its interface, or nowhere.
-#[derive(Clone, Copy)]
+#[derive(Clone, Copy, PartialEq, Eq)]
 pub enum Step {
     On(usize),
     End,
     Lost,
-}
-
-// A router's index on a walk, from 0, or off the walk.
-#[derive(Clone, Copy)]
-pub enum Index {
-    At(usize),
-    Off,
-}
-
-// A byte as an index.
-fn wide(x: u8) -> usize
-    ensures { (result ≡ x) × (result < 256) }
-{
-    x as usize
 }
 
 // The side that a router's row gives for a column.
@@ -51,37 +38,25 @@ pub fn side_out(routes: &[[u8; 32]; 16], d: usize, r: usize) -> u8
     side_of(&routes[r], d)
 }
 
-// What a joint's byte over four is where the joint leads to the interface of a column.
-fn wanted(h: Head, d: usize) -> usize
-    requires { d < 32 }
-    ensures { result ≡ wanted_of h d }
-{
-    let actives = h.actives;
-    if d < actives {
-        return 32 + d;
-    }
-    48 + (d - actives)
-}
-
 // One step of a walk from a port: through the side given for the column, to the joint that is wanted or to the next
 // router.
-fn step_to(routes: &[[u8; 32]; 16], joints: &[u8; 64], d: usize, want: usize, at: usize) -> Step
+fn step_to(routes: &[[u8; 32]; 16], joints: &[u8; 64], d: usize, want: Joint, at: usize) -> Step
     requires { (d < 32) × (at < 64) }
     ensures { Stepped routes.now joints.now d want at result }
 {
     let r = at / 4;
-    let side = wide(side_out(routes, d, r));
+    let side = usize::from(side_out(routes, d, r));
     if 3 < side {
         return Step::Lost;
     }
-    let joint = wide(joints[4 * r + side]);
-    if joint / 4 == want {
+    let joint = joint_of(joints[4 * r + side]);
+    if joint == want {
         return Step::End;
     }
-    if joint / 64 == 1 {
-        return Step::On(joint - 64);
+    match joint {
+        Joint::Router(next, side_in) => Step::On(4 * next + side_in),
+        _ => Step::Lost,
     }
-    Step::Lost
 }
 
 // Where the walk to the interface of a column stands after k routers.
@@ -97,7 +72,7 @@ pub fn stands(
     ensures { result ≡ step_of (walked (table_plan h routes.now joints.now) (interface_at h d) k
         (port_of from)) }
 {
-    let want = wanted(h, d);
+    let want = leading_to(h, d);
     let mut at = from;
     for i in 0..k {
         let s = step_to(routes, joints, d, want, at);

@@ -13,6 +13,7 @@ use Rattle.packets.specs.declared.Phase.TheVariants.{Write}
 use Rattle.packets.specs.declared.Entry.{Entry}
 use Rattle.packets.specs.declared.Entry.TheVariants.{Free, Booked}
 use Rattle.packets.specs.Counters.{slot_next, start_slot, hub_up, hub_down}
+pub use Rattle.packets.specs.Directions.{unmarked_kind, unmarked}
 use Rattle.plan.specs.Plan.{Plan, passive, R, A, S, route_to}
 use Rattle.plan_queues.specs.Queue.{Queue, active_out, active_in, Q}
 use Rattle.plan_queues.specs.Role.{Role, sending, receiving, handling, passing, role}
@@ -155,15 +156,6 @@ choose pl o s = with_choice o (picked pl s o) s
 -- ---- (3) 'If an active's in-queue starts with an unmarked NACK and its out-queue is not full, a TDOWN joins the
 -- out-queue with the NACK's hub and with slot minus hub modulo S, and the NACK is marked'
 -- 'A NACK with hub 0 is *marked*'
-abbrev pub unmarked_kind : Kind → ℕ → Bool
-unmarked_kind Setup hub = false
-unmarked_kind Tdown hub = false
-unmarked_kind Ack hub = false
-unmarked_kind Nack hub = not (eqb hub 0)
-
-abbrev pub unmarked : Packet → Bool
-unmarked x = unmarked_kind x.kind x.hub.0
-
 abbrev pub marked : Packet → Packet
 marked x = record { kind = x.kind; active = x.active; passive = x.passive; slot = x.slot; hub = record { 0 = 0 } }
 

@@ -1,13 +1,10 @@
--- The bytes of a decoded text fit the buffer.
-use Rattle.std.specs.Prelude.{◌≡◌, ℕ, ◌≤◌}
+-- The bytes of a decoded text fit where so many bytes fit: what was told of a result is told of its value.
+use Rattle.std.specs.Prelude.{◌≡◌, ℕ, ◌≤◌, Result, Ok, IfOk}
 use Rattle.std.proofs.Common.{subst}
-use Rattle.show.specs.declared.hex.Decoded.{Decoded}
-use Rattle.show.specs.declared.hex.Decoded.TheVariants.{Bytes, Odd, Other}
+use native.Mathlib.Omega.{arith}
 
-abbrev pub Fits : Decoded → Type 0
-Fits (Bytes n) = n ≤ 4096
-Fits Odd = Unit {0}
-Fits (Other i) = Unit {0}
-
-pub bytes_fit : {d : Decoded} {n : ℕ} → Fits d → d ≡ Bytes n → n ≤ 4096
-bytes_fit f e = subst Fits e f
+pub bytes_fit : {A E : Type 0} (len : A → ℕ) {most : ℕ} {r : Result A E} {bytes : A}
+    → IfOk r (λ b. len b ≤ most) → most ≤ 4096 → r ≡ Ok bytes → len bytes ≤ 4096
+bytes_fit len {most = most} f e k =
+    let l = subst (λ r. IfOk r (λ b. len b ≤ most)) k f in
+    omega arith

@@ -1,71 +1,82 @@
 // Hex digits in a text, and the bytes that they give.
-ghost use Rattle.std.specs.Prelude.{◌≡◌, ◌+◌, ◌≤◌, ◌<◌, length};
-ghost use Rattle.show.specs.Hex.{Fits};
+ghost use Rattle.std.specs.Prelude.{◌≤◌, length, IfOk, vec_len};
 
-// What a text gives: so many bytes, an odd count of digits, or, first at this index, a sign that is neither digit nor
-// white space.
-#[derive(Clone, Copy)]
-pub enum Decoded {
-    Bytes(usize),
+use std::alloc::{AllocFailed, Global};
+
+// Why a text gives no bytes: an odd count of digits, or, first at this index, a sign that is neither digit nor white
+// space; or no memory is left.
+#[derive(Clone, Copy, Debug, PartialEq, Eq)]
+pub enum DecodeError {
     Odd,
     Other(usize),
+    OutOfMemory,
 }
 
-// What white space and any other sign have for a digit's value.
-const SPACE: u8 = 16;
+impl<T: Drop> From<AllocFailed<T>> for DecodeError {
+    fn from(_e: AllocFailed<T>) -> DecodeError {
+        DecodeError::OutOfMemory
+    }
+}
 
-const OTHER: u8 = 17;
+// Whether a sign is white space.
+fn is_space(sign: u8) -> bool {
+    matches!(sign, b' ' | b'\t' | b'\r' | b'\n')
+}
 
 // A digit's value.
-fn digit(sign: u8) -> u8 {
+fn digit(sign: u8) -> Option<u8> {
     match sign {
-        b'0'..=b'9' => sign - b'0',
-        b'A'..=b'F' => sign - b'A' + 10,
-        b'a'..=b'f' => sign - b'a' + 10,
-        b' ' | b'\t' | b'\r' | b'\n' => SPACE,
-        _ => OTHER,
+        b'0'..=b'9' => Some(sign - b'0'),
+        b'A'..=b'F' => Some(sign - b'A' + 10),
+        b'a'..=b'f' => Some(sign - b'a' + 10),
+        _ => None,
     }
 }
 
-// A byte with a digit for its lower half.
-fn joined(byte: u8, d: u8) -> u8
-    requires { d < 16 }
+// The bytes that a text's digits give, two to a byte.
+pub fn decode(alloc: Global, text: &[u8]) -> Result<Vec<u8>, DecodeError>
+    ensures { IfOk result (λ bytes. vec_len bytes ≤ length text.now) }
 {
-    byte / 16 * 16 + d
-}
-
-// Puts a digit behind those that the plan has; the answer is how many it has then.
-fn put(plan: &mut [u8; 4096], digits: usize, d: u8) -> usize
-    requires { (digits < 8192) × (4096 ≡ length plan.old) }
-    ensures { (result ≤ digits + 1) × (4096 ≡ length plan.new) }
-{
-    if SPACE <= d {
-        return digits;
-    }
-    let at = digits / 2;
-    if digits % 2 == 0 {
-        plan[at] = 16 * d;
-        return digits + 1;
-    }
-    plan[at] = joined(plan[at], d);
-    digits + 1
-}
-
-// Puts the bytes that a text's digits give into the plan.
-pub fn decode(text: &[u8], plan: &mut [u8; 4096]) -> Decoded
-    requires { (length text.now ≤ 4096) × (4096 ≡ length plan.old) }
-    ensures { Fits result × (4096 ≡ length plan.new) }
-{
-    let mut digits: usize = 0;
-    for i in 0..text.len() {
-        let d = digit(text[i]);
-        if d == OTHER {
-            return Decoded::Other(i);
+    let mut bytes = Vec::new(alloc);
+    let mut first = None;
+    for (i, sign) in text.iter().enumerate() {
+        if is_space(*sign) {
+            continue;
         }
-        digits = put(plan, digits, d);
+        let d = digit(*sign).ok_or(DecodeError::Other(i))?;
+        match first {
+            None => first = Some(d),
+            Some(high) => {
+                bytes.push(high << 4 | d)?;
+                first = None;
+            }
+        }
     }
-    if digits % 2 == 1 {
-        return Decoded::Odd;
+    match first {
+        None => Ok(bytes),
+        Some(_) => Err(DecodeError::Odd),
     }
-    Decoded::Bytes(digits / 2)
+}
+
+#[cfg(test)]
+mod tests {
+    use super::*;
+
+    // What a text gives.
+    #[test]
+    fn digits_and_white_space(rt: HostRuntime) -> Result<(), DecodeError> {
+        let bytes = decode(rt.alloc(), b"08 4\t2\r\n fF")?;
+        assert_eq!(rt; bytes.as_slice(), [8, 0x42, 0xff].as_slice());
+        Ok(())
+    }
+
+    // Why a text gives nothing.
+    #[test]
+    fn no_bytes(rt: HostRuntime) {
+        assert_eq!(rt; decode(rt.alloc(), b"084").err(), Some(DecodeError::Odd));
+        assert_eq!(rt;
+            decode(rt.alloc(), b"0 8g").err(),
+            Some(DecodeError::Other(3))
+        );
+    }
 }

@@ -14,8 +14,6 @@ use Rattle.packets.specs.declared.Entry.TheVariants.{Free, Booked}
 use Rattle.packets.specs.Counters.{start_slot, slot_after}
 use Rattle.plan.specs.Plan.{Plan, active, passive, R, A, P, S, route_to}
 use Rattle.plan.specs.Rules.{home}
-use Rattle.plan_walks.specs.declared.Index.{Index}
-use Rattle.plan_walks.specs.declared.Index.TheVariants.{At, Off}
 use Rattle.plan_walks.specs.Served.{Served}
 use Rattle.plan_walks.specs.Steps.{index_on}
 use Rattle.plan_queues.specs.Queue.{active_out, active_in, passive_in, passive_out, U, Q, F, K}
@@ -43,13 +41,13 @@ holder_of pl a p r = record { side = came_in pl a p r; active = a; passive = p }
 
 -- ---- the entries of a piece of a walk
 -- the k-th router is on the piece from the first to before the past one, and t is the slot k rounds after the start
-abbrev pub reaches : ℕ → ℕ → Slot → ℕ → ℕ → Index → Bool
-reaches slots t start first past (At k) =
+abbrev pub reaches : ℕ → ℕ → Slot → ℕ → ℕ → Option ℕ → Bool
+reaches slots t start first past (some k) =
     pick (ltb k first) false (pick (ltb k past) (eqb t (slot_after start (record { 0 = k }) slots).0) false)
-reaches slots t start first past Off = false
+reaches slots t start first past none = false
 
 -- where router r stands on the walk of a pair
-abbrev pub index_of : Plan → ℕ → ℕ → ℕ → Index
+abbrev pub index_of : Plan → ℕ → ℕ → ℕ → Option ℕ
 index_of pl a p r = index_on pl (passive p) (home pl (active a)) r
 
 -- 1 if the entry (r, o, t), held by v, is one of those that the pair (a, p) books from a start slot on, at its routers
@@ -60,9 +58,9 @@ owning pl r o t v a p start first past =
     (bit (same_holder (holder_of pl a p r) v)) 0
 
 -- ---- packets
-abbrev pub index_number : Index → ℕ
-index_number (At k) = k
-index_number Off = 0
+abbrev pub index_number : Option ℕ → ℕ
+index_number (some k) = k
+index_number none = 0
 
 -- the routers that a packet on the way to the passive has behind it at a place, as `Ahead` says
 unfoldable pub behind : Plan → ℕ → ℕ → Place → ℕ

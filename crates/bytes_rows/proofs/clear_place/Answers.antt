@@ -1,19 +1,8 @@
-use native.Mathlib.Numerals.{add-one, add-two, add-three, add-four}
-use native.Mathlib.Omega.{arith}
-use lib.ListN.{length-set}
+use Rattle.std.proofs.Common.{rules, arith, ◌≡◌, ◌+◌, replicate}
+use Rattle.bytes_rows.proofs.Part.{part_stored}
 use Rattle.bytes_rows.proofs.clear_place.Goals as goal
 
-pub bounds-s-at-2 : goal.bounds-s-at-2
-bounds-s-at-2 c = simp length-set (omega arith)
-
-pub bounds-s-at-3 : goal.bounds-s-at-3
-bounds-s-at-3 c = simp length-set (omega arith)
-
-pub bounds-s-at-4 : goal.bounds-s-at-4
-bounds-s-at-4 c = simp length-set (omega arith)
-
-pub bounds-s-at-5 : goal.bounds-s-at-5
-bounds-s-at-5 c = simp length-set (omega arith)
-
 pub returns : goal.returns
-returns c = rw (add-one, add-two, add-three, add-four)
+returns c =
+    let all : c.fill.new.self ≡ replicate 5 0 = search rules in
+    rw all (part_stored c.args.s.now (replicate 5 0) c.args.at (c.args.at + 5) (omega arith) c.requires)

@@ -13,9 +13,6 @@ loop-j-preserved c =
     let call = c.move_place in
     (omega arith, up_more _ _ _ inv.1 call.ensures, call.auto.s ∙ inv.2)
 
-pub shape_of-s : goal.shape_of-s
-shape_of-s c = c.loop-j.invariant.2
-
 pub returns : goal.returns
 unfolding Rattle.bytes_layout.specs.Updates.close_up
 returns c = up_done _ _ c.loop-j.invariant.1 (omega arith)

@@ -1,31 +1,5 @@
 use mathlib.Core.Path.{refl}
-use native.Mathlib.Omega.{arith}
-use lib.ListN.{length-set}
 use Rattle.bytes_rows.proofs.move_place.Goals as goal
-
-pub bounds-s-at-3 : goal.bounds-s-at-3
-bounds-s-at-3 c = simp length-set (omega arith)
-
-pub bounds-s-at-4 : goal.bounds-s-at-4
-bounds-s-at-4 c = simp length-set (omega arith)
-
-pub bounds-s-at-5 : goal.bounds-s-at-5
-bounds-s-at-5 c = simp length-set (omega arith)
-
-pub bounds-s-at-6 : goal.bounds-s-at-6
-bounds-s-at-6 c = simp length-set (omega arith)
-
-pub bounds-s-at-7 : goal.bounds-s-at-7
-bounds-s-at-7 c = simp length-set (omega arith)
-
-pub bounds-s-at-8 : goal.bounds-s-at-8
-bounds-s-at-8 c = simp length-set (omega arith)
-
-pub bounds-s-at-9 : goal.bounds-s-at-9
-bounds-s-at-9 c = simp length-set (omega arith)
-
-pub bounds-s-at-10 : goal.bounds-s-at-10
-bounds-s-at-10 c = simp length-set (omega arith)
 
 pub returns : goal.returns
 unfolding Rattle.bytes_layout.specs.Updates.move_place

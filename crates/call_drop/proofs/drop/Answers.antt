@@ -1,6 +1,6 @@
 use mathlib.Core.Path.{sym, ◌∙◌}
 use native.Mathlib.Omega.{arith}
-use Rattle.call_common.proofs.Rows.{long, long_still, phase_inside, few_counts, active_few, active_in_inside}
+use Rattle.call_common.proofs.Rows.{long, long_still, phase_inside, active_in_inside}
 use Rattle.call_drop.proofs.Steps.{drop_ready, head_named}
 use Rattle.call_drop.proofs.Exits.{drop_phase, drop_active, drop_flag, drop_empty, drop_unmarked}
 use Rattle.call_drop.proofs.Exits.{drops}
@@ -9,15 +9,11 @@ use Rattle.call_drop.proofs.drop.Goals as goal
 pub bounds-s-0 : goal.bounds-s-0
 bounds-s-0 c = phase_inside c.requires.1
 
-pub returns-then-s-ne-WRITE : goal.returns-then-s-ne-WRITE
-returns-then-s-ne-WRITE c = drop_phase _ _ _ c.if-s-ne-WRITE.true
+pub returns-then-s-from : goal.returns-then-s-from
+returns-then-s-from c = drop_phase _ _ _ (λ z. c.if-s-from.true (z ∙ sym c.from.ensures))
 
 pub returns-then-h-active : goal.returns-then-h-active
-returns-then-h-active c = drop_active _ _ _ c.if-s-ne-WRITE.false c.if-h-active.true
-
-pub active_in-row-requires : goal.active_in-row-requires
-active_in-row-requires c =
-    (few_counts c.requires.0, active_few _ c.requires.0 c.if-h-active.false)
+returns-then-h-active c = drop_active _ _ _ (c.if-s-from.false ∙ c.from.ensures) c.if-h-active.true
 
 pub flag_up-requires : goal.flag_up-requires
 flag_up-requires c = (
@@ -28,7 +24,7 @@ flag_up-requires c = (
 
 pub returns-then-flag_up : goal.returns-then-flag_up
 returns-then-flag_up c =
-    drop_flag _ _ _ c.if-s-ne-WRITE.false c.if-h-active.false _
+    drop_flag _ _ _ (c.if-s-from.false ∙ c.from.ensures) c.if-h-active.false _
     c.active_in-row.ensures.0 (sym c.flag_up.ensures ∙ c.if-flag_up.true)
 
 pub queued-requires : goal.queued-requires
@@ -39,14 +35,10 @@ queued-requires c = (
 
 pub returns-then-queued-eq0 : goal.returns-then-queued-eq0
 returns-then-queued-eq0 c =
-    drop_empty _ _ _ c.if-s-ne-WRITE.false c.if-h-active.false _
+    drop_empty _ _ _ (c.if-s-from.false ∙ c.from.ensures) c.if-h-active.false _
     c.active_in-row.ensures.0
     (sym c.flag_up.ensures ∙ c.if-flag_up.false)
     (sym c.queued.ensures ∙ c.if-queued-eq0.true)
-
-pub overflow_add-row : goal.overflow_add-row
-overflow_add-row c =
-    let l = c.active_in-row.ensures.1 in omega arith
 
 pub packet_at-x-requires : goal.packet_at-x-requires
 packet_at-x-requires c =
@@ -55,15 +47,11 @@ packet_at-x-requires c =
 
 pub returns-then-is_unmarked : goal.returns-then-is_unmarked
 returns-then-is_unmarked c =
-    drop_unmarked _ _ _ c.if-s-ne-WRITE.false c.if-h-active.false _
+    drop_unmarked _ _ _ (c.if-s-from.false ∙ c.from.ensures) c.if-h-active.false _
     c.active_in-row.ensures.0
     (sym c.flag_up.ensures ∙ c.if-flag_up.false)
     (λ z. c.if-queued-eq0.false (c.queued.ensures ∙ z)) _
     c.packet_at-x.ensures (sym c.is_unmarked.ensures ∙ c.if-is_unmarked.true)
-
-pub allowance-byte-requires : goal.allowance-byte-requires
-allowance-byte-requires c =
-    (few_counts c.requires.0, active_few _ c.requires.0 c.if-h-active.false)
 
 pub drop_step-requires : goal.drop_step-requires
 drop_step-requires c =
@@ -81,13 +69,9 @@ note-requires c = (
   long_still (long c.requires.1) c.drop_step.auto.s,
 )
 
-pub shape_of-s : goal.shape_of-s
-shape_of-s c =
-    c.note.auto.s ∙ c.drop_step.auto.s
-
 pub returns : goal.returns
 returns c =
-    drops _ _ _ c.if-s-ne-WRITE.false c.if-h-active.false _
+    drops _ _ _ (c.if-s-from.false ∙ c.from.ensures) c.if-h-active.false _
     c.active_in-row.ensures.0
     (sym c.flag_up.ensures ∙ c.if-flag_up.false)
     (λ z. c.if-queued-eq0.false (c.queued.ensures ∙ z)) _

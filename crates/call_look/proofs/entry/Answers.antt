@@ -1,5 +1,5 @@
 use native.Mathlib.Omega.{arith}
-use Rattle.call_common.proofs.Rows.{few_counts, router_few, slot_few, entry_inside}
+use Rattle.call_common.proofs.Rows.{slot_few, entry_inside}
 use Rattle.call_look.proofs.Exits.{entry_router, entry_side, entry_slot, entry_held}
 use Rattle.call_look.proofs.entry.Goals as goal
 
@@ -9,26 +9,19 @@ returns-then-h-router c = entry_router _ _ _ _ _ c.if-h-router.true
 pub returns-then-side-ge4 : goal.returns-then-side-ge4
 returns-then-side-ge4 c = entry_side _ _ _ _ _ c.if-h-router.false (omega (arith, c.if-side-ge4.true))
 
-pub returns-then-index-slot : goal.returns-then-index-slot
-returns-then-index-slot c =
+pub returns-then-from-slot : goal.returns-then-from-slot
+returns-then-from-slot c =
     entry_slot _ _ _ _ _ c.if-h-router.false (omega (arith, c.if-side-ge4.false))
-    (omega (arith, c.index.ensures))
-
-pub entry_row-i-requires : goal.entry_row-i-requires
-entry_row-i-requires c =
-    let range = c.requires.0 in
-    let r = router_few _ range c.if-h-router.false in
-    let t = slot_few c.args.slot range (omega (arith, c.index.ensures)) in
-    (few_counts range, omega arith, omega arith, omega arith)
+    (omega (arith, c.from.ensures))
 
 pub entry_at-x-requires : goal.entry_at-x-requires
 entry_at-x-requires c =
-    let slot = slot_few c.args.slot c.requires.0 (omega (arith, c.index.ensures)) in
+    let slot = slot_few c.args.slot c.requires.0 (omega (arith, c.from.ensures)) in
     entry_inside c.requires.1 _ _ _ _ c.if-h-router.false
     (omega (arith, c.if-side-ge4.false)) (omega (arith, slot)) c.entry_row-i.ensures
 
 pub returns : goal.returns
 returns c =
     entry_held _ _ _ _ _ c.if-h-router.false (omega (arith, c.if-side-ge4.false))
-    c.requires.0 (omega (arith, c.index.ensures)) _ _
+    c.requires.0 (omega (arith, c.from.ensures)) _ _
     c.entry_row-i.ensures c.entry_at-x.ensures

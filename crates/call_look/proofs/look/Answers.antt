@@ -1,15 +1,11 @@
 use mathlib.Core.Path.{sym, ◌∙◌}
 use native.Mathlib.Omega.{arith}
-use Rattle.call_common.proofs.Rows.{few_counts, active_few, active_in_inside}
+use Rattle.call_common.proofs.Rows.{active_in_inside}
 use Rattle.call_look.proofs.Exits.{look_active, look_empty, looked}
 use Rattle.call_look.proofs.look.Goals as goal
 
 pub returns-then-h-active : goal.returns-then-h-active
 returns-then-h-active c = look_active _ _ _ c.if-h-active.true
-
-pub active_in-row-requires : goal.active_in-row-requires
-active_in-row-requires c =
-    let range = c.requires.0 in (few_counts range, active_few _ range c.if-h-active.false)
 
 pub queued-requires : goal.queued-requires
 queued-requires c = (
@@ -21,9 +17,6 @@ pub returns-then-queued-eq0 : goal.returns-then-queued-eq0
 returns-then-queued-eq0 c =
     look_empty _ _ _ c.if-h-active.false _ c.active_in-row.ensures.0
     (sym c.queued.ensures ∙ c.if-queued-eq0.true)
-
-pub overflow_add-row : goal.overflow_add-row
-overflow_add-row c = let l = c.active_in-row.ensures.1 in omega arith
 
 pub packet_at-x-requires : goal.packet_at-x-requires
 packet_at-x-requires c =

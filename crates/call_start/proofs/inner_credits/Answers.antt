@@ -7,20 +7,11 @@ use Rattle.call_start.proofs.inner_credits.Goals as goal
 pub loop-r-init : goal.loop-r-init
 loop-r-init c = (omega arith, up_none _ _, refl)
 
-pub overflow_mul-r : goal.overflow_mul-r
-overflow_mul-r c = let r = c.requires.1 in omega arith
-
-pub router_credits-requires : goal.router_credits-requires
-router_credits-requires c = let l = c.requires.0 in omega arith
-
 pub loop-r-preserved : goal.loop-r-preserved
 loop-r-preserved c =
     let l = c.loop-r in
     let y = c.router_credits in
     (omega arith, up_more _ _ _ l.invariant.1 y.ensures, y.auto.t ∙ l.invariant.2)
-
-pub shape_of-t : goal.shape_of-t
-shape_of-t c = c.loop-r.invariant.2
 
 pub returns : goal.returns
 unfolding Rattle.call_start.specs.Starting.inner_credits

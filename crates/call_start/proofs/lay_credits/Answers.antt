@@ -14,9 +14,6 @@ loop-i-preserved c = (
   simp length-set c.loop-i.invariant.2,
 )
 
-pub shape_of-s : goal.shape_of-s
-shape_of-s c = c.loop-i.invariant.2
-
 pub returns : goal.returns
 unfolding Rattle.call_start.specs.Starting.credits
 returns c = up_done _ _ c.loop-i.invariant.1 (omega arith)

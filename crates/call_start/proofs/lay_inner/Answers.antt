@@ -1,8 +1,7 @@
-use native.Mathlib.Omega.{arith}
+use mathlib.Core.Path.{refl}
 use Rattle.call_start.proofs.Begins.{routers_as}
 use Rattle.call_start.proofs.lay_inner.Goals as goal
 
 pub returns : goal.returns
-returns c =
-    routers_as _ _ _ c.requires.2 c.requires.3 c.inner_credits.ensures
-    c.lay_credits.ensures (omega arith)
+unfolding Rattle.call_start.specs.Starting.copies
+returns g c = routers_as _ g.row.N _ c.requires.2 refl c.inner_credits.ensures c.lay_credits.ensures refl

@@ -1,39 +1,19 @@
-use Rattle.calls.proofs.Opening.{not_loaded, no_state, state_held, call_done}
-use Rattle.calls.proofs.Tables.{tables_plan, tables_lent, table_head, checked_true, checked_false}
+use Rattle.calls.proofs.Opening.{unloaded, lent, unfit, range, ready, visited}
 use Rattle.calls.proofs.remaining.Goals as goal
 
 pub returns-in_default : goal.returns-in_default
-returns-in_default c =
-    not_loaded _ _ c.fill-l.ensures.answer _ _ _ c.in_default.is
-    (c.refusal.ensures _ c.in_default.is)
+returns-in_default c = unloaded c.fill-l.ensures c.unwrap_err.ensures _ _
 
 pub inspect-c-requires : goal.inspect-c-requires
-inspect-c-requires c =
-    tables_lent c.fill-l.ensures c.in-Accepted.is
+inspect-c-requires c = lent c.fill-l.ensures c.in-Ok.is
 
 pub returns-in_default-c : goal.returns-in_default-c
-returns-in_default-c c =
-    no_state _ _ c.fill-l.ensures.answer _ c.in-Accepted.is _
-    (tables_plan c.fill-l.ensures c.in-Accepted.is) _ (checked_false _
-    c.inspect-c.ensures c.in_default-c.is)
+returns-in_default-c c = unfit c.fill-l.ensures c.in-Ok.is c.inspect-c.ensures c.unwrap_err-in_default-c.ensures _
 
 pub remaining-requires : goal.remaining-requires
-remaining-requires c = (
-  (tables_lent c.fill-l.ensures
-      c.in-Accepted.is).range,
-  record {
-    plan = _;
-    head = table_head _ _ _;
-    held =
-        state_held _ _ c.fill-l.ensures.answer _ c.in-Accepted.is _
-        (tables_plan c.fill-l.ensures c.in-Accepted.is) (checked_true _
-        c.inspect-c.ensures c.in-State.is);
-  },
-)
+remaining-requires c =
+    let f = c.fill-l.ensures in
+    (range f c.in-Ok.is, ready f c.in-Ok.is c.inspect-c.ensures c.in-Ok-c.is)
 
 pub returns : goal.returns
-returns c =
-    call_done _ _ c.fill-l.ensures.answer _ c.in-Accepted.is _ (tables_plan
-    c.fill-l.ensures c.in-Accepted.is) _ _ _ (checked_true _
-    c.inspect-c.ensures c.in-State.is) (c.remaining.ensures.acts _
-    (table_head _ _ _))
+returns c = visited c.fill-l.ensures c.in-Ok.is c.inspect-c.ensures c.in-Ok-c.is c.remaining.ensures

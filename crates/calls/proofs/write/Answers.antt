@@ -1,35 +1,19 @@
-use Rattle.calls.proofs.Opening.{not_loaded, no_state, state_held, call_done}
-use Rattle.calls.proofs.Tables.{tables_plan, tables_lent, tables_wired, checked_true, checked_false}
+use Rattle.calls.proofs.Opening.{unloaded, lent, unfit, wired, held, turned}
 use Rattle.calls.proofs.write.Goals as goal
 
 pub returns-in_default : goal.returns-in_default
-returns-in_default c =
-    not_loaded _ _ c.fill-l.ensures.answer _ _ _ c.in_default.is
-    (c.refusal.ensures _ c.in_default.is)
+returns-in_default c = unloaded c.fill-l.ensures c.unwrap_err.ensures _ _
 
 pub inspect-c-requires : goal.inspect-c-requires
-inspect-c-requires c =
-    tables_lent c.fill-l.ensures c.in-Accepted.is
+inspect-c-requires c = lent c.fill-l.ensures c.in-Ok.is
 
 pub returns-in_default-c : goal.returns-in_default-c
-returns-in_default-c c =
-    no_state _ _ c.fill-l.ensures.answer _ c.in-Accepted.is _ (tables_plan
-    c.fill-l.ensures c.in-Accepted.is) _ (checked_false _
-    c.inspect-c.ensures c.in_default-c.is)
+returns-in_default-c c = unfit c.fill-l.ensures c.in-Ok.is c.inspect-c.ensures c.unwrap_err-in_default-c.ensures _
 
 pub write-requires : goal.write-requires
-write-requires c = (
-  tables_wired c.fill-l.ensures c.in-Accepted.is,
-  state_held _ _
-      c.fill-l.ensures.answer _ c.in-Accepted.is _ (tables_plan
-      c.fill-l.ensures c.in-Accepted.is) (checked_true _
-      c.inspect-c.ensures c.in-State.is),
-)
+write-requires c =
+    let f = c.fill-l.ensures in
+    (wired f c.in-Ok.is, held f c.in-Ok.is c.inspect-c.ensures c.in-Ok-c.is)
 
 pub returns : goal.returns
-returns c =
-    call_done _ _ c.fill-l.ensures.answer _
-    c.in-Accepted.is _ (tables_plan c.fill-l.ensures
-    c.in-Accepted.is) _ _ _ (checked_true _
-    c.inspect-c.ensures c.in-State.is)
-    c.write.ensures
+returns c = turned c.fill-l.ensures c.in-Ok.is c.inspect-c.ensures c.in-Ok-c.is c.write.ensures

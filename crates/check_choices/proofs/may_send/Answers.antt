@@ -1,5 +1,7 @@
+use mathlib.Core.Path.{refl}
 use Rattle.check_choices.proofs.Picking.{head_ranges, head_onward, send_empty, send_flag, send_mark, send_none}
 use Rattle.check_choices.proofs.Picking.{send_below, send_credit}
+use Rattle.check_choices.proofs.Named.{some_queue}
 use native.Mathlib.Omega.{arith}
 use Rattle.check_choices.proofs.may_send.Goals as goal
 
@@ -29,8 +31,8 @@ overflow_add-n c =
     let d = p.0.range.passives.1 in
     omega arith
 
-pub next-q-requires : goal.next-q-requires
-next-q-requires c =
+pub next-requires : goal.next-requires
+next-requires c =
     let p = c.requires in
     let r = head_ranges _ _ _ _ p.0 _ p.2 _ _ p.3 p.4 p.5 _
     c.queue_row-i.ensures
@@ -41,15 +43,15 @@ next-q-requires c =
     (c.if-not-may_leave.false) _ c.packet_at-x.ensures in
     (p.0, p.3, r.0, r.1, u)
 
-pub returns-then-q-eq-NO_QUEUE : goal.returns-then-q-eq-NO_QUEUE
-returns-then-q-eq-NO_QUEUE c =
+pub returns-in_default : goal.returns-in_default
+returns-in_default c =
     let p = c.requires in
     send_none _ _ _ _ p.0 _ p.2 _ _ p.3 p.4 p.5 _
     c.queue_row-i.ensures
     c.if-s-i-eq0.false
     c.if-s-i-ne0.false c.may_leave.ensures
     (c.if-not-may_leave.false) _ c.packet_at-x.ensures _
-    c.next-q.ensures c.if-q-eq-NO_QUEUE.true
+    c.in_default.ensures.queue refl
 
 pub queue_row-requires : goal.queue_row-requires
 queue_row-requires c =
@@ -59,7 +61,7 @@ queue_row-requires c =
     c.if-s-i-eq0.false
     c.if-s-i-ne0.false c.may_leave.ensures
     (c.if-not-may_leave.false) _ c.packet_at-x.ensures _
-    c.next-q.ensures c.if-q-eq-NO_QUEUE.false in
+    c.in-Some.ensures.queue (some_queue p.0.range p.4 c.in-Some.ensures.below) in
     let a = p.0.range.routers.1 in
     let b = p.0.range.actives.1 in
     let d = p.0.range.passives.1 in
@@ -73,7 +75,7 @@ bounds-s-queue_row c =
     c.if-s-i-eq0.false
     c.if-s-i-ne0.false
     c.may_leave.ensures (c.if-not-may_leave.false) _ c.packet_at-x.ensures
-    _ c.next-q.ensures c.if-q-eq-NO_QUEUE.false in
+    _ c.in-Some.ensures.queue (some_queue p.0.range p.4 c.in-Some.ensures.below) in
     let e = c.queue_row.ensures in
     let z = p.1 in
     omega arith
@@ -86,4 +88,4 @@ returns c =
     c.if-s-i-eq0.false
     c.if-s-i-ne0.false
     c.may_leave.ensures (c.if-not-may_leave.false) _ c.packet_at-x.ensures
-    _ c.next-q.ensures c.if-q-eq-NO_QUEUE.false _ c.queue_row.ensures
+    _ c.in-Some.ensures.queue (some_queue p.0.range p.4 c.in-Some.ensures.below) _ c.queue_row.ensures

@@ -1,18 +1,18 @@
 use borrow.Author.Tests.{lt-ltb, le-ltb, eq-eqb, ne_eqb}
 use Rattle.check_choices.proofs.sender_in.Goals as goal
 
-pub returns-then-k-lt5 : goal.returns-then-k-lt5
+pub returns-then-k-lt5-clause-sender : goal.returns-then-k-lt5-clause-sender
 unfolding Rattle.check_choices.specs.Picks.sender_in
-returns-then-k-lt5 c =
+returns-then-k-lt5-clause-sender c =
     simp (lt-ltb _ _ c.if-o-lt4.true, lt-ltb _ _ c.if-k-lt5.true, c.base_of-base.ensures.0)
 
-pub returns-else-k-lt5 : goal.returns-else-k-lt5
+pub returns-else-k-lt5-clause-sender : goal.returns-else-k-lt5-clause-sender
 unfolding Rattle.check_choices.specs.Picks.sender_in
-returns-else-k-lt5 c = simp (lt-ltb _ _ c.if-o-lt4.true, le-ltb _ _ c.if-k-lt5.false)
+returns-else-k-lt5-clause-sender c = simp (lt-ltb _ _ c.if-o-lt4.true, le-ltb _ _ c.if-k-lt5.false)
 
-pub returns-then-k-lt4 : goal.returns-then-k-lt4
+pub returns-then-k-lt4-clause-sender : goal.returns-then-k-lt4-clause-sender
 unfolding Rattle.check_choices.specs.Picks.sender_in
-returns-then-k-lt4 c =
+returns-then-k-lt4-clause-sender c =
     simp (
       le-ltb _ _ c.if-o-lt4.false,
       eq-eqb _ _ c.if-o-eq4.true,
@@ -20,14 +20,14 @@ returns-then-k-lt4 c =
       c.base_of-base.ensures.0,
     )
 
-pub returns-else-k-lt4 : goal.returns-else-k-lt4
+pub returns-else-k-lt4-clause-sender : goal.returns-else-k-lt4-clause-sender
 unfolding Rattle.check_choices.specs.Picks.sender_in
-returns-else-k-lt4 c =
+returns-else-k-lt4-clause-sender c =
     simp (le-ltb _ _ c.if-o-lt4.false, eq-eqb _ _ c.if-o-eq4.true, le-ltb _ _ c.if-k-lt4.false)
 
-pub returns-then-k-lt4-2 : goal.returns-then-k-lt4-2
+pub returns-then-k-lt4-2-clause-sender : goal.returns-then-k-lt4-2-clause-sender
 unfolding Rattle.check_choices.specs.Picks.sender_in
-returns-then-k-lt4-2 c =
+returns-then-k-lt4-2-clause-sender c =
     simp (
       le-ltb _ _ c.if-o-lt4.false,
       ne_eqb _ _ c.if-o-eq4.false,
@@ -35,7 +35,7 @@ returns-then-k-lt4-2 c =
       c.base_of-base.ensures.0,
     )
 
-pub returns-else-k-lt4-2 : goal.returns-else-k-lt4-2
+pub returns-else-k-lt4-2-clause-sender : goal.returns-else-k-lt4-2-clause-sender
 unfolding Rattle.check_choices.specs.Picks.sender_in
-returns-else-k-lt4-2 c =
+returns-else-k-lt4-2-clause-sender c =
     simp (le-ltb _ _ c.if-o-lt4.false, ne_eqb _ _ c.if-o-eq4.false, le-ltb _ _ c.if-k-lt4-2.false)

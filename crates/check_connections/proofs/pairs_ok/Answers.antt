@@ -1,32 +1,11 @@
+use mathlib.Core.Path.{refl}
 use native.Mathlib.Omega.{arith}
 use Rattle.check_connections.proofs.Exits.{pairing_none, pairing_more, pairing_fail, pairing_done, four_at_lem}
 use Rattle.check_connections.proofs.pairs_ok.Goals as goal
 
-pub overflow_mul-pairs : goal.overflow_mul-pairs
-overflow_mul-pairs c = let r = c.requires.0.wiring.range.actives.1 in omega arith
-
 pub loop-n-init : goal.loop-n-init
-loop-n-init c = (omega arith, pairing_none _ _ c.none_claimed-claimed.ensures)
-
-pub overflow_mul-n : goal.overflow_mul-n
-overflow_mul-n c =
-    let r = c.requires.0.wiring.range.actives.1 in
-    omega arith
-
-pub overflow_add-i : goal.overflow_add-i
-overflow_add-i c =
-    let p = c.requires in
-    let r = p.0.wiring.range.actives.1 in
-    let l = p.0.long in
-    let e = p.1 in
-    omega arith
-
-pub four-word-requires : goal.four-word-requires
-four-word-requires c =
-    let p = c.requires in
-    let l = p.0.long in
-    let e = p.1 in
-    omega arith
+unfolding Rattle.check_connections.specs.Claims.none_claimed
+loop-n-init c = (omega arith, pairing_none _ _ refl)
 
 pub pair_ok-requires : goal.pair_ok-requires
 pair_ok-requires c =

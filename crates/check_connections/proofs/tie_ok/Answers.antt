@@ -2,9 +2,6 @@ use native.Mathlib.Omega.{arith}
 use Rattle.check_connections.proofs.Tying.{tying_none, tying_port, tying_key, tying_more, tying_fail, tying_done}
 use Rattle.check_connections.proofs.tie_ok.Goals as goal
 
-pub table_row-table-requires : goal.table_row-table-requires
-table_row-table-requires c = let r = c.requires.0.range in (r.routers.1, r.actives.1, r.passives.1)
-
 pub loop-n-init : goal.loop-n-init
 loop-n-init c = (omega arith, tying_none _ c.requires.0 _ c.requires.3)
 
@@ -41,12 +38,6 @@ overflow_add-table c =
     let e = c.table_row-table.ensures in
     omega arith
 
-pub overflow_mul-x : goal.overflow_mul-x
-overflow_mul-x c =
-    let r = c.requires.0.range.slots.1 in
-    let l = c.slot_at-x.ensures.1 in
-    omega arith
-
 pub overflow_add-table-in-loop-n : goal.overflow_add-table-in-loop-n
 overflow_add-table-in-loop-n c =
     let k = tying_key _ c.requires.0 _ c.loop-n.invariant.1 c.loop-n-test.true
@@ -74,8 +65,8 @@ returns-then-not-claim c =
     (c.leaves-k.ensures _ _) slot.0 slot.1 c.table_row-table.ensures
     c.claim.ensures (c.if-not-claim.true)
 
-pub bounds-joints-k : goal.bounds-joints-k
-bounds-joints-k c =
+pub bounds-t-k : goal.bounds-t-k
+bounds-t-k c =
     let w = c.requires.0 in
     let k = tying_key _ w _ c.loop-n.invariant.1 c.loop-n-test.true
     (c.leaves-k.ensures _ _) in
@@ -87,7 +78,7 @@ loop-n-preserved c =
       omega arith,
       tying_more _ c.requires.0 _ c.loop-n.invariant.1 c.loop-n-test.true
           (c.leaves-k.ensures _ _) slot.0 slot.1 c.table_row-table.ensures
-          c.claim.ensures (c.if-not-claim.false) c.wide-at.ensures.0,
+          c.claim.ensures (c.if-not-claim.false) c.from-at.ensures,
     )
 
 pub returns : goal.returns

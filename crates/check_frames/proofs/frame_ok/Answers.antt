@@ -7,11 +7,11 @@ returns-then-not-flags_ok c = frame_none _ _ _ _ _ _ _ _ _ _ c.flags_ok.ensures 
 pub returns-then-fed : goal.returns-then-fed
 returns-then-fed c =
     rw (
-      c.low.ensures.0,
-      c.low-then-fed.ensures.0,
-      c.low-then-fed-2.ensures.0,
-      c.low-then-fed-3.ensures.0,
-      c.low-then-fed-4.ensures.0,
+      c.from.ensures,
+      c.from-then-fed.ensures,
+      c.from-then-fed-2.ensures,
+      c.from-then-fed-3.ensures,
+      c.from-then-fed-4.ensures,
     ) (frame_fed _ _ _ _ _ _ _ _ _ _
     c.flags_ok.ensures (c.if-not-flags_ok.false) c.if-fed.true)
 

@@ -9,6 +9,6 @@ pub returns-then-unit : goal.returns-then-unit
 unfolding Rattle.check_frames.specs.Frame.mark_fits
 returns-then-unit c = simp (ne_eqb _ _ c.if-m-eq0.false, c.if-unit.true)
 
-pub returns : goal.returns
+pub returns-else-unit : goal.returns-else-unit
 unfolding Rattle.check_frames.specs.Frame.mark_fits
-returns c = simp (ne_eqb _ _ c.if-m-eq0.false, c.if-unit.false)
+returns-else-unit c = simp (ne_eqb _ _ c.if-m-eq0.false, c.if-unit.false)

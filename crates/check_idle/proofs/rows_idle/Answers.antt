@@ -1,19 +1,7 @@
-use mathlib.Core.Bool.{false≢true}
-use Rattle.check_idle.proofs.Stretch.{rows_none, rows_more, rows_done}
-use native.Mathlib.Omega.{arith}
+use mathlib.Core.Path.{refl}
+use Rattle.std.proofs.Common.{rules}
+use Rattle.basis.specs.Ranges.{holds_all}
 use Rattle.check_idle.proofs.rows_idle.Goals as goal
 
-pub loop-k-init : goal.loop-k-init
-loop-k-init c = (omega arith, rows_none _ _ _)
-
-pub returns-then-not-idle : goal.returns-then-not-idle
-returns-then-not-idle c = λ e. absurd (false≢true e)
-
-pub loop-k-preserved : goal.loop-k-preserved
-loop-k-preserved c = (
-  omega arith,
-  rows_more _ _ _ _ c.loop-k.invariant.1 (c.idle.ensures (c.if-not-idle.false)),
-)
-
 pub returns : goal.returns
-returns c = λ e. rows_done _ _ _ _ _ c.loop-k.invariant.1 (omega arith)
+returns c = holds_all refl _ _ c.all.ensures.runs (λ x b q h. search rules)

@@ -2,13 +2,13 @@ use Rattle.check_places.proofs.Exits.{active_in_setup, active_in_tdown, active_i
 use Rattle.check_places.proofs.active_in.Goals as goal
 
 pub returns-in-Setup : goal.returns-in-Setup
-returns-in-Setup c = active_in_setup _ _ _ c.wide-hub.ensures.0 c.in-Setup.is
+returns-in-Setup c = active_in_setup _ _ _ c.from-hub.ensures c.in-Setup.is
 
 pub returns-in-Tdown : goal.returns-in-Tdown
-returns-in-Tdown c = active_in_tdown _ _ _ c.wide-hub.ensures.0 c.in-Tdown.is
+returns-in-Tdown c = active_in_tdown _ _ _ c.from-hub.ensures c.in-Tdown.is
 
 pub returns-in-Ack : goal.returns-in-Ack
-returns-in-Ack c = active_in_ack _ _ _ c.wide-hub.ensures.0 c.in-Ack.is
+returns-in-Ack c = active_in_ack _ _ _ c.from-hub.ensures c.in-Ack.is
 
 pub returns-in-Nack : goal.returns-in-Nack
-returns-in-Nack c = active_in_nack _ _ _ c.wide-hub.ensures.0 c.in-Nack.is
+returns-in-Nack c = active_in_nack _ _ _ c.from-hub.ensures c.in-Nack.is

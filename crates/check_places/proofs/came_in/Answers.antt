@@ -5,15 +5,15 @@ use Rattle.check_places.proofs.came_in.Goals as goal
 pub side_in-requires : goal.side_in-requires
 side_in-requires c =
     let p = c.requires in
-    let f = c.wide-2.ensures.0 in (
-      home_few c.args.homes.now c.wide-from.ensures.0
-          c.wide.ensures.0 p.3,
+    let f = c.from-2.ensures in (
+      home_few c.args.tables.now.homes c.from-from.ensures
+          c.from.ensures p.3,
       omega arith,
       p.4,
     )
 
-pub returns : goal.returns
-returns c h outs inner routes lengths asked =
+pub returns-clause-side : goal.returns-clause-side
+returns-clause-side c h outs inner routes lengths asked =
     side_in_is c.args.x asked
-    c.requires.4 c.wide-from.ensures.0
-    c.wide.ensures.0 c.wide-2.ensures.0 c.side_in.ensures
+    c.requires.4 c.from-from.ensures
+    c.from.ensures c.from-2.ensures c.side_in.ensures.side

@@ -6,11 +6,11 @@ returns-then-v-eq0 c = coming_off _ _ _ c.if-v-eq0.true
 
 pub returns-in-Setup : goal.returns-in-Setup
 returns-in-Setup c =
-    coming_setup _ _ _ c.if-v-eq0.false c.in-Setup.is c.wide-hub.ensures.0
+    coming_setup _ _ _ c.if-v-eq0.false c.in-Setup.is c.from-hub.ensures
 
 pub returns-in-Tdown : goal.returns-in-Tdown
 returns-in-Tdown c =
-    coming_tdown _ _ _ c.if-v-eq0.false c.in-Tdown.is c.wide-hub.ensures.0 c.frees.ensures
+    coming_tdown _ _ _ c.if-v-eq0.false c.in-Tdown.is c.from-hub.ensures c.frees.ensures
 
 pub returns-in-Ack : goal.returns-in-Ack
 returns-in-Ack c = coming_ack _ _ _ c.if-v-eq0.false c.in-Ack.is

@@ -3,4 +3,4 @@ use Rattle.check_places.proofs.far_by.Goals as goal
 
 pub returns : goal.returns
 returns c =
-    far_is _ _ _ _ _ _ c.wide-from.ensures.0 c.wide-a.ensures.0 c.comes_by.ensures
+    far_is _ _ _ _ _ _ c.from-from.ensures c.from-a.ensures c.comes_by.ensures

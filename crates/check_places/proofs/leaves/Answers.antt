@@ -6,15 +6,15 @@ returns-then-v-eq0 c = leaving_off _ _ _ c.if-v-eq0.true
 
 pub returns-in-Setup : goal.returns-in-Setup
 returns-in-Setup c =
-    leaving_setup _ _ _ c.if-v-eq0.false c.in-Setup.is c.wide-hub.ensures.0
+    leaving_setup _ _ _ c.if-v-eq0.false c.in-Setup.is c.from-hub.ensures
 
 pub returns-in-Tdown : goal.returns-in-Tdown
 returns-in-Tdown c =
-    leaving_tdown _ _ _ c.if-v-eq0.false c.in-Tdown.is c.wide-hub.ensures.0 c.frees.ensures
+    leaving_tdown _ _ _ c.if-v-eq0.false c.in-Tdown.is c.from-hub.ensures c.frees.ensures
 
 pub returns-in-Ack : goal.returns-in-Ack
 returns-in-Ack c = leaving_ack _ _ _ c.if-v-eq0.false c.in-Ack.is
 
 pub returns-in-Nack : goal.returns-in-Nack
 returns-in-Nack c =
-    leaving_nack _ _ _ c.if-v-eq0.false c.in-Nack.is c.wide-hub.ensures.0
+    leaving_nack _ _ _ c.if-v-eq0.false c.in-Nack.is c.from-hub.ensures

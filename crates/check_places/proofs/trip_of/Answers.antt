@@ -3,6 +3,6 @@ use Rattle.check_places.proofs.trip_of.Goals as goal
 
 pub returns : goal.returns
 returns c =
-    trip_is _ _ _ _ c.wide-a.ensures.0
-    c.wide-p.ensures.0 c.wide-home.ensures.0
-    c.wide-length.ensures.0
+    trip_is _ _ _ _ c.from-a.ensures
+    c.from-p.ensures c.from-home.ensures
+    c.from-length.ensures

@@ -1,7 +1,7 @@
 use mathlib.Core.Path.{◌∙◌}
 use native.Mathlib.Omega.{arith}
 use Rattle.check_queues.proofs.Turns.{rows_join, rows_lost}
-use Rattle.check_queues.proofs.Groups.{same_cap}
+use lib.ListN.{get_or-replicate}
 use Rattle.check_queues.proofs.interfaces_ok.Goals as goal
 
 pub rows_ok-requires : goal.rows_ok-requires
@@ -14,8 +14,7 @@ rows_ok-requires c =
       omega arith,
       omega arith,
       p.2,
-      λ k l. rw c.same_caps-caps.ensures (same_cap _ k
-          (omega arith) ∙ p.4 k l),
+      λ k l. get_or-replicate 28 k _ 0 (omega arith) ∙ p.4 k l,
       p.3,
     )
 
@@ -42,8 +41,7 @@ rows_ok-requires-2 c =
       omega arith,
       omega arith,
       p.2,
-      λ k l. rw c.same_caps-others.ensures (same_cap _ k
-          (omega arith) ∙ p.5 k l),
+      λ k l. get_or-replicate 28 k _ 0 (omega arith) ∙ p.5 k l,
       p.3,
     )
 

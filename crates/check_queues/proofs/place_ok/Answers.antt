@@ -4,12 +4,12 @@ use Rattle.check_queues.proofs.Turns.{place_kind, place_numbers, place_misfit, p
 use Rattle.check_queues.proofs.Turns.{numbers_ok, asking, active_few, queues_few}
 use Rattle.check_queues.proofs.place_ok.Goals as goal
 
-pub returns-then-s-at-gt3 : goal.returns-then-s-at-gt3
-returns-then-s-at-gt3 c = place_kind _ _ _ _ _ _ _ _ c.if-s-at-gt3.true
+pub returns-then-from-s : goal.returns-then-from-s
+returns-then-from-s c = place_kind _ _ _ _ _ _ _ _ (omega (arith, c.from.ensures, c.if-from-s.true))
 
 pub returns-then-not-packet_ok : goal.returns-then-not-packet_ok
 returns-then-not-packet_ok c =
-    place_numbers _ _ _ _ _ _ _ _ c.if-s-at-gt3.false
+    place_numbers _ _ _ _ _ _ _ _ (omega (arith, c.from.ensures, c.if-from-s.false))
     (rw c.packet_at-x.ensures at
     (c.packet_ok.ensures _ _ _ _ c.requires.0.lent))
     (c.if-not-packet_ok.true)
@@ -35,7 +35,7 @@ returns-then-not-fits c =
     let r = c.requires.0 in
     let e = sym (c.packet_ok.ensures _ _ _ _
     r.lent) ∙ c.if-not-packet_ok.false in
-    place_misfit _ _ _ _ _ _ _ _ c.if-s-at-gt3.false
+    place_misfit _ _ _ _ _ _ _ _ (omega (arith, c.from.ensures, c.if-from-s.false))
     (rw c.packet_at-x.ensures at
     (c.packet_ok.ensures _ _ _ _ r.lent))
     (c.if-not-packet_ok.false)
@@ -57,7 +57,7 @@ returns c =
     let e = sym (c.packet_ok.ensures _ _ _ _
     r.lent) ∙ c.if-not-packet_ok.false in
     place_done _ _ _ _ _ _ _ _
-    c.if-s-at-gt3.false
+    (omega (arith, c.from.ensures, c.if-from-s.false))
     (rw c.packet_at-x.ensures at
     (c.packet_ok.ensures _ _ _ _ r.lent))
     (c.if-not-packet_ok.false)

@@ -1,4 +1,5 @@
 use native.Mathlib.Omega.{arith}
+use Rattle.bytes_rows.proofs.Codes.{flag_test}
 use Rattle.check_queues.proofs.Turns.{code_frame, code_few, code_zeros, code_places}
 use Rattle.check_queues.proofs.row_busy.Goals as goal
 
@@ -25,7 +26,7 @@ overflow_sub-m c =
     let f = code_few _ _ _ r.lent.range _ _ p.1 _ _ _
     c.queue_row-i.ensures p.3 p.4
     c.row_frame.ensures (c.if-not-row_frame.false) in
-    let k = c.index-m.ensures.0 in
+    let k = c.from-m.ensures in
     omega arith
 
 pub zeros-requires : goal.zeros-requires
@@ -35,7 +36,7 @@ zeros-requires c =
     let f = code_few _ _ _ r.lent.range _ _ p.1 _ _ _
     c.queue_row-i.ensures p.3 p.4
     c.row_frame.ensures (c.if-not-row_frame.false) in
-    let k = c.index-m.ensures.0 in
+    let k = c.from-m.ensures in
     let n = p.1 in
     let l = p.2 in
     let q = c.queue_row-i.ensures in
@@ -47,7 +48,7 @@ returns-then-not-zeros c =
     let r = p.0 in
     code_zeros _ _ _ r.lent.range _ _ p.1 _ _ _ c.queue_row-i.ensures p.3 p.4
     c.row_frame.ensures _ _ (c.if-not-row_frame.false)
-    c.index-m.ensures.0 c.zeros.ensures (c.if-not-zeros.true)
+    c.from-m.ensures c.zeros.ensures (c.if-not-zeros.true)
 
 pub places_ok-requires : goal.places_ok-requires
 places_ok-requires c =
@@ -56,7 +57,7 @@ places_ok-requires c =
     let f = code_few _ _ _ r.lent.range _ _ p.1 _ _ _
     c.queue_row-i.ensures p.3 p.4
     c.row_frame.ensures (c.if-not-row_frame.false) in
-    let k = c.index-m.ensures.0 in
+    let k = c.from-m.ensures in
     let q = c.queue_row-i.ensures in
     let n = p.1 in
     let l = p.2 in
@@ -67,5 +68,5 @@ returns c =
     let p = c.requires in
     let r = p.0 in
     code_places _ _ _ r.lent.range _ _ p.1 _ _ _ c.queue_row-i.ensures p.3 p.4
-    c.row_frame.ensures _ _ (c.if-not-row_frame.false) c.index-m.ensures.0 c.zeros.ensures (c.if-not-zeros.false)
-    c.flag_of-done.ensures c.places_ok.ensures
+    c.row_frame.ensures _ _ (c.if-not-row_frame.false) c.from-m.ensures c.zeros.ensures (c.if-not-zeros.false)
+    (flag_test _) c.places_ok.ensures

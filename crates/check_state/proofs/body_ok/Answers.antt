@@ -1,12 +1,14 @@
+use mathlib.Core.Path.{refl}
 use native.Mathlib.Omega.{arith}
 use Rattle.check_state.proofs.Together.{body_places, body_allowances, body_tables, body_ties, phase_few}
 use Rattle.check_state.proofs.Together.{body_turns, lent_given}
 use Rattle.check_state.proofs.body_ok.Goals as goal
 
 pub places_ok-requires : goal.places_ok-requires
+unfolding Rattle.check_state.specs.Inspect.none_spent
 places_ok-requires c =
     let p = c.requires in
-    (p.0, p.1, phase_few _ _ p.2, c.none_spent-spent.ensures)
+    (p.0, p.1, phase_few _ _ p.2, refl)
 
 pub returns-then-not-places_ok : goal.returns-then-not-places_ok
 returns-then-not-places_ok c =
@@ -51,7 +53,7 @@ sides_ok-requires c =
     let s = p.0.range.slots.0 in
     let l = p.1 in
     let i = c.table_row.ensures in
-    let k = c.index.ensures.0 in
+    let k = c.from.ensures in
     (omega arith, omega arith, omega arith)
 
 pub returns-then-not-sides_ok : goal.returns-then-not-sides_ok
@@ -60,7 +62,7 @@ returns-then-not-sides_ok c =
     body_tables _ _ _ p.0.range _ p.1 p.2 c.places_ok.ensures (c.if-not-places_ok.false) (rw
     (c.allowance_row.ensures, c.whole.ensures) at
     c.allowances_ok.ensures) (c.if-not-allowances_ok.false) (rw
-    (c.table_row.ensures, c.index.ensures.0) at
+    (c.table_row.ensures, c.from.ensures) at
     c.sides_ok.ensures) (c.if-not-sides_ok.true)
 
 pub ties_ok-requires : goal.ties_ok-requires
@@ -74,7 +76,7 @@ returns-then-not-ties_ok c =
     body_ties _ _ _ p.0.range _ p.1 p.2 c.places_ok.ensures (c.if-not-places_ok.false) (rw
     (c.allowance_row.ensures, c.whole.ensures) at
     c.allowances_ok.ensures) (c.if-not-allowances_ok.false) (rw
-    (c.table_row.ensures, c.index.ensures.0) at
+    (c.table_row.ensures, c.from.ensures) at
     c.sides_ok.ensures) (c.if-not-sides_ok.false) c.ties_ok.ensures
     (c.if-not-ties_ok.true)
 
@@ -89,6 +91,6 @@ returns c =
     body_turns _ _ _ p.0.range _ p.1 p.2 c.places_ok.ensures (c.if-not-places_ok.false) (rw
     (c.allowance_row.ensures, c.whole.ensures) at
     c.allowances_ok.ensures) (c.if-not-allowances_ok.false) (rw
-    (c.table_row.ensures, c.index.ensures.0) at
+    (c.table_row.ensures, c.from.ensures) at
     c.sides_ok.ensures) (c.if-not-sides_ok.false) c.ties_ok.ensures
     (c.if-not-ties_ok.false) c.turns_ok.ensures

@@ -1,7 +1,6 @@
-use lib.ListN.{length}
 use Rattle.check_wires.proofs.Bringing.{coming_is}
-use mathlib.Core.Path.{◌∙◌, sym, ap}
-use Rattle.check_state.proofs.Together.{none_coming_lem, coming_long, no_tracks_lem, busy_outputs, busy_lines}
+use mathlib.Core.Path.{◌∙◌, refl, sym}
+use Rattle.check_state.proofs.Together.{none_coming_lem, coming_long, busy_outputs, busy_lines}
 use Rattle.check_state.proofs.Together.{busy_picks}
 use Rattle.check_state.proofs.Together.{busy_else, lent_wired}
 use Rattle.check_state.proofs.busy_ok.Goals as goal
@@ -10,7 +9,7 @@ pub tracks-requires : goal.tracks-requires
 tracks-requires c =
     let w = c.requires.0 in
     let r = w.range in
-    ((r.routers.1, r.actives.1, r.passives.1), w.ports, w.past, no_tracks_lem c.no_tracks-up.ensures)
+    ((r.routers.1, r.actives.1, r.passives.1), w.ports, w.past, refl)
 
 pub outputs_ok-requires : goal.outputs_ok-requires
 outputs_ok-requires c =
@@ -23,7 +22,7 @@ outputs_ok-requires c =
       },
       p.1,
       p.2,
-      λ n. rw c.none_coming-coming.ensures (none_coming_lem n),
+      none_coming_lem,
     )
 
 pub returns-then-not-outputs_ok : goal.returns-then-not-outputs_ok
@@ -40,9 +39,7 @@ lines_ok-requires c =
             w.tables;
       },
       p.1,
-      coming_is _ _ _ _ _ _ (ap length
-          c.none_coming-coming.ensures ∙ coming_long) (λ n. rw
-          c.none_coming-coming.ensures (none_coming_lem n))
+      coming_is _ _ _ _ _ _ coming_long none_coming_lem
           c.outputs_ok.ensures (c.if-not-outputs_ok.false),
     )
 
@@ -59,8 +56,8 @@ picks_ok-requires c =
       sym c.lines_ok.ensures.test ∙ c.if-not-lines_ok.false,
     )
 
-pub returns-then-s-eq2 : goal.returns-then-s-eq2
-returns-then-s-eq2 c =
+pub returns-then-s-from : goal.returns-then-s-from
+returns-then-s-from c =
     let p = c.requires in
     busy_picks _ _ _ p.0.range _ p.3 c.outputs_ok.ensures (c.if-not-outputs_ok.false) c.lines_ok.ensures
     (c.if-not-lines_ok.false) c.picks_ok.ensures
@@ -69,4 +66,4 @@ pub returns : goal.returns
 returns c =
     let p = c.requires in
     busy_else _ _ _ p.0.range _ p.3 c.outputs_ok.ensures (c.if-not-outputs_ok.false) c.lines_ok.ensures
-    (c.if-not-lines_ok.false) p.2 c.if-s-eq2.false
+    (c.if-not-lines_ok.false) p.2 (λ e. c.if-s-from.false (e ∙ sym c.from.ensures))

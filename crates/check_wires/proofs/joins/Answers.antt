@@ -1,7 +1,8 @@
 use Rattle.check_queues.proofs.Turns.{queues_few}
 use Rattle.next_queue.proofs.Numbered.{port_few}
 use Rattle.check_wires.proofs.Carrying.{not_carried, ready_wiring, ready_counts, unfit, asked, numbers, active_few}
-use Rattle.check_wires.proofs.Carrying.{passive_few, nowhere, in_queues, in_table, misfit, carried}
+use Rattle.check_wires.proofs.Carrying.{not_none, passive_few, nowhere, in_queues, in_table, misfit, carried}
+use mathlib.Core.Path.{refl}
 use native.Mathlib.Omega.{arith}
 use Rattle.check_wires.proofs.joins.Goals as goal
 
@@ -26,20 +27,20 @@ at_unit-q-requires c =
       port_few _ _ _ _ (ready_wiring p.0) _ (omega arith),
     )
 
-pub next-n-requires : goal.next-n-requires
-next-n-requires c =
+pub next-requires : goal.next-requires
+next-requires c =
     let p = c.requires in
     let e = c.packet_ok.ensures _ _ _ _ p.0.lent in
     let f = c.if-not-packet_ok.false in
     let r = numbers p.0 _ e f in
-    (ready_wiring p.0, p.1, r.0, r.1, c.at_unit-q.ensures _ _ _ _ (asked p.0 _ e f))
+    (ready_wiring p.0, p.1, r.0, r.1, c.at_unit-q.ensures.queue _ _ _ _ (asked p.0 _ e f))
 
-pub returns-then-n-eq-NO_QUEUE : goal.returns-then-n-eq-NO_QUEUE
-returns-then-n-eq-NO_QUEUE c =
+pub returns-in_default : goal.returns-in_default
+returns-in_default c =
     let p = c.requires in
     not_carried _ _ _ _ _ _ _ (nowhere p.0 _ (c.packet_ok.ensures _ _ _ _
     p.0.lent)
-    (c.if-not-packet_ok.false) _ _ c.next-n.ensures c.if-n-eq-NO_QUEUE.true)
+    (c.if-not-packet_ok.false) _ _ c.in_default.ensures.queue refl)
 
 pub overflow_add-h : goal.overflow_add-h
 overflow_add-h c =
@@ -65,8 +66,8 @@ returns-then-not-fits c =
     p.0.lent in
     let f = c.if-not-packet_ok.false in
     not_carried _ _ _ _ _ _ _
-    (misfit p.0 _ e f _ _ c.next-n.ensures
-    c.if-n-eq-NO_QUEUE.false (c.fits.ensures _ (asked p.0 _ e f))
+    (misfit p.0 _ e f _ _ c.in-Some.ensures.queue
+    (not_none (c.in-Some.ensures.below c.at_unit-q.ensures.below)) (c.fits.ensures _ (asked p.0 _ e f))
     (c.if-not-fits.true))
 
 pub bounds-coming-n : goal.bounds-coming-n
@@ -75,8 +76,7 @@ bounds-coming-n c =
     let e = c.packet_ok.ensures _ _ _ _
     p.0.lent in
     let f = c.if-not-packet_ok.false in
-    in_table p.0 _ e f _ _ c.next-n.ensures
-    c.if-n-eq-NO_QUEUE.false
+    in_table p.0 _ e f _ _ c.in-Some.ensures.queue (not_none (c.in-Some.ensures.below c.at_unit-q.ensures.below))
 
 pub overflow_add-coming : goal.overflow_add-coming
 overflow_add-coming c =
@@ -84,8 +84,8 @@ overflow_add-coming c =
     let e = c.packet_ok.ensures _ _ _ _
     p.0.lent in
     let f = c.if-not-packet_ok.false in
-    let l = in_queues p.0 _ e f _ _ c.next-n.ensures
-    c.if-n-eq-NO_QUEUE.false in
+    let l = in_queues p.0 _ e f _ _ c.in-Some.ensures.queue
+    (not_none (c.in-Some.ensures.below c.at_unit-q.ensures.below)) in
     let k = p.2 _ l in
     let m = p.1 in
     let r = p.0.lent.range in
@@ -100,8 +100,7 @@ bounds-coming-n-2 c =
     let e = c.packet_ok.ensures _ _ _ _
     p.0.lent in
     let f = c.if-not-packet_ok.false in
-    in_table p.0 _ e f _ _ c.next-n.ensures
-    c.if-n-eq-NO_QUEUE.false
+    in_table p.0 _ e f _ _ c.in-Some.ensures.queue (not_none (c.in-Some.ensures.below c.at_unit-q.ensures.below))
 
 pub tally-requires : goal.tally-requires
 tally-requires c =
@@ -119,7 +118,6 @@ returns c =
     _ _ _ _ p.0.lent in
     let f = c.if-not-packet_ok.false
     in
-    carried p.0 _ e f _ _ c.next-n.ensures
-    c.if-n-eq-NO_QUEUE.false
+    carried p.0 _ e f _ _ c.in-Some.ensures.queue (not_none (c.in-Some.ensures.below c.at_unit-q.ensures.below))
     (c.fits.ensures _ (asked p.0 _ e f))
     (c.if-not-fits.false) _ _ c.tally.ensures

@@ -1,4 +1,4 @@
-use Rattle.graph_flow.proofs.Laws.{beyond_at, pushed_empty, pushed_none, pushed_some}
+use Rattle.graph_flow.proofs.Laws.{pushed_empty, pushed_none, pushed_some}
 use Rattle.graph_flow.proofs.push.Goals as goal
 
 pub returns-then-m-eq0 : goal.returns-then-m-eq0
@@ -7,7 +7,7 @@ returns-then-m-eq0 c = pushed_empty _ _ _ _ _ c.both-m.ensures c.if-m-eq0.true
 pub returns-then-less-eq0 : goal.returns-then-less-eq0
 returns-then-less-eq0 c =
     let at = c in
-    pushed_none _ _ _ _ _ (beyond_at _ _ at.partner-n.ensures).0 at.both-m.ensures
+    pushed_none _ _ _ _ _ at.beyond-n.ensures.0 at.both-m.ensures
     c.less.ensures
     c.if-less-eq0.true
 
@@ -15,5 +15,5 @@ pub returns : goal.returns
 returns c =
     let at = c in
     let start = at in
-    pushed_some _ _ _ _ _ start.requires.2 (beyond_at _ _ at.partner-n.ensures) start.requires.1
+    pushed_some _ _ _ _ _ start.requires.2 at.beyond-n.ensures start.requires.1
     at.both-m.ensures c.either.ensures c.single.ensures

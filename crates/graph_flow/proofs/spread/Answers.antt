@@ -10,13 +10,6 @@ returns-then-both-eq0 c = ends_off _ _ _ _
     c.loop-k.invariant.1 c.both.ensures c.if-both-eq0.true
     (c.sweep_up-work.ensures _ _ c.loop-k.invariant.2)
 
-pub sweep_down-work-requires : goal.sweep_down-work-requires
-sweep_down-work-requires c = (
-  c.requires.0,
-  (c.sweep_up-work.ensures _ _
-      c.loop-k.invariant.2).long,
-)
-
 pub loop-k-preserved : goal.loop-k-preserved
 loop-k-preserved c = (
   omega arith,
@@ -24,6 +17,3 @@ loop-k-preserved c = (
   c.sweep_down-work.ensures _ _ (c.sweep_up-work.ensures _ _
       c.loop-k.invariant.2),
 )
-
-pub returns : goal.returns
-returns c = ends_long _ _ _ _ (omega arith) c.loop-k.invariant.2

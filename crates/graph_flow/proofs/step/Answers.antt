@@ -5,6 +5,3 @@ use Rattle.graph_flow.proofs.step.Goals as goal
 pub returns-then-has : goal.returns-then-has
 returns-then-has c =
     stepped_some _ _ _ _ _ c.pass-new.ensures c.without.ensures c.either.ensures
-
-pub returns : goal.returns
-returns c = stepped_none _ _ _ _ _ (sym c.has.ensures ∙ c.if-has.false)

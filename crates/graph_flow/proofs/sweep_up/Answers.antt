@@ -3,12 +3,6 @@ use native.Mathlib.Omega.{arith}
 use Rattle.graph_flow.proofs.Laws.{turned_none, turned_more, turned_done}
 use Rattle.graph_flow.proofs.sweep_up.Goals as goal
 
-pub loop-x-init : goal.loop-x-init
-loop-x-init c = (omega arith, c.requires.1, λ first k r. turned_none _ _ _ _ _ r)
-
-pub step-left-requires : goal.step-left-requires
-step-left-requires c = (omega arith, c.loop-x.invariant.1)
-
 pub loop-x-preserved : goal.loop-x-preserved
 loop-x-preserved c = (
   omega arith,

@@ -1,8 +1,5 @@
 use Rattle.graph_met.proofs.Trailing.{Leading}
 use Rattle.graph_met.proofs.lead.Given as goal
 
-abbrev pub invariant-loop-left : goal.invariant-loop-left
-invariant-loop-left l = Leading l.x l.n l.k l.left l.initial.up l.up
-
-abbrev pub decreases-loop-left : goal.decreases-loop-left
-decreases-loop-left l = l.left
+abbrev pub invariant-loop-d : goal.invariant-loop-d
+invariant-loop-d l = Leading l.x l.n l.k l.d-iterator.left l.initial.up l.up

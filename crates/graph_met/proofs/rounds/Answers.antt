@@ -1,23 +1,11 @@
 use Rattle.graph_met.proofs.Trailing.{trailed_more, room_of}
-use Rattle.graph_reach.proofs.Sweeps.{round_none, round_more, end_closed, end_full, end_rounds}
+use Rattle.graph_reach.proofs.Sweeps.{round_none, round_more, end_closed, end_full}
 use mathlib.Core.Path.{refl, sym, ◌∙◌}
 use native.Mathlib.Omega.{arith}
 use Rattle.graph_met.proofs.rounds.Goals as goal
 
 pub loop-k-init : goal.loop-k-init
 loop-k-init c = (omega arith, round_none _ _ _ _ c.requires.4.long, refl, c.requires.4)
-
-pub sweep_up-new-requires : goal.sweep_up-new-requires
-sweep_up-new-requires c = (
-  c.requires.0,
-  c.requires.1,
-  omega (arith, c.requires.3, c.loop-k.invariant.2),
-  room_of _ _ _ _ c.loop-k.invariant.3 (omega arith),
-)
-
-pub shape_of-up-then-new-eq0 : goal.shape_of-up-then-new-eq0
-shape_of-up-then-new-eq0 c =
-    c.sweep_up-new.auto.up ∙ c.loop-k.invariant.2
 
 pub returns-then-new-eq0 : goal.returns-then-new-eq0
 returns-then-new-eq0 c =
@@ -38,11 +26,6 @@ sweep_down-requires c =
       omega (arith, pre.3, inv.2, up.auto.up),
       room_of _ _ _ _ (up.ensures.2 _ _ inv.3) (omega arith),
     )
-
-pub shape_of-up-then-common-full : goal.shape_of-up-then-common-full
-shape_of-up-then-common-full c =
-    c.sweep_down.auto.up
-    ∙ c.sweep_up-new.auto.up ∙ c.loop-k.invariant.2
 
 pub returns-then-common-full : goal.returns-then-common-full
 returns-then-common-full c =
@@ -66,12 +49,3 @@ loop-k-preserved c =
       down.auto.up ∙ up.auto.up ∙ inv.2,
       trailed_more _ _ _ (omega arith) (down.ensures.1 _ _ (up.ensures.2 _ _ inv.3)),
     )
-
-pub shape_of-up : goal.shape_of-up
-shape_of-up c = c.loop-k.invariant.2
-
-pub returns : goal.returns
-returns c = (
-  end_rounds _ _ _ _ _ _ _ c.loop-k.invariant.1 (omega arith),
-  (_, c.loop-k.invariant.3),
-)

@@ -1,10 +1,7 @@
-use mathlib.Core.Path.{refl, ◌∙◌}
+use mathlib.Core.Path.{◌∙◌}
 use Rattle.graph_met.proofs.Trailing.{turning_on, turns_done}
 use native.Mathlib.Omega.{arith}
 use Rattle.graph_met.proofs.sides.Goals as goal
-
-pub loop-o-init : goal.loop-o-init
-loop-o-init c = (omega arith, refl, λ first b w. w)
 
 pub side-requires : goal.side-requires
 side-requires c = (
@@ -21,9 +18,6 @@ loop-o-preserved c = (
   c.side.auto.up ∙ c.loop-o.invariant.1,
   λ first b w. c.side.ensures first b (c.loop-o.invariant.2 first b w),
 )
-
-pub shape_of-up : goal.shape_of-up
-shape_of-up c = c.loop-o.invariant.1
 
 pub returns : goal.returns
 returns c = turns_done _ _ _ _ _ (omega arith) c.loop-o.invariant.2

@@ -2,9 +2,6 @@ use Rattle.graph_met.proofs.Trailing.{turning_start, stepped_none, stepped_new}
 use native.Mathlib.Omega.{arith}
 use Rattle.graph_met.proofs.step.Goals as goal
 
-pub pull-v-requires : goal.pull-v-requires
-pull-v-requires c = (c.requires.0, c.requires.1)
-
 pub returns-then-new-eq0 : goal.returns-then-new-eq0
 returns-then-new-eq0 c = stepped_none _ _ _ _ _ c.pull-v.ensures c.less-new.ensures c.if-new-eq0.true
 
@@ -15,9 +12,6 @@ sides-requires c = (
   c.requires.2,
   turning_start _ _ _ _ _ _ c.requires.3 c.less-new.ensures,
 )
-
-pub shape_of-up : goal.shape_of-up
-shape_of-up c = c.sides.auto.up
 
 pub returns : goal.returns
 returns c =

@@ -25,9 +25,6 @@ loop-x-preserved c =
       lengthens_on _ _ _ _ inv.3 step.ensures.2,
     )
 
-pub shape_of-up : goal.shape_of-up
-shape_of-up c = c.loop-x.invariant.2
-
 pub returns : goal.returns
 returns c = swept_done _ _ _ _ _ _ _ c.loop-x.invariant.1 (omega arith)
     (lengthens_done _ _ _ _ (omega arith) c.loop-x.invariant.3)

@@ -1,18 +1,11 @@
 use native.Mathlib.Omega.{arith}
 use mathlib.Core.Path.{sym, ◌∙◌}
 use Rattle.graph_reach.proofs.Sized.{grows_on}
-use Rattle.graph_reach.proofs.Sweeps.{round_none, round_more, end_closed, end_full, end_rounds}
+use Rattle.graph_reach.proofs.Sweeps.{round_none, round_more, end_closed, end_full}
 use Rattle.graph_reach.proofs.reach.Goals as goal
 
 pub loop-k-init : goal.loop-k-init
 loop-k-init c = (omega arith, round_none _ _ _ _ c.requires.4, λ first told w. w)
-
-pub sweep_up-new-requires : goal.sweep_up-new-requires
-sweep_up-new-requires c = (
-  c.requires.0,
-  c.requires.1,
-  c.requires.2,
-)
 
 pub returns-then-new-eq0 : goal.returns-then-new-eq0
 returns-then-new-eq0 c = (
@@ -24,13 +17,6 @@ returns-then-new-eq0 c = (
   c.common.ensures,
   grows_on _ _ _ _ c.loop-k.invariant.2
       c.sweep_up-new.ensures.2,
-)
-
-pub sweep_down-requires : goal.sweep_down-requires
-sweep_down-requires c = (
-  c.requires.0,
-  c.requires.1,
-  c.requires.2,
 )
 
 pub returns-then-all-s : goal.returns-then-all-s
@@ -62,11 +48,4 @@ loop-k-preserved c = (
       c.loop-k.invariant.2
       (grows_on _ _ _ _ c.sweep_up-new.ensures.2
       c.sweep_down.ensures.1),
-)
-
-pub returns : goal.returns
-returns c = (
-  end_rounds _ _ _ _ _ _ _ c.loop-k.invariant.1 (omega arith),
-  c.common-2.ensures,
-  c.loop-k.invariant.2,
 )

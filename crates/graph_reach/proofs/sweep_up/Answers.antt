@@ -6,9 +6,6 @@ use Rattle.graph_reach.proofs.sweep_up.Goals as goal
 pub loop-x-init : goal.loop-x-init
 loop-x-init c = (omega arith, swept_none _ _ _, λ first told w. w)
 
-pub step-requires : goal.step-requires
-step-requires c = (omega arith, omega arith, c.requires.2)
-
 pub loop-x-preserved : goal.loop-x-preserved
 loop-x-preserved c = (
   omega arith,

@@ -5,9 +5,6 @@ use Rattle.graph_ring.proofs.sweep_up.Goals as goal
 pub loop-g-init : goal.loop-g-init
 loop-g-init c = (omega arith, swept_none _ _)
 
-pub judge-v-requires : goal.judge-v-requires
-judge-v-requires c = (omega arith, omega arith)
-
 pub loop-g-preserved : goal.loop-g-preserved
 loop-g-preserved c = (
   omega arith,

@@ -8,15 +8,15 @@ returns-in_default c = walk_refused _ _ _ c.fill-l.ensures.answer c.in_default.i
 
 pub returns-then-h-active : goal.returns-then-h-active
 returns-then-h-active c = walk_no_active _ _ _ c.fill-l.ensures.answer
-    c.in-Accepted.is c.if-h-active.true
+    c.in-Ok.is c.if-h-active.true
 
 pub returns-then-h-passive : goal.returns-then-h-passive
 returns-then-h-passive c = walk_no_passive _ _ _ c.fill-l.ensures.answer
-    c.in-Accepted.is c.if-h-active.false c.if-h-passive.true
+    c.in-Ok.is c.if-h-active.false c.if-h-passive.true
 
 pub pair_walk-requires : goal.pair_walk-requires
 pair_walk-requires c =
-    let t = (lent_right c.fill-l.ensures c.in-Accepted.is) in
+    let t = (lent_right c.fill-l.ensures c.in-Ok.is) in
     let a = t.range.actives.1 in
     let p = t.range.passives.1 in
     let la = c.if-h-active.false in
@@ -26,6 +26,6 @@ pair_walk-requires c =
 pub returns : goal.returns
 returns c =
     walk_of_pair _ _ _ c.fill-l.ensures.answer
-    c.in-Accepted.is (lent_right c.fill-l.ensures
-    c.in-Accepted.is) c.if-h-active.false
+    c.in-Ok.is (lent_right c.fill-l.ensures
+    c.in-Ok.is) c.if-h-active.false
     c.if-h-passive.false c.pair_walk.ensures

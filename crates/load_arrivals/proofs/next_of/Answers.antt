@@ -1,11 +1,15 @@
-use borrow.Author.Tests.{eq-eqb, ne_eqb}
-use Rattle.load_arrivals.specs.Tables.{next_of}
+use mathlib.Core.Path.{sym, ◌∙◌}
+use native.Mathlib.Omega.{arith}
+use Rattle.plan.proofs.JointLaws.{router_is}
+use Rattle.load_arrivals.proofs.Charts.{next_router, next_none}
 use Rattle.load_arrivals.proofs.next_of.Goals as goal
 
-pub returns-then-v-eq1 : goal.returns-then-v-eq1
-unfolding next_of
-returns-then-v-eq1 c = rw (eq-eqb _ _ c.if-v-eq1.true)
+pub overflow_cast-result : goal.overflow_cast-result
+overflow_cast-result c =
+    let is = router_is _ (sym c.joint_of.ensures ∙ c.in-Router.is) in record { fits = omega (arith, is.1) }
 
-pub returns-else-v-eq1 : goal.returns-else-v-eq1
-unfolding next_of
-returns-else-v-eq1 c = rw (ne_eqb _ _ c.if-v-eq1.false)
+pub returns-in-Router : goal.returns-in-Router
+returns-in-Router c = sym (next_router _ (sym c.joint_of.ensures ∙ c.in-Router.is))
+
+pub returns-in_default : goal.returns-in_default
+returns-in_default c = sym (next_none _ (λ n t q. c.in_default.not-Router n t (c.joint_of.ensures ∙ q)))

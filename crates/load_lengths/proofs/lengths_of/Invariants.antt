@@ -1,6 +1,7 @@
-use Prim.Native.Nat.{◌≤◌, ◌/◌}
-use lib.ListN.{get_or}
+use Prim.Native.Nat.{ℕ, ◌/◌}
+use lib.ListN.{get_or, replicate, drop}
 use mathlib.Core.Path.{◌≡◌}
+use mathlib.Core.List.{List, ◌++◌}
 use Rattle.basis.specs.Fold.{up_to, fill}
 use Rattle.sets.specs.Sets.{both}
 use Rattle.load_arrivals.specs.Pairs.{length_of}
@@ -8,6 +9,6 @@ use Rattle.load_lengths.proofs.lengths_of.Given as goal
 
 abbrev pub invariant-loop-a : goal.invariant-loop-a
 invariant-loop-a l =
-    (l.a ≤ l.actives)
-    × (l.t ≡ up_to (fill (λ i. length_of l.z (get_or l.homes i 0 / 4) (get_or l.served i 0)
-    (both (get_or l.arrive (get_or l.homes i 0 / 4) 0) l.far) l.actives)) l.a l.initial.t)
+    l.row-items ++ drop l.h.actives (replicate 16 (replicate 16 0))
+    ≡ up_to (fill (λ i. length_of l.z (get_or l.homes i 0 / 4) (get_or l.served i 0)
+    (both (get_or l.arrive (get_or l.homes i 0 / 4) 0) l.far) l.h.actives)) l.a (replicate 16 (replicate 16 0))

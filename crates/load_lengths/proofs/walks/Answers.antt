@@ -16,19 +16,16 @@ reach-all-requires c =
       ap length made ∙ firsts_long _ _ _,
     )
 
-pub serves-w-requires : goal.serves-w-requires
-serves-w-requires c =
+pub serves-served-requires : goal.serves-served-requires
+serves-served-requires c =
     let made = c.firsts.ensures in
     let pre = c.requires in (
-      pre.0,
-      pre.1,
-      pre.2,
+      pre,
       reached_below _ _ (rw made (first_idle _ _ _ _ pre.1 pre.2 _)) c.reach-all.ensures.0,
     )
 
-pub lengths_of-requires : goal.lengths_of-requires
-lengths_of-requires c =
-    let pre = c.requires in (pre.0, pre.1, pre.4)
+pub lengths_of-lengths-requires : goal.lengths_of-lengths-requires
+lengths_of-lengths-requires c = (c.requires.0, c.requires.1)
 
 pub returns : goal.returns
 returns c =
@@ -42,4 +39,4 @@ returns c =
     c.reach-all.ensures.0
     c.reach-all.ensures.1
     c.reach-all.ensures.2
-    c.serves-w.ensures c.lengths_of.ensures
+    c.serves-served.ensures c.lengths_of-lengths.ensures

@@ -1,5 +1,3 @@
-use mathlib.Core.Path.{◌∙◌}
-use Rattle.phase_execute.proofs.Tables.{set_length}
 use Rattle.phase_execute.proofs.Loops.{heads_hold, picks_hold, undo_hold, last_hold, phase_room, execute_all}
 use Rattle.phase_execute.proofs.execute.Goals as goal
 
@@ -25,11 +23,6 @@ pub bounds-s-0 : goal.bounds-s-0
 bounds-s-0 c =
     let p = c.requires in phase_room p.0 (last_hold p.0 p.1 c.heads.ensures c.picks.ensures c.undoes.ensures)
 
-pub shape_of-s : goal.shape_of-s
-shape_of-s c =
-    set_length c.undoes.new.s 0 2 ∙ c.undoes.auto.s ∙
-    c.picks.auto.s ∙ c.heads.auto.s
-
 pub returns : goal.returns
 returns c =
-    let p = c.requires in execute_all p.0 c.heads.ensures c.picks.ensures c.undoes.ensures
+    let p = c.requires in rw c.from.ensures (execute_all p.0 c.heads.ensures c.picks.ensures c.undoes.ensures)

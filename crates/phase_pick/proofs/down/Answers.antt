@@ -21,13 +21,13 @@ pick-requires c =
     let p = c.requires in (
       p.0,
       omega arith,
-      down_sends p.0 p.1 c.base_of-n.ensures.0 c.first_of-m.ensures.0,
-      holds_open p.0 (ap (λ (k : ℕ). k + 5) c.first_of-m.ensures.0) (down_open p.0 p.1) p.2,
+      down_sends p.0 p.1 c.base_of-n.ensures.0 c.first_of.ensures.0,
+      holds_open p.0 (ap (λ (k : ℕ). k + 5) c.first_of.ensures.0) (down_open p.0 p.1) p.2,
     )
 
 pub returns : goal.returns
 returns c =
     let p = c.requires in
-    steps_open p.0 (ap (λ (k : ℕ). k + 5) c.first_of-m.ensures.0) (down_open
+    steps_open p.0 (ap (λ (k : ℕ). k + 5) c.first_of.ensures.0) (down_open
     p.0
     p.1) c.pick.ensures

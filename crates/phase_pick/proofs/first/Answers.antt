@@ -1,14 +1,11 @@
 use native.Mathlib.Omega.{arith}
 use Rattle.phase_pick.proofs.Tables.{range_of}
-use Rattle.phase_pick.proofs.Choosing.{passed_none, passed_more, first_found, first_none, sends_by}
+use Rattle.phase_pick.proofs.Choosing.{first_found, first_none, sends_by}
 use Rattle.phase_pick.proofs.Asked.{sends_asks}
 use Rattle.phase_pick.proofs.first.Goals as goal
 
-pub loop-k-init : goal.loop-k-init
-loop-k-init c = let p = c.requires in (omega arith, passed_none p.0.wired (range_of p.0) _ _ _ _)
-
-pub overflow_add-n : goal.overflow_add-n
-overflow_add-n c =
+pub overflow_add-of : goal.overflow_add-of
+overflow_add-of c =
     let p = c.requires in let q = (sends_asks p.0 p.3 c.loop-k-test.true).2 in omega arith
 
 pub ready-requires : goal.ready-requires
@@ -22,28 +19,11 @@ ready-requires c =
       p.4,
     )
 
-pub overflow_add-result : goal.overflow_add-result
-overflow_add-result c = let p = c.requires in let q = p.1 in omega arith
-
-pub overflow_cast-result : goal.overflow_cast-result
-overflow_cast-result c = let p = c.requires in let q = p.1 in omega arith
-
 pub returns-then-ready : goal.returns-then-ready
 returns-then-ready c =
     let p = c.requires in first_found p.0.wired (range_of p.0) _ _ _ _ _
     p.3 c.loop-k.invariant.0 c.loop-k-test.true
     c.loop-k.invariant.1 c.ready.ensures c.if-ready.true
-
-pub overflow_step-k : goal.overflow_step-k
-overflow_step-k c = let p = c.requires in let q = p.1 in omega arith
-
-pub loop-k-preserved : goal.loop-k-preserved
-loop-k-preserved c =
-    let p = c.requires in (
-      omega arith,
-      passed_more p.0.wired (range_of p.0)
-          _ _ _ _ c.loop-k.invariant.1 c.ready.ensures c.if-ready.false,
-    )
 
 pub returns : goal.returns
 returns c =

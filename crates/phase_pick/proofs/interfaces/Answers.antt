@@ -1,13 +1,8 @@
-use Rattle.bytes_steps.specs.Acts.{steps_none, steps_done}
+use Rattle.bytes_steps.specs.Acts.{steps_none}
 use native.Mathlib.Omega.{arith}
 use mathlib.Core.Path.{refl, ◌∙◌}
 use Rattle.phase_pick.proofs.Loops.{interfaces_hold, interfaces_more}
 use Rattle.phase_pick.proofs.interfaces.Goals as goal
-
-pub overflow_add-n : goal.overflow_add-n
-overflow_add-n c =
-    let p = c.requires in let a = p.0.range.actives.1 in let b = p.0.range.passives.1 in omega
-    arith
 
 pub loop-m-init : goal.loop-m-init
 loop-m-init c = (omega arith, refl, steps_none _ _ _ _, refl)
@@ -25,9 +20,3 @@ loop-m-preserved c =
       interfaces_more p.0 (omega arith) v.2 c.interface.ensures,
       c.interface.auto.s ∙ v.3,
     )
-
-pub shape_of-s : goal.shape_of-s
-shape_of-s c = c.loop-m.invariant.3
-
-pub returns : goal.returns
-returns c = let v = c.loop-m.invariant in let l = v.1 in steps_done _ _ v.2 (omega arith)

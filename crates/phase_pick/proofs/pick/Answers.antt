@@ -1,12 +1,8 @@
-use Rattle.bytes_steps.specs.Acts.{holds_less}
 use Rattle.phase_pick.proofs.Tables.{range_of}
 use Rattle.phase_pick.proofs.Choosing.{steps_picked}
 use Rattle.phase_pick.proofs.Asked.{output_asks, choice_small, choice_row, choice_room}
 use native.Mathlib.Omega.{arith}
 use Rattle.phase_pick.proofs.pick.Goals as goal
-
-pub turn-v-requires : goal.turn-v-requires
-turn-v-requires c = let p = c.requires in (p.0, p.1, p.2, holds_less _ (λ s o. o.picks.core) p.3)
 
 pub output_row-at-requires : goal.output_row-at-requires
 output_row-at-requires c = let p = c.requires in output_asks p.0 p.2

@@ -2,9 +2,6 @@ use native.Mathlib.Omega.{arith}
 use Rattle.phase_pick.proofs.Loops.{interfaces_hold, picks_all}
 use Rattle.phase_pick.proofs.picks.Goals as goal
 
-pub interfaces-requires : goal.interfaces-requires
-interfaces-requires c = c.requires
-
 pub routers-requires : goal.routers-requires
 routers-requires c =
     let p = c.requires in (

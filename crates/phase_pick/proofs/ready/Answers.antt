@@ -16,10 +16,6 @@ returns-then-s-at-eq0 c =
     let p = c.requires in empty_tells p.0.wired (range_of p.0) _ _ (is_queue p.0
     p.2) c.queue_row-at.ensures c.if-s-at-eq0.true
 
-pub bounds-s-at-then-unit : goal.bounds-s-at-then-unit
-bounds-s-at-then-unit c =
-    let p = c.requires in let q = row_room p.0 p.2 c.queue_row-at.ensures p.5 in omega arith
-
 pub returns-then-s-at-eq0-2 : goal.returns-then-s-at-eq0-2
 returns-then-s-at-eq0-2 c =
     let p = c.requires in unhandled_tells p.0.wired (range_of

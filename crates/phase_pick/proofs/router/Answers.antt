@@ -1,9 +1,6 @@
 use Rattle.phase_pick.proofs.Loops.{from_four, from_five, from_six}
 use Rattle.phase_pick.proofs.router.Goals as goal
 
-pub sides-requires : goal.sides-requires
-sides-requires c = c.requires
-
 pub up-requires : goal.up-requires
 up-requires c =
     let p = c.requires in (

@@ -1,6 +1,6 @@
 use mathlib.Core.Path.{refl, ◌∙◌}
 use native.Mathlib.Omega.{arith}
-use Rattle.bytes_steps.specs.Acts.{steps_none, steps_done}
+use Rattle.bytes_steps.specs.Acts.{steps_none}
 use Rattle.phase_pick.proofs.Loops.{routers_hold, routers_more}
 use Rattle.phase_pick.proofs.routers.Goals as goal
 
@@ -23,9 +23,3 @@ loop-r-preserved c =
       routers_more p.0 (omega arith) v.2 c.router.ensures,
       c.router.auto.s ∙ v.3,
     )
-
-pub shape_of-s : goal.shape_of-s
-shape_of-s c = c.loop-r.invariant.3
-
-pub returns : goal.returns
-returns c = let v = c.loop-r.invariant in let l = v.1 in steps_done _ _ v.2 (omega arith)

@@ -3,7 +3,7 @@ use mathlib.Core.Path.{refl, ap}
 use Rattle.phase_pick.proofs.Tables.{range_of}
 use Rattle.phase_pick.proofs.Choosing.{steps_idle}
 use Rattle.phase_pick.proofs.Asked.{side_rows, side_sends, idle_rows, holds_open, steps_open, slot_small}
-use Rattle.phase_pick.proofs.Asked.{base_asks, side_asks, side_room, side_open, side_shut}
+use Rattle.phase_pick.proofs.Asked.{side_asks, side_room, side_open, side_shut}
 use native.Mathlib.Omega.{arith}
 use Rattle.phase_pick.proofs.side.Goals as goal
 
@@ -23,23 +23,18 @@ bounds-s-1 c =
 
 pub entry_row-requires : goal.entry_row-requires
 entry_row-requires c =
-    let p = c.requires in side_asks p.0 p.1 p.2 p.3 c.index-t.ensures.0
+    let p = c.requires in side_asks p.0 p.1 p.2 p.3 c.from-slot.ensures
 
 pub bounds-s-entry_row : goal.bounds-s-entry_row
 bounds-s-entry_row c =
     let p = c.requires in side_room p.0
-    p.1 p.2 p.3 c.index-t.ensures.0 c.entry_row.ensures
+    p.1 p.2 p.3 c.from-slot.ensures c.entry_row.ensures
 
 pub returns-then-s-entry_row-ne0 : goal.returns-then-s-entry_row-ne0
 returns-then-s-entry_row-ne0 c =
     let p = c.requires in side_shut
-    p.0 p.1 p.2 (slot_small p.0 p.1 _ p.3 c.index-t.ensures.0) c.index-t.ensures.0 c.entry_row.ensures
+    p.0 p.1 p.2 (slot_small p.0 p.1 _ p.3 c.from-slot.ensures) c.from-slot.ensures c.entry_row.ensures
     c.if-s-entry_row-ne0.true
-
-pub first_of-requires : goal.first_of-requires
-first_of-requires c =
-    let p = c.requires in
-    base_asks p.0 p.1
 
 pub pick-requires : goal.pick-requires
 pick-requires c =
@@ -49,7 +44,7 @@ pick-requires c =
       side_sends p.0 p.1 p.2 c.base_of.ensures.0 c.first_of.ensures.0,
       holds_open p.0
           (ap (λ (k : ℕ). k + c.args.o) c.first_of.ensures.0) (side_open p.0 p.1 p.2
-          (slot_small p.0 p.1 _ p.3 c.index-t.ensures.0) c.index-t.ensures.0 c.entry_row.ensures
+          (slot_small p.0 p.1 _ p.3 c.from-slot.ensures) c.from-slot.ensures c.entry_row.ensures
           c.if-s-entry_row-ne0.false)
           p.3,
     )
@@ -58,4 +53,4 @@ pub returns : goal.returns
 returns c =
     let p = c.requires in steps_open p.0 (ap (λ (k : ℕ). k + c.args.o) c.first_of.ensures.0)
     (side_open p.0 p.1 p.2 (slot_small p.0 p.1 _ p.3
-    c.index-t.ensures.0) c.index-t.ensures.0 c.entry_row.ensures c.if-s-entry_row-ne0.false) c.pick.ensures
+    c.from-slot.ensures) c.from-slot.ensures c.entry_row.ensures c.if-s-entry_row-ne0.false) c.pick.ensures

@@ -1,6 +1,6 @@
 use native.Mathlib.Omega.{arith}
 use mathlib.Core.Path.{refl, ◌∙◌}
-use Rattle.phase_pick.proofs.Loops.{from_none, sides_hold, sides_more, from_done}
+use Rattle.phase_pick.proofs.Loops.{from_none, sides_hold, sides_more}
 use Rattle.phase_pick.proofs.sides.Goals as goal
 
 pub loop-o-init : goal.loop-o-init
@@ -23,9 +23,3 @@ loop-o-preserved c =
           c.side.ensures,
       c.side.auto.s ∙ c.loop-o.invariant.2,
     )
-
-pub shape_of-s : goal.shape_of-s
-shape_of-s c = c.loop-o.invariant.2
-
-pub returns : goal.returns
-returns c = let p = c.requires in from_done p.0 p.1 c.loop-o.invariant.1 (omega arith)

@@ -1,6 +1,6 @@
 use Rattle.phase_pick.specs.Moments.{Picks, chooses_from}
 use Rattle.bytes_steps.specs.Acts.{Steps}
-use Rattle.plan.specs.Tables.{table_plan}
+use Rattle.plan.specs.Lent.{plan_by}
 use Rattle.plan.specs.Head.{destinations}
 use lib.ListN.{length}
 use Prim.Native.Nat.{◌+◌, ◌*◌, ◌≤◌}
@@ -10,6 +10,6 @@ use Rattle.phase_pick.proofs.sides.Given as goal
 abbrev pub invariant-loop-o : goal.invariant-loop-o
 invariant-loop-o l =
     (l.o ≤ 4)
-    × Steps (table_plan l.h l.routes l.joints) (Picks (table_plan l.h l.routes l.joints) (destinations l.h + 6 * l.r))
-    (chooses_from (table_plan l.h l.routes l.joints) (destinations l.h + 6 * l.r) l.o) l.initial.s l.s
+    × Steps (plan_by l.h l.t) (Picks (plan_by l.h l.t) (destinations l.h + 6 * l.r))
+    (chooses_from (plan_by l.h l.t) (destinations l.h + 6 * l.r) l.o) l.initial.s l.s
     × (length l.s ≡ length l.initial.s)

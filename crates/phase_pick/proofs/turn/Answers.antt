@@ -15,7 +15,7 @@ returns-then-v-ne0 c =
     let p = c.requires in
     turn_found p.0.wired (range_of p.0) _
     (turn_tells p.0 p.2.drives c.turn_row.ensures
-    c.index-last.ensures.0)
+    c.from-last.ensures)
     c.first-v.ensures c.if-v-ne0.true
 
 pub returns : goal.returns
@@ -23,5 +23,5 @@ returns c =
     let p = c.requires in
     turn_again p.0.wired (range_of p.0) _
     (turn_tells p.0 p.2.drives c.turn_row.ensures
-    c.index-last.ensures.0)
+    c.from-last.ensures)
     c.first-v.ensures c.if-v-ne0.false c.first.ensures

@@ -21,12 +21,12 @@ pick-requires c =
     let p = c.requires in (
       p.0,
       omega arith,
-      up_sends p.0 p.1 c.base_of-n.ensures.0 c.first_of-m.ensures.0,
-      holds_open p.0 (ap (λ (k : ℕ). k + 4) c.first_of-m.ensures.0) (up_open p.0 p.1) p.2,
+      up_sends p.0 p.1 c.base_of-n.ensures.0 c.first_of.ensures.0,
+      holds_open p.0 (ap (λ (k : ℕ). k + 4) c.first_of.ensures.0) (up_open p.0 p.1) p.2,
     )
 
 pub returns : goal.returns
 returns c =
     let p = c.requires in
-    steps_open p.0 (ap (λ (k : ℕ). k + 4) c.first_of-m.ensures.0) (up_open p.0
+    steps_open p.0 (ap (λ (k : ℕ). k + 4) c.first_of.ensures.0) (up_open p.0
     p.1) c.pick.ensures

@@ -1,13 +1,9 @@
-use native.Mathlib.Omega.{arith}
 use Rattle.plan.specs.Tables.{table_plan}
-use Rattle.phase_read.proofs.Offsets.{table_head, range_counts}
+use Rattle.phase_read.proofs.Offsets.{table_head}
 use Rattle.phase_read.proofs.Arrivals.{wire_within, deliver_none, pair_of, next_small, joins_within, joins_room}
-use Rattle.phase_read.proofs.Arrivals.{rows_within, unit_of, deliver_full}
+use Rattle.phase_read.proofs.Arrivals.{unit_of, deliver_full}
+use native.Mathlib.Omega.{arith}
 use Rattle.phase_read.proofs.deliver.Goals as goal
-
-pub output_row-i-requires : goal.output_row-i-requires
-output_row-i-requires c =
-    let r = range_counts c.requires.0.range in let l = c.requires.1 in (r, omega arith)
 
 pub wire_at-w-requires : goal.wire_at-w-requires
 wire_at-w-requires c =
@@ -20,16 +16,8 @@ returns-in_default c =
     c.output_row-i.ensures _ c.wire_at-w.ensures
     c.in_default.is
 
-pub at_unit-q-requires : goal.at_unit-q-requires
-at_unit-q-requires c =
-    let pre = c.requires in (
-      range_counts pre.0.range,
-      pre.1,
-      rows_within (table_plan _ _ _) (table_head _ _ _) pre.2,
-    )
-
-pub next-n-requires : goal.next-n-requires
-next-n-requires c =
+pub next-requires : goal.next-requires
+next-requires c =
     let pre = c.requires in
     let at = c.output_row-i.ensures in
     let read = c.wire_at-w.ensures in
@@ -54,9 +42,9 @@ queue_row-requires c =
     let at = c.output_row-i.ensures in
     let read = c.wire_at-w.ensures in
     let full = c.in-Full.is in
-    next_small (table_plan _ _ _) (table_head _ _ _) _ _ pre.1 at read full pre.2
-    c.next-n.ensures
-    pre.0.range
+    let l = next_small (table_plan _ _ _) (table_head _ _ _) _ _ pre.1 at read full pre.2
+    c.in-Some.ensures.queue
+    pre.0.range in omega arith
 
 pub push-requires : goal.push-requires
 push-requires c =
@@ -64,7 +52,7 @@ push-requires c =
     let at = c.output_row-i.ensures in
     let read = c.wire_at-w.ensures in
     let full = c.in-Full.is in
-    let onto = c.next-n.ensures in
+    let onto = c.in-Some.ensures.queue in
     let empty = c.put_wire.ensures in (
       joins_within (table_plan _ _ _) (table_head _ _ _) _ _ pre.1 at read full pre.2 onto c.queue_row.ensures
           empty,
@@ -76,5 +64,13 @@ pub returns : goal.returns
 returns c =
     deliver_full (table_plan _ _ _) (table_head _ _ _) _ _ c.requires.1
     c.output_row-i.ensures
-    c.wire_at-w.ensures c.in-Full.is c.next-n.ensures
+    c.wire_at-w.ensures c.in-Full.is c.in-Some.ensures.queue
     c.queue_row.ensures c.put_wire.ensures c.push.ensures
+
+pub unreachable-requires : goal.unreachable-requires
+unreachable-requires c =
+    let pre = c.requires in
+    let l = next_small (table_plan _ _ _) (table_head _ _ _) _ _ pre.1
+    c.output_row-i.ensures c.wire_at-w.ensures c.in-Full.is pre.2
+    c.in_default-next.ensures.queue
+    pre.0.range in absurd (omega arith)

@@ -3,18 +3,12 @@ use Prim.Native.Nat.{◌+◌, ◌*◌}
 use native.Mathlib.Omega.{arith}
 use lib.ListN.{length}
 use Rattle.plan.specs.Tables.{table_plan}
-use Rattle.bytes_steps.specs.Acts.{steps_none, steps_done}
-use Rattle.phase_read.proofs.Offsets.{table_head, range_counts}
+use Rattle.bytes_steps.specs.Acts.{steps_none}
+use Rattle.phase_read.proofs.Offsets.{table_head}
 use Rattle.phase_read.proofs.Arrivals.{wire_within, deliver_idle}
 use Rattle.phase_read.proofs.Phase.{delivers_at, delivers_more}
 use Rattle.phase_read.proofs.deliver_all.Goals as goal
 use Rattle.phase_read.proofs.deliver_all.Goals.{then-full, else-full}
-
-pub output_count-count-requires : goal.output_count-count-requires
-output_count-count-requires c = range_counts c.requires.0.range
-
-pub output_row-from-requires : goal.output_row-from-requires
-output_row-from-requires c = (range_counts c.requires.0.range, omega arith)
 
 pub loop-m-init : goal.loop-m-init
 loop-m-init c = (omega arith, steps_none _ _ _ _, refl)
@@ -40,9 +34,6 @@ deliver-requires c =
       delivers_at (table_head _ _ _) pre.0.range pre.0.wired (omega arith) l.invariant.1 pre.1,
     )
 
-pub overflow_step-m : goal.overflow_step-m
-overflow_step-m c = let n = c.output_count-count.ensures in omega arith
-
 pub loop-m-preserved : goal.loop-m-preserved
 loop-m-preserved c =
     let pre = c.requires in
@@ -66,11 +57,3 @@ loop-m-preserved c =
         ap length w.s-is ∙ l.invariant.2,
       )
     ]
-
-pub shape_of-s : goal.shape_of-s
-shape_of-s c = c.loop-m.invariant.2
-
-pub returns : goal.returns
-returns c =
-    let n = c.output_count-count.ensures in
-    steps_done _ _ c.loop-m.invariant.1 (omega arith)

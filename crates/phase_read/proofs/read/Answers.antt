@@ -1,9 +1,7 @@
-use mathlib.Core.Path.{◌∙◌}
 use Rattle.plan.specs.Tables.{table_plan}
 use Rattle.phase_read.proofs.Offsets.{table_head, range_counts, header_within}
 use Rattle.phase_read.proofs.Phase.{whole_of, whole_then, read_done}
 use native.Mathlib.Omega.{arith}
-use lib.ListN.{length-set}
 use Rattle.phase_read.proofs.read.Goals as goal
 
 pub deliver_all-requires : goal.deliver_all-requires
@@ -30,12 +28,8 @@ bounds-s-0 c =
       c.deliver_all.auto.s,
     )
 
-pub shape_of-s : goal.shape_of-s
-shape_of-s c =
-    simp length-set (c.settle_all.auto.s ∙ c.deliver_all.auto.s)
-
 pub returns : goal.returns
 returns c =
     read_done (table_head _ _ _) c.requires.0.range c.requires.0.wired
     c.deliver_all.ensures
-    c.settle_all.ensures c.phase_code.ensures
+    c.settle_all.ensures c.from.ensures

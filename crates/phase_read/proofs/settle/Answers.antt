@@ -1,6 +1,5 @@
 use Rattle.phase_read.proofs.Flags.{flag_within, settle_none, credit_lacks, settle_up}
 use native.Mathlib.Omega.{arith}
-use lib.ListN.{length-set}
 use Rattle.phase_read.proofs.settle.Goals as goal
 
 pub bounds-s-i : goal.bounds-s-i
@@ -10,25 +9,10 @@ bounds-s-i c =
 pub returns-then-s-i-eq0 : goal.returns-then-s-i-eq0
 returns-then-s-i-eq0 c = settle_none _ _ _ c.queue_row-i.ensures c.if-s-i-eq0.true
 
-pub bounds-s-i-2 : goal.bounds-s-i-2
-bounds-s-i-2 c =
-    let w = flag_within _ _ _ c.queue_row-i.ensures
-    c.requires.1 in omega arith
-
 pub credit_up-c-requires : goal.credit_up-c-requires
 credit_up-c-requires c =
     credit_lacks _ _ _ c.queue_row-i.ensures c.if-s-i-eq0.false
     c.requires.1
-
-pub bounds-s-i-3 : goal.bounds-s-i-3
-bounds-s-i-3 c =
-    let w = flag_within _ _ _ c.queue_row-i.ensures
-    c.requires.1 in omega arith
-
-pub bounds-s-i-4 : goal.bounds-s-i-4
-bounds-s-i-4 c =
-    let w = flag_within _ _ _ c.queue_row-i.ensures
-    c.requires.1 in simp length-set (omega arith)
 
 pub returns : goal.returns
 returns c =

@@ -1,11 +1,8 @@
 use mathlib.Core.Path.{refl, ◌∙◌}
 use native.Mathlib.Omega.{arith}
-use Rattle.phase_read.proofs.Flags.{settles_none, settles_at, settles_more, settles_done, down_all, settles_down}
+use Rattle.phase_read.proofs.Flags.{settles_none, settles_at, settles_more, down_all, settles_down}
 use Rattle.phase_read.proofs.Flags.{whole_long}
 use Rattle.phase_read.proofs.settle_all.Goals as goal
-
-pub queue_count-count-requires : goal.queue_count-count-requires
-queue_count-count-requires c = c.requires.0
 
 pub all_down-requires : goal.all_down-requires
 all_down-requires c =
@@ -13,9 +10,6 @@ all_down-requires c =
     let q = c.queue_count-count.ensures in
     let w = whole_long p.1 in
     (omega arith, omega arith)
-
-pub shape_of-s-then-all_down : goal.shape_of-s-then-all_down
-shape_of-s-then-all_down c = refl
 
 pub returns-then-all_down : goal.returns-then-all_down
 returns-then-all_down c =
@@ -31,19 +25,8 @@ settle-requires c =
     let q = c.queue_count-count.ensures in
     (omega arith, settles_at c.loop-n.invariant.1 (omega arith) p.1)
 
-pub overflow_step-n : goal.overflow_step-n
-overflow_step-n c = let q = c.queue_count-count.ensures
-    in omega arith
-
 pub loop-n-preserved : goal.loop-n-preserved
 loop-n-preserved c =
     let q = c.queue_count-count.ensures in
     let at = c.loop-n.invariant in
     (omega arith, settles_more at.1 c.settle.ensures, c.settle.auto.s ∙ at.2)
-
-pub shape_of-s : goal.shape_of-s
-shape_of-s c = c.loop-n.invariant.2
-
-pub returns : goal.returns
-returns c = let q = c.queue_count-count.ensures in settles_done
-    c.loop-n.invariant.1 (omega arith)

@@ -7,4 +7,4 @@ returns-then-x-eq1 c = rw (eq-eqb _ _ c.if-x-eq1.true)
 
 pub returns : goal.returns
 unfolding Rattle.phase_unit.specs.Handled.torn
-returns c = rw (ne_eqb _ _ c.if-x-eq1.false) (rw c.free-y.ensures at c.stay.ensures)
+returns c = rw (ne_eqb _ _ c.if-x-eq1.false) (rw c.free.ensures at c.stay.ensures)

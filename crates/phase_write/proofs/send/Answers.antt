@@ -1,6 +1,6 @@
 use Rattle.plan.specs.Tables.{table_plan}
 use Rattle.phase_read.proofs.Offsets.{table_head, range_counts}
-use Rattle.phase_write.proofs.Turns.{next_small, next_within, next_credit, last_within, send_done}
+use Rattle.phase_write.proofs.Turns.{rank_is, next_small, next_within, next_credit, last_within, send_done}
 use Rattle.phase_write.proofs.Turns.{choice_within, send_none, sender_small, sender_within, sender_some, sender_few}
 use Rattle.phase_write.proofs.Turns.{pair_of, onward_of, wire_within}
 use native.Mathlib.Omega.{arith}
@@ -20,7 +20,7 @@ pub queue_row-requires : goal.queue_row-requires
 queue_row-requires c =
     sender_small (table_plan _ _ _) (table_head _ _ _) _ _
     c.requires.1
-    c.output_row-i.ensures c.rank.ensures.0
+    c.output_row-i.ensures (rank_is c.if-c-eq0.false c.from.ensures)
     c.sender_of-n.ensures c.requires.2
     c.requires.0.range
 
@@ -31,41 +31,33 @@ take-x-requires c = (
   sender_within (table_plan _ _ _)
       (table_head _ _ _) _ _ c.requires.1
       c.output_row-i.ensures
-      c.rank.ensures.0 c.sender_of-n.ensures c.queue_row.ensures
+      (rank_is c.if-c-eq0.false c.from.ensures) c.sender_of-n.ensures c.queue_row.ensures
       c.requires.2,
   sender_some (table_plan _ _ _)
       (table_head _ _ _) _ _ c.requires.1
       c.output_row-i.ensures
-      c.rank.ensures.0 c.sender_of-n.ensures c.queue_row.ensures
+      (rank_is c.if-c-eq0.false c.from.ensures) c.sender_of-n.ensures c.queue_row.ensures
       c.requires.2,
   sender_few (table_plan _ _ _)
       (table_head _ _ _) _ _ c.requires.1
       c.output_row-i.ensures
-      c.rank.ensures.0 c.sender_of-n.ensures c.queue_row.ensures
+      (rank_is c.if-c-eq0.false c.from.ensures) c.sender_of-n.ensures c.queue_row.ensures
       c.requires.2,
 )
-
-pub overflow_add-n : goal.overflow_add-n
-overflow_add-n c =
-    let pre = c.requires in
-    let n = sender_small (table_plan _ _ _) (table_head _ _ _) _ _ pre.1
-    c.output_row-i.ensures
-    c.rank.ensures.0
-    c.sender_of-n.ensures pre.2 pre.0.range in omega arith
 
 pub next-requires : goal.next-requires
 next-requires c =
     let p = pair_of (table_plan _ _ _) (table_head _ _ _) _ _
     c.requires.1
     c.output_row-i.ensures
-    c.rank.ensures.0
+    (rank_is c.if-c-eq0.false c.from.ensures)
     c.sender_of-n.ensures
     c.queue_row.ensures c.take-x.ensures
     c.requires.2 in
     let u = onward_of (table_plan _ _ _) (table_head _ _ _) _ _
     c.requires.1
     c.output_row-i.ensures
-    c.rank.ensures.0
+    (rank_is c.if-c-eq0.false c.from.ensures)
     c.sender_of-n.ensures
     c.queue_row.ensures c.take-x.ensures
     c.requires.2 in (
@@ -81,50 +73,60 @@ enter-requires c = (
   wire_within (table_plan _ _ _) (table_head _ _ _) _ _
       c.requires.1
       c.output_row-i.ensures
-      c.rank.ensures.0
+      (rank_is c.if-c-eq0.false c.from.ensures)
       c.sender_of-n.ensures
       c.queue_row.ensures c.take-x.ensures
       c.requires.2,
-  next_small (table_plan _ _ _) (table_head _ _ _) _ _
+  (let l = next_small (table_plan _ _ _) (table_head _ _ _) _ _
       c.requires.1
       c.output_row-i.ensures
-      c.rank.ensures.0
+      (rank_is c.if-c-eq0.false c.from.ensures)
       c.sender_of-n.ensures
       c.queue_row.ensures c.take-x.ensures
-      c.next.ensures c.requires.2 c.requires.0.range,
+      c.in-Some.ensures.queue c.requires.2 c.requires.0.range in omega arith),
   next_within (table_plan _ _ _) (table_head _ _ _) _ _
       c.requires.1
       c.output_row-i.ensures
-      c.rank.ensures.0
+      (rank_is c.if-c-eq0.false c.from.ensures)
       c.sender_of-n.ensures
       c.queue_row.ensures c.take-x.ensures
-      c.next.ensures c.requires.2,
+      c.in-Some.ensures.queue c.requires.2,
   next_credit (table_plan _ _ _) (table_head _ _ _) _ _
       c.requires.1
       c.output_row-i.ensures
-      c.rank.ensures.0
+      (rank_is c.if-c-eq0.false c.from.ensures)
       c.sender_of-n.ensures
       c.queue_row.ensures c.take-x.ensures
-      c.next.ensures c.requires.2,
+      c.in-Some.ensures.queue c.requires.2,
 )
 
 pub remember-requires : goal.remember-requires
 remember-requires c =
     let p = c.requires in
-    let k = c.rank.ensures.0 in (
+    let k = rank_is c.if-c-eq0.false c.from.ensures in (
       range_counts p.0.range,
       p.1,
       omega arith,
       last_within (table_plan _ _ _) (table_head _ _ _) _ _ p.1 c.output_row-i.ensures k
           c.sender_of-n.ensures c.queue_row.ensures
-          c.take-x.ensures c.next.ensures
+          c.take-x.ensures c.in-Some.ensures.queue
           c.enter.ensures p.2,
     )
 
 pub returns : goal.returns
 returns c =
     send_done (table_plan _ _ _) (table_head _ _ _) _ _ c.requires.1
-    c.output_row-i.ensures c.rank.ensures.0
+    c.output_row-i.ensures (rank_is c.if-c-eq0.false c.from.ensures)
     c.sender_of-n.ensures c.queue_row.ensures
-    c.take-x.ensures c.next.ensures c.enter.ensures
+    c.take-x.ensures c.in-Some.ensures.queue c.enter.ensures
     c.remember.ensures
+
+pub unreachable-requires : goal.unreachable-requires
+unreachable-requires c =
+    let l = next_small (table_plan _ _ _) (table_head _ _ _) _ _
+    c.requires.1
+    c.output_row-i.ensures
+    (rank_is c.if-c-eq0.false c.from.ensures)
+    c.sender_of-n.ensures
+    c.queue_row.ensures c.take-x.ensures
+    c.in_default.ensures.queue c.requires.2 c.requires.0.range in absurd (omega arith)

@@ -4,18 +4,12 @@ use native.Mathlib.Omega.{arith}
 use lib.ListN.{length}
 use borrow.Author.Tests.{not-false, eqb-true}
 use Rattle.plan.specs.Tables.{table_plan}
-use Rattle.bytes_steps.specs.Acts.{steps_none, steps_done}
-use Rattle.phase_read.proofs.Offsets.{table_head, range_counts}
+use Rattle.bytes_steps.specs.Acts.{steps_none}
+use Rattle.phase_read.proofs.Offsets.{table_head}
 use Rattle.phase_write.proofs.Turns.{choice_within, send_none}
 use Rattle.phase_write.proofs.Phase.{sends_at, sends_more}
 use Rattle.phase_write.proofs.send_all.Goals as goal
 use Rattle.phase_write.proofs.send_all.Goals.{then-picked, else-picked}
-
-pub output_count-count-requires : goal.output_count-count-requires
-output_count-count-requires c = range_counts c.requires.0.range
-
-pub output_row-from-requires : goal.output_row-from-requires
-output_row-from-requires c = (range_counts c.requires.0.range, omega arith)
 
 pub loop-m-init : goal.loop-m-init
 loop-m-init c = (omega arith, steps_none _ _ _ _, refl)
@@ -41,9 +35,6 @@ send-requires c =
       sends_at (table_head _ _ _) pre.0.range pre.0.wired (omega arith) l.invariant.1 pre.1,
     )
 
-pub overflow_step-m : goal.overflow_step-m
-overflow_step-m c = let n = c.output_count-count.ensures in omega arith
-
 pub loop-m-preserved : goal.loop-m-preserved
 loop-m-preserved c =
     let pre = c.requires in
@@ -67,11 +58,3 @@ loop-m-preserved c =
         ap length w.s-is ∙ l.invariant.2,
       )
     ]
-
-pub shape_of-s : goal.shape_of-s
-shape_of-s c = c.loop-m.invariant.2
-
-pub returns : goal.returns
-returns c =
-    let n = c.output_count-count.ensures in
-    steps_done _ _ c.loop-m.invariant.1 (omega arith)

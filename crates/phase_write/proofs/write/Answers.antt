@@ -8,8 +8,8 @@ use Rattle.phase_write.proofs.write.Goals as goal
 pub bounds-s-1 : goal.bounds-s-1
 bounds-s-1 c = let w = header_within (table_plan _ _ _) c.requires.1 in omega arith
 
-pub slot_next-t-requires : goal.slot_next-t-requires
-slot_next-t-requires c = (
+pub slot_next-slot-requires : goal.slot_next-slot-requires
+slot_next-slot-requires c = (
   slot_below (table_head _ _ _) c.requires.0.range c.requires.0.wired
       c.requires.1,
   c.requires.0.range.slots.1,
@@ -37,5 +37,5 @@ pub returns : goal.returns
 returns c =
     write_done (table_head _ _ _) c.requires.0.range
     c.requires.0.wired
-    c.slot_next-t.ensures c.send_all.ensures
-    c.phase_code.ensures
+    c.slot_next-slot.ensures c.send_all.ensures
+    c.from.ensures

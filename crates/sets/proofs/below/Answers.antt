@@ -1,13 +1,13 @@
-use native.Mathlib.Omega.{arith}
+use Rattle.std.proofs.Common.{arith, ◌∙◌}
+use Rattle.std.proofs.Math.Pow.{pow_mono}
 use Rattle.sets.specs.Laws.{below_code}
-use borrow.Author.Rules.{rules}
 use Rattle.sets.proofs.below.Goals as goal
 
-pub overflow_sub-result : goal.overflow_sub-result
-overflow_sub-result c = (below_code 32 c.args.n (search rules) (omega arith)).0
-
-pub overflow_cast-result : goal.overflow_cast-result
-overflow_cast-result c = record { fits = (below_code 32 c.args.n (search rules) (omega arith)).2 }
+pub narrow-requires : goal.narrow-requires
+narrow-requires g c =
+    let fits = (below_code c.args.n c.args.n (omega arith) c.requires.1).2 in
+    let more = pow_mono {i = c.args.n} c.requires.0 in
+    omega arith
 
 pub returns : goal.returns
-returns c = (below_code 32 c.args.n (search rules) (omega arith)).1
+returns g c = c.narrow.ensures ∙ (below_code c.args.n c.args.n (omega arith) c.requires.1).1

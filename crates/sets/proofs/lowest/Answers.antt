@@ -1,14 +1,12 @@
-use borrow.Author.Rules.{rules}
-use native.Mathlib.Omega.{arith}
-use lib.Count.{trailing_le}
-use Rattle.sets.specs.Laws.{lowest_code, lowest_lt}
+use Rattle.std.proofs.Common.{arith, refl, ◌<◌, ◌-◌}
+use Rattle.sets.specs.Sets.{lowest}
+use Rattle.sets.specs.Laws.{lowest_lt}
 use Rattle.sets.proofs.lowest.Goals as goal
 
-pub overflow_cast-result : goal.overflow_cast-result
-overflow_cast-result c = record { fits = (let e = trailing_le 32 c.args.s in omega arith) }
-
 pub returns : goal.returns
-returns c =
-    let e = lowest_code 32 32 c.args.s (omega arith) (search rules) (omega arith) in
-    let l = lowest_lt 32 32 c.args.s (omega arith) (search rules) (omega arith) in
-    (e, omega arith)
+unfolding lowest
+returns g c =
+    let room = g.met.W.Word.room in
+    let some : 0 < c.wide.result = rw c.wide.ensures.0 c.requires in
+    rw (← c.wide.ensures.0)
+    (refl, lowest_lt _ (64 - g.W.Word.digits) c.wide.result (omega arith) some c.wide.ensures.1)

@@ -17,8 +17,6 @@ use Rattle.packets.specs.declared.Entry.TheVariants.{Booked}
 use Rattle.packets.specs.Counters.{slot_after}
 use Rattle.plan.specs.Plan.{Plan, active, passive, R, S, route_to}
 use Rattle.plan.specs.Rules.{home}
-use Rattle.plan_walks.specs.declared.Index.{Index}
-use Rattle.plan_walks.specs.declared.Index.TheVariants.{At, Off}
 use Rattle.plan_queues.specs.Feeds.{Stands, span}
 use Rattle.plan_facts.specs.Wired.{Wired}
 use Rattle.rules.specs.State.{State}
@@ -129,10 +127,10 @@ picked_some : (b : Bool) (n : ℕ) → 0 < pick b n 0 → (b ≡ true) × (0 < n
 picked_some true n h = (refl, h)
 picked_some false n h = absurd (omega arith)
 
-reached : (slots t : ℕ) (start : Slot) (first past : ℕ) (i : Index) → reaches slots t start first past i ≡ true
-    → (k : ℕ) × (i ≡ At k) × (t ≡ (slot_after start (record { 0 = k }) slots).0)
-reached slots t start first past Off e = absurd (false≢true e)
-reached slots t start first past (At k) e = (k, refl, by (ltb k first) (ltb k past) e)
+reached : (slots t : ℕ) (start : Slot) (first past : ℕ) (i : Option ℕ) → reaches slots t start first past i ≡ true
+    → (k : ℕ) × (i ≡ some k) × (t ≡ (slot_after start (record { 0 = k }) slots).0)
+reached slots t start first past none e = absurd (false≢true e)
+reached slots t start first past (some k) e = (k, refl, by (ltb k first) (ltb k past) e)
   where
     by : (b d : Bool) → pick b false (pick d (eqb t (slot_after start (record { 0 = k }) slots).0) false) ≡ true
         → t ≡ (slot_after start (record { 0 = k }) slots).0
@@ -143,7 +141,7 @@ reached slots t start first past (At k) e = (k, refl, by (ltb k first) (ltb k pa
 -- an entry that is owned with a holder
 record Owning (pl : Plan) (r o t : ℕ) (v : Holder) (a p : ℕ) (start : Slot) : Type 0 where
   pub index : ℕ
-  pub at : index_of pl a p r ≡ At index
+  pub at : index_of pl a p r ≡ some index
   pub side : o ≡ route_to pl (passive p) r
   pub slot : t ≡ (slot_after start (record { 0 = index }) (S pl)).0
   pub holder : holder_of pl a p r ≡ v

@@ -14,8 +14,6 @@ use Rattle.kinds.specs.declared.Slot.{Slot}
 use Rattle.packets.specs.declared.Entry.TheVariants.{Free}
 use Rattle.packets.specs.Counters.{slot_after}
 use Rattle.plan.specs.Plan.{Plan, Port, passive, A, P, S, route_to}
-use Rattle.plan_walks.specs.declared.Index.{Index}
-use Rattle.plan_walks.specs.declared.Index.TheVariants.{At, Off}
 use Rattle.plan_walks.specs.Served.{Served}
 use Rattle.plan_queues.specs.Feeds.{Stands}
 use Rattle.basis.specs.Walk.{on_same}
@@ -94,10 +92,10 @@ entry_same r o t = also_of (eq-eqb r r refl) (also_of (eq-eqb o o refl) (eq-eqb 
 
 -- ---- pieces of a walk
 module _ (slots t : ℕ) (start : Slot) (e : Bool) (n : ℕ) where
-  abbrev piece : ℕ → ℕ → Index → ℕ
+  abbrev piece : ℕ → ℕ → Option ℕ → ℕ
   piece first past i = pick (also e (reaches slots t start first past i)) n 0
 
-  none_reached : (i : Index) → pick (also e false) n 0 ≡ 0
+  none_reached : (i : Option ℕ) → pick (also e false) n 0 ≡ 0
   none_reached i = by e
     where
       by : (b : Bool) → pick (also b false) n 0 ≡ 0
@@ -105,35 +103,36 @@ module _ (slots t : ℕ) (start : Slot) (e : Bool) (n : ℕ) where
       by false = refl
 
   -- a router outside the piece
-  not_reached : (first past : ℕ) (i : Index) → ((k : ℕ) → i ≡ At k → first ≤ k → k < past → ⊥)
+  not_reached : (first past : ℕ) (i : Option ℕ) → ((k : ℕ) → i ≡ some k → first ≤ k → k < past → ⊥)
       → reaches slots t start first past i ≡ false
-  not_reached first past Off h = refl
-  not_reached first past (At k) h = by (lt_or_ge k first) (lt_or_ge k past)
+  not_reached first past none h = refl
+  not_reached first past (some k) h = by (lt_or_ge k first) (lt_or_ge k past)
     where
-      by : (k < first) ⊎ (first ≤ k) → (k < past) ⊎ (past ≤ k) → reaches slots t start first past (At k) ≡ false
+      by : (k < first) ⊎ (first ≤ k) → (k < past) ⊎ (past ≤ k) → reaches slots t start first past (some k) ≡ false
       by (inl l) c = rw (lt-ltb k first l)
       by (inr l) (inl m) = absurd (h k refl l m)
       by (inr l) (inr m) = rw (le-ltb k first l, le-ltb k past m)
 
-  piece_none : (first past : ℕ) (i : Index) → ((k : ℕ) → i ≡ At k → first ≤ k → k < past → ⊥) → piece first past i ≡ 0
+  piece_none : (first past : ℕ) (i : Option ℕ) → ((k : ℕ) → i ≡ some k → first ≤ k → k < past → ⊥)
+      → piece first past i ≡ 0
   piece_none first past i h = rw (not_reached first past i h) (none_reached i)
 
-  piece_sum : (first mid past : ℕ) → first ≤ mid → mid ≤ past → (i : Index)
+  piece_sum : (first mid past : ℕ) → first ≤ mid → mid ≤ past → (i : Option ℕ)
       → piece first mid i + piece mid past i ≡ piece first past i
-  piece_sum first mid past l m Off = let z = none_reached Off in omega arith
-  piece_sum first mid past l m (At k) = by (lt_or_ge k first) (lt_or_ge k mid) (lt_or_ge k past)
+  piece_sum first mid past l m none = let z = none_reached none in omega arith
+  piece_sum first mid past l m (some k) = by (lt_or_ge k first) (lt_or_ge k mid) (lt_or_ge k past)
     where
       by : (k < first) ⊎ (first ≤ k) → (k < mid) ⊎ (mid ≤ k) → (k < past) ⊎ (past ≤ k)
-          → piece first mid (At k) + piece mid past (At k) ≡ piece first past (At k)
-      by (inl f) c d = let z = none_reached Off in rw (lt-ltb k first f, lt-ltb k mid (omega arith)) (omega arith)
+          → piece first mid (some k) + piece mid past (some k) ≡ piece first past (some k)
+      by (inl f) c d = let z = none_reached none in rw (lt-ltb k first f, lt-ltb k mid (omega arith)) (omega arith)
       by (inr f) (inl c) d =
-          let z = none_reached Off in
+          let z = none_reached none in
           rw (le-ltb k first f, lt-ltb k mid c, lt-ltb k past (omega arith)) (omega arith)
       by (inr f) (inr c) (inl d) =
-          let z = none_reached Off in
+          let z = none_reached none in
           rw (le-ltb k first f, le-ltb k mid c, lt-ltb k past d) (omega arith)
       by (inr f) (inr c) (inr d) =
-          let z = none_reached Off in
+          let z = none_reached none in
           rw (le-ltb k first f, le-ltb k mid c, le-ltb k past d) (omega arith)
 
 module _ (pl : Plan) (r o t : ℕ) (v : Holder) (a p : ℕ) (start : Slot) where
@@ -172,10 +171,10 @@ module _ {pl : Plan} (wired : Wired pl) (a p : ℕ) (ha : a < A pl) (hp : p < P 
   unfolding owning
   owning_one k i j f start r o t v = by (test (eqb r i))
     where
-      there : eqb r i ≡ false → (m : ℕ) → index_of pl a p r ≡ At m → k ≤ m → m < k + 1 → ⊥
+      there : eqb r i ≡ false → (m : ℕ) → index_of pl a p r ≡ some m → k ≤ m → m < k + 1 → ⊥
       there g m q l h =
           let same : m ≡ k = omega arith in
-          let d = index_stands pl a p r k (q ∙ ap At same) in
+          let d = index_stands pl a p r k (q ∙ ap some same) in
           let z : ◌≡◌ {A = Port} (record { router = r; side = d.0 }) (record { router = i; side = j }) =
           on_same (sym d.1 ∙ f) in
           true≢false (sym (eq-eqb r i (ap (λ (x : Port). x.router) z)) ∙ g)

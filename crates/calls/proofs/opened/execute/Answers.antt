@@ -1,3 +1,4 @@
+use mathlib.Core.Path.{sym, ◌∙◌}
 use Rattle.packets.specs.declared.Phase.TheVariants.{Execute}
 use Rattle.calls.proofs.Turning.{held_long, turn_refused, turn_held, turn_done}
 use Rattle.calls.proofs.opened.execute.Goals as goal
@@ -5,16 +6,16 @@ use Rattle.calls.proofs.opened.execute.Goals as goal
 pub bounds-s-0 : goal.bounds-s-0
 bounds-s-0 c = held_long _ c.requires.1
 
-pub returns-then-s-ne-EXECUTE : goal.returns-then-s-ne-EXECUTE
-returns-then-s-ne-EXECUTE c = turn_refused _ Execute _ c.if-s-ne-EXECUTE.true
+pub returns-then-s-from : goal.returns-then-s-from
+returns-then-s-from c = turn_refused _ Execute _ (λ z. c.if-s-from.true (z ∙ sym c.from.ensures))
 
 pub execute-requires : goal.execute-requires
 execute-requires c = (
   c.requires.0,
-  turn_held _ Execute c.if-s-ne-EXECUTE.false
+  turn_held _ Execute (c.if-s-from.false ∙ c.from.ensures)
       c.requires.1,
 )
 
 pub returns : goal.returns
 returns c =
-    turn_done _ Execute _ _ c.if-s-ne-EXECUTE.false c.execute.ensures
+    turn_done _ Execute _ _ (c.if-s-from.false ∙ c.from.ensures) c.execute.ensures

@@ -1,13 +1,9 @@
-use mathlib.Core.Path.{refl}
-use Rattle.graph_links.proofs.Laws.{answering_none, answering_more, answering_done}
+use Rattle.graph_links.proofs.Laws.{answering_none, answering_more}
 use native.Mathlib.Omega.{arith}
 use Rattle.graph_links.proofs.starts.answering.Goals as goal
 
 pub loop-a-init : goal.loop-a-init
 loop-a-init c = (omega arith, answering_none _ _ _ _ _ c.requires.2)
-
-pub met-requires : goal.met-requires
-met-requires c = (c.requires.0, omega arith, refl)
 
 pub loop-a-preserved : goal.loop-a-preserved
 loop-a-preserved c = (
@@ -16,6 +12,3 @@ loop-a-preserved c = (
       c.requires.0 c.met.ensures
       c.note.ensures c.loop-a.invariant.1,
 )
-
-pub returns : goal.returns
-returns c = answering_done _ _ _ _ _ c.loop-a.invariant.1 (omega arith)

@@ -7,7 +7,3 @@ spread-requires c = (
   (answering_whole _ _ _ _ _ c.answering.ensures c.below.ensures).0,
   (answering_whole _ _ _ _ _ c.answering.ensures c.below.ensures).1,
 )
-
-pub returns : goal.returns
-returns c =
-    record { first = _; answering = c.answering.ensures; spread = c.spread.ensures }

@@ -7,6 +7,3 @@ spread-requires c = (
   (starts_whole _ _ _ c.starts.ensures c.below.ensures).0,
   (starts_whole _ _ _ c.starts.ensures c.below.ensures).1,
 )
-
-pub returns : goal.returns
-returns c = rw (← c.starts.ensures) c.spread.ensures

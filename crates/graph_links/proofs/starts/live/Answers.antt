@@ -1,20 +1,19 @@
-use mathlib.Core.Path.{ap, ◌∙◌}
-use Rattle.sets.specs.Sets.{either}
-use Rattle.graph_links.specs.Starts.{lives_of}
+use Rattle.std.proofs.Common.{arith, ◌≡◌, take, get_or}
+use Rattle.std.proofs.lemmas.Grind.{common_steps}
 use Rattle.basis.specs.Fold.{up_none, up_more, up_done}
-use native.Mathlib.Omega.{arith}
+use Rattle.graph_links.specs.Starts.{lives_of}
+use Rattle.graph_links.proofs.Laws.{noted_live}
 use Rattle.graph_links.proofs.starts.live.Goals as goal
 
 pub loop-a-init : goal.loop-a-init
-loop-a-init c = (omega arith, up_none _ _)
+loop-a-init c = up_none _ _
 
 pub loop-a-preserved : goal.loop-a-preserved
-loop-a-preserved c = (
-  omega arith,
-  up_more _ _ _ c.loop-a.invariant.1
-      (c.either-all.ensures ∙ ap (either _) c.live_bit.ensures),
-)
+loop-a-preserved c =
+    let same : get_or (take c.args.n c.args.served.now) c.loop-a.a 0 ≡ get_or c.args.served.now c.loop-a.a 0 =
+    grind (arith, common_steps) in
+    up_more _ _ _ c.loop-a.invariant (noted_live _ _ _ (rw same at c.noted-all.ensures))
 
 pub returns : goal.returns
 unfolding lives_of
-returns c = up_done _ _ c.loop-a.invariant.1 (omega arith)
+returns c = up_done _ _ c.loop-a.invariant (grind (arith, common_steps))

@@ -1,8 +1,5 @@
 use Rattle.graph_ring.proofs.Going.{Going}
 use Rattle.graph_ring.proofs.words.sweep_up.Given as goal
 
-abbrev pub invariant-loop-todo : goal.invariant-loop-todo
-invariant-loop-todo l = Going l.follow l.n l.left l.todo l.now
-
-abbrev pub decreases-loop-todo : goal.decreases-loop-todo
-decreases-loop-todo l = l.todo
+abbrev pub invariant-loop-x : goal.invariant-loop-x
+invariant-loop-x l = Going l.follow l.n l.left l.x-iterator.left l.now

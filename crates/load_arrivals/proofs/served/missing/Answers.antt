@@ -1,15 +1,16 @@
+use Rattle.std.proofs.Common.{arith, ◌≡◌, take, get_or}
+use Rattle.std.proofs.lemmas.Grind.{common_steps}
 use Rattle.load_arrivals.proofs.Sifting.{lacking_none, lacking_more, lacking_done}
-use native.Mathlib.Omega.{arith}
 use Rattle.load_arrivals.proofs.served.missing.Goals as goal
 
 pub loop-r-init : goal.loop-r-init
-loop-r-init c = (omega arith, lacking_none _ _)
+loop-r-init c = lacking_none _ _
 
 pub loop-r-preserved : goal.loop-r-preserved
-loop-r-preserved c = (
-  omega arith,
-  lacking_more _ _ _ (omega arith) c.loop-r.invariant.1 c.has.ensures c.lack-s.ensures,
-)
+loop-r-preserved c =
+    let same : get_or (take c.args.routers c.args.arrive.now) c.loop-r.r 0 ≡ get_or c.args.arrive.now c.loop-r.r 0 =
+    grind (arith, common_steps) in
+    lacking_more _ _ _ (grind (arith, common_steps)) c.loop-r.invariant (rw same at c.has.ensures) c.lack-s.ensures
 
 pub returns : goal.returns
-returns c = lacking_done _ _ (omega arith) c.loop-r.invariant.1
+returns c = lacking_done _ _ (grind (arith, common_steps)) c.loop-r.invariant

@@ -1,6 +1,5 @@
 use Rattle.load_arrivals.specs.Pairs.{Lacking}
-use Prim.Native.Nat.{◌≤◌}
 use Rattle.load_arrivals.proofs.served.missing.Given as goal
 
 abbrev pub invariant-loop-r : goal.invariant-loop-r
-invariant-loop-r l = (l.r ≤ l.routers) × Lacking l.arrive l.a l.r l.s
+invariant-loop-r l = Lacking l.arrive l.a l.r l.s

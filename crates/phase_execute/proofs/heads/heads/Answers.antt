@@ -1,11 +1,8 @@
 use mathlib.Core.Path.{refl, ◌∙◌}
 use native.Mathlib.Omega.{arith}
-use Rattle.bytes_steps.specs.Acts.{steps_none, steps_done}
+use Rattle.bytes_steps.specs.Acts.{steps_none}
 use Rattle.phase_execute.proofs.Needs.{units_hold, units_more}
 use Rattle.phase_execute.proofs.heads.heads.Goals as goal
-
-pub overflow_mul-n : goal.overflow_mul-n
-overflow_mul-n c = let p = c.requires in let q = p.0.range.routers.1 in omega arith
 
 pub loop-m-init : goal.loop-m-init
 loop-m-init c = (omega arith, refl, steps_none _ _ _ _, refl)
@@ -28,9 +25,3 @@ loop-m-preserved c =
       units_more p.0 (omega arith) v.2 c.unit_at.ensures,
       c.unit_at.auto.s ∙ v.3,
     )
-
-pub shape_of-s : goal.shape_of-s
-shape_of-s c = c.loop-m.invariant.3
-
-pub returns : goal.returns
-returns c = let v = c.loop-m.invariant in let l = v.1 in steps_done _ _ v.2 (omega arith)

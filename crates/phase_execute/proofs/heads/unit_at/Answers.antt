@@ -3,12 +3,9 @@ use Rattle.phase_execute.proofs.Tables.{unit_at}
 use Rattle.phase_pick.proofs.Steps.{steps_by, holds_by}
 use Rattle.phase_execute.proofs.Units.{steps_empty, steps_marked, heads_by, steps_ack, steps_nack}
 use Rattle.phase_pick.proofs.Tables.{is_router}
-use Rattle.phase_execute.proofs.Needs.{base_asks, unit_room}
+use Rattle.phase_execute.proofs.Needs.{unit_room}
 use native.Mathlib.Omega.{arith}
 use Rattle.phase_execute.proofs.heads.unit_at.Goals as goal
-
-pub base_of-requires : goal.base_of-requires
-base_of-requires c = let p = c.requires in base_asks p.0 p.1
 
 pub bounds-s-at : goal.bounds-s-at
 bounds-s-at c =
@@ -23,13 +20,6 @@ returns-then-s-at-eq0 c =
       p.2,
     )
     (unit_at _ _ _ _ _ c.base_of.ensures.0 c.queue_row-at.ensures) c.if-s-at-eq0.true
-
-pub bounds-s-at-2 : goal.bounds-s-at-2
-bounds-s-at-2 c =
-    let p = c.requires in let q = unit_room p.0 p.1 p.2
-    (unit_at _ _ _ _ _
-    c.base_of.ensures.0 c.queue_row-at.ensures) p.3 in
-    omega arith
 
 pub returns-then-s-at-ne0 : goal.returns-then-s-at-ne0
 returns-then-s-at-ne0 c =

@@ -5,9 +5,9 @@ use Rattle.phase_execute.proofs.Undoing.{steps_tears}
 use native.Mathlib.Omega.{arith}
 use Rattle.phase_execute.proofs.undo.tear.Goals as goal
 
-pub returns-then-not-declined : goal.returns-then-not-declined
-returns-then-not-declined c =
-    let p = c.requires in steps_kept p.0 p.1 (sym c.declined.ensures ∙ c.if-not-declined.true)
+pub returns-then-not-is_unmarked : goal.returns-then-not-is_unmarked
+returns-then-not-is_unmarked c =
+    let p = c.requires in steps_kept p.0 p.1 (sym c.is_unmarked.ensures ∙ c.if-not-is_unmarked.true)
 
 pub bounds-s-to : goal.bounds-s-to
 bounds-s-to c =
@@ -37,5 +37,5 @@ push-requires c =
 pub returns : goal.returns
 returns c =
     let p = c.requires in steps_tears p.0 p.1 p.2 c.queue_row-to.ensures (slots_are _ _ _)
-    (sym c.declined.ensures ∙ c.if-not-declined.false) c.if-h-s.false c.mark.ensures c.put_packet.ensures
+    (sym c.is_unmarked.ensures ∙ c.if-not-is_unmarked.false) c.if-h-s.false c.mark.ensures c.put_packet.ensures
     c.tdown_of.ensures c.push.ensures

@@ -1,10 +1,7 @@
 use Rattle.phase_pick.proofs.Steps.{steps_by, holds_by}
-use Rattle.phase_execute.proofs.Undoing.{in_row, in_room, steps_none, starts_by, base_asks}
+use Rattle.phase_execute.proofs.Undoing.{in_row, in_room, steps_none, starts_by}
 use native.Mathlib.Omega.{arith}
 use Rattle.phase_execute.proofs.undo.undo_at.Goals as goal
-
-pub base_of-requires : goal.base_of-requires
-base_of-requires c = let p = c.requires in base_asks p.0
 
 pub bounds-s-at : goal.bounds-s-at
 bounds-s-at c =

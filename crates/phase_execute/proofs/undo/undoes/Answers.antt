@@ -1,6 +1,6 @@
 use mathlib.Core.Path.{refl, ◌∙◌}
 use native.Mathlib.Omega.{arith}
-use Rattle.bytes_steps.specs.Acts.{steps_none, steps_done}
+use Rattle.bytes_steps.specs.Acts.{steps_none}
 use Rattle.phase_execute.proofs.Undoing.{undo_hold, undo_more}
 use Rattle.phase_execute.proofs.undo.undoes.Goals as goal
 
@@ -23,9 +23,3 @@ loop-a-preserved c =
       undo_more p.0 (omega arith) v.2 c.undo_at.ensures,
       c.undo_at.auto.s ∙ v.3,
     )
-
-pub shape_of-s : goal.shape_of-s
-shape_of-s c = c.loop-a.invariant.3
-
-pub returns : goal.returns
-returns c = let v = c.loop-a.invariant in let l = v.1 in steps_done _ _ v.2 (omega arith)

@@ -1,6 +1,6 @@
 use Rattle.theory.specs.Invariant.{Core}
 use Rattle.rules.specs.Execute.{undo}
-use Rattle.plan.specs.Tables.{table_plan}
+use Rattle.plan.specs.Lent.{plan_by}
 use Rattle.basis.specs.Fold.{up_to}
 use lib.ListN.{length}
 use Prim.Native.Nat.{◌≤◌}
@@ -11,7 +11,7 @@ use Rattle.phase_execute.proofs.undo.undoes.Given as goal
 abbrev pub invariant-loop-a : goal.invariant-loop-a
 invariant-loop-a l =
     (l.a ≤ l.a-end) × (l.a-end ≡ l.h.actives)
-    × Steps (table_plan l.h l.routes l.joints) (Core (table_plan l.h l.routes l.joints))
-    (up_to (undo (table_plan l.h l.routes l.joints)) l.a)
+    × Steps (plan_by l.h l.t) (Core (plan_by l.h l.t))
+    (up_to (undo (plan_by l.h l.t)) l.a)
     l.initial.s l.s
     × (length l.s ≡ length l.initial.s)

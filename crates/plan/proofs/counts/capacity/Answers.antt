@@ -3,4 +3,4 @@ use Rattle.plan.proofs.counts.capacity.Goals as goal
 
 pub returns : goal.returns
 unfolding capacity_at
-returns c = simp c.field-v.ensures
+returns c = simp c.field.ensures

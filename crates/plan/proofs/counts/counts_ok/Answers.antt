@@ -8,4 +8,5 @@ returns c = simp (
   c.is_within-2.ensures,
   c.is_within-3.ensures,
   c.is_within-4.ensures,
+  c.from.ensures,
 )

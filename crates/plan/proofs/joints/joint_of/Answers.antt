@@ -1,35 +1,26 @@
+use native.Mathlib.Omega.{arith}
+use Prim.Native.Nat.{◌/◌}
+use borrow.Author.Tests.{ne_eqb}
 use Rattle.plan.specs.Tables.{joint_of_byte}
-use borrow.Author.Tests.{eq-eqb, ne_eqb}
 use Rattle.plan.proofs.joints.joint_of.Goals as goal
 
-pub returns-then-kind-eq-TO_ROUTER : goal.returns-then-kind-eq-TO_ROUTER
+pub returns-in-1 : goal.returns-in-1
 unfolding joint_of_byte
-returns-then-kind-eq-TO_ROUTER c = simp (eq-eqb _ _ c.if-kind-eq-TO_ROUTER.true)
+returns-in-1 c = rw (c.in-1.is, c.from-number.ensures, c.from.ensures)
 
-pub returns-then-kind-eq-TO_ACTIVE : goal.returns-then-kind-eq-TO_ACTIVE
+pub returns-in-2 : goal.returns-in-2
 unfolding joint_of_byte
-returns-then-kind-eq-TO_ACTIVE c = simp (
-  ne_eqb _ _ c.if-kind-eq-TO_ROUTER.false,
-  eq-eqb _ _
-      c.if-kind-eq-TO_ACTIVE.true,
-)
+returns-in-2 c = rw (c.in-2.is, c.from-number.ensures)
 
-pub returns-then-kind-eq-TO_PASSIVE : goal.returns-then-kind-eq-TO_PASSIVE
+pub returns-in-3 : goal.returns-in-3
 unfolding joint_of_byte
-returns-then-kind-eq-TO_PASSIVE c =
+returns-in-3 c = rw (c.in-3.is, c.from-number.ensures)
+
+pub returns-in_default : goal.returns-in_default
+unfolding joint_of_byte
+returns-in_default c =
     simp (
-      ne_eqb _ _ c.if-kind-eq-TO_ROUTER.false,
-      ne_eqb _ _ c.if-kind-eq-TO_ACTIVE.false,
-      eq-eqb _ _
-          c.if-kind-eq-TO_PASSIVE.true,
-    )
-
-pub returns : goal.returns
-unfolding joint_of_byte
-returns c =
-    simp (
-      ne_eqb _ _ c.if-kind-eq-TO_ROUTER.false,
-      ne_eqb _ _ c.if-kind-eq-TO_ACTIVE.false,
-      ne_eqb _ _
-          c.if-kind-eq-TO_PASSIVE.false,
+      ne_eqb (c.args.v / 64) 1 (λ e. omega arith),
+      ne_eqb (c.args.v / 64) 2 (λ e. omega arith),
+      ne_eqb (c.args.v / 64) 3 (λ e. omega arith),
     )

@@ -1,5 +1,0 @@
-use Rattle.bytes_rows.proofs.Codes.{phase_last}
-use Rattle.bytes_rows.proofs.phase_of.Goals as goal
-
-pub returns-in_default : goal.returns-in_default
-returns-in_default c = phase_last _ c.in_default.in_default-own.rest.0.1 c.in_default.in_default-own.rest.1

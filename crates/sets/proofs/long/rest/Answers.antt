@@ -1,9 +1,0 @@
-use Rattle.sets.specs.Laws.{rest_less}
-use Rattle.sets.specs.Sets.{rest}
-use mathlib.Core.Path.{refl}
-use borrow.Author.Rules.{rules}
-use Rattle.sets.proofs.long.rest.Goals as goal
-
-pub returns : goal.returns
-unfolding rest
-returns c = (refl, rest_less _ (search rules))

@@ -1,4 +1,0 @@
-use Rattle.sets.proofs.without.Goals as goal
-
-pub returns : goal.returns
-returns c = rw (← c.single.ensures) c.less.ensures

@@ -51,11 +51,13 @@ pub fn fill(plan: &[u8], t: &mut PlanTables) -> Result<Head, Refusal>
     if !plan_interfaces::homes(h, &t.joints, &mut t.homes) {
         return Err(Refusal::BadJoint);
     }
-    let w = load_lengths::walks(h, t);
-    if load_rings::ring_found(h, t, &w.arrive, &w.served) {
+    let mut arrive = [0u32; 32];
+    let mut lengths = [[0u8; 16]; 16];
+    let served = load_lengths::walks(h, t, &mut arrive, &mut lengths);
+    if load_rings::ring_found(h, t, &arrive, &served) {
         return Err(Refusal::HasRing);
     }
-    t.lengths = w.lengths;
+    t.lengths = lengths;
     Ok(h)
 }
 

@@ -14,15 +14,6 @@ use plan::Head;
 use plan::tables::PlanTables;
 use sets::{below, both, has};
 
-// Of all walks of a plan: where they arrive, by router; the pairs that are served, by active; and how long their walks
-// are, by active and passive, else 0.
-#[derive(Drop)]
-pub struct Walked {
-    pub arrive: [u32; 32],
-    pub served: [u32; 16],
-    pub lengths: [[u8; 16]; 16],
-}
-
 // 1 where a destination is one step away, else 0.
 fn near_of(s: u32, d: usize) -> u8
     requires { d < 32 }
@@ -73,43 +64,43 @@ fn lengths_of(
     served: &[u32; 16],
     homes: &[u8; 32],
     h: Head,
-) -> [[u8; 16]; 16]
-    requires { Counts h × PortsIn homes.now (h.actives + h.passives) }
-    ensures { result ≡ lengths_by z.now arrive.now served.now homes.now h }
+    t: &mut [[u8; 16]; 16],
+)
+    requires { Counts h × PortsIn homes.now (h.actives + h.passives) × (t.old ≡ replicate 16 (replicate 16 0)) }
+    ensures { t.new ≡ lengths_by z.now arrive.now served.now homes.now h }
 {
     let n = h.actives + h.passives;
     let far = far_of(h);
-    let mut t = [[0u8; 16]; 16];
     for (a, row) in t[..h.actives].iter_mut().enumerate() {
         let x = port(homes, a, n) / 4;
         *row = length_row(&z[x], served[a], both(arrive[x], far), h.actives);
     }
-    t
 }
 
-// All walks of a plan whose tables, but for the lengths, are filled.
-pub fn walks(h: Head, t: &PlanTables) -> Walked
-    requires { Sweepable h t.now }
-    ensures { Walks h t.now.routes t.now.joints t.now.homes t.now.by result.arrive result.lengths result.served }
+// All walks of a plan whose tables, but for the lengths, are filled: where they arrive, by router; how long those of
+// served pairs are, by active and passive; and which pairs are served, by active. Both lent tables are filled in place.
+pub fn walks(
+    h: Head,
+    t: &PlanTables,
+    arrive: &mut [u32; 32],
+    lengths: &mut [[u8; 16]; 16],
+) -> [u32; 16]
+    requires { Sweepable h t.now × (arrive.old ≡ replicate 32 0) × (lengths.old ≡ replicate 16 (replicate 16 0)) }
+    ensures { Walks h t.now.routes t.now.joints t.now.homes t.now.by arrive.new lengths.new result }
 {
     let n = h.actives + h.passives;
     let next = nexts(&t.joints, h.routers);
-    let mut arrive = [0u32; 32];
-    firsts(&t.by, &t.homes, n, &mut arrive);
+    firsts(&t.by, &t.homes, n, arrive);
     let mut z = [[0u8; 16]; 17];
-    nears(&arrive, &t.homes, h.actives, h.passives, &mut z);
+    nears(arrive, &t.homes, h.actives, h.passives, &mut z);
     let s = Span {
         routers: h.routers,
         all: below(n),
         sized: far_of(h),
         column: h.actives,
     };
-    let all = graph_reach::reach(&t.by, &next, &t.routes, s, &mut arrive, &mut z);
-    let served = serves(h, t, &arrive, all);
-    let lengths = lengths_of(&z, &arrive, &served, &t.homes, h);
-    Walked {
-        arrive,
-        served,
-        lengths,
-    }
+    let all = graph_reach::reach(&t.by, &next, &t.routes, s, arrive, &mut z);
+    let served = serves(h, t, arrive, all);
+    lengths_of(&z, arrive, &served, &t.homes, h, lengths);
+    served
 }

@@ -1,7 +1,7 @@
 use Rattle.load.proofs.Exits.{holds_all, joints_fit}
 use Rattle.load.proofs.Exits.{sweeps_ready}
 use mathlib.Core.Bool.{◌&&◌}
-use mathlib.Core.Path.{ap₂}
+use mathlib.Core.Path.{refl, ap₂}
 use Rattle.load.proofs.Exits.{range_counts, head_range, long_enough, too_short, out_of_range}
 use Rattle.load.proofs.Exits.{wrong_length, bad_field, bad_joint, tables, has_ring_lem, accepted}
 use Rattle.load.proofs.fill.Goals as goal
@@ -59,15 +59,18 @@ returns-then-not-homes c =
     (ap₂ ◌&&◌ c.joints-joined.ensures.1 c.routes-fit.ensures.fit) c.if-not-joined-fit.false c.homes.ensures.1
     c.if-not-homes.true _ _ _ _ _
 
-pub walks-w-requires : goal.walks-w-requires
-walks-w-requires c =
-    sweeps_ready _ _ _ _ _
-    (range_counts _ (head_range _ c.head_ok.ensures
-    c.if-not-head_ok.false))
-    (tables _ c.if-plan-lt-HEAD_BYTES.false c.read_head-h.ensures c.head_ok.ensures c.if-not-head_ok.false
-    c.length_ok.ensures c.if-not-length_ok.false c.joints-joined.ensures.0 c.routes-fit.ensures.table
-    (ap₂ ◌&&◌ c.joints-joined.ensures.1 c.routes-fit.ensures.fit) c.if-not-joined-fit.false c.homes.ensures.1
-    c.if-not-homes.false c.homes.ensures.0 c.routes-fit.ensures)
+pub walks-served-requires : goal.walks-served-requires
+walks-served-requires c = (
+  sweeps_ready _ _ _ _ _
+      (range_counts _ (head_range _ c.head_ok.ensures
+      c.if-not-head_ok.false))
+      (tables _ c.if-plan-lt-HEAD_BYTES.false c.read_head-h.ensures c.head_ok.ensures c.if-not-head_ok.false
+      c.length_ok.ensures c.if-not-length_ok.false c.joints-joined.ensures.0 c.routes-fit.ensures.table
+      (ap₂ ◌&&◌ c.joints-joined.ensures.1 c.routes-fit.ensures.fit) c.if-not-joined-fit.false c.homes.ensures.1
+      c.if-not-homes.false c.homes.ensures.0 c.routes-fit.ensures),
+  refl,
+  refl,
+)
 
 pub ring_found-requires : goal.ring_found-requires
 ring_found-requires c =
@@ -78,7 +81,7 @@ returns-then-ring_found c =
     has_ring_lem _ c.if-plan-lt-HEAD_BYTES.false c.read_head-h.ensures c.head_ok.ensures c.if-not-head_ok.false
     c.length_ok.ensures c.if-not-length_ok.false c.joints-joined.ensures.0 c.routes-fit.ensures.table
     (ap₂ ◌&&◌ c.joints-joined.ensures.1 c.routes-fit.ensures.fit) c.if-not-joined-fit.false c.homes.ensures.1
-    c.if-not-homes.false c.homes.ensures.0 c.routes-fit.ensures c.walks-w.ensures c.ring_found.ensures
+    c.if-not-homes.false c.homes.ensures.0 c.routes-fit.ensures c.walks-served.ensures c.ring_found.ensures
     c.if-ring_found.true _ _ _ _ _
 
 pub returns : goal.returns
@@ -86,5 +89,5 @@ returns c =
     accepted _ c.if-plan-lt-HEAD_BYTES.false c.read_head-h.ensures c.head_ok.ensures c.if-not-head_ok.false
     c.length_ok.ensures c.if-not-length_ok.false c.joints-joined.ensures.0 c.routes-fit.ensures.table
     (ap₂ ◌&&◌ c.joints-joined.ensures.1 c.routes-fit.ensures.fit) c.if-not-joined-fit.false c.homes.ensures.1
-    c.if-not-homes.false c.homes.ensures.0 c.routes-fit.ensures c.walks-w.ensures c.ring_found.ensures
+    c.if-not-homes.false c.homes.ensures.0 c.routes-fit.ensures c.walks-served.ensures c.ring_found.ensures
     c.if-ring_found.false

@@ -1,7 +1,8 @@
-use Rattle.std.proofs.Common.{arith, sym, refl, ◌∙◌, ◌<◌, length, replicate}
+use Rattle.std.proofs.Common.{arith, sym, refl, ◌∙◌, ◌<◌, length}
 use Rattle.std.proofs.lemmas.List.{set-append_left, take-append-drop}
 use Rattle.basis.specs.Fold.{up_none, up_fill}
-use Rattle.load_arrivals.proofs.Steps.{in_part, part_end, length_step, lengths_done}
+use Rattle.load_arrivals.proofs.Steps.{length_step, lengths_done}
+use Rattle.load_lengths.proofs.Rows.{row_below, rows_end}
 use Rattle.load_lengths.proofs.lengths_of.Goals as goal
 
 pub overflow_add-n : goal.overflow_add-n
@@ -11,24 +12,24 @@ pub far_of-far-requires : goal.far_of-far-requires
 far_of-far-requires c = c.requires.0
 
 pub loop-a-init : goal.loop-a-init
-loop-a-init c = take-append-drop c.args.h.actives (replicate 16 (replicate 16 0)) ∙ up_none _ _
+loop-a-init c = take-append-drop c.args.h.actives c.args.t.now ∙ up_none _ _
 
 pub port-x-requires : goal.port-x-requires
 port-x-requires c =
     let m = c.requires.0 in
-    let below : c.loop-a.a < c.args.h.actives = in_part c.args.h.actives 16 (replicate 16 0) m.1 c.loop-a-test.true in
+    let below : c.loop-a.a < c.args.h.actives = row_below c.requires.2 m.1 c.loop-a-test.true in
     (omega (arith, below), omega (arith, m.1, m.2), c.requires.1)
 
 pub offset_bounds-served-a : goal.offset_bounds-served-a
 offset_bounds-served-a c =
     let m = c.requires.0.1 in
-    let below : c.loop-a.a < c.args.h.actives = in_part c.args.h.actives 16 (replicate 16 0) m c.loop-a-test.true in
+    let below : c.loop-a.a < c.args.h.actives = row_below c.requires.2 m c.loop-a-test.true in
     record { fits = omega (arith, below) }
 
 pub bounds-served-a : goal.bounds-served-a
 bounds-served-a c =
     let m = c.requires.0.1 in
-    let below : c.loop-a.a < c.args.h.actives = in_part c.args.h.actives 16 (replicate 16 0) m c.loop-a-test.true in
+    let below : c.loop-a.a < c.args.h.actives = row_below c.requires.2 m c.loop-a-test.true in
     omega (arith, below)
 
 pub offset_bounds-arrive-x : goal.offset_bounds-arrive-x
@@ -57,5 +58,5 @@ loop-a-preserved c =
 
 pub returns : goal.returns
 returns c =
-    lengths_done _ _ _ _ _ _ refl c.far_of-far.ensures c.loop-a.invariant
-    (part_end c.args.h.actives 16 (replicate 16 0) c.requires.0.1 c.loop-a-test.false c.loop-a.auto.a-end)
+    lengths_done _ _ _ _ _ _ c.requires.2 c.far_of-far.ensures c.loop-a.invariant
+    (rows_end c.requires.2 c.requires.0.1 c.loop-a-test.false c.loop-a.auto.a-end)

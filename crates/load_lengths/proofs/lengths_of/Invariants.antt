@@ -1,5 +1,5 @@
 use Prim.Native.Nat.{ℕ, ◌/◌}
-use lib.ListN.{get_or, replicate, drop}
+use lib.ListN.{get_or, drop}
 use mathlib.Core.Path.{◌≡◌}
 use mathlib.Core.List.{List, ◌++◌}
 use Rattle.basis.specs.Fold.{up_to, fill}
@@ -9,6 +9,6 @@ use Rattle.load_lengths.proofs.lengths_of.Given as goal
 
 abbrev pub invariant-loop-a : goal.invariant-loop-a
 invariant-loop-a l =
-    l.row-items ++ drop l.h.actives (replicate 16 (replicate 16 0))
+    l.row-items ++ drop l.h.actives l.fn.t
     ≡ up_to (fill (λ i. length_of l.z (get_or l.homes i 0 / 4) (get_or l.served i 0)
-    (both (get_or l.arrive (get_or l.homes i 0 / 4) 0) l.far) l.h.actives)) l.a (replicate 16 (replicate 16 0))
+    (both (get_or l.arrive (get_or l.homes i 0 / 4) 0) l.far) l.h.actives)) l.a l.fn.t

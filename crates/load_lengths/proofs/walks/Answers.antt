@@ -8,7 +8,7 @@ use Rattle.load_lengths.proofs.walks.Goals as goal
 pub reach-all-requires : goal.reach-all-requires
 reach-all-requires c =
     let made = c.firsts.ensures in
-    let pre = c.requires in (
+    let pre = c.requires.0 in (
       pre.0.0,
       pre.0.1,
       rw c.nexts-next.ensures (nexts_inside _ _ pre.0.0),
@@ -19,17 +19,18 @@ reach-all-requires c =
 pub serves-served-requires : goal.serves-served-requires
 serves-served-requires c =
     let made = c.firsts.ensures in
-    let pre = c.requires in (
+    let pre = c.requires.0 in (
       pre,
       reached_below _ _ (rw made (first_idle _ _ _ _ pre.1 pre.2 _)) c.reach-all.ensures.0,
     )
 
-pub lengths_of-lengths-requires : goal.lengths_of-lengths-requires
-lengths_of-lengths-requires c = (c.requires.0, c.requires.1)
+pub lengths_of-requires : goal.lengths_of-requires
+lengths_of-requires c =
+    let pre = c.requires in (pre.0.0, pre.0.1, pre.2)
 
 pub returns : goal.returns
 returns c =
-    let pre = c.requires in
+    let pre = c.requires.0 in
     walks_sound _ _ _ _ _ _ _ pre.0.1 pre.0.2
     c.nexts-next.ensures
     c.firsts.ensures
@@ -39,4 +40,4 @@ returns c =
     c.reach-all.ensures.0
     c.reach-all.ensures.1
     c.reach-all.ensures.2
-    c.serves-served.ensures c.lengths_of-lengths.ensures
+    c.serves-served.ensures c.lengths_of.ensures

@@ -9,7 +9,7 @@ ghost use Rattle.claims.specs.Calls.{given, start_on, call_on};
 
 use kinds::Refusal;
 use packets::Answer;
-use plan::tables::PlanTables;
+use plan::blank_tables;
 
 pub mod opened;
 
@@ -17,7 +17,7 @@ pub mod opened;
 pub fn start(plan: &[u8], state: &mut [u8]) -> Answer
     ensures { given result state.new ≡ start_on plan.now state.old }
 {
-    let mut t = PlanTables::blank();
+    let mut t = blank_tables!();
     let l = load::fill(plan, &mut t);
     let Ok(h) = l else {
         return Answer::Refused(l.unwrap_err());
@@ -33,7 +33,7 @@ pub fn start(plan: &[u8], state: &mut [u8]) -> Answer
 pub fn read(plan: &[u8], state: &mut [u8]) -> Answer
     ensures { given result state.new ≡ call_on plan.now read state.old }
 {
-    let mut t = PlanTables::blank();
+    let mut t = blank_tables!();
     let l = load::fill(plan, &mut t);
     let Ok(h) = l else {
         return Answer::Refused(l.unwrap_err());
@@ -49,7 +49,7 @@ pub fn read(plan: &[u8], state: &mut [u8]) -> Answer
 pub fn execute(plan: &[u8], state: &mut [u8]) -> Answer
     ensures { given result state.new ≡ call_on plan.now execute state.old }
 {
-    let mut t = PlanTables::blank();
+    let mut t = blank_tables!();
     let l = load::fill(plan, &mut t);
     let Ok(h) = l else {
         return Answer::Refused(l.unwrap_err());
@@ -65,7 +65,7 @@ pub fn execute(plan: &[u8], state: &mut [u8]) -> Answer
 pub fn write(plan: &[u8], state: &mut [u8]) -> Answer
     ensures { given result state.new ≡ call_on plan.now write state.old }
 {
-    let mut t = PlanTables::blank();
+    let mut t = blank_tables!();
     let l = load::fill(plan, &mut t);
     let Ok(h) = l else {
         return Answer::Refused(l.unwrap_err());
@@ -82,7 +82,7 @@ pub fn launch(plan: &[u8], state: &mut [u8], active: usize, passive: usize, slot
     ensures { given result state.new ≡ call_on plan.now (launch active passive slot)
         state.old }
 {
-    let mut t = PlanTables::blank();
+    let mut t = blank_tables!();
     let l = load::fill(plan, &mut t);
     let Ok(h) = l else {
         return Answer::Refused(l.unwrap_err());
@@ -99,7 +99,7 @@ pub fn reply(plan: &[u8], state: &mut [u8], passive: usize, choice: usize) -> An
     ensures { given result state.new ≡ call_on plan.now (reply passive choice)
         state.old }
 {
-    let mut t = PlanTables::blank();
+    let mut t = blank_tables!();
     let l = load::fill(plan, &mut t);
     let Ok(h) = l else {
         return Answer::Refused(l.unwrap_err());
@@ -115,7 +115,7 @@ pub fn reply(plan: &[u8], state: &mut [u8], passive: usize, choice: usize) -> An
 pub fn look(plan: &[u8], state: &[u8], active: usize) -> Answer
     ensures { given result state.now ≡ call_on plan.now (look active) state.now }
 {
-    let mut t = PlanTables::blank();
+    let mut t = blank_tables!();
     let l = load::fill(plan, &mut t);
     let Ok(h) = l else {
         return Answer::Refused(l.unwrap_err());
@@ -131,7 +131,7 @@ pub fn look(plan: &[u8], state: &[u8], active: usize) -> Answer
 pub fn drop(plan: &[u8], state: &mut [u8], active: usize) -> Answer
     ensures { given result state.new ≡ call_on plan.now (drop active) state.old }
 {
-    let mut t = PlanTables::blank();
+    let mut t = blank_tables!();
     let l = load::fill(plan, &mut t);
     let Ok(h) = l else {
         return Answer::Refused(l.unwrap_err());
@@ -148,7 +148,7 @@ pub fn close(plan: &[u8], state: &mut [u8], active: usize, passive: usize, slot:
     ensures { given result state.new ≡ call_on plan.now (close active passive slot)
         state.old }
 {
-    let mut t = PlanTables::blank();
+    let mut t = blank_tables!();
     let l = load::fill(plan, &mut t);
     let Ok(h) = l else {
         return Answer::Refused(l.unwrap_err());
@@ -165,7 +165,7 @@ pub fn entry(plan: &[u8], state: &[u8], router: usize, side: usize, slot: usize)
     ensures { given result state.now ≡ call_on plan.now (entry router side slot)
         state.now }
 {
-    let mut t = PlanTables::blank();
+    let mut t = blank_tables!();
     let l = load::fill(plan, &mut t);
     let Ok(h) = l else {
         return Answer::Refused(l.unwrap_err());
@@ -181,7 +181,7 @@ pub fn entry(plan: &[u8], state: &[u8], router: usize, side: usize, slot: usize)
 pub fn remaining(plan: &[u8], state: &[u8]) -> Answer
     ensures { given result state.now ≡ call_on plan.now remaining state.now }
 {
-    let mut t = PlanTables::blank();
+    let mut t = blank_tables!();
     let l = load::fill(plan, &mut t);
     let Ok(h) = l else {
         return Answer::Refused(l.unwrap_err());

@@ -1,7 +1,7 @@
 -- Stretches of zero bytes, the words that they make, and rows one behind the other.
 use mathlib.Core.Path.{◌≡◌, refl, ap, ◌∙◌}
 use mathlib.Core.Logic.{◌⊎◌, inl, inr}
-use mathlib.Core.Bool.{Bool, true, false, not}
+use mathlib.Core.Bool.{Bool, true, false}
 use mathlib.Core.List.{List}
 use Prim.Native.Nat.{ℕ, zero, suc, ◌+◌, ◌*◌, ◌≤◌, ◌<◌}
 use native.Mathlib.Nat.{add-zero}
@@ -11,7 +11,6 @@ use lib.Dec.{eqb}
 use lib.Bits.{bit_or, or_add_and, and_le_l, and_le_r}
 use lib.ListN.{get_or}
 use borrow.Author.Tests.{eq-eqb, eqb-true}
-use Rattle.std.specs.Int.{from_bool}
 use Rattle.basis.specs.Choice.{pick, also, also_true, also_of, same_test}
 use Rattle.basis.specs.Bounded.{all_below, all_of, lt_or_ge}
 use Rattle.plan.specs.declared.Head.{Head}
@@ -20,7 +19,7 @@ use Rattle.bytes_steps.specs.Counts.{output_count, outputs_from}
 use Rattle.check_rule.specs.Forms.{zeros}
 use Rattle.check_rule.proofs.Bytes.{zeros_byte}
 use Rattle.bytes_layout.specs.Decode.{four_at}
-use Rattle.check_idle.specs.Bytes.{word_at, IdleRow, IdleRows, IdleRouter, QuietBytes}
+use Rattle.check_idle.specs.Bytes.{word_at, IdleRow, IdleRows, IdleSide, IdleRouter, QuietBytes}
 
 -- ---- the digits of two words together
 pub or_none : (a b : ℕ) → bit_or a b ≡ 0 → (a ≡ 0) × (b ≡ 0)
@@ -139,9 +138,39 @@ pub by_words : {a d f g a' d' f' g' : ℕ} → a ≡ a' → d ≡ d' → f ≡ f
     → bit_or (bit_or (bit_or a d) f) g ≡ 0 → bit_or (bit_or (bit_or a' d') f') g' ≡ 0
 by_words p q r s e = rw (← p, ← q, ← r, ← s) e
 
--- ---- routers, one after the other
-abbrev pub Routers : Head → List ℕ → ℕ → ℕ → Type 0
-Routers h b i n = (r : ℕ) → r < n → IdleRouter h b (i + 1092 * r)
+-- ---- sides and routers, one after the other
+module _ (h : Head) (b : List ℕ) (i : ℕ) where
+  abbrev pub Sides : ℕ → Type 0
+  Sides n = (o : ℕ) → o < n → IdleSide h b (i + 195 * o)
+
+  pub sides_none : Sides 0
+  sides_none o l = absurd (omega arith)
+
+  pub sides_more : (k : ℕ) → Sides k → IdleSide h b (i + 195 * k) → Sides (k + 1)
+  sides_more k f r o l = by (lt_or_ge o k)
+    where
+      by : (o < k) ⊎ (k ≤ o) → IdleSide h b (i + 195 * o)
+      by (inl a) = f o a
+      by (inr a) = let q : o ≡ k = omega arith in rw q r
+
+  pub sides_done : (k n : ℕ) → Sides k → n ≤ k → Sides n
+  sides_done k n f q o l = f o (omega arith)
+
+  abbrev pub Routers : ℕ → Type 0
+  Routers n = (r : ℕ) → r < n → IdleRouter h b (i + 1092 * r)
+
+  pub routers_none : Routers 0
+  routers_none r l = absurd (omega arith)
+
+  pub routers_more : (k : ℕ) → Routers k → IdleRouter h b (i + 1092 * k) → Routers (k + 1)
+  routers_more k f x r l = by (lt_or_ge r k)
+    where
+      by : (r < k) ⊎ (k ≤ r) → IdleRouter h b (i + 1092 * r)
+      by (inl a) = f r a
+      by (inr a) = let q : r ≡ k = omega arith in rw q x
+
+  pub routers_done : (k n : ℕ) → Routers k → n ≤ k → Routers n
+  routers_done k n f q r l = f r (omega arith)
 
 -- ---- all of them
 pub quiet_of : (h : Head) (b : List ℕ) → zeros (outputs_from h) (7 * output_count h) b ≡ true

@@ -83,7 +83,12 @@ fn sides_idle(s: &[u8], h: Head, i: usize) -> bool
     requires { (i + 780 ≤ length s.now) × InRange h }
     ensures { result ≡ true → ((o : _) → o < 4 → IdleSide h s.now (i + 195 * o)) }
 {
-    (0..4).all(|o| side_idle(s, h, i + 195 * o))
+    for o in 0..4 {
+        if !side_idle(s, h, i + 195 * o) {
+            return false;
+        }
+    }
+    true
 }
 
 // Whether a router's queues are idle.
@@ -99,7 +104,13 @@ fn routers_idle(s: &[u8], h: Head, i: usize) -> bool
     requires { (i + 1092 * h.routers ≤ length s.now) × InRange h }
     ensures { result ≡ true → ((k : _) → k < h.routers → IdleRouter h s.now (i + 1092 * k)) }
 {
-    (0..h.routers).all(|k| router_idle(s, h, i + 1092 * k))
+    let n = h.routers;
+    for k in 0..n {
+        if !router_idle(s, h, i + 1092 * k) {
+            return false;
+        }
+    }
+    true
 }
 
 // Whether the interfaces' queues are idle, out and in.

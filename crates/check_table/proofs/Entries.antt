@@ -10,12 +10,8 @@ use lib.Dec.{eqb, ltb, leb}
 use lib.ListN.{length, get_or, set, replicate, get_or-replicate}
 use lib.Seq.{get_or-set_same, get_or-set_other}
 use borrow.Author.Tests.{eq-eqb, eqb-true, lt-ltb, le-ltb, ltb-true, le-leb, leb-true}
-use Rattle.std.specs.Bool.{⊤}
-use Rattle.std.specs.Option.{MatchOption, unwrap_or}
-use Rattle.std.specs.declared.option.Option.{Option}
-use Rattle.std.specs.declared.option.Option.TheVariants.{None, Some}
 use Rattle.basis.specs.Choice.{pick, also, also_true, also_of, same_test, test}
-use Rattle.basis.specs.Bounded.{all_below, any_below, Found, all_at, all_of, any_true}
+use Rattle.basis.specs.Bounded.{all_below, any_below, Found, all_at, all_of, all_none, all_more, any_true}
 use Rattle.basis.specs.Bounded.{any_of, lt_or_ge}
 use Rattle.check_rule.specs.Forms.{zeros}
 use Rattle.check_rule.proofs.Bytes.{zeros_byte}
@@ -242,16 +238,16 @@ side_unused i slots b h e =
         (eq-eqb (get_or b (i + 2 * t + 1) 0) 0 second)
 
 -- ---- sides, one after the other
--- how many are in front of the first that is used
-pub unused_first : (i n : ℕ) (b : List ℕ) (o : Option ℕ)
-    → MatchOption o ((k : ℕ) → 0 ≤ k → k < n → zeros (i + 64 * k) 64 b ≡ true)
-    (λ m. (0 ≤ m) × (m < n) × ⊤ × ((k : ℕ) → 0 ≤ k → k < m → zeros (i + 64 * k) 64 b ≡ true))
-    → (unwrap_or o n ≤ n) × (sides_zero i (unwrap_or o n) b ≡ true)
-unfolding sides_zero
-unused_first i n b None h = (omega arith, all_of n _ (λ k l. h k (omega arith) l))
-unused_first i n b (Some m) h = (omega arith, all_of m _ (λ k l. h.3 k (omega arith) l))
-
 module _ (i : ℕ) (b : List ℕ) where
+  pub unused_none : sides_zero i 0 b ≡ true
+  unfolding sides_zero
+  unused_none = all_none _
+
+  pub unused_more : (k : ℕ) {x : Bool} → sides_zero i k b ≡ true → x ≡ zeros (i + 64 * k) 64 b → x ≡ true
+      → sides_zero i (k + 1) b ≡ true
+  unfolding sides_zero
+  unused_more k e f g = all_more (λ j. zeros (i + 64 * j) 64 b) k e f g
+
   module _ (slots : ℕ) where
     pub unused_fit : (n : ℕ) → 0 < slots → sides_zero i n b ≡ true → sides_fit i slots n b ≡ true
     unfolding sides_zero sides_fit
@@ -260,3 +256,6 @@ module _ (i : ℕ) (b : List ℕ) where
 
     pub sides_all : (k n : ℕ) → sides_fit i slots k b ≡ true → k ≡ n → true ≡ sides_fit i slots n b
     sides_all k n e q = sym (ap (λ j. sides_fit i slots j b) (sym q) ∙ e)
+
+pub unused_all : (i : ℕ) (b : List ℕ) (k n : ℕ) → sides_zero i k b ≡ true → k ≡ n → sides_zero i n b ≡ true
+unused_all i b k n e q = ap (λ j. sides_zero i j b) (sym q) ∙ e

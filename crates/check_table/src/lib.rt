@@ -47,7 +47,12 @@ fn unused(s: &[u8], i: usize, n: usize) -> usize
     requires { (i + 64 * n ≤ length s.now) × (n ≤ 64) }
     ensures { (result ≤ n) × (sides_zero i result s.now ≡ true) }
 {
-    (0..n).find(|&k| !side_zero(s, i + 64 * k)).unwrap_or(n)
+    for k in 0..n {
+        if !side_zero(s, i + 64 * k) {
+            return k;
+        }
+    }
+    n
 }
 
 // Whether 64 bytes are within their limits, and one of them is open.

@@ -9,14 +9,14 @@ ghost use Rattle.claims.specs.Calls.{start_on, call_on};
 ghost use Rattle.answers.specs.Numbers.{answer_number, shown_bytes, entry_byte, remaining_bytes};
 ghost use Rattle.export.specs.Size.{size_of};
 
-use plan::tables::PlanTables;
+use plan::blank_tables;
 
 // Load: 0, or the number of the first refusal that applies, 1 to 6.
 #[unsafe(no_mangle)]
 pub extern "C" fn pandabrass_load(plan: &[u8]) -> u32
     ensures { result ≡ load_number (load_of plan.now) }
 {
-    let mut t = PlanTables::blank();
+    let mut t = blank_tables!();
     u32::from(load::load_number(load::fill(plan, &mut t)))
 }
 
@@ -34,7 +34,7 @@ pub extern "C" fn pandabrass_walk(plan: &[u8], active: u32, passive: u32) -> u32
 pub extern "C" fn pandabrass_size(plan: &[u8]) -> u32
     ensures { result ≡ size_of plan.now }
 {
-    let mut t = PlanTables::blank();
+    let mut t = blank_tables!();
     let Ok(h) = load::fill(plan, &mut t) else {
         return 0;
     };

@@ -44,6 +44,16 @@ use Rattle.load_arrivals.proofs.Charts.{ports_in, sides_past}
 use Rattle.load.specs.Walk.{walk_of}
 use Rattle.load.specs.Lent.{Lent, homes_at, length_at_lem}
 
+-- ---- tables that are as they were
+pub kept_filled : {b : List ℕ} {l : Result Head Refusal} {rt ru ways by bz : List (List ℕ)} {jt ju ht hu : List ℕ}
+    → ru ≡ rt → ju ≡ jt → hu ≡ ht → bz ≡ by → Filled b l rt jt ht ways by → Filled b l ru ju hu ways bz
+kept_filled a b c d f = rw (a, b, c, d) f
+
+pub kept_search : {h : Head} {by bz : List (List ℕ)} {jt ju ht hu arrive serve : List ℕ} {ring : Bool}
+    → ju ≡ jt → hu ≡ ht → bz ≡ by → ((pl : Plan) → Told pl h bz ju hu arrive serve → ring ≡ has_ring pl)
+    → (pl : Plan) → Told pl h by jt ht arrive serve → ring ≡ has_ring pl
+kept_search a b c f pl t = f pl (rw (a, b, c) t)
+
 -- ---- a head in range
 pub range_counts : (h : Head) → InRange h → Counts h
 range_counts h i = (i.routers.1, i.actives.1, i.passives.1)

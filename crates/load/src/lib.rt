@@ -8,8 +8,8 @@ ghost use Rattle.load.specs.Load.{load_sides, Blank, FilledIn, no_routes, no_wal
 ghost use Rattle.load.specs.Walk.{walk_of};
 
 use kinds::{Hub, Refusal};
-use plan::Head;
 use plan::tables::PlanTables;
+use plan::{Head, blank_tables};
 
 // The fewest bytes in which counts and capacities fit.
 const HEAD_BYTES: usize = 6;
@@ -52,12 +52,10 @@ pub fn fill(plan: &[u8], t: &mut PlanTables) -> Result<Head, Refusal>
         return Err(Refusal::BadJoint);
     }
     let mut arrive = [0u32; 32];
-    let mut lengths = [[0u8; 16]; 16];
-    let served = load_lengths::walks(h, t, &mut arrive, &mut lengths);
+    let served = load_lengths::walks(h, t, &mut arrive);
     if load_rings::ring_found(h, t, &arrive, &served) {
         return Err(Refusal::HasRing);
     }
-    t.lengths = lengths;
     Ok(h)
 }
 
@@ -103,7 +101,7 @@ pub fn pair_walk(lengths: &[[u8; 16]; 16], a: usize, p: usize) -> Hub
 pub fn walk(plan: &[u8], active: usize, passive: usize) -> Hub
     ensures { result.0 ≡ walk_of plan.now active passive }
 {
-    let mut t = PlanTables::blank();
+    let mut t = blank_tables!();
     let l = fill(plan, &mut t);
     let Ok(h) = l else {
         return Hub(0);

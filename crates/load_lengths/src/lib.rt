@@ -78,15 +78,13 @@ fn lengths_of(
 }
 
 // All walks of a plan whose tables, but for the lengths, are filled: where they arrive, by router; how long those of
-// served pairs are, by active and passive; and which pairs are served, by active. Both lent tables are filled in place.
-pub fn walks(
-    h: Head,
-    t: &PlanTables,
-    arrive: &mut [u32; 32],
-    lengths: &mut [[u8; 16]; 16],
-) -> [u32; 16]
-    requires { Sweepable h t.now × (arrive.old ≡ replicate 32 0) × (lengths.old ≡ replicate 16 (replicate 16 0)) }
-    ensures { Walks h t.now.routes t.now.joints t.now.homes t.now.by arrive.new lengths.new result }
+// served pairs are, by active and passive; and which pairs are served, by active. The lengths and the lent table of
+// arrivals are filled in place.
+pub fn walks(h: Head, t: &mut PlanTables, arrive: &mut [u32; 32]) -> [u32; 16]
+    requires { Sweepable h t.old × (arrive.old ≡ replicate 32 0) × (t.old.lengths ≡ replicate 16 (replicate 16 0)) }
+    ensures walks { Walks h t.old.routes t.old.joints t.old.homes t.old.by arrive.new t.new.lengths result }
+    ensures kept { (t.new.routes ≡ t.old.routes) × (t.new.joints ≡ t.old.joints) × (t.new.homes ≡ t.old.homes)
+        × (t.new.by ≡ t.old.by) }
 {
     let n = h.actives + h.passives;
     let next = nexts(&t.joints, h.routers);
@@ -101,6 +99,6 @@ pub fn walks(
     };
     let all = graph_reach::reach(&t.by, &next, &t.routes, s, arrive, &mut z);
     let served = serves(h, t, arrive, all);
-    lengths_of(&z, arrive, &served, &t.homes, h, lengths);
+    lengths_of(&z, arrive, &served, &t.homes, h, &mut t.lengths);
     served
 }

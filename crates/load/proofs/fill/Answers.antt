@@ -4,6 +4,7 @@ use mathlib.Core.Bool.{◌&&◌}
 use mathlib.Core.Path.{refl, ap₂}
 use Rattle.load.proofs.Exits.{range_counts, head_range, long_enough, too_short, out_of_range}
 use Rattle.load.proofs.Exits.{wrong_length, bad_field, bad_joint, tables, has_ring_lem, accepted}
+use Rattle.load.proofs.Exits.{kept_filled, kept_search}
 use Rattle.load.proofs.fill.Goals as goal
 
 pub returns-then-plan-lt-HEAD_BYTES : goal.returns-then-plan-lt-HEAD_BYTES
@@ -69,7 +70,7 @@ walks-served-requires c = (
       (ap₂ ◌&&◌ c.joints-joined.ensures.1 c.routes-fit.ensures.fit) c.if-not-joined-fit.false c.homes.ensures.1
       c.if-not-homes.false c.homes.ensures.0 c.routes-fit.ensures),
   refl,
-  refl,
+  c.requires.3,
 )
 
 pub ring_found-requires : goal.ring_found-requires
@@ -78,16 +79,21 @@ ring_found-requires c =
 
 pub returns-then-ring_found : goal.returns-then-ring_found
 returns-then-ring_found c =
+    let kept = c.walks-served.ensures.kept in
     has_ring_lem _ c.if-plan-lt-HEAD_BYTES.false c.read_head-h.ensures c.head_ok.ensures c.if-not-head_ok.false
     c.length_ok.ensures c.if-not-length_ok.false c.joints-joined.ensures.0 c.routes-fit.ensures.table
     (ap₂ ◌&&◌ c.joints-joined.ensures.1 c.routes-fit.ensures.fit) c.if-not-joined-fit.false c.homes.ensures.1
-    c.if-not-homes.false c.homes.ensures.0 c.routes-fit.ensures c.walks-served.ensures c.ring_found.ensures
+    c.if-not-homes.false c.homes.ensures.0 c.routes-fit.ensures c.walks-served.ensures.walks
+    (kept_search kept.1 kept.2 kept.3 c.ring_found.ensures)
     c.if-ring_found.true _ _ _ _ _
 
 pub returns : goal.returns
 returns c =
-    accepted _ c.if-plan-lt-HEAD_BYTES.false c.read_head-h.ensures c.head_ok.ensures c.if-not-head_ok.false
+    let kept = c.walks-served.ensures.kept in
+    kept_filled kept.0 kept.1 kept.2 kept.3
+    (accepted _ c.if-plan-lt-HEAD_BYTES.false c.read_head-h.ensures c.head_ok.ensures c.if-not-head_ok.false
     c.length_ok.ensures c.if-not-length_ok.false c.joints-joined.ensures.0 c.routes-fit.ensures.table
     (ap₂ ◌&&◌ c.joints-joined.ensures.1 c.routes-fit.ensures.fit) c.if-not-joined-fit.false c.homes.ensures.1
-    c.if-not-homes.false c.homes.ensures.0 c.routes-fit.ensures c.walks-served.ensures c.ring_found.ensures
-    c.if-ring_found.false
+    c.if-not-homes.false c.homes.ensures.0 c.routes-fit.ensures c.walks-served.ensures.walks
+    (kept_search kept.1 kept.2 kept.3 c.ring_found.ensures)
+    c.if-ring_found.false)

@@ -1,7 +1,7 @@
-use Prim.Native.Nat.{ℕ, ◌/◌}
+use Prim.Native.Nat.{◌/◌}
 use lib.ListN.{get_or, drop}
 use mathlib.Core.Path.{◌≡◌}
-use mathlib.Core.List.{List, ◌++◌}
+use mathlib.Core.List.{◌++◌}
 use Rattle.basis.specs.Fold.{up_to, fill}
 use Rattle.sets.specs.Sets.{both}
 use Rattle.load_arrivals.specs.Pairs.{length_of}

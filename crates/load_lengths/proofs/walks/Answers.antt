@@ -28,8 +28,8 @@ pub lengths_of-requires : goal.lengths_of-requires
 lengths_of-requires c =
     let pre = c.requires in (pre.0.0, pre.0.1, pre.2)
 
-pub returns : goal.returns
-returns c =
+pub returns-clause-walks : goal.returns-clause-walks
+returns-clause-walks c =
     let pre = c.requires.0 in
     walks_sound _ _ _ _ _ _ _ pre.0.1 pre.0.2
     c.nexts-next.ensures

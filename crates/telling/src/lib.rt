@@ -1,5 +1,5 @@
-// What a program tells of the calls: answers, packets and entries in document 01's words; and a printer that goes on past
-// a write that fails.
+// What a program tells of the calls: answers, packets and entries in document 01's words; and a printer that goes on
+// past a write that fails.
 #![tactic(auto)]
 
 use kinds::Refusal;

@@ -6,6 +6,7 @@ use kinds::{Hub, Refusal, Slot};
 use packets::{Answer, Entry, Kind, Packet};
 use run::Run;
 use std::io;
+use telling::steady::Steady;
 
 mod closed;
 mod crossing;
@@ -281,14 +282,19 @@ fn washed<P: Print>(rt: &P) -> io::Result<()> {
 }
 
 // All runs, in the documents' order.
-fn main(rt: HostRuntime) -> io::Result<()> {
-    loads(&rt)?;
-    launch_in_round_0(&rt)?;
-    launch_in_round_1(&rt)?;
-    last_free_entry(&rt)?;
-    declined(&rt)?;
-    allowance_spent(&rt)?;
-    closed_again(&rt)?;
-    crosses(&rt)?;
-    washed(&rt)
+fn all<P: Print>(rt: &P) -> io::Result<()> {
+    loads(rt)?;
+    launch_in_round_0(rt)?;
+    launch_in_round_1(rt)?;
+    last_free_entry(rt)?;
+    declined(rt)?;
+    allowance_spent(rt)?;
+    closed_again(rt)?;
+    crosses(rt)?;
+    washed(rt)
+}
+
+// A write that fails is passed over.
+fn main(rt: HostRuntime) {
+    let _ = all(&Steady(&rt));
 }

@@ -1,6 +1,6 @@
 // A run: the calls on a plan and a state's bytes, one round to a line, each call written with its answer; and whether
 // all answers so far are those that are expected.
-ghost use Rattle.std.specs.Prelude.{◌≡◌, true, OnOk};
+ghost use Rattle.std.specs.Prelude.{◌≡◌, true};
 
 use bytes_steps::{FIRST_PLACE, LENGTH_BYTE, QUEUE_WIDTH};
 use packets::{Answer, Entry, Packet, Wire};
@@ -59,7 +59,7 @@ impl<'a, P: Print> Run<'a, P> {
 
     // Writes an answer, and keeps whether it is the one that is expected.
     fn answered(&mut self, x: Answer, want: Answer) -> io::Result<()>
-        ensures { OnOk result (self.new.as_said ≡ true → (self.old.as_said ≡ true) × (x ≡ want)) }
+        ensures { self.new.as_said ≡ true → (self.old.as_said ≡ true) × (x ≡ want) }
     {
         self.as_said = self.as_said & (x == want);
         print!(self.rt; " {}.", Words(x))

@@ -1,10 +1,11 @@
--- The bytes of a decoded text fit where so many bytes fit: what was told of a result is told of its value.
-use Rattle.std.specs.Prelude.{◌≡◌, ℕ, ◌≤◌, Result, Ok, IfOk}
+-- The bytes of a decoded text fit the buffer.
+use Rattle.std.specs.Prelude.{◌≡◌, ℕ, ◌≤◌, Result, Ok, Err}
 use Rattle.std.proofs.Common.{subst}
-use native.Mathlib.Omega.{arith}
+use Rattle.show.specs.declared.hex.DecodeError.{DecodeError}
 
-pub bytes_fit : {A E : Type 0} (len : A → ℕ) {most : ℕ} {r : Result A E} {bytes : A}
-    → IfOk r (λ b. len b ≤ most) → most ≤ 4096 → r ≡ Ok bytes → len bytes ≤ 4096
-bytes_fit len {most = most} f e k =
-    let l = subst (λ r. IfOk r (λ b. len b ≤ most)) k f in
-    omega arith
+abbrev pub Fits : Result ℕ DecodeError → Type 0
+Fits (Ok n) = n ≤ 4096
+Fits (Err e) = Unit {0}
+
+pub bytes_fit : {r : Result ℕ DecodeError} {n : ℕ} → Fits r → r ≡ Ok n → n ≤ 4096
+bytes_fit f e = subst Fits e f

@@ -2,7 +2,7 @@
 // Standard input has the plan's bytes in hex; empty input means plan T of document 01.
 #![tactic(auto)]
 
-ghost use Rattle.std.specs.Prelude.{◌≡◌, ◌<◌};
+ghost use Rattle.std.specs.Prelude.{◌≡◌, ◌≤◌, ◌<◌, length};
 ghost use Rattle.plan.specs.Tables.{homes_of};
 ghost use Rattle.plan.specs.Lent.{plan_by};
 ghost use Rattle.plan.specs.Head.{Counts};
@@ -12,17 +12,17 @@ use kinds::Refusal;
 use plan::tables::PlanTables;
 use plan::{Head, Joint};
 use plan_walks::Step;
-use std::alloc::AllocError;
 use std::io;
-use std::io::{ErrorKind, Read};
+use std::io::Read;
+use telling::steady::Steady;
 
 mod hex;
 
 // The sides of a router.
 const SIDES: usize = 4;
 
-// The most signs that are read.
-const MOST: u64 = 4095;
+// The most signs that are read: one more than a text may have.
+const ROOM: usize = 4096;
 
 // Plan T.
 const T: &[u8] = b"\x08\x42\x11\x24\x92\x4c\x06\x00\x00\x00\x20";
@@ -44,18 +44,17 @@ fn show_joint<P: Print>(rt: &P, v: u8) -> io::Result<()> {
 
 // A plan that loads: its counts and capacities, and its tables.
 #[derive(Drop)]
-struct Shown {
+struct Shown<'a> {
     h: Head,
-    t: PlanTables,
+    t: &'a PlanTables,
     ghost few: { Counts h },
-    ghost ports: { t.homes ≡ homes_of (plan_by h t) },
+    ghost ports: { t.now.homes ≡ homes_of (plan_by h t.now) },
 }
 
-impl Shown {
-    // The plan of these bytes, or why Load refuses them.
-    fn of(plan: &[u8]) -> Result<Shown, Refusal> {
-        let mut t = PlanTables::blank();
-        let h = load::load(plan, &mut t)?;
+impl<'a> Shown<'a> {
+    // The plan of these bytes, its tables lent, or why Load refuses them.
+    fn of(plan: &[u8], t: &'a mut PlanTables) -> Result<Shown<'a>, Refusal> {
+        let h = load::load(plan, t)?;
         Ok(Shown { h, t })
     }
 
@@ -102,7 +101,7 @@ impl Shown {
     fn stop<P: Print>(&self, rt: &P, d: usize, from: usize, k: usize) -> io::Result<()>
         requires { (d < 32) × (from < 64) }
     {
-        let t = &self.t;
+        let t = self.t;
         let s = plan_walks::stands(&t.routes, &t.joints, self.h, d, from, k);
         let Step::On(at) = s else {
             return Ok(());
@@ -175,7 +174,8 @@ fn meaning(w: Refusal) -> &'static str {
 
 // Writes what the plan's bytes say, or why Load refuses them.
 fn show<P: Print>(rt: &P, plan: &[u8]) -> io::Result<()> {
-    match Shown::of(plan) {
+    let mut t = PlanTables::blank();
+    match Shown::of(plan, &mut t) {
         Ok(shown) => {
             shown.counts(rt)?;
             shown.capacities(rt)?;
@@ -187,33 +187,43 @@ fn show<P: Print>(rt: &P, plan: &[u8]) -> io::Result<()> {
 }
 
 // Shows the plan that a text gives in hex, or says what is wrong with the text.
-fn show_text<R: Print + AllocGlobal>(rt: &R, text: &[u8]) -> io::Result<()> {
-    match hex::decode(rt.alloc(), text) {
-        Ok(plan) => show(rt, &plan),
+fn show_text<P: Print>(rt: &P, text: &[u8]) -> io::Result<()>
+    requires { length text.now ≤ 4096 }
+{
+    let mut plan = [0; 4096];
+    match hex::decode(text, &mut plan) {
+        Ok(n) => show(rt, &plan[..n]),
         Err(DecodeError::Odd) => println!(rt; "The input has an odd count of hex digits."),
         Err(DecodeError::Other(i)) => println!(rt;
             "The input's sign {i}, counted from 0, is neither a hex digit nor white space."
         ),
-        Err(DecodeError::OutOfMemory) => Err(io::Error::from(AllocError)),
     }
 }
 
-// What standard input has, and no more than one sign past the most that may be. A read that fails ends the input.
-fn input<R: Input + AllocGlobal>(rt: &R) -> io::Result<Vec<u8>> {
-    let mut text = Vec::new(rt.alloc());
-    match rt.reader().take(MOST + 1).read_to_end(&mut text) {
-        Err(e) if e.kind() == ErrorKind::OutOfMemory => Err(e),
-        _ => Ok(text),
+// Reads until the room is full, the input ends or a read fails, each time for all the room that is left. The answer is
+// how many signs stand at the room's head then.
+fn fill<R: Read>(from: &mut R, room: &mut [u8]) -> usize
+    ensures { (result ≤ length room.new) × (length room.new ≡ length room.old) }
+{
+    let mut done = 0;
+    while done < room.len() {
+        let n = from.read(&mut room[done..]).unwrap_or(0);
+        if n == 0 {
+            break;
+        }
+        done += n;
     }
+    done
 }
 
-fn main(rt: HostRuntime) -> io::Result<()> {
-    let text = input(&rt)?;
-    if text.is_empty() {
-        return show(&rt, T);
-    }
-    if MOST < text.len() as u64 {
-        return println!(rt; "The input is longer than {MOST} signs.");
-    }
-    show_text(&rt, &text)
+// Shows plan T where the input is empty. A write that fails is passed over.
+fn main(rt: HostRuntime) {
+    let out = Steady(&rt);
+    let mut text = [0; ROOM];
+    let n = fill(&mut rt.stdin(), &mut text);
+    let _ = match n {
+        0 => show(&out, T),
+        ROOM => println!(out; "The input is longer than 4095 signs."),
+        _ => show_text(&out, &text[..n]),
+    };
 }

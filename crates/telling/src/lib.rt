@@ -1,9 +1,12 @@
-// What a program tells of the calls: answers, packets and entries in document 01's words.
+// What a program tells of the calls: answers, packets and entries in document 01's words; and a printer that goes on
+// past a write that fails.
 #![tactic(auto)]
 
 use kinds::Refusal;
 use packets::{Answer, Entry, Kind, Packet, Remaining};
 use std::fmt;
+
+pub mod steady;
 
 // A value that is told in document 01's words.
 #[derive(Clone, Copy)]
